@@ -30,7 +30,7 @@ EXIT = frame(b'{"jsonrpc":"2.0","method":"exit"}')
 SESSIONS = [
     ("a request before `initialized`", INITIALIZE + REQUEST, 1, b"expected initialized notification"),
     ("a request behind `shutdown`", INITIALIZE + INITIALIZED + SHUTDOWN + REQUEST, 1, b"unexpected message during shutdown"),
-    ("no message", INITIALIZE + INITIALIZED + frame(b"{}"), 1, b"read fault"),
+    ("no message before `initialized`", INITIALIZE + frame(b"{}"), 1, b"read fault"),
     ("`exit` in order", INITIALIZE + INITIALIZED + SHUTDOWN + EXIT, 0, b""),
     ("`exit` without `shutdown`", INITIALIZE + INITIALIZED + EXIT, 1, b"the client left without a shutdown"),
 ]

@@ -6,7 +6,7 @@ library of this repository."""
 import json
 import random
 
-from rules import AT_END, AT_WRONG_TIME, CANCELED, GREATEST, OF_BODY, Talker, debug_message, frame, is_id, is_note, is_request, ordered, read, shown
+from rules import AT_END, AT_WRONG_TIME, CANCELED, GREATEST, OF_BODY, Talker, beginning, debug_message, frame, is_id, is_note, is_request, limit_in, ordered, read, shown
 
 # The tokens that the params of a job in a pool by hand have.
 TOKENS = {"workDoneToken": "w", "partialResultToken": 7}
@@ -329,7 +329,7 @@ class JobSession:
         elif self.state == "open":
             self.work(came)
         else:
-            self.end = AT_WRONG_TIME[self.state] + debug_message(came)
+            self.end = AT_WRONG_TIME[self.state] + beginning(debug_message(came))
         return None
 
     def work(self, came):
@@ -453,7 +453,7 @@ def job_answer(words, data, pauses):
     """What has to come of a session with jobs, where the writer has room for so many bytes, or a content part may have so many."""
     call, pool, _, device, count = *words[:4], int(words[4])
     room = count if device == "fills" else GREATEST
-    limit = count if device == "limits" else GREATEST
+    limit = limit_in(device, count)
 
     def ended(session):
         if not session.end:

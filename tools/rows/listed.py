@@ -9,6 +9,7 @@ from rules import (
     Echo,
     Session,
     Talker,
+    beginning,
     debug_message,
     escape,
     frame,
@@ -73,7 +74,7 @@ class Boxes:
                 self.id = came["id"]
                 return f"{id_answer(self.id)} {ordered(came.get('params'))}"
             if "method" not in came or is_note(came, "exit"):
-                return AT_WRONG_TIME["new"] + debug_message(came)
+                return AT_WRONG_TIME["new"] + beginning(debug_message(came))
             if "id" in came and not self.send(too_early(came)):
                 return AT_END["new"]
         return "undecided"
@@ -90,7 +91,7 @@ class Boxes:
             return ABORTED
         if came == "closed":
             return AT_END["asked"]
-        return "done" if is_note(came, "initialized") else AT_WRONG_TIME["asked"] + debug_message(came)
+        return "done" if is_note(came, "initialized") else AT_WRONG_TIME["asked"] + beginning(debug_message(came))
 
     def finish(self, turns):
         if not self.send({"id": self.id, "result": None}):
@@ -106,7 +107,7 @@ class Boxes:
             return AT_END["ending"]
         if came == "timeout":
             return LATE
-        return "true" if is_note(came, "exit") else AT_WRONG_TIME["ending"] + debug_message(came)
+        return "true" if is_note(came, "exit") else AT_WRONG_TIME["ending"] + beginning(debug_message(came))
 
 
 def calls_answer(row):

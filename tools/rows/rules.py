@@ -198,8 +198,11 @@ def meaning(body):
 
 def read(data, limit=GREATEST):
     """What the next read gives: "end", a fault's number or the members of a message; and what is left. A content part has at most
-    `limit` bytes."""
+    `limit` bytes; of a pair the first is for the header part, of which one byte more is taken if it is longer."""
+    bound, limit = limit if isinstance(limit, tuple) else (GREATEST, limit)
     fault, length, at = header_end(data)
+    if at > bound:
+        return 14, data[bound + 1 :]
     if fault:
         return fault, data[at:]
     if length > limit:
@@ -210,6 +213,13 @@ def read(data, limit=GREATEST):
     if len(body) < length:
         return 7, b""
     return meaning(body), left
+
+
+def limit_in(device, count):
+    """What a call may read at most, by its device."""
+    if device == "headers":
+        return count, GREATEST
+    return count if device == "limits" or device == "huge" and count else GREATEST
 
 
 def front(data):
@@ -292,6 +302,11 @@ def debug_message(members):
 # The variants of `ReadFault`, by their numbers, from 1.
 READ_FAULTS = ["Input(BrokenPipe)", "LineNotText", "LineEnd", "NoSeparator", "BadLength", "NoLength", "ShortBody", "BodyNotText", "NoJson"]
 READ_FAULTS += ["NoMessage", "Memory", "TooLong", "Batch"]
+
+
+def beginning(text):
+    """As much of a message as an error shows: as many whole characters as 400 bytes have room for."""
+    return text.encode()[:400].decode(errors="ignore")
 
 
 def debug_end(end):
@@ -461,7 +476,7 @@ class Session:
         if self.state == "ending" and self.server.asks and "method" not in came:
             # LSP 3.17, "Shutdown Request", forbids requests and notifications alone: an answer to a server that asks may come so late.
             return None
-        return AT_WRONG_TIME[self.state] + debug_message(came)
+        return AT_WRONG_TIME[self.state] + beginning(debug_message(came))
 
     def begins(self, came):
         if is_request(came, "initialize"):
@@ -471,7 +486,7 @@ class Session:
             return self.sends([too_early(came)])
         if "method" in came and not is_note(came, "exit"):
             return None
-        return AT_WRONG_TIME["new"] + debug_message(came)
+        return AT_WRONG_TIME["new"] + beginning(debug_message(came))
 
     def serves(self, came):
         if is_note(came, "exit"):
@@ -487,7 +502,7 @@ class Session:
 def too_early(came):
     """The reply to a request that comes before `initialize`."""
     shown = debug_message(came).removeprefix("Request(").removesuffix(")")
-    return {"id": came["id"], "error": {"code": -32002, "message": AT_WRONG_TIME["new"] + shown}}
+    return {"id": came["id"], "error": {"code": -32002, "message": AT_WRONG_TIME["new"] + beginning(shown)}}
 
 
 def served(server, data, breaks, limit):
@@ -649,7 +664,7 @@ def answer(call, device, count, data, is_at_once, kind="BrokenPipe"):
     breaks, unread = device in ("breaks", "looks") and count <= len(data) and kind != "Interrupted", b""
     if breaks:
         data, unread = data[:count], data[count:]
-    limit = count if device == "limits" or device == "huge" and count else GREATEST
+    limit = limit_in(device, count)
     if call == "read":
         return read_answer(data, breaks, unread, limit, kind)
     if call == "front":
@@ -670,7 +685,7 @@ def answer(call, device, count, data, is_at_once, kind="BrokenPipe"):
     if device == "flushes" and count <= len(frames):
         end, written = "write fault 1", b"".join(frames[:count])
     writes = f", in {len(frames)} writes" if call == "burst" else ""
-    if call == "tolerant" and device != "limits":
+    if call == "tolerant" and device not in ("limits", "headers"):
         whole = sum(len(b"".join(frames[: it + 1])) <= len(written) for it in range(len(frames)))
         counts = served_tolerantly(Talker(), data, breaks, limit, whole if whole < len(frames) else GREATEST)[2]
         return f"{end}; wrote {shown(written)}; passed {' '.join(map(str, counts))}"
@@ -799,7 +814,7 @@ def handshake_answer(texts):
         if is_request(came, "initialize"):
             break
         if "method" not in came or is_note(came, "exit"):
-            return answer("start: " + AT_WRONG_TIME["new"] + debug_message(came))
+            return answer("start: " + AT_WRONG_TIME["new"] + beginning(debug_message(came)))
         sent += "id" in came
     answer(f"start {id_answer(came['id'])} {compact(came.get('params'))}")
     for name, wanted, at_end, at_wrong in [
@@ -811,7 +826,7 @@ def handshake_answer(texts):
             return answer(f"{name}: {at_end}")
         came = messages.pop(0)
         if not is_note(came, wanted):
-            return answer(f"{name}: {at_wrong}{debug_message(came)}")
+            return answer(f"{name}: {at_wrong}{beginning(debug_message(came))}")
         answer("finish" if name == "finish" else "shutdown true")
     return ["; ".join(said)]
 

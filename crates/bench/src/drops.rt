@@ -3,7 +3,9 @@
 use crate::Host;
 use crate::session::Echo;
 use anyhow::{Error, Result};
-use lsp_server::{Connection, Handler, IoThreads, Message, Request, Response, StandardOutput};
+use lsp_server::{
+    Connection, Handler, IoThreads, Limits, Message, Request, Response, StandardOutput,
+};
 use serde_json::{Map, Value, put};
 use std::alloc::{AllocError, Global};
 use std::io::BufRead;
@@ -42,7 +44,7 @@ where
     T: Host,
     R: BufRead + Drop + Send + 'static,
 {
-    match Connection::over(rt, reader, StandardOutput::new(*rt), u64::MAX) {
+    match Connection::over(rt, reader, StandardOutput::new(*rt), Limits::none()) {
         Ok((connection, threads)) => answer_all(rt, connection, threads, echo),
         Err(fault) => {
             drop(echo);

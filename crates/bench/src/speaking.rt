@@ -1,7 +1,9 @@
 //! The same session of a server that speaks, though it says nothing of its own.
 use crate::session::ended;
 use anyhow::Result;
-use lsp_server::{Act, EndSession, Notification, Request, ResponseError, Server, session_with};
+use lsp_server::{
+    Act, EndSession, Limits, Notification, Request, ResponseError, Server, session_with,
+};
 use lsp_session::initialize_result;
 use serde_json::{Map, Value};
 use std::alloc::{AllocError, Global};
@@ -93,6 +95,13 @@ pub fn serve<R: BufRead, W: Write>(
     is_null: bool,
 ) -> Result<()> {
     let server = Speaking { alloc, is_null };
-    let (_, answer) = session_with(alloc, reader, writer, server, &mut EndSession, u64::MAX);
+    let (_, answer) = session_with(
+        alloc,
+        reader,
+        writer,
+        server,
+        &mut EndSession,
+        Limits::none(),
+    );
     ended(answer)
 }

@@ -354,7 +354,7 @@ fn main(rt: HostRuntime) -> Answer<()> {
     let options = ClientOptions::new();
     let served = serve_clients(&rt, words.as_slice(), options, |mut client| {
         let mut bad_bodies = EndSession;
-        let mut transport = client.transport(alloc, &mut bad_bodies, u64::MAX);
+        let mut transport = client.transport(alloc, &mut bad_bodies);
         let (_checker, answer) = serve(alloc, &mut transport, Checker::new(alloc));
         answer
     })?;

@@ -55,7 +55,7 @@ fn main(rt: HostRuntime) -> Result<()> {
         words => serve_clients(&rt, words, ClientOptions::new(), |mut client| {
             let mut passed_over = PassedOver::new(alloc)?;
             let sums = Sums::new(alloc, passed_over.share()?);
-            let mut transport = client.transport(alloc, &mut passed_over, u64::MAX);
+            let mut transport = client.transport(alloc, &mut passed_over);
             let (sums, answer) = serve(alloc, &mut transport, sums);
             drop(sums);
             Ok(answer?)

@@ -2,6 +2,7 @@
 ghost use Rattle.std.specs.Prelude.{◌≡◌, ◌∷◌, ◌++◌, [], true, None, ℕ, List, Option, Result};
 ghost use Rattle.lsp_message.specs.Id.{Id};
 ghost use Rattle.lsp_message.specs.Message.{Message, response};
+ghost use Rattle.lsp_message.specs.declared.frame.limits.Limits.{Limits};
 ghost use Rattle.lsp_session.specs.PassingBytes.{PassesNothingOver};
 ghost use Rattle.lsp_session.specs.Session.{Exchange, SessionAnswer, Stop};
 ghost use Rattle.lsp_session.specs.declared.loops.handler.SessionEnd.{SessionEnd as EndOfSession};
@@ -27,7 +28,7 @@ pub fn session_with_jobs_keeps_laws<T: Wait + Drop, S: JobServer<J>, J: Job>()
         answer
         → LawfulJobSession T S.Server S.JobServer.own J.Job first last exchanges stop shutdown_reply
         answer }
-    ensures bytes { (limit : ℕ) (first last : S) (text : List ℕ) (before after : Option (List ℕ))
+    ensures bytes { (limit : Limits) (first last : S) (text : List ℕ) (before after : Option (List ℕ))
         (answer : Result EndOfSession FaultOfSession)
         → ThreadsGiveOver true limit (JobSession T S.Server S.JobServer.own J.Job first last) text
         before after answer
@@ -44,7 +45,7 @@ pub fn session_with_jobs_that_asks_keeps_laws<
     J: Job,
     L: Listener,
 >()
-    ensures bytes { (limit : ℕ) (first last : S) (text : List ℕ) (heard heard_last : L)
+    ensures bytes { (limit : Limits) (first last : S) (text : List ℕ) (heard heard_last : L)
         (before after : Option (List ℕ)) (answer : Result EndOfSession FaultOfSession)
         → ThreadsTellOver true L.hears limit
         (JobSession T S.Server S.JobServer.own J.Job first last) text heard heard_last before
@@ -52,7 +53,7 @@ pub fn session_with_jobs_that_asks_keeps_laws<
         → ThreadsTellOver true L.hears limit
         (LawfulJobSession T S.Server S.JobServer.own J.Job first last) text heard heard_last
         before after answer }
-    ensures nothing_passed { (limit : ℕ) (first last : S) (text : List ℕ) (heard heard_last : L)
+    ensures nothing_passed { (limit : Limits) (first last : S) (text : List ℕ) (heard heard_last : L)
         (before after : Option (List ℕ)) (answer : Result EndOfSession FaultOfSession)
         → PassesNothingOver L.hears
         → ThreadsTellOver true L.hears limit

@@ -59,13 +59,13 @@ where
     J: Job + Send + 'static,
     L: Listener,
     ensures told { IfOk result.1 (λ done. OfTaken done.taken.parts (λ text.
-        ThreadsTellOver true L.hears options.limit
+        ThreadsTellOver true L.hears options.limits
         (JobSession T S.Server S.JobServer.own J.Job server result.0) text
         bad_bodies.old bad_bodies.new (Some []) (noted done.given) done.answer)) }
     ensures passed { IfOk result.1 (λ done. TakenFrom (R.remaining reader) done.taken.parts
         × GivenTo (W.contents writer) done.given.parts (W.contents done.writer)) }
     ensures session { IfSome (R.remaining reader) (λ text. IfOk result.1 (λ done.
-        ThreadsTellOver true L.hears options.limit
+        ThreadsTellOver true L.hears options.limits
         (JobSession T S.Server S.JobServer.own J.Job server result.0) text
         bad_bodies.old bad_bodies.new (W.contents writer) (W.contents done.writer) done.answer)) }
 {

@@ -7,7 +7,7 @@ use Rattle.std.proofs.lemmas.Str.{is_utf8-from_IsUtf8}
 use Rattle.std.specs.Str.{IsUtf8, is_utf8}
 use Rattle.serde_json.specs.Data.{Data, null, boolean, number, string, array, object}
 use Rattle.serde_json.specs.Read.{read}
-use Rattle.lsp_message.specs.Frame.{body_means, tree_means, no_message, RunsOutBefore, body_of, content_of, frame_of, no_limit, reading_of}
+use Rattle.lsp_message.specs.Frame.{body_means, tree_means, no_message, RunsOutBefore, body_of, content_of, frame_of, most_content, header_under, reading_of}
 use Rattle.lsp_message.specs.HeaderPart.{header_of}
 use Rattle.lsp_message.specs.Meaning.{meaning}
 use Rattle.lsp_message.specs.Message.{Message}
@@ -15,15 +15,16 @@ use Rattle.lsp_message.specs.Reading.{Reading, Answers, StopsWithin}
 use Rattle.lsp_message.specs.ReadingSteps.{AnswersHeader, Decodes}
 use Rattle.lsp_message.specs.declared.frame.ReadFault.{ReadFault}
 use Rattle.lsp_message.specs.declared.frame.ReadFault.TheVariants.{Input, ShortBody, BodyNotText, NoJson, NoMessage, Memory, TooLong, Batch}
+use Rattle.lsp_message.specs.declared.frame.limits.Limits.{Limits}
 use Rattle.lsp_message.proofs.KnownLines.{IsKnownHeader, header_known}
-use Rattle.lsp_message.proofs.Suffixes.{EndsIn, EndsIn-trans, StopsWithin-less, StopsWithin-start, StopsBefore-within, content_of-rest}
-use Rattle.lsp_message.proofs.HeaderSteps.{header_after-none, header_after-rest}
+use Rattle.lsp_message.proofs.Suffixes.{EndsIn-trans, StopsWithin-less, StopsWithin-start, StopsBefore-within, content_of-rest}
+use Rattle.lsp_message.proofs.Bounds.{header_under-rest}
 
 -- text means what its tree means
 pub body_means-text : (bytes : List ℕ) → IsUtf8 bytes → body_means bytes ≡ tree_means (read bytes)
 body_means-text bytes text = rw (is_utf8-from_IsUtf8 bytes text) refl
 
-module _ {M : Type 0} (means : List ℕ → Result M ReadFault) (limit : ℕ) where
+module _ {M : Type 0} (means : List ℕ → Result M ReadFault) (limit : Limits) where
   abbrev whole : ℕ → List ℕ → Reading M
   whole n left = record { outcome = result_map_both Some (λ fault. fault) (means (take n left)); rest = drop n left }
 
@@ -57,41 +58,41 @@ module _ {M : Type 0} (means : List ℕ → Result M ReadFault) (limit : ℕ) wh
       at false = refl
 
   -- the header part was not read
-  pub header_refused : {X : Type 0} (view : X → M) (fault : ReadFault) (a b : Option (List ℕ)) → IfSome a (λ text. AnswersHeader (λ n. n) (Err fault) b (header_of text))
+  pub header_refused : {X : Type 0} (view : X → M) (fault : ReadFault) (a b : Option (List ℕ)) → IfSome a (λ text. AnswersHeader (λ n. n) (Err fault) b (header_under limit.header text))
       → IfSome a (λ text. Answers view (Err fault) b (frame_of means limit text))
   header_refused view fault None b header = tt
-  header_refused view (Input kind) (Some text) b header = StopsWithin-less b (header_of text) (frame_of means limit text) header (content_of-rest means limit (header_of text).outcome (header_of text).rest)
-  header_refused view Memory (Some text) b header = StopsWithin-less b (header_of text) (frame_of means limit text) (StopsBefore-within b (header_of text) header) (content_of-rest means limit (header_of text).outcome (header_of text).rest)
+  header_refused view (Input kind) (Some text) b header = StopsWithin-less b (header_under limit.header text) (frame_of means limit text) header (content_of-rest means limit.content (header_under limit.header text).outcome (header_under limit.header text).rest)
+  header_refused view Memory (Some text) b header = StopsWithin-less b (header_under limit.header text) (frame_of means limit text) (StopsBefore-within b (header_under limit.header text) header) (content_of-rest means limit.content (header_under limit.header text).outcome (header_under limit.header text).rest)
   header_refused view fault (Some text) b header = rw (header.0) (refl, header.1)
 
   -- no byte of the frame was taken
   pub frame_unread : (text : List ℕ) → StopsWithin (Some text) (frame_of means limit text)
   frame_unread text =
-      let header = subst (λ r. EndsIn text r.rest) (sym (header_after-none text)) (header_after-rest None text) in
-      let content = content_of-rest means limit (header_of text).outcome (header_of text).rest in
-      StopsWithin-start text (frame_of means limit text) (EndsIn-trans text (header_of text).rest (frame_of means limit text).rest header content)
+      let header = header_under-rest limit.header text in
+      let content = content_of-rest means limit.content (header_under limit.header text).outcome (header_under limit.header text).rest in
+      StopsWithin-start text (frame_of means limit text) (EndsIn-trans text (header_under limit.header text).rest (frame_of means limit text).rest header content)
 
   -- the header part gave a length above the limit
-  pub content_too_long : {X : Type 0} (view : X → M) (a b : Option (List ℕ)) (n : ℕ) → limit < n → IfSome a (λ text. AnswersHeader (λ n. n) (Ok (Some n)) b (header_of text))
+  pub content_too_long : {X : Type 0} (view : X → M) (a b : Option (List ℕ)) (n : ℕ) → limit.content < n → IfSome a (λ text. AnswersHeader (λ n. n) (Ok (Some n)) b (header_under limit.header text))
       → IfSome a (λ text. Answers view (Err TooLong) b (frame_of means limit text))
   content_too_long view None b n above header = tt
-  content_too_long view (Some text) b n above header = rw (header.0, lt-ltb limit n above) (refl, header.1)
+  content_too_long view (Some text) b n above header = rw (header.0, lt-ltb limit.content n above) (refl, header.1)
 
   -- the header part gave a length within the limit, and what follows is the content part
-  content_at : (a b : Option (List ℕ)) (n : ℕ) → n ≤ limit → IfSome a (λ text. AnswersHeader (λ n. n) (Ok (Some n)) b (header_of text))
+  content_at : (a b : Option (List ℕ)) (n : ℕ) → n ≤ limit.content → IfSome a (λ text. AnswersHeader (λ n. n) (Ok (Some n)) b (header_under limit.header text))
       → IfSome a (λ text. IsSomeAnd b (λ left. frame_of means limit text ≡ body_of means n left))
   content_at None b n within header = tt
   content_at (Some text) None n within header = absurd (cc (header.1))
   content_at (Some text) (Some left) n within header =
-      let same : (header_of text).rest ≡ left = cc (header.1) in
-      let rest = (header_of text).rest in
-      ap (λ o. content_of means limit o rest) header.0
-      ∙ ap (λ t. cond {A = Reading M} t (record { outcome = Err TooLong; rest = rest }) (body_of means n rest)) (le-ltb limit n within)
+      let same : (header_under limit.header text).rest ≡ left = cc (header.1) in
+      let rest = (header_under limit.header text).rest in
+      ap (λ o. content_of means limit.content o rest) header.0
+      ∙ ap (λ t. cond {A = Reading M} t (record { outcome = Err TooLong; rest = rest }) (body_of means n rest)) (le-ltb limit.content n within)
       ∙ ap (body_of means n) same
 
   -- the content part was not read
-  pub content_refused : {X Y : Type 0} (view : X → M) (shown : Y → List ℕ) (fault : ReadFault) (a b c : Option (List ℕ)) (n : ℕ) → n ≤ limit
-      → IfSome a (λ text. AnswersHeader (λ n. n) (Ok (Some n)) b (header_of text))
+  pub content_refused : {X Y : Type 0} (view : X → M) (shown : Y → List ℕ) (fault : ReadFault) (a b c : Option (List ℕ)) (n : ℕ) → n ≤ limit.content
+      → IfSome a (λ text. AnswersHeader (λ n. n) (Ok (Some n)) b (header_under limit.header text))
       → IfSome b (λ left. Answers shown (Err fault) c (body_of Ok n left)) → IfSome a (λ text. Answers view (Err fault) c (frame_of means limit text))
   content_refused view shown fault a b c n within header = at fault a b (content_at a b n within header)
     where
@@ -104,8 +105,8 @@ module _ {M : Type 0} (means : List ℕ → Result M ReadFault) (limit : ℕ) wh
       at fault (Some text) (Some left) is body = rw (is) (body_of-fault n left fault body.0, body.1 ∙ ap Some (sym (body_of-rest n left)))
 
   -- the header part gave a length, and the content part was read
-  pub frame_read : (a b c : Option (List ℕ)) (n : ℕ) (items : List ℕ) → n ≤ limit
-      → IfSome a (λ text. AnswersHeader (λ n. n) (Ok (Some n)) b (header_of text))
+  pub frame_read : (a b c : Option (List ℕ)) (n : ℕ) (items : List ℕ) → n ≤ limit.content
+      → IfSome a (λ text. AnswersHeader (λ n. n) (Ok (Some n)) b (header_under limit.header text))
       → IfSome b (λ left. Answers (λ bytes. bytes) (Ok (Some items)) c (body_of Ok n left))
       → IfSome a (λ text. ((frame_of means limit text).outcome ≡ result_map_both Some (λ fault. fault) (means items)) × (c ≡ Some (frame_of means limit text).rest))
   frame_read None b c n items within header body = tt
@@ -116,8 +117,8 @@ module _ {M : Type 0} (means : List ℕ → Result M ReadFault) (limit : ℕ) wh
       (ap (λ r. r.outcome) content ∙ found.0, body.1 ∙ ap Some (sym found.1 ∙ ap (λ r. r.rest) (sym content)))
 
   -- and what was made of the content part is the answer
-  pub frame_answered : {X : Type 0} (view : X → M) (a b c : Option (List ℕ)) (n : ℕ) (items : List ℕ) (r : Result X ReadFault) → n ≤ limit
-      → IfSome a (λ text. AnswersHeader (λ n. n) (Ok (Some n)) b (header_of text))
+  pub frame_answered : {X : Type 0} (view : X → M) (a b c : Option (List ℕ)) (n : ℕ) (items : List ℕ) (r : Result X ReadFault) → n ≤ limit.content
+      → IfSome a (λ text. AnswersHeader (λ n. n) (Ok (Some n)) b (header_under limit.header text))
       → IfSome b (λ left. Answers (λ bytes. bytes) (Ok (Some items)) c (body_of Ok n left))
       → Decodes view r (means items) → IfSome a (λ text. Answers view (result_map_both Some (λ fault. fault) r) c (frame_of means limit text))
   frame_answered {X = X} view a b c n items r within header body decoded = at a r decoded (frame_read a b c n items within header body)
@@ -180,15 +181,15 @@ content_known body = given_known (body_means body) (at (is_utf8 body) (read body
     at true (Some tree) = tree_known tree (meaning tree)
     at false tree = tt
 
-module _ (limit : ℕ) where
+module _ (limit : Limits) where
   -- memory ran out in the header part
-  pub memory_in_header : (fault : ReadFault) (a b : Option (List ℕ)) → IfSome a (λ text. AnswersHeader (λ n. n) (Err fault) b (header_of text)) → fault ≡ Memory
+  pub memory_in_header : (fault : ReadFault) (a b : Option (List ℕ)) → IfSome a (λ text. AnswersHeader (λ n. n) (Err fault) b (header_under limit.header text)) → fault ≡ Memory
       → IfSome a (λ text. RunsOutBefore limit text b)
   memory_in_header fault None b header is = tt
-  memory_in_header fault (Some text) b header is = inl (subst (λ f. AnswersHeader (λ n. n) (Err f) b (header_of text)) is header)
+  memory_in_header fault (Some text) b header is = inl (subst (λ f. AnswersHeader (λ n. n) (Err f) b (header_under limit.header text)) is header)
 
   -- or after it, before the content part was begun
-  pub memory_after_header : (a b c : Option (List ℕ)) (n : ℕ) → n ≤ limit → IfSome a (λ text. AnswersHeader (λ n. n) (Ok (Some n)) b (header_of text)) → c ≡ b
+  pub memory_after_header : (a b c : Option (List ℕ)) (n : ℕ) → n ≤ limit.content → IfSome a (λ text. AnswersHeader (λ n. n) (Ok (Some n)) b (header_under limit.header text)) → c ≡ b
       → IfSome a (λ text. RunsOutBefore limit text c)
   memory_after_header None b c n within header same = tt
   memory_after_header (Some text) b c n within header same = inr (n, header.0, within, same ∙ header.1)
@@ -208,10 +209,10 @@ not_too_long text = at (header_of text).outcome (header_of text).rest (header_kn
         short true is = cc
         short false is = subst IsKnownContent is (content_known (take n rest))
 
-    at : (count : Result (Option ℕ) ReadFault) (rest : List ℕ) → IsKnownHeader count → (content_of body_means no_limit count rest).outcome ≢ Err TooLong
+    at : (count : Result (Option ℕ) ReadFault) (rest : List ℕ) → IsKnownHeader count → (content_of body_means most_content count rest).outcome ≢ Err TooLong
     at (Err fault) rest known = λ is. known (cc)
     at (Ok None) rest known = λ is. cc
-    at (Ok (Some n)) rest known = rw (le-ltb no_limit n known) (part n rest)
+    at (Ok (Some n)) rest known = rw (le-ltb most_content n known) (part n rest)
 
 pub never_too_long : {X : Type 0} (view : X → Message) (a b : Option (List ℕ)) (r : Result (Option X) ReadFault)
     → IfSome a (λ text. Answers view r b (reading_of text)) → IfSome a (λ text. r ≢ Err TooLong)

@@ -4,7 +4,7 @@ use Rattle.std.specs.Fmt.{decimal}
 use Rattle.std.specs.List.{AllByRecursion, FoldsTo}
 use Rattle.std.specs.Prelude.{codes}
 use Rattle.serde_json.specs.Read.{max_depth}
-use Rattle.lsp_message.specs.Frame.{Begins, no_limit}
+use Rattle.lsp_message.specs.Frame.{Begins, most_content, no_limit}
 use Rattle.lsp_message.specs.Message.{Message}
 use Rattle.lsp_message.specs.Ranges.{nesting}
 use Rattle.lsp_message.specs.Readable.{AreReadBack}
@@ -31,7 +31,7 @@ read_each (m ∷ got) more frames behind (first, left, is, are, same) small (one
     let fits = body_fits is.0 frames left framed small in
     let joined : frames ++ behind ≡ frame_text is.0 ++ (left ++ behind) = ap (λ l. l ++ behind) framed ∙ append_assoc (frame_text is.0) left behind in
     let later = read_each got more left behind are fits.1 shallow in
-    let read = reading-frame no_limit is.0 (left ++ behind) (without_null_details m) fits.0 (omega (arith, fits.0)) (is.3 one) in
+    let read = reading-frame most_content is.0 (left ++ behind) (without_null_details m) fits.0 (omega (arith, fits.0)) (is.3 one) in
     (later.0, (left ++ behind, subst (λ t. Begins no_limit t (without_null_details m) (left ++ behind)) (sym joined) read, later.1))
 
 pub read_back : (sent : List Message) (frames behind : List ℕ) → AreFramesOf sent frames → length frames < 2 ^ 64 → AreReadBack sent (frames ++ behind)

@@ -6,7 +6,7 @@ use Rattle.std.specs.Option.{ok_or}
 use Rattle.std.specs.Str.{is_utf8, all_ascii_digits}
 use Rattle.std.specs.declared.io.ErrorKind.{ErrorKind}
 use Rattle.std.specs.Str.Parse.{without_leading_plus, digits_value}
-use Rattle.lsp_message.specs.Frame.{no_limit}
+use Rattle.lsp_message.specs.Limits.{most_content}
 use Rattle.lsp_message.specs.HeaderPart.{number, name_and_value, same_name, field, parted, header_text, header_line, fields, after_fields, length_in, or_else, content_length, at_last_line, header_end, header_of, lines}
 use Rattle.lsp_message.specs.declared.frame.ReadFault.{ReadFault}
 use Rattle.lsp_message.specs.declared.frame.ReadFault.TheVariants.{Input, LineNotText, LineEnd, NoSeparator, BadLength, Memory, TooLong}
@@ -23,13 +23,13 @@ IsOfLine fault = ⊥
 
 abbrev IsKnownLine : Result HeaderLine ReadFault → Type 0
 IsKnownLine (Ok Blank) = Unit {0}
-IsKnownLine (Ok (Length n)) = n ≤ no_limit
+IsKnownLine (Ok (Length n)) = n ≤ most_content
 IsKnownLine (Ok Other) = Unit {0}
 IsKnownLine (Err fault) = IsOfLine fault
 
 abbrev IsKnownLength : Option ℕ → Type 0
 IsKnownLength None = Unit {0}
-IsKnownLength (Some n) = n ≤ no_limit
+IsKnownLength (Some n) = n ≤ most_content
 
 number_known : (value : List ℕ) → IsKnownLength (number value)
 number_known value =

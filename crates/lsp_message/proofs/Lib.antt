@@ -1,3 +1,4 @@
+mod Bounds
 pub mod Choices
 pub mod ContentParts
 pub mod Contents

@@ -12,7 +12,7 @@ use Rattle.std.specs.Fmt.{decimal}
 use Rattle.std.specs.Io.BufRead.{take_through, drop_through}
 use Rattle.std.specs.List.{ends_with}
 use Rattle.std.specs.Str.{IsUtf8, is_utf8, chars}
-use Rattle.lsp_message.specs.Frame.{body_means, content_of}
+use Rattle.lsp_message.specs.Frame.{body_means, content_of, of_content}
 use Rattle.lsp_message.specs.HeaderPart.{number, header_line, header_of}
 use Rattle.lsp_message.specs.Messages.{Begins}
 use Rattle.lsp_message.specs.Message.{Message}
@@ -81,7 +81,7 @@ header_of-frame body rest small =
 
 -- and so is what its body means
 pub reading-frame : (limit : ℕ) (body rest : List ℕ) (m : Message) → length body < 2 ^ 64 → length body ≤ limit → body_means body ≡ Ok m
-    → Begins limit (frame_text body ++ rest) m rest
+    → Begins (of_content limit) (frame_text body ++ rest) m rest
 reading-frame limit body rest m small within means =
     let header = header_of-frame body rest small in
     let long : nat_lt (length (body ++ rest)) (length body) ≡ false = le-ltb _ _ (omega (arith, length-append body rest)) in

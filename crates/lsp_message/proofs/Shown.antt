@@ -1,5 +1,5 @@
 -- What a reader shows of the bytes that it has left, and what a line takes of it.
-use Rattle.std.proofs.Common.{◌≡◌, ◌≢◌, ℕ, zero, suc, ◌+◌, ◌<◌, ◌≤◌, eqb, eq-eqb, ne_eqb, Bool, true, false, true≢false, List, [], ◌∷◌, ◌++◌, length, take, drop, get_or, get_or-take, take-take, take_all, length-take, append_assoc, le_refl, eqb-true, All, Option, Some, None, IfSome, OnSome, Result, Ok, Bor, refl, sym, ap, subst, ◌∙◌, arith}
+use Rattle.std.proofs.Common.{◌≡◌, ◌≢◌, ℕ, zero, suc, ◌+◌, ◌<◌, ◌≤◌, eqb, eq-eqb, ne_eqb, Bool, true, false, true≢false, List, [], ◌∷◌, ◌++◌, length, take, drop, get_or, get_or-take, take-take, take_all, length-take, length-take-le, append_assoc, le_refl, eqb-true, All, Option, Some, None, IfSome, OnSome, Result, Ok, Bor, refl, sym, ap, subst, ◌∙◌, arith}
 use Rattle.std.proofs.lemmas.List.{get_or_default}
 use Rattle.std.specs.Io.{StartsWith}
 use Rattle.std.specs.Io.BufRead.{take_through, drop_through, FillKeeps, DropsConsumable}
@@ -73,6 +73,22 @@ module _ (shown xs : List ℕ) (front : StartsWith xs shown) where
       let split = starts_with_rest xs shown front in
       let none : All (λ x. x ≢ 10) shown = λ j d below is. nowhere j (omega arith) below (eq-eqb _ _ (get_or_default shown j 0 d below ∙ is)) in
       (ap (take_through 10) split ∙ take_through-append 10 shown _ none, ap (drop_through 10) split ∙ drop_through-append 10 shown _ none)
+
+-- the first bytes of what is shown are shown
+pub front_shown : (a : Option (List ℕ)) (shown : List ℕ) (most : ℕ) → most ≤ length shown → IfSome a (λ xs. StartsWith xs shown) → IfSome a (λ xs. StartsWith xs (take most shown))
+front_shown None shown most within front = tt
+front_shown (Some xs) shown most within front = ap (λ n. take n xs) (length-take-le most shown within) ∙ sym (shown_take shown xs front most within)
+
+pub end_shown : (a : Option (List ℕ)) (shown : List ℕ) (most : ℕ) → most ≤ length shown → (most ≡ 0 → length shown ≡ 0) → IfSome a (λ xs. length shown ≡ 0 → xs ≡ [])
+    → IfSome a (λ xs. length (take most shown) ≡ 0 → xs ≡ [])
+end_shown None shown most within none end = tt
+end_shown (Some xs) shown most within none end = λ empty. end (none (sym (length-take-le most shown within) ∙ empty))
+
+pub fits_shown : (a : Option (List ℕ)) (limit : Option ℕ) (shown : List ℕ) (most : ℕ) → most ≤ length shown → IfSome a (λ _. IfSome limit (λ n. length shown ≤ n))
+    → IfSome a (λ _. IfSome limit (λ n. length (take most shown) ≤ n))
+fits_shown None limit shown most within fits = tt
+fits_shown (Some xs) None shown most within fits = tt
+fits_shown (Some xs) (Some n) shown most within fits = omega (arith, fits, length-take-le most shown within)
 
 -- the first count bytes of what is shown belong to the first line, and whether they end it
 pub record IsLinePart (shown : List ℕ) (count : ℕ) (whole : Bool) : Type 0 where

@@ -5,7 +5,7 @@ use Rattle.std.specs.declared.io.ErrorKind.{ErrorKind}
 use Rattle.std.specs.declared.io.ErrorKind.TheVariants.{Other as OtherKind}
 use Rattle.std.proofs.lemmas.Bool.{lt-ltb}
 use Rattle.std.proofs.lemmas.List.Folds.{concat-append}
-use Rattle.lsp_message.specs.Frame.{body_of, frame_of}
+use Rattle.lsp_message.specs.Frame.{body_of, frame_of, header_under}
 use Rattle.lsp_message.specs.Gathering.{IsFromReader}
 use Rattle.lsp_message.specs.HeaderPart.{header_of, at_last_line}
 use Rattle.lsp_message.specs.Reading.{Answers, StopsWithin, found}
@@ -16,6 +16,7 @@ use Rattle.lsp_message.specs.declared.frame.ReadFault.{ReadFault}
 use Rattle.lsp_message.specs.declared.frame.ReadFault.TheVariants.{Input, Memory, ShortBody, TooLong}
 use Rattle.lsp_message.specs.declared.frame.header.HeaderLine.{HeaderLine}
 use Rattle.lsp_message.specs.declared.frame.header.HeaderLine.TheVariants.{Blank, Length, Other}
+use Rattle.lsp_message.specs.declared.frame.limits.Limits.{Limits}
 use Rattle.lsp_message.proofs.Contents.{header_refused, content_too_long, content_refused, frame_answered}
 use Rattle.lsp_message.proofs.ContentParts.{decoded, not_there, not_read}
 use Rattle.lsp_message.proofs.HeaderSteps.{Continues, Continues-stops, Next, next, header_after-none}
@@ -144,25 +145,25 @@ takes_nothing old kind r came = ⊎_elim
 
 -- ---- a frame
 
-module _ {M : Type 0} (means : List ℕ → Result M ReadFault) (limit : ℕ) {X : Type 0} (view : X → M) where
+module _ {M : Type 0} (means : List ℕ → Result M ReadFault) (limit : Limits) {X : Type 0} (view : X → M) where
   -- the header part was not read
-  pub told_refused : (fault : ReadFault) (parts : Parts) → IsOfParts {X = ℕ} (λ n. n) header_of (Err fault) parts → IsOfParts view (frame_of means limit) (Err fault) parts
+  pub told_refused : (fault : ReadFault) (parts : Parts) → IsOfParts {X = ℕ} (λ n. n) (header_under limit.header) (Err fault) parts → IsOfParts view (frame_of means limit) (Err fault) parts
   told_refused fault parts header = λ rest may. at fault rest (header rest may)
     where
-      at : (fault : ReadFault) (rest : List ℕ) → Answers {X = ℕ} (λ n. n) (Err fault) (Some rest) (header_of (concat parts ++ rest))
+      at : (fault : ReadFault) (rest : List ℕ) → Answers {X = ℕ} (λ n. n) (Err fault) (Some rest) (header_under limit.header (concat parts ++ rest))
           → Answers view (Err fault) (Some rest) (frame_of means limit (concat parts ++ rest))
       at (Input kind) rest header = header_refused means limit view (Input kind) (Some (concat parts ++ rest)) (Some rest) header
       at Memory rest header = header_refused means limit view (Input OtherKind) (Some (concat parts ++ rest)) (Some rest) header
       at fault rest header = header_refused means limit view fault (Some (concat parts ++ rest)) (Some rest) header
 
   -- the input ended
-  pub told_none : (parts : Parts) → IsOfParts {X = ℕ} (λ n. n) header_of (Ok None) parts → IsOfParts view (frame_of means limit) (Ok None) parts
+  pub told_none : (parts : Parts) → IsOfParts {X = ℕ} (λ n. n) (header_under limit.header) (Ok None) parts → IsOfParts view (frame_of means limit) (Ok None) parts
   told_none parts header = λ rest may. let read = header rest may in rw (read.0) (refl, read.1)
 
-  pub told_long : (n : ℕ) (parts : Parts) → limit < n → IsOfParts {X = ℕ} (λ n. n) header_of (Ok (Some n)) parts → IsOfParts view (frame_of means limit) (Err TooLong) parts
+  pub told_long : (n : ℕ) (parts : Parts) → limit.content < n → IsOfParts {X = ℕ} (λ n. n) (header_under limit.header) (Ok (Some n)) parts → IsOfParts view (frame_of means limit) (Err TooLong) parts
   told_long n parts above header = λ rest may. content_too_long means limit view (Some (concat parts ++ rest)) (Some rest) n above (header rest tt)
 
-module _ (limit : ℕ) {X : Type 0} (view : X → List ℕ) (n : ℕ) (within : n ≤ limit) (ps qs : Parts) (header : IsOfParts {X = ℕ} (λ n. n) header_of (Ok (Some n)) ps) where
+module _ (limit : Limits) {X : Type 0} (view : X → List ℕ) (n : ℕ) (within : n ≤ limit.content) (ps qs : Parts) (header : IsOfParts {X = ℕ} (λ n. n) (header_under limit.header) (Ok (Some n)) ps) where
   pub told_content : (x : X) → IsOfParts view (body_of Ok n) (Ok (Some x)) qs → IsOfParts view (frame_of Ok limit) (Ok (Some x)) (ps ++ qs)
   told_content x body = λ rest may.
       subst (λ text. Answers view (Ok (Some x)) (Some rest) (frame_of Ok limit text)) (sym (joined ps qs rest))
@@ -180,7 +181,7 @@ Told-trans P Q R t u v a b c f first second =
 
 -- ---- a message
 
-module _ {M : Type 0} (means : List ℕ → Result M ReadFault) (limit : ℕ) {X Y : Type 0} (view : X → M) (shown : Y → List ℕ) where
+module _ {M : Type 0} (means : List ℕ → Result M ReadFault) (limit : Limits) {X Y : Type 0} (view : X → M) (shown : Y → List ℕ) where
   pub told_decoded : (content : Y) (r : Result X ReadFault) (parts : Parts) → IsOfParts shown (frame_of Ok limit) (Ok (Some content)) parts → Decodes view r (means (shown content))
       → IsOfParts view (frame_of means limit) (found r) parts
   told_decoded content r parts read decodes = λ rest may. decoded means limit view shown (Some (concat parts ++ rest)) (Some rest) content r (read rest tt) decodes

@@ -4,7 +4,7 @@ use Rattle.std.specs.Prelude.{ℕ, List, ◌++◌, Option, Some, codes}
 use Rattle.std.specs.declared.io.ErrorKind.{ErrorKind}
 use Rattle.std.specs.declared.io.ErrorKind.TheVariants.{InvalidData, UnexpectedEof, OutOfMemory}
 use Rattle.lsp_message.specs.declared.frame.ReadFault.{ReadFault}
-use Rattle.lsp_message.specs.declared.frame.ReadFault.TheVariants.{Input, LineNotText, LineEnd, NoSeparator, BadLength, NoLength, ShortBody, BodyNotText, NoJson, NoMessage, Memory, TooLong, Batch}
+use Rattle.lsp_message.specs.declared.frame.ReadFault.TheVariants.{Input, LineNotText, LineEnd, NoSeparator, BadLength, NoLength, ShortBody, BodyNotText, NoJson, NoMessage, Memory, TooLong, Batch, HeaderTooLong}
 use Rattle.lsp_message.specs.declared.frame.WriteFault.{WriteFault}
 use Rattle.lsp_message.specs.declared.frame.WriteFault.TheVariants.{Output, Memory as NoMemory}
 
@@ -22,6 +22,7 @@ read_fault_number NoMessage = 10
 read_fault_number Memory = 11
 read_fault_number TooLong = 12
 read_fault_number Batch = 13
+read_fault_number HeaderTooLong = 14
 
 -- the reader's own, for an input that failed
 abbrev pub read_fault_kind : ReadFault → ErrorKind
@@ -38,6 +39,7 @@ read_fault_kind NoMessage = InvalidData
 read_fault_kind Memory = OutOfMemory
 read_fault_kind TooLong = InvalidData
 read_fault_kind Batch = InvalidData
+read_fault_kind HeaderTooLong = InvalidData
 
 abbrev pub write_fault_number : WriteFault → ℕ
 write_fault_number (Output kind) = 1

@@ -11,6 +11,7 @@ pub mod HeaderPart
 pub mod Id
 pub mod IdKeys
 pub mod IdLaws
+pub mod Limits
 pub mod Messages
 pub mod Listed
 pub mod Meaning

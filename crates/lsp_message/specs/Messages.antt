@@ -6,6 +6,7 @@ pub use Rattle.lsp_message.specs.Frame.{Begins}
 use Rattle.lsp_message.specs.Message.{Message}
 pub use Rattle.lsp_message.specs.Methods.{is_exit}
 use Rattle.lsp_message.specs.declared.frame.ReadFault.{ReadFault}
+use Rattle.lsp_message.specs.declared.frame.limits.Limits.{Limits}
 
 -- what ends the messages of a text
 pub data Ending : Type 0 where
@@ -16,8 +17,8 @@ pub data Ending : Type 0 where
   -- a frame that can't be read
   failed : ReadFault → Ending
 
--- content parts have at most so many bytes
-module _ (limit : ℕ) where
+-- the parts of a frame have at most so many bytes
+module _ (limit : Limits) where
   -- the text begins with this message, which isn't the last one, and the rest follows it
   abbrev pub Passes : List ℕ → Message → List ℕ → Type 0
   Passes text m rest = Begins limit text m rest × (is_exit m ≡ false)

@@ -1,6 +1,6 @@
 -- Words of the private clauses on what was taken.
 use Rattle.std.specs.List.{concat}
-use Rattle.std.specs.Prelude.{◌≡◌, ◌≢◌, ◌⊎◌, ℕ, true, false, Bool, List, [], ◌∷◌, ◌++◌, All, Option, Some, None, Result, Ok, Err}
+use Rattle.std.specs.Prelude.{◌≡◌, ◌≢◌, ◌⊎◌, ℕ, ◌+◌, true, false, Bool, List, [], ◌∷◌, ◌++◌, length, All, Option, Some, None, Result, Ok, Err}
 use Rattle.lsp_message.specs.HeaderPart.{header_line}
 use Rattle.lsp_message.specs.Told.{Parts, shows_end}
 use Rattle.lsp_message.specs.declared.frame.header.HeaderLine.{HeaderLine}
@@ -8,6 +8,10 @@ use Rattle.lsp_message.specs.declared.frame.place.InPlace.{InPlace}
 use Rattle.lsp_message.specs.declared.frame.place.InPlace.TheVariants.{Whole, Cut, AtEnd}
 use Rattle.lsp_message.specs.declared.frame.ReadFault.{ReadFault}
 use Rattle.lsp_message.specs.declared.frame.ReadFault.TheVariants.{Input, Memory}
+
+-- what was taken meanwhile is what the room lost
+abbrev pub Spends : Parts → Parts → ℕ → ℕ → Type 0
+Spends before after old new = new + length (concat after) ≡ old + length (concat before)
 
 -- no byte is a line feed
 abbrev pub HasNoFeed : List ℕ → Type 0

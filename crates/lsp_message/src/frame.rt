@@ -12,6 +12,7 @@ use std::{fmt, io};
 pub(crate) mod body;
 pub(crate) mod content;
 pub(crate) mod header;
+pub(crate) mod limits;
 pub(crate) mod line;
 pub(crate) mod passed;
 pub(crate) mod place;
@@ -27,7 +28,7 @@ pub(crate) mod write;
 /// All but `Input` and `Memory` are facts about the bytes. What follows the bytes at fault stays unread.
 #[derive(Clone, Copy, Debug, PartialEq, Eq)]
 pub enum ReadFault {
-    /// 1: the reader failed in this call, with this kind. Or the message has 2^64 - 1 header lines (kind `Other`).
+    /// 1: the reader failed in this call, with this kind. Or the header part has 2^64 - 1 lines or bytes (kind `Other`).
     Input(ErrorKind),
     /// 2: a header line is not UTF-8.
     LineNotText,
@@ -54,10 +55,12 @@ pub enum ReadFault {
     TooLong,
     /// 13: the content part is a list. JSON-RPC 2.0 makes it a batch (section 6), and batches are not supported.
     Batch,
+    /// 14: the header part is longer than the bound that was given. One byte above the bound was taken, and none after it.
+    HeaderTooLong,
 }
 
 impl ReadFault {
-    /// The fault's number, from 1 to 13.
+    /// The fault's number, from 1 to 14.
     pub fn number(self) -> u8
         ensures { result ≡ read_fault_number self }
     {
@@ -75,6 +78,7 @@ impl ReadFault {
             ReadFault::Memory => 11,
             ReadFault::TooLong => 12,
             ReadFault::Batch => 13,
+            ReadFault::HeaderTooLong => 14,
         }
     }
 
@@ -96,7 +100,8 @@ impl ReadFault {
             | ReadFault::NoJson
             | ReadFault::NoMessage
             | ReadFault::TooLong
-            | ReadFault::Batch => ErrorKind::InvalidData,
+            | ReadFault::Batch
+            | ReadFault::HeaderTooLong => ErrorKind::InvalidData,
         }
     }
 }

@@ -9,6 +9,7 @@ mod msg;
 
 pub use error::ExtractError;
 pub use frame::content::{read_content_telling, read_content_within};
+pub use frame::limits::Limits;
 pub use frame::passed::Passed;
 pub use frame::scan::front;
 pub use frame::write::{write_frames, write_frames_telling};

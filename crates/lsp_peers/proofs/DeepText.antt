@@ -23,7 +23,7 @@ use Rattle.serde_json.specs.Find.{of_integer}
 use Rattle.serde_json.specs.Read.{read, max_depth, of_json}
 use Rattle.serde_json.specs.Written.{number_text, outline, items_outline, members_outline, blank, blank_items, blank_members, compact_text}
 use Rattle.lsp_message.proofs.Ids.{id_flat}
-use Rattle.lsp_message.specs.Frame.{body_means, tree_means, content_of, no_limit, reading_of}
+use Rattle.lsp_message.specs.Frame.{body_means, tree_means, content_of, most_content, reading_of}
 use Rattle.lsp_message.specs.Id as id
 use Rattle.lsp_message.specs.Id.{Id}
 use Rattle.lsp_message.specs.Meaning.{is_i32}
@@ -333,10 +333,10 @@ unread_frame m frame is small deep range other came =
     let header = header_of-frame body fits in
     let refused : (fault : ReadFault) × (body_means body ≡ Err fault) = means (is_utf8 body) (read body) (unread_body m body is.1 deep range) in
     let long : nat_lt (length body) (length body) ≡ false = le-ltb _ _ (omega arith) in
-    let within : nat_lt no_limit (length body) ≡ false = le-ltb no_limit (length body) (omega arith) in
+    let within : nat_lt most_content (length body) ≡ false = le-ltb most_content (length body) (omega arith) in
     let all : take (length body) body ≡ body = take-length body in
     let outcome : (reading_of frame).outcome ≡ Err refused.0 =
-    ap (λ text. (reading_of text).outcome) framed ∙ ap (λ (r : Reading ℕ). (content_of body_means no_limit r.outcome r.rest).outcome) header ∙ rw (within, long, all, refused.1) refl in
+    ap (λ text. (reading_of text).outcome) framed ∙ ap (λ (r : Reading ℕ). (content_of body_means most_content r.outcome r.rest).outcome) header ∙ rw (within, long, all, refused.1) refl in
     let never : ◌≡◌ {A = Result (Option Message) ReadFault} (Err refused.0) (Ok other) = sym outcome ∙ came in
     cc
   where

@@ -10,7 +10,7 @@ use Rattle.lsp_message.specs.Readable.{WritesReadably}
 use Rattle.lsp_message.specs.Tree.{without_null_details}
 use Rattle.lsp_message.specs.View.{message_view}
 use Rattle.lsp_message.specs.declared.frame.ReadFault.{ReadFault}
-use Rattle.lsp_message.specs.declared.frame.ReadFault.TheVariants.{Input, LineNotText, LineEnd, NoSeparator, BadLength, NoLength, ShortBody, BodyNotText, NoJson, NoMessage, Memory, TooLong, Batch}
+use Rattle.lsp_message.specs.declared.frame.ReadFault.TheVariants.{Input, LineNotText, LineEnd, NoSeparator, BadLength, NoLength, ShortBody, BodyNotText, NoJson, NoMessage, Memory, TooLong, Batch, HeaderTooLong}
 use Rattle.lsp_message.specs.declared.frame.Front.TheVariants.{Whole, Fault, More}
 use Rattle.lsp_peers.specs.WorldFault.{fault_of}
 use Rattle.lsp_peers.specs.declared.fault.WorldFault.TheVariants.{Memory as NoMemory}
@@ -56,6 +56,7 @@ no_other_fault NoJson left reading m is found = let e = sym is.0 ∙ found in cc
 no_other_fault NoMessage left reading m is found = let e = sym is.0 ∙ found in cc
 no_other_fault TooLong left reading m is found = let e = sym is.0 ∙ found in cc
 no_other_fault Batch left reading m is found = let e = sym is.0 ∙ found in cc
+no_other_fault HeaderTooLong left reading m is found = let e = sym is.0 ∙ found in cc
 
 module _ (bytes : List ℕ) (start end : ℕ) (ordered : start ≤ end) (within : end ≤ length bytes) (post : Post) (carries : Carries (line_of bytes start end) post) where
   pub write_keeps : (after : List ℕ) (sent_frame : SentFrame) → after ≡ bytes ++ sent_frame.frame → Carries (line_of after start end) (posted post sent_frame)

@@ -188,6 +188,7 @@ fn fault_of_read(fault: ReadFault) -> WorldFault
         | ReadFault::NoJson
         | ReadFault::NoMessage
         | ReadFault::TooLong
+        | ReadFault::HeaderTooLong
         | ReadFault::Batch => WorldFault::NotReadBack,
     }
 }

@@ -14,9 +14,9 @@ use Rattle.lsp_relay.specs.declared.ends.Taken as front
 use Rattle.lsp_relay.specs.declared.ends.Taken.TheVariants as taken
 use Rattle.lsp_relay.specs.declared.account.Account.{Account}
 
--- what a relay's plan is made of: bytes, if they are known, and a bound
+-- what a relay's plan is made of: bytes, if they are known, and two bounds, the first if there is one
 abbrev pub Source : Type 0
-Source = Option (List ℕ) × ℕ
+Source = Option (List ℕ) × (Option ℕ × ℕ)
 
 -- which relay an end belongs to
 abbrev pub Relay : Type 0 → Type 0

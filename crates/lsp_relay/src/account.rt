@@ -20,16 +20,16 @@ pub struct Account<M> {
     pub wakes: u64,
     /// Whether a waker was ever made, if it may send; and if it may take and knows a plan.
     pub wakeable: bool,
-    /// What the relay's plan is made of, if it has one: bytes, if they are known, and a bound.
-    pub source: Option<(Option<LinkedList<u8>>, u64)>,
+    /// What the relay's plan is made of, if it has one: bytes, if they are known, and two bounds, the first if there is one.
+    pub source: Option<(Option<LinkedList<u8>>, (Option<u64>, u64))>,
 }
 
-/// What may be sent on a relay, of these bytes and under this bound.
+/// What may be sent on a relay, of these bytes and under these bounds.
 pub trait Plan<M> {
     ghost use Rattle.std.specs.Prelude.{ℕ, List, Option};
     ghost use Rattle.lsp_relay.specs.declared.ends.Parcel.{Parcel as AnyParcel};
 
-    ghost may_send: { Option (List ℕ) × ℕ → List (AnyParcel M) → Type 0 };
+    ghost may_send: { Option (List ℕ) × (Option ℕ × ℕ) → List (AnyParcel M) → Type 0 };
 }
 
 /// Anything may be sent.
@@ -88,13 +88,13 @@ impl<M> Split<Account<M>> for Lend {
 pub trait Source {
     ghost use Rattle.std.specs.Prelude.{ℕ, List, Option};
 
-    ghost source: { Option (List ℕ) × ℕ };
+    ghost source: { Option (List ℕ) × (Option ℕ × ℕ) };
 }
 
 impl Source for Brand {
     ghost use Rattle.std.specs.Prelude.{None};
 
-    ghost source = { (None, 0) };
+    ghost source = { (None, (None, 0)) };
 }
 
 /// The two roles are given to two passes, which know what may be sent.

@@ -4,6 +4,7 @@ ghost use Rattle.std.specs.Duration.{as_nanos};
 ghost use Rattle.std.specs.IoError.{error_kind};
 ghost use Rattle.std.specs.declared.io.ErrorKind.TheVariants.{InvalidInput, OutOfMemory};
 ghost use Rattle.std.specs.Io.Buffered.{reader_inner};
+ghost use Rattle.lsp_message.specs.Limits.{most_content};
 ghost use Rattle.lsp_server.specs.Words.{channel_of, standard, refused as asks_in_vain};
 ghost use Rattle.lsp_server.specs.Clients.{medium_of, reader_medium, writer_medium, streams, socket as by_socket, file as by_file};
 
@@ -12,6 +13,7 @@ use crate::pipe::PipeStream;
 use crate::socket::{ReadHalf, WriteHalf, halves};
 use crate::stdio::StandardOutput;
 use crate::words::{Channel, NO_PORT, channel_in, is_unknown};
+use lsp_message::Limits;
 use lsp_session::{ClientStreams, SessionEnd};
 use std::fmt::Display;
 use std::io::{BufReader, ErrorKind, Read, Write};
@@ -34,15 +36,22 @@ pub struct ClientOptions {
     /// session a read failed. Afterwards it may be silent as long as it likes, as an editor whose user is away. Without a time it may
     /// be silent from the start. A time of zero gives up every client.
     pub silence: Option<Duration>,
+    /// How many bytes a header part and a content part of a client may have. The streams that `serve` is given have these limits.
+    pub limits: Limits,
 }
 
 impl ClientOptions {
-    /// Half a minute.
+    /// Half a minute, 64 KiB for a header part, and any number of bytes for a content part.
     pub fn new() -> ClientOptions
-        ensures { IsSomeAnd result.silence (λ time. as_nanos time ≡ 30000000000) }
+        ensures silence { IsSomeAnd result.silence (λ time. as_nanos time ≡ 30000000000) }
+        ensures limits { result.limits ≡ record { header = Some 65536; content = most_content } }
     {
         ClientOptions {
             silence: Some(Duration::from_secs(SILENT_SECONDS)),
+            limits: Limits {
+                header: Some(Limits::HEADER_BYTES),
+                content: u64::MAX,
+            },
         }
     }
 }
@@ -119,7 +128,7 @@ impl<R: Print, S: OpenStream + Drop + Write> Write for ClientWriter<R, S> {
 /// let options = ClientOptions::new();
 /// let served = serve_clients(&rt, words.as_slice(), options, |mut client| {
 ///     let mut bad_bodies = EndSession;
-///     let mut transport = client.transport(alloc, &mut bad_bodies, u64::MAX);
+///     let mut transport = client.transport(alloc, &mut bad_bodies);
 ///     let (_checker, answer) = serve(alloc, &mut transport, Checker::new(alloc));
 ///     answer
 /// })?;
@@ -136,7 +145,7 @@ impl<R: Print, S: OpenStream + Drop + Write> Write for ClientWriter<R, S> {
 ///
 /// A client that waits for the one before it gets no reply until that one is gone. One that says nothing at all is given up as `options` say,
 /// and one that reads nothing, or very little, after half a minute. Once a session has ended, its client is cut off. Whoever reaches the
-/// address is served, so `serve` should have a limit where strangers do.
+/// address is served, so where strangers do, the options should limit the content part too.
 pub fn serve_clients<R, F, E>(
     rt: &R,
     words: &[String],
@@ -154,7 +163,8 @@ where
     ensures outcome { IfOk result (λ outcome.
         (client : _) × F.post serve client outcome
         × (medium_of (channel_of (map string_bytes words.now)) ≡ Some (reader_medium (reader_inner client.reader)))
-        × (medium_of (channel_of (map string_bytes words.now)) ≡ Some (writer_medium client.writer))) }
+        × (medium_of (channel_of (map string_bytes words.now)) ≡ Some (writer_medium client.writer))
+        × (client.limits ≡ options.limits)) }
     ensures memory { IfErr result (λ error. channel_of (map string_bytes words.now) ≡ standard
         → error_kind error ≡ OutOfMemory) }
     ensures refused { channel_of (map string_bytes words.now) ≡ asks_in_vain
@@ -162,10 +172,10 @@ where
 {
     name_unknown(rt, words);
     match channel_in(words) {
-        Channel::Standard => serve_standard(rt, &serve),
+        Channel::Standard => serve_standard(rt, options.limits, &serve),
         Channel::Address(address) => serve_socket(rt, address, &options, &serve),
-        Channel::Port(port) => serve_port(rt, port, &serve),
-        Channel::Pipe(name) => serve_pipe(rt, name, &serve),
+        Channel::Port(port) => serve_port(rt, port, options.limits, &serve),
+        Channel::Pipe(name) => serve_pipe(rt, name, options.limits, &serve),
         Channel::Refused(reason) => Err(io::Error::new(ErrorKind::InvalidInput, reason)),
     }
 }
@@ -180,7 +190,7 @@ fn name_unknown<R: Eprint>(rt: &R, words: &[String]) {
 }
 
 /// Serves the client of standard input and output.
-fn serve_standard<R, F, E>(rt: &R, serve: &F) -> io::Result<Result<SessionEnd, E>>
+fn serve_standard<R, F, E>(rt: &R, limits: Limits, serve: &F) -> io::Result<Result<SessionEnd, E>>
 where
     R: Net + AllocGlobal + Input + Print + Copy + Drop,
     F: Fn(
@@ -190,17 +200,25 @@ where
     requires { F.IsAlwaysCallable serve.now }
     ensures outcome { IfOk result (λ outcome.
         (client : _) × F.post serve.now client outcome
-        × (reader_medium (reader_inner client.reader) ≡ streams) × (writer_medium client.writer ≡ streams)) }
+        × (reader_medium (reader_inner client.reader) ≡ streams) × (writer_medium client.writer ≡ streams)
+        × (client.limits ≡ limits)) }
     ensures memory { IfErr result (λ error. error_kind error ≡ OutOfMemory) }
 {
     let input = ClientReader::Standard(rt.reader());
     let reader = BufReader::with_capacity(rt.alloc(), READ_AHEAD, input)?;
     let writer = ClientWriter::Standard(StandardOutput::new(*rt));
-    Ok(serve(ClientStreams::new(reader, writer)))
+    let mut client = ClientStreams::new(reader, writer);
+    client.limits = limits;
+    Ok(serve(client))
 }
 
 /// Serves the client that listens at a port of this machine.
-fn serve_port<R, F, E>(rt: &R, port: &str, serve: &F) -> io::Result<Result<SessionEnd, E>>
+fn serve_port<R, F, E>(
+    rt: &R,
+    port: &str,
+    limits: Limits,
+    serve: &F,
+) -> io::Result<Result<SessionEnd, E>>
 where
     R: Net + AllocGlobal + Input + Print + Copy + Drop,
     F: Fn(
@@ -210,18 +228,26 @@ where
     requires { F.IsAlwaysCallable serve.now }
     ensures { IfOk result (λ outcome.
         (client : _) × F.post serve.now client outcome
-        × (reader_medium (reader_inner client.reader) ≡ by_socket) × (writer_medium client.writer ≡ by_socket)) }
+        × (reader_medium (reader_inner client.reader) ≡ by_socket) × (writer_medium client.writer ≡ by_socket)
+        × (client.limits ≡ limits)) }
 {
     let Ok(port) = port.parse::<u16>() else {
         return Err(io::Error::new(ErrorKind::InvalidInput, NO_PORT));
     };
     let stream = TcpStream::connect(rt, (Ipv4Addr::LOCALHOST, port))?;
     let (input, output) = socket_ends(rt, stream, None)?;
-    Ok(serve(ClientStreams::new(input, output)))
+    let mut client = ClientStreams::new(input, output);
+    client.limits = limits;
+    Ok(serve(client))
 }
 
 /// Serves the client that listens at a socket file.
-fn serve_pipe<R, F, E>(rt: &R, name: &str, serve: &F) -> io::Result<Result<SessionEnd, E>>
+fn serve_pipe<R, F, E>(
+    rt: &R,
+    name: &str,
+    limits: Limits,
+    serve: &F,
+) -> io::Result<Result<SessionEnd, E>>
 where
     R: Net + AllocGlobal + Input + Print + Copy + Drop,
     F: Fn(
@@ -231,12 +257,15 @@ where
     requires { F.IsAlwaysCallable serve.now }
     ensures { IfOk result (λ outcome.
         (client : _) × F.post serve.now client outcome
-        × (reader_medium (reader_inner client.reader) ≡ by_file) × (writer_medium client.writer ≡ by_file)) }
+        × (reader_medium (reader_inner client.reader) ≡ by_file) × (writer_medium client.writer ≡ by_file)
+        × (client.limits ≡ limits)) }
 {
     let (reader, writer) = halves(PipeStream::connect(rt, name)?, None)?;
     let reader = BufReader::with_capacity(rt.alloc(), READ_AHEAD, ClientReader::Pipe(reader))?;
     let writer = ClientWriter::Pipe(writer);
-    Ok(serve(ClientStreams::new(reader, writer)))
+    let mut client = ClientStreams::new(reader, writer);
+    client.limits = limits;
+    Ok(serve(client))
 }
 
 /// Serves the clients that connect to an address. It returns only if nobody may listen there.
@@ -289,7 +318,9 @@ where
             return;
         }
     };
-    let _ = match serve(ClientStreams::new(reader, writer)) {
+    let mut client = ClientStreams::new(reader, writer);
+    client.limits = options.limits;
+    let _ = match serve(client) {
         Ok(SessionEnd::ShutDown) => Ok(()),
         Ok(SessionEnd::Closed) => eprintln!(rt; "the client left without a shutdown"),
         Err(error) => eprintln!(rt; "{error:#}"),

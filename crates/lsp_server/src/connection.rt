@@ -10,7 +10,7 @@ use crate::unread_weights::{UNREAD_WEIGHT, UnreadWeights};
 use crate::writer_end::WritesChannel;
 use crate::writing::write_all;
 use crossbeam_channel::{Receiver, Sender, bounded, unbounded};
-use lsp_message::{Message, Request, RequestId};
+use lsp_message::{Limits, Message, Request, RequestId};
 use lsp_session::{
     CallGate, ProtocolError, finish, finish_within, initialize_result, shutdown, start_within,
 };
@@ -58,8 +58,8 @@ impl Connection {
         Ok((first, second))
     }
 
-    /// Makes a connection over any reader and writer, such as the pipes of a child process. A content part may have at most
-    /// `limit` bytes; with `u64::MAX` any number. Of messages that nobody received `UNREAD_WEIGHT` may be in memory.
+    /// Makes a connection over any reader and writer, such as the pipes of a child process. A longer header part or content
+    /// part than `limits` allow is read fault 14 or 12 of `IoThreads::join`. Of messages that nobody received `UNREAD_WEIGHT` may be in memory.
     ///
     /// The reader gets a buffer here. The writer needs none: frames of messages that wait together are one write. The faults are
     /// those of `stdio`.
@@ -67,7 +67,7 @@ impl Connection {
         rt: &R,
         reader: S,
         writer: W,
-        limit: u64,
+        limits: Limits,
     ) -> Result<(Connection, IoThreads), IoFault>
     where
         R: Threads + Wait + Clock + AllocGlobal + Copy + Drop + Send + 'static,
@@ -75,7 +75,7 @@ impl Connection {
         W: Write + Drop + Send + 'static,
         ensures { IfErr result (λ fault. is_start_fault fault ≡ true) }
     {
-        Connection::over_within(rt, reader, writer, limit, UNREAD_WEIGHT)
+        Connection::over_within(rt, reader, writer, limits, UNREAD_WEIGHT)
     }
 
     /// As `over`, with a bound on what may be unread: what was read and not taken from `receiver` weighs at most `unread`, as
@@ -87,7 +87,7 @@ impl Connection {
         rt: &R,
         reader: S,
         writer: W,
-        limit: u64,
+        limits: Limits,
         unread: u64,
     ) -> Result<(Connection, IoThreads), IoFault>
     where
@@ -101,7 +101,7 @@ impl Connection {
             return Err(IoFault::Memory);
         };
         let bounds = Bounds {
-            limit,
+            limits,
             bound: unread,
             unread: UnreadWeights::new(alloc, CHANNEL_ROOM + 1)?,
         };

@@ -8,6 +8,7 @@ ghost use Rattle.lsp_service.specs.Law.{LawfulSession};
 ghost use Rattle.lsp_service.specs.QueuedServer.{ServerSession};
 ghost use Rattle.lsp_service.specs.Stated.{unwoken};
 ghost use Rattle.lsp_threads.specs.Threads.{ThreadsGive, ThreadsTell};
+ghost use Rattle.lsp_message.specs.declared.frame.limits.Limits.{Limits};
 
 pub use lsp_dispatch::laws::replies_once;
 pub use lsp_message::laws::{
@@ -33,7 +34,7 @@ pub use lsp_threads::laws::{
 /// A session of a server in threads keeps the laws, as `server_keeps_laws` says it of one on one thread: a fact of each session that
 /// was run by `run_threads_with`, with a limit or without one, and that passes over nothing.
 pub fn server_in_threads_keeps_laws<S: Server>()
-    ensures { (limit : ℕ) (first last : S) (text : List ℕ) (before after : Option (List ℕ))
+    ensures { (limit : Limits) (first last : S) (text : List ℕ) (before after : Option (List ℕ))
         (answer : Result EndOfSession FaultOfSession)
         → ThreadsGive limit (ServerSession (unwoken S.Server) first last) text before after answer
         → ThreadsGive limit (LawfulSession (unwoken S.Server) first last) text before after answer }
@@ -42,13 +43,13 @@ pub fn server_in_threads_keeps_laws<S: Server>()
 /// `server_in_threads_keeps_laws` of a session with a listener: a fact of each session that was run by `run_threads_with`. With a listener
 /// that passes over nothing, such as `EndSession`, it is one in which each frame is a message (`nothing_passed`).
 pub fn server_in_threads_that_asks_keeps_laws<S: Server, L: Listener>()
-    ensures bytes { (limit : ℕ) (first last : S) (text : List ℕ) (heard heard_last : L)
+    ensures bytes { (limit : Limits) (first last : S) (text : List ℕ) (heard heard_last : L)
         (before after : Option (List ℕ)) (answer : Result EndOfSession FaultOfSession)
         → ThreadsTell L.hears limit (ServerSession (unwoken S.Server) first last) text heard
         heard_last before after answer
         → ThreadsTell L.hears limit (LawfulSession (unwoken S.Server) first last) text heard
         heard_last before after answer }
-    ensures nothing_passed { (limit : ℕ) (first last : S) (text : List ℕ) (heard heard_last : L)
+    ensures nothing_passed { (limit : Limits) (first last : S) (text : List ℕ) (heard heard_last : L)
         (before after : Option (List ℕ)) (answer : Result EndOfSession FaultOfSession)
         → PassesNothingOver L.hears
         → ThreadsTell L.hears limit (ServerSession (unwoken S.Server) first last) text heard

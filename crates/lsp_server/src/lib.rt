@@ -37,6 +37,7 @@ pub use io_threads::IoThreads;
 pub use lsp_message::ErrorCode;
 pub use lsp_message::ExtractError;
 pub use lsp_message::Front;
+pub use lsp_message::Limits;
 pub use lsp_message::Message;
 pub use lsp_message::Notification;
 pub use lsp_message::ReadFault;

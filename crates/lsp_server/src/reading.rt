@@ -11,7 +11,7 @@ use crate::io_threads::reader_end;
 use crate::outlet::Outlet;
 use crate::unread_weights::{UnreadWeights, weight_of};
 use crossbeam_channel::Sender;
-use lsp_message::{Message, ReadFault, read_content_within};
+use lsp_message::{Limits, Message, ReadFault, read_content_within};
 use lsp_session::{ReadEnd, SendFault, is_exit};
 use lsp_threads::give_back::GivenBack;
 use std::alloc::Global;
@@ -22,8 +22,8 @@ use std::time::Clock;
 /// How much may be read.
 #[derive(Drop)]
 pub(crate) struct Bounds {
-    /// How many bytes a content part may have.
-    pub(crate) limit: u64,
+    /// How many bytes a header part and a content part may have.
+    pub(crate) limits: Limits,
     /// How much may be unread.
     pub(crate) bound: u64,
     /// The account of what is unread, in which nothing is.
@@ -47,13 +47,13 @@ pub(crate) fn read_all<R: Wait + Clock + Drop, B: BufRead + Drop>(
     given_back: GivenBack<Message>,
 ) -> Result<(), IoFault> {
     let Bounds {
-        limit,
+        limits,
         bound,
         unread,
     } = bounds;
     let mut reader = reader;
     let mut outlet = Outlet::new(&rt, alloc, &incoming, &given_back, unread, bound);
-    reader_end(read_messages(alloc, &mut reader, &mut outlet, limit))
+    reader_end(read_messages(alloc, &mut reader, &mut outlet, limits))
 }
 
 /// Hands on a reader's messages, up to and with the first `exit`, as `read_loop_within` does.
@@ -61,14 +61,14 @@ fn read_messages<R: Wait + Clock, B: BufRead>(
     alloc: Global,
     reader: &mut B,
     outlet: &mut Outlet<'_, R>,
-    limit: u64,
+    limits: Limits,
 ) -> ReadEnd
     ensures { IfSome (B.remaining reader.old) (λ text.
-        HandsOn limit text (map message_view outlet.old.sent.messages) (B.remaining reader.new) result
+        HandsOn limits text (map message_view outlet.old.sent.messages) (B.remaining reader.new) result
         (map message_view outlet.new.sent.messages)) }
 {
     for _ in 0..u64::MAX {
-        let Weighed { message, weight } = match read_weighed(alloc, reader, outlet, limit) {
+        let Weighed { message, weight } = match read_weighed(alloc, reader, outlet, limits) {
             Ok(Some(weighed)) => weighed,
             Ok(None) => return ReadEnd::End,
             Err(fault) => return ReadEnd::Fault(fault),
@@ -85,22 +85,22 @@ fn read_messages<R: Wait + Clock, B: BufRead>(
     ReadEnd::Fault(ReadFault::Input(ErrorKind::Other))
 }
 
-/// Reads one message, as `Message::read_within` does, once it may be read. It takes no byte while too much is unread, and makes no
+/// Reads one message, as `Message::read_telling` does, once it may be read. It takes no byte while too much is unread, and makes no
 /// tree that would be too much.
 fn read_weighed<R: Wait + Clock, B: BufRead>(
     alloc: Global,
     reader: &mut B,
     outlet: &mut Outlet<'_, R>,
-    limit: u64,
+    limits: Limits,
 ) -> Result<Option<Weighed>, ReadFault>
     ensures read { IfSome (B.remaining reader.old) (λ text.
-        Answers weighed_view result (B.remaining reader.new) (reading_within limit text)) }
+        Answers weighed_view result (B.remaining reader.new) (reading_within limits text)) }
     ensures unsent { outlet.new.sent.messages ≡ outlet.old.sent.messages }
 {
     if outlet.make_room(0).is_err() {
         return Err(ReadFault::Memory);
     }
-    let content = match read_content_within(alloc, reader, limit)? {
+    let content = match read_content_within(alloc, reader, limits)? {
         Some(content) => content,
         None => return Ok(None),
     };

@@ -40,12 +40,12 @@ where
     S: Server,
     L: Listener,
     ensures told { IfOk result.1 (λ done. OfTaken done.taken.parts (λ text.
-        ThreadsTell L.hears options.limit (ServerSession (unwoken S.Server) server result.0) text
+        ThreadsTell L.hears options.limits (ServerSession (unwoken S.Server) server result.0) text
         bad_bodies.old bad_bodies.new (Some []) (noted done.given) done.answer)) }
     ensures passed { IfOk result.1 (λ done. TakenFrom (R.remaining reader) done.taken.parts
         × GivenTo (W.contents writer) done.given.parts (W.contents done.writer)) }
     ensures session { IfSome (R.remaining reader) (λ text. IfOk result.1 (λ done.
-        ThreadsTell L.hears options.limit (ServerSession (unwoken S.Server) server result.0) text
+        ThreadsTell L.hears options.limits (ServerSession (unwoken S.Server) server result.0) text
         bad_bodies.old bad_bodies.new (W.contents writer) (W.contents done.writer) done.answer)) }
 {
     let mut queued = QueuedServer::new(alloc, server);

@@ -9,6 +9,7 @@ ghost use Rattle.lsp_server.specs.declared.io_fault.IoFault.TheVariants.{Socket}
 use crate::connection::Connection;
 use crate::io_fault::IoFault;
 use crate::io_threads::IoThreads;
+use lsp_message::Limits;
 use std::io;
 use std::io::{ErrorKind, Read, Write};
 use std::net::{Net, OpenListener, OpenStream, Shutdown, TcpListener, TcpStream, ToSocketAddrs};
@@ -39,15 +40,15 @@ impl Connection {
         A: ToSocketAddrs,
         ensures { IfErr result (λ fault. is_connect_fault fault ≡ true) }
     {
-        Connection::connect_within(rt, addr, u64::MAX)
+        Connection::connect_within(rt, addr, Limits::none())
     }
 
-    /// As `connect`, with a limit on what is read. If a content part is longer than `limit` bytes, `IoThreads::join` answers read
-    /// fault 12.
+    /// As `connect`, with limits on what is read. After a content part that is too long `IoThreads::join` answers read fault 12, and after
+    /// such a header part read fault 14.
     pub fn connect_within<R, A>(
         rt: &R,
         addr: A,
-        limit: u64,
+        limits: Limits,
     ) -> Result<(Connection, IoThreads), IoFault>
     where
         R: Net + Threads + Wait + Clock + AllocGlobal + Copy + Drop + Send + 'static,
@@ -56,7 +57,7 @@ impl Connection {
         ensures { IfErr result (λ fault. is_connect_fault fault ≡ true) }
     {
         let stream = TcpStream::connect(rt, addr).map_err(socket_fault)?;
-        Connection::over_stream(rt, stream, limit)
+        Connection::over_stream(rt, stream, limits)
     }
 
     /// Listens at the address, and gives a connection to the first peer that comes. Then it listens no more, and cuts off any
@@ -71,15 +72,15 @@ impl Connection {
         A: ToSocketAddrs,
         ensures { IfErr result (λ fault. is_connect_fault fault ≡ true) }
     {
-        Connection::listen_within(rt, addr, u64::MAX)
+        Connection::listen_within(rt, addr, Limits::none())
     }
 
-    /// As `listen`, with a limit on what is read. If a content part is longer than `limit` bytes, `IoThreads::join` answers read
-    /// fault 12. Use it if strangers can connect.
+    /// As `listen`, with limits on what is read. After a content part that is too long `IoThreads::join` answers read fault 12, and after
+    /// such a header part read fault 14. Use it, with both limits, if strangers can connect.
     pub fn listen_within<R, A>(
         rt: &R,
         addr: A,
-        limit: u64,
+        limits: Limits,
     ) -> Result<(Connection, IoThreads), IoFault>
     where
         R: Net + Threads + Wait + Clock + AllocGlobal + Copy + Drop + Send + 'static,
@@ -90,17 +91,17 @@ impl Connection {
         let listener = TcpListener::bind(rt, addr).map_err(socket_fault)?;
         let (stream, _peer) = listener.accept().map_err(socket_fault)?;
         drop(listener);
-        Connection::over_stream(rt, stream, limit)
+        Connection::over_stream(rt, stream, limits)
     }
 
-    /// Makes a connection over a stream that you accepted, for example from a listener at a port that the system chose. A content
-    /// part may have at most `limit` bytes; with `u64::MAX` any number.
+    /// Makes a connection over a stream that you accepted, for example from a listener at a port that the system chose. The
+    /// limits are those of `listen_within`.
     ///
     /// The faults are those of `connect`.
     pub fn over_stream<R>(
         rt: &R,
         stream: R::Stream,
-        limit: u64,
+        limits: Limits,
     ) -> Result<(Connection, IoThreads), IoFault>
     where
         R: Net + Threads + Wait + Clock + AllocGlobal + Copy + Drop + Send + 'static,
@@ -108,7 +109,7 @@ impl Connection {
         ensures { IfErr result (λ fault. is_connect_fault fault ≡ true) }
     {
         let (reader, writer) = halves(stream, None).map_err(socket_fault)?;
-        Connection::over(rt, reader, writer, limit)
+        Connection::over(rt, reader, writer, limits)
     }
 }
 

@@ -5,6 +5,7 @@ ghost use Rattle.lsp_server.specs.IoFault.{is_start_fault};
 use crate::connection::Connection;
 use crate::io_fault::IoFault;
 use crate::io_threads::IoThreads;
+use lsp_message::Limits;
 use std::io;
 use std::io::Write;
 use std::sync::Wait;
@@ -30,18 +31,18 @@ impl Connection {
         R::Reader: Send + 'static,
         ensures { IfErr result (λ fault. is_start_fault fault ≡ true) }
     {
-        Connection::stdio_within(rt, u64::MAX)
+        Connection::stdio_within(rt, Limits::none())
     }
 
-    /// As `stdio`, with a limit on what is read (LSP 3.17, "Base Protocol"). If a content part is longer than `limit` bytes,
-    /// `IoThreads::join` answers read fault 12.
-    pub fn stdio_within<R>(rt: &R, limit: u64) -> Result<(Connection, IoThreads), IoFault>
+    /// As `stdio`, with limits on what is read (LSP 3.17, "Base Protocol"). After a content part that is too long `IoThreads::join` answers
+    /// read fault 12, and after such a header part read fault 14.
+    pub fn stdio_within<R>(rt: &R, limits: Limits) -> Result<(Connection, IoThreads), IoFault>
     where
         R: Threads + Wait + Clock + AllocGlobal + Input + Print + Copy + Drop + Send + 'static,
         R::Reader: Send + 'static,
         ensures { IfErr result (λ fault. is_start_fault fault ≡ true) }
     {
-        Connection::over(rt, rt.reader(), StandardOutput::new(*rt), limit)
+        Connection::over(rt, rt.reader(), StandardOutput::new(*rt), limits)
     }
 }
 

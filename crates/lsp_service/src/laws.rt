@@ -2,6 +2,7 @@
 ghost use Rattle.std.specs.Prelude.{◌≡◌, ℕ, List, Option, Result};
 ghost use Rattle.lsp_message.specs.Id.{Id};
 ghost use Rattle.lsp_message.specs.Message.{Message};
+ghost use Rattle.lsp_message.specs.declared.frame.limits.Limits.{Limits};
 ghost use Rattle.lsp_queue.specs.Queue.{Pending};
 ghost use Rattle.lsp_session.specs.PassingBytes.{GivesAndTells, PassesNothingOver};
 ghost use Rattle.lsp_session.specs.Session.{Exchange, SessionAnswer, SessionOut, Stop, messages_of};
@@ -46,7 +47,7 @@ pub fn server_keeps_laws<S: Server>()
         answer)
         → KeepsLaws (unwoken S.Server) first last (held_by (unwoken S.Server) session) exchanges
         stop shutdown_reply answer }
-    ensures bytes { (limit : ℕ) (first last : S) (text : List ℕ)
+    ensures bytes { (limit : Limits) (first last : S) (text : List ℕ)
         (left before after : Option (List ℕ)) (answer : Result EndOfSession FaultOfSession)
         → Gives limit (ServerSession (unwoken S.Server) first last) text left before after answer
         → Gives limit (LawfulSession (unwoken S.Server) first last) text left before after answer }
@@ -55,14 +56,14 @@ pub fn server_keeps_laws<S: Server>()
 /// `server_keeps_laws` of a session with a listener: a fact of each session that was run by `session_with`. With a listener that passes
 /// over nothing, such as `EndSession`, it is one in which each frame is a message (`nothing_passed`).
 pub fn server_that_asks_keeps_laws<S: Server, L: Listener>()
-    ensures bytes { (limit : ℕ) (first last : S) (text : List ℕ) (left : Option (List ℕ))
+    ensures bytes { (limit : Limits) (first last : S) (text : List ℕ) (left : Option (List ℕ))
         (heard heard_last : L) (before after : Option (List ℕ))
         (answer : Result EndOfSession FaultOfSession)
         → GivesAndTells L.hears limit (ServerSession (unwoken S.Server) first last) text left heard
         heard_last before after answer
         → GivesAndTells L.hears limit (LawfulSession (unwoken S.Server) first last) text left heard
         heard_last before after answer }
-    ensures nothing_passed { (limit : ℕ) (first last : S) (text : List ℕ) (left : Option (List ℕ))
+    ensures nothing_passed { (limit : Limits) (first last : S) (text : List ℕ) (left : Option (List ℕ))
         (heard heard_last : L) (before after : Option (List ℕ))
         (answer : Result EndOfSession FaultOfSession)
         → PassesNothingOver L.hears
@@ -121,7 +122,7 @@ pub fn queued_server_runs_its_server<I: Inbox, O: Outbox, S: Server, L: Listener
         answer after
         → Runs I.receives O.sends (ServerSession (unwoken S.Server) server new.server) before answer
         after }
-    ensures bytes { (old new : QueuedOf S S.Payload) (server : S) (limit : ℕ) (text : List ℕ)
+    ensures bytes { (old new : QueuedOf S S.Payload) (server : S) (limit : Limits) (text : List ℕ)
         (left : Option (List ℕ)) (heard heard_last : L) (before after : Option (List ℕ))
         (answer : Result EndOfSession FaultOfSession)
         → seen old ≡ (server, empty_queues)
@@ -151,7 +152,7 @@ pub fn woken_queued_server_runs_its_server<I: Inbox, O: Outbox, S: WokenServer, 
         → Runs I.receives O.sends
         (ServerSession (with_wakes S.Server S.wakes) server new.queued.server) before answer
         after }
-    ensures bytes { (old new : WokenQueuedOf S S.Payload) (server : S) (limit : ℕ) (text : List ℕ)
+    ensures bytes { (old new : WokenQueuedOf S S.Payload) (server : S) (limit : Limits) (text : List ℕ)
         (left : Option (List ℕ)) (heard heard_last : L) (before after : Option (List ℕ))
         (answer : Result EndOfSession FaultOfSession)
         → seen old.queued ≡ (server, empty_queues)

@@ -7,6 +7,7 @@ ghost use Rattle.lsp_service.specs.QueuedServer.{ServerSession};
 
 use crate::queued_server::QueuedServer;
 use crate::server::Server;
+use lsp_message::Limits;
 use lsp_session::{Listener, SessionEnd, SessionFault, StreamTransport, session_of_service};
 use std::alloc::Global;
 use std::io::{BufRead, Write};
@@ -16,7 +17,7 @@ use std::io::{BufRead, Write};
 /// written before the next is read. A response that comes after `shutdown` is passed over: the client's answer may cross it. This contract speaks of readers whose bytes are known, as a slice's. `session_with_over` is the same session
 /// over a transport, with a contract for every reader and writer.
 ///
-/// The lifecycle, the faults, the limit, and what is left in the reader are those of `session_of_service`. So is what comes of a content
+/// The lifecycle, the faults, the limits, and what is left in the reader are those of `session_of_service`. So is what comes of a content
 /// part that is no message: the listener `bad_bodies` is asked whether to read on, and with `EndSession` such a part ends the session. The
 /// server is told nothing of it. The answer is
 /// - `Ok`, if the session ended by `exit`, or from `initialized` on by the end of the input,
@@ -32,15 +33,15 @@ pub fn session_with<R: BufRead, W: Write, S: Server, L: Listener>(
     writer: &mut W,
     server: S,
     bad_bodies: &mut L,
-    limit: u64,
+    limits: Limits,
 ) -> (S, Result<SessionEnd, SessionFault>)
     ensures { IfSome (R.remaining reader.old) (λ text.
-        GivesAndTells L.hears limit (ServerSession (unwoken S.Server) server result.0) text
+        GivesAndTells L.hears limits (ServerSession (unwoken S.Server) server result.0) text
         (R.remaining reader.new)
         bad_bodies.old bad_bodies.new (W.contents writer.old) (W.contents writer.new) result.1) }
 {
     let mut queued = QueuedServer::new(alloc, server);
-    let answer = session_of_service(alloc, reader, writer, &mut queued, bad_bodies, limit);
+    let answer = session_of_service(alloc, reader, writer, &mut queued, bad_bodies, limits);
     (queued.into_server(), answer)
 }
 

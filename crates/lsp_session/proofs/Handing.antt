@@ -20,6 +20,7 @@ use Rattle.std.specs.Io.KnownBytes.{Keeps, Appends}
 use Rattle.lsp_message.specs.Written.{IsFrameOf, GetsFrames, Writes, AreFramesOf}
 use Rattle.lsp_message.specs.declared.frame.WriteFault.{WriteFault}
 use Rattle.lsp_message.specs.declared.frame.WriteFault.TheVariants.{Output, Memory}
+use Rattle.lsp_message.specs.declared.frame.limits.Limits.{Limits}
 use Rattle.lsp_session.specs.FrameBoxes.{FrameOutboxSends, IsClosed, Told, kept_write}
 use Rattle.lsp_session.specs.WriteLoop.{BreaksOffAt, GivesAll, OffersAll, WritesOut}
 use Rattle.lsp_session.specs.declared.loops.frame_outbox.FrameOutbox.{FrameOutbox}
@@ -27,7 +28,7 @@ use Rattle.std.proofs.lemmas.List.{length_push, map-append}
 use Rattle.lsp_session.specs.Event.{message, closed}
 use Rattle.lsp_session.specs.declared.loops.write.WriteEnd.TheVariants.{Closed, Fault as Broken}
 
-module _ (limit : ℕ) where
+module _ (limit : Limits) where
   -- what a read answered, as the reading of the whole text
   pub begins : (at : List ℕ) (m : Message) → (reading_within limit at).outcome ≡ Ok (Some m) → Begins limit at m (reading_within limit at).rest
   begins at m outcome = ap (λ o. record { outcome = o; rest = (reading_within limit at).rest }) outcome

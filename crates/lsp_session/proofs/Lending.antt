@@ -1,6 +1,7 @@
 -- A session of a handler, from that of the service that lends it.
 use Rattle.lsp_message.specs.Id.{Id}
 use Rattle.lsp_message.specs.Message.{Message, ErrorObject}
+use Rattle.lsp_message.specs.declared.frame.limits.Limits.{Limits}
 use Rattle.lsp_session.proofs.Ran.{StepCase, row, at_initialize, at_initialized, at_served, at_woken, idle, Idle, early_request, early_note, unasked, uninvited, shuts, leaves, exits, late, stays}
 use Rattle.lsp_session.specs.Boxes.{Sends, Receives}
 use Rattle.lsp_session.specs.Event.{Event}
@@ -178,7 +179,7 @@ module _ (P Q : SessionPart)
   }
 
   -- if the bytes are known
-  pub known_as : (limit : ℕ) (known left old new : Option (List ℕ)) (answer : Result SessionEnd SessionFault) → IfSome known (λ text. Gives limit P text left old new answer)
+  pub known_as : (limit : Limits) (known left old new : Option (List ℕ)) (answer : Result SessionEnd SessionFault) → IfSome known (λ text. Gives limit P text left old new answer)
       → IfSome known (λ text. Gives limit Q text left old new answer)
   known_as limit None left old new answer gives = tt
   known_as limit (Some text) left old new answer gives = over_as (ReadsMessage limit) text _ _ gives

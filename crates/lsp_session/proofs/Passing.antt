@@ -9,6 +9,7 @@ use Rattle.lsp_message.specs.declared.frame.ReadFault.TheVariants.{BodyNotText, 
 use Rattle.lsp_message.specs.declared.frame.ReadFault.{ReadFault}
 use Rattle.lsp_message.specs.declared.frame.WriteFault.TheVariants.{Output, Memory as NoMemory}
 use Rattle.lsp_message.specs.declared.frame.WriteFault.{WriteFault}
+use Rattle.lsp_message.specs.declared.frame.limits.Limits.{Limits}
 use Rattle.lsp_session.proofs.Handing.{begins}
 use Rattle.lsp_session.proofs.Lending.{over_as}
 use Rattle.lsp_session.proofs.Ran.{is_no_exit, Facts}
@@ -39,24 +40,24 @@ use Rattle.std.specs.List.{FoldsTo, list_all, filter_map}
 use Rattle.std.specs.Prelude.{Result, Ok, Err, MatchOption, if◌then◌else◌}
 
 -- the first frame of a text is a message, or is passed over; or others woke the session, if they can, and nothing was read
-abbrev pub ReadsFrameOr : (others : Type 0) {L : Type 0} (hears : L → ReadFault → L → Type 0) (limit : ℕ) → List ℕ × L → Option Message → List ℕ × L → Type 0
+abbrev pub ReadsFrameOr : (others : Type 0) {L : Type 0} (hears : L → ReadFault → L → Type 0) (limit : Limits) → List ℕ × L → Option Message → List ℕ × L → Type 0
 ReadsFrameOr others hears limit old (Some m) new = ReadsFrame hears limit old (Some m) new
 ReadsFrameOr others hears limit old None new = (others × (new ≡ old)) ⊎ PassesOver hears limit old new
 
 -- what an inbox gives that passes over content parts, and that others wake, if they can
-abbrev pub GivesOr : (others : Type 0) {L : Type 0} (hears : L → ReadFault → L → Type 0) (limit : ℕ) → Stream × L → Event → Stream × L → Type 0
+abbrev pub GivesOr : (others : Type 0) {L : Type 0} (hears : L → ReadFault → L → Type 0) (limit : Limits) → Stream × L → Event → Stream × L → Type 0
 GivesOr others hears limit old woken new = (others × (old.0.end ≡ None) × (new ≡ old)) ⊎ TolerantGives hears limit old woken new
 GivesOr others hears limit old event new = TolerantGives hears limit old event new
 
 -- the first frames of a text, one after another
-abbrev pub ReadsFrames : (others : Type 0) {L : Type 0} (hears : L → ReadFault → L → Type 0) (limit : ℕ) → List ℕ × L → List (Option Message) → List ℕ × L → Type 0
+abbrev pub ReadsFrames : (others : Type 0) {L : Type 0} (hears : L → ReadFault → L → Type 0) (limit : Limits) → List ℕ × L → List (Option Message) → List ℕ × L → Type 0
 ReadsFrames others hears limit = FoldsTo (ReadsFrameOr others hears limit)
 
 -- the messages of what came
 abbrev messages_in : List (Option Message) → List Message
 messages_in came = filter_map (λ (c : Option Message). c) came
 
-module _ (others : Type 0) {L : Type 0} (hears : L → ReadFault → L → Type 0) (limit : ℕ) where
+module _ (others : Type 0) {L : Type 0} (hears : L → ReadFault → L → Type 0) (limit : Limits) where
   abbrev Gives : Stream × L → Event → Stream × L → Type 0
   Gives = GivesOr others hears limit
 
@@ -66,7 +67,7 @@ module _ (others : Type 0) {L : Type 0} (hears : L → ReadFault → L → Type 
   given event old new gives = gives
 
   -- receives from an inbox, as they are seen, and the reader that it was lent
-  seen_all : {R : Type 0} (remaining : R → Option (List ℕ)) (events : List Event) (old new : TolerantInbox R L) → old.limit ≡ limit
+  seen_all : {R : Type 0} (remaining : R → Option (List ℕ)) (events : List Event) (old new : TolerantInbox R L) → old.limits ≡ limit
       → FoldsTo (TolerantInboxGives remaining hears) old events new
       → FoldsTo Gives (stream_of remaining old, old.listener.now) events (stream_of remaining new, new.listener.now)
       × (new.reader.ghost_name ≡ old.reader.ghost_name) × (new.listener.ghost_name ≡ old.listener.ghost_name)
@@ -276,7 +277,7 @@ module _ (others : Type 0) {L : Type 0} (hears : L → ReadFault → L → Type 
           (left.0, left.1, left.2, (left.3, inl wrote))
 
 -- A session that nobody wakes.
-module _ {L : Type 0} (hears : L → ReadFault → L → Type 0) (limit : ℕ) where
+module _ {L : Type 0} (hears : L → ReadFault → L → Type 0) (limit : Limits) where
   -- so each wake is of a frame that was passed over
   alone : (came : List (Option Message)) (from to : List ℕ × L) → ReadsFrames ⊥ hears limit from came to → FoldsTo (ReadsFrame hears limit) from came to
   alone [] from to run = run
@@ -289,7 +290,7 @@ module _ {L : Type 0} (hears : L → ReadFault → L → Type 0) (limit : ℕ) w
   module _ {R W : Type 0} (remaining : R → Option (List ℕ)) (contents : W → Option (List ℕ)) (P Q : SessionPart) (reason : StopReason)
       (knows : (xs : List Exchange) (stop : Stop) (shutdown_reply : Option Message) (answer : SessionAnswer) → P xs stop shutdown_reply answer
       → Q xs stop shutdown_reply answer × StopsFor reason xs stop shutdown_reply answer × Facts stop (messages_of xs))
-      (inbox inbox' : TolerantInbox R L) (outbox outbox' : FrameOutbox W) (unended : inbox.end ≡ None) (limited : inbox.limit ≡ limit)
+      (inbox inbox' : TolerantInbox R L) (outbox outbox' : FrameOutbox W) (unended : inbox.end ≡ None) (limited : inbox.limits ≡ limit)
       (unfailed : outbox.fault ≡ None)
       (answer : SessionAnswer) (runs : Runs (TolerantInboxGives remaining hears) (FrameOutboxSends contents) P (inbox, outbox) answer (inbox', outbox')) where
     abbrev old : Option (List ℕ)
@@ -376,7 +377,7 @@ module _ {L : Type 0} (hears : L → ReadFault → L → Type 0) (limit : ℕ) w
         at (Some text) is = runs_give text is
 
 -- A listener that passes over nothing: each frame is a message.
-module _ {L : Type 0} (hears : L → ReadFault → L → Type 0) (never : PassesNothingOver hears) (limit : ℕ) where
+module _ {L : Type 0} (hears : L → ReadFault → L → Type 0) (never : PassesNothingOver hears) (limit : Limits) where
   reads_messages : (came : List (Option Message)) (from to : List ℕ × L) → FoldsTo (ReadsFrame hears limit) from came to → FoldsTo (ReadsMessage limit) from.0 came to.0
   reads_messages [] from to run = ap (λ (at : List ℕ × L). at.0) run
   reads_messages (Some m ∷ came) from to run = (run.0.0, run.1.0, reads_messages came run.0 to run.2)
@@ -406,7 +407,7 @@ module _ {L : Type 0} (hears : L → ReadFault → L → Type 0) (never : Passes
 -- A session that is described otherwise, if the bytes are known.
 pub told_as : (P Q : SessionPart)
     (to : (xs : List Exchange) (stop : Stop) (shutdown_reply : Option Message) (answer : SessionAnswer) → P xs stop shutdown_reply answer → Q xs stop shutdown_reply answer)
-    {L : Type 0} (hears : L → ReadFault → L → Type 0) (limit : ℕ) (known left : Option (List ℕ)) (first last : L) (before after : Option (List ℕ)) (result : Result SessionEnd SessionFault)
+    {L : Type 0} (hears : L → ReadFault → L → Type 0) (limit : Limits) (known left : Option (List ℕ)) (first last : L) (before after : Option (List ℕ)) (result : Result SessionEnd SessionFault)
     → IfSome known (λ text. GivesAndTells hears limit P text left first last before after result) → IfSome known (λ text. GivesAndTells hears limit Q text left first last before after result)
 told_as P Q to hears limit None left first last held written result gives = tt
 told_as P Q to hears limit (Some text) left first last held written result gives = over_as P Q to (ReadsFrame hears limit) (text, first) _ _ gives

@@ -2,6 +2,7 @@
 use Rattle.lsp_message.specs.Message.{Message}
 use Rattle.lsp_message.specs.Methods.{is_exit}
 use Rattle.lsp_message.specs.declared.frame.ReadFault.{ReadFault}
+use Rattle.lsp_message.specs.declared.frame.limits.Limits.{Limits}
 use Rattle.lsp_session.specs.Boxes.{Takes, WaitsFor, is_timeout}
 use Rattle.lsp_session.specs.Event.{Event, message, timeout, closed, woken}
 use Rattle.lsp_session.specs.Passing.{ended_at_body}
@@ -27,7 +28,7 @@ by_exit : (b : Bool) → ended_at_body (if b then Some Exit else None) ≡ false
 by_exit true = refl
 by_exit false = refl
 
-module _ (limit : ℕ) (known rest : Option (List ℕ)) (old new : Option ReadEnd) where
+module _ (limit : Limits) (known rest : Option (List ℕ)) (old new : Option ReadEnd) where
   -- what one read that is no wake makes of the end
   at_message : (m : Message) → MatchOption old (StreamReads limit known (message m) new rest) (λ end. (message m ≡ closed) × (new ≡ Some end) × Keeps known rest) → ended_at_body new ≡ false
   at_message m gives = by old gives
@@ -59,8 +60,8 @@ module _ {R W L : Type 0} (remaining : R → Option (List ℕ)) (hears : L → R
   Open transport = ended_at_body transport.end ≡ false
 
   given : (event : Event) (old new : Transport) → gives old event new → (event ≡ closed → ⊥) → Open new
-  given (message m) old new g other = at_message old.limit (remaining old.reader.now) (remaining new.reader.now) old.end new.end m g.0.0.0
-  given timeout old new g other = absurd (no_timeout old.limit (remaining old.reader.now) (remaining new.reader.now) old.end new.end g.0.0.0)
+  given (message m) old new g other = at_message old.limits (remaining old.reader.now) (remaining new.reader.now) old.end new.end m g.0.0.0
+  given timeout old new g other = absurd (no_timeout old.limits (remaining old.reader.now) (remaining new.reader.now) old.end new.end g.0.0.0)
   given closed old new g other = absurd (other refl)
   given woken old new g other = ap (λ (e : Option ReadEnd). ended_at_body e) g.0.0.5
 
@@ -70,7 +71,7 @@ module _ {R W L : Type 0} (remaining : R → Option (List ℕ)) (hears : L → R
       by : (passed : List Event) → list_all is_timeout passed ≡ true → FoldsTo gives old (passed ++ event ∷ []) new → Open new
       by [] only run = subst (λ (transport : Transport). Open transport) run.2 (given event old run.0 run.1 other)
       by (timeout ∷ passed) only run =
-          absurd (no_timeout old.limit (remaining old.reader.now) (remaining run.0.reader.now) old.end run.0.end run.1.0.0.0)
+          absurd (no_timeout old.limits (remaining old.reader.now) (remaining run.0.reader.now) old.end run.0.end run.1.0.0.0)
       by (message m ∷ passed) only run = absurd (cc (only))
       by (closed ∷ passed) only run = absurd (cc (only))
       by (woken ∷ passed) only run = absurd (cc (only))

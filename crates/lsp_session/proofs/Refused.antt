@@ -11,6 +11,7 @@ use Rattle.lsp_session.specs.SessionBytes.{ReadsMessage, Ends, Wrote, GetsAllBut
 use Rattle.lsp_session.specs.declared.loops.stream_session.SessionFault.TheVariants.{Write, Memory as NoMemory}
 use Rattle.lsp_message.specs.declared.frame.WriteFault.{WriteFault}
 use Rattle.lsp_message.specs.Written.{GetsFrames}
+use Rattle.lsp_message.specs.declared.frame.limits.Limits.{Limits}
 use Rattle.lsp_session.specs.SessionLaws.{IsInvited, IsUnopened, AfterShutdown, EndsWithShutdown, HasNoShutdown, KeepsOrder, IsOpened, IsUnstarted, StopsAt, comes_early, AllEarly, IsRefusedEarly, is_refusal, AllRefused}
 use Rattle.serde_json.specs.Data.{Data, null as null_data}
 use Rattle.std.proofs.Common.{◌≡◌, refl, sym, ◌∙◌, ap, subst, inl, inr, ◌⊎◌, ℕ, true, false, List, [], ◌∷◌, ◌++◌, Option, Some, None}
@@ -455,7 +456,7 @@ second_session i j k params result given asked stop sent answer more order =
 
 -- The write of the last message failed, the session was decided, and something behind the message that decided was taken; the same
 -- if memory ran out.
-pub eats_past_exit : (limit : ℕ) (fault : WriteFault) (answer : SessionAnswer) (sent : Option Message) (at rest : List ℕ) → (rest ≡ at → ⊥)
+pub eats_past_exit : (limit : Limits) (fault : WriteFault) (answer : SessionAnswer) (sent : Option Message) (at rest : List ℕ) → (rest ≡ at → ⊥)
     → Ends limit (Some rest) (Err (Write fault)) answer decided sent at ⊎ Ends limit (Some rest) (Err NoMemory) answer decided sent at → ⊥
 eats_past_exit limit fault answer sent at rest other (inl left) = let same : rest ≡ at = cc (left) in other same
 eats_past_exit limit fault answer sent at rest other (inr left) = let same : rest ≡ at = cc (left) in other same
@@ -472,7 +473,7 @@ loses_a_reply a b sends lost (inl all) = lost all
 loses_a_reply a b sends lost (inr most) = most.0
 
 -- a wake among what was read of a text
-pub woken_by_nobody : (limit : ℕ) (came : List (Option Message)) (text at : List ℕ) → FoldsTo (ReadsMessage limit) text came at
+pub woken_by_nobody : (limit : Limits) (came : List (Option Message)) (text at : List ℕ) → FoldsTo (ReadsMessage limit) text came at
     → list_all (λ (c : Option Message). is_some c) came ≡ false → ⊥
 woken_by_nobody limit [] text at run woken = cc (woken)
 woken_by_nobody limit (Some m ∷ came) text at run woken = woken_by_nobody limit came run.0 at run.2 woken

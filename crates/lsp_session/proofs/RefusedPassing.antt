@@ -6,11 +6,12 @@ use Rattle.lsp_message.specs.Frame.{Begins, reading_within}
 use Rattle.lsp_message.specs.Message.{Message}
 use Rattle.lsp_message.specs.Reading.{Reading}
 use Rattle.lsp_message.specs.declared.frame.ReadFault.{ReadFault}
+use Rattle.lsp_message.specs.declared.frame.limits.Limits.{Limits}
 use Rattle.lsp_session.specs.Session.{no_more}
 use Rattle.lsp_session.specs.Passing.{is_of_body}
 use Rattle.lsp_session.specs.PassingBytes.{PassesOver, ReadsFrame, HearsLast}
 
-module _ {L : Type 0} (hears : L → ReadFault → L → Type 0) (limit : ℕ) where
+module _ {L : Type 0} (hears : L → ReadFault → L → Type 0) (limit : Limits) where
   -- what a reading came to
   abbrev outcome_at : (text : List ℕ) → Result (Option Message) ReadFault
   outcome_at text = (reading_within limit text).outcome

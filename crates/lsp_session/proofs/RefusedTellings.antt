@@ -1,8 +1,11 @@
 -- What no account of bytes tells: a message or the end of the input from nothing.
 use lib.Utf8.{encode}
-use Rattle.lsp_message.specs.Frame.{reading_within}
+use Rattle.lsp_message.specs.Frame.{body_means, content_of, reading_within}
 use Rattle.lsp_message.specs.Message.{Message}
-use Rattle.lsp_message.specs.declared.frame.ReadFault.TheVariants.{LineEnd}
+use Rattle.lsp_message.specs.Reading.{Reading}
+use Rattle.lsp_message.specs.declared.frame.ReadFault.{ReadFault}
+use Rattle.lsp_message.specs.declared.frame.ReadFault.TheVariants.{HeaderTooLong, LineEnd}
+use Rattle.lsp_message.specs.declared.frame.limits.Limits.{Limits}
 use Rattle.lsp_session.specs.Account.{Act, gave, took, Awaited, AreActsOf, EndsInOrder}
 use Rattle.lsp_session.specs.ActBytes.{AreOf, ToldSession}
 use Rattle.lsp_session.specs.Event.{Event, message, closed}
@@ -10,21 +13,43 @@ use Rattle.lsp_session.specs.Prompt.{event_of}
 use Rattle.lsp_session.specs.Session.{Behavior, Exchange, Stop, decided, no_more, timed_out, refused, exhausted, SessionOut}
 use Rattle.lsp_session.specs.declared.loops.handler.SessionEnd.{SessionEnd}
 use Rattle.lsp_session.specs.declared.loops.stream_session.SessionFault.{SessionFault}
-use Rattle.std.proofs.Common.{arith, ◌≡◌, refl, sym, ◌∙◌, ap, inl, inr, ℕ, List, [], ◌∷◌, ◌++◌, length, map, Option, Some, None, Ok, Err}
+use Rattle.std.proofs.Common.{arith, ◌≡◌, refl, sym, ◌∙◌, ap, inl, inr, ℕ, ◌+◌, Bool, true, false, cond, nat_lt, drop, List, [], ◌∷◌, ◌++◌, length, map, Option, Some, None, Ok, Err}
 use Rattle.std.specs.Prelude.{Result}
 use Rattle.std.specs.Str.{is_utf8, chars}
 
--- a message needs bytes
-pub no_message_from_nothing : (limit : ℕ) (m : Message) → AreOf limit (Ok (Some m)) [] → ⊥
-no_message_from_nothing limit m is = let e : Ok None ≡ Ok (Some m) = (is [] tt).0 in absurd (cc (e))
+-- what a text comes to within limits, if its header part comes to this
+abbrev frame : Limits → List ℕ → Reading ℕ → Bool → Result (Option Message) ReadFault
+frame limit text header above =
+    let bounded = cond {A = Reading ℕ} above (record { outcome = Err HeaderTooLong; rest = text }) header in
+    (content_of body_means limit.content bounded.outcome bounded.rest).outcome
 
-one_byte : (limit : ℕ) → (reading_within limit (120 ∷ [])).outcome ≡ Err LineEnd
+-- a message needs bytes
+pub no_message_from_nothing : (limit : Limits) (m : Message) → AreOf limit (Ok (Some m)) [] → ⊥
+no_message_from_nothing limit m is = at limit.header (is [] tt).0
+  where
+    part : (t : Bool) (rest : List ℕ) → frame limit rest (record { outcome = Ok None; rest = [] }) t ≡ Ok (Some m) → ⊥
+    part true rest is = let e : Err HeaderTooLong ≡ Ok (Some m) = is in cc (e)
+    part false rest is = let e : Ok None ≡ Ok (Some m) = is in cc (e)
+
+    at : (bound : Option ℕ) → (reading_within (record { header = bound; content = limit.content }) []).outcome ≡ Ok (Some m) → ⊥
+    at None is = let e : Ok None ≡ Ok (Some m) = is in cc (e)
+    at (Some bound) is = part (nat_lt bound 0) (drop (bound + 1) []) is
+
+one_byte : (limit : Limits) → (reading_within limit (120 ∷ [])).outcome ≡ Ok None → ⊥
 unfolding is_utf8 chars encode
-one_byte limit = refl
+one_byte limit is = at limit.header is
+  where
+    part : (t : Bool) (rest : List ℕ) → frame limit rest (record { outcome = Err LineEnd; rest = [] }) t ≡ Ok None → ⊥
+    part true rest is = let e : Err HeaderTooLong ≡ Ok None = is in cc (e)
+    part false rest is = let e : Err LineEnd ≡ Ok None = is in cc (e)
+
+    at : (bound : Option ℕ) → (reading_within (record { header = bound; content = limit.content }) (120 ∷ [])).outcome ≡ Ok None → ⊥
+    at None is = let e : Err LineEnd ≡ Ok None = is in cc (e)
+    at (Some bound) is = part (nat_lt bound 1) (drop (bound + 1) (120 ∷ [])) is
 
 -- the end of the input has to be shown
-pub no_end_unshown : (limit : ℕ) → AreOf limit (Ok None) [] → ⊥
-no_end_unshown limit is = let e : Err LineEnd ≡ Ok None = sym (one_byte limit) ∙ (is (120 ∷ []) (λ shown. absurd (cc (shown)))).0 in absurd (cc (e))
+pub no_end_unshown : (limit : Limits) → AreOf limit (Ok None) [] → ⊥
+no_end_unshown limit is = one_byte limit (is (120 ∷ []) (λ shown. absurd (cc (shown)))).0
 
 append_none : (xs ys : List Act) → [] ≡ xs ++ ys → xs ≡ []
 append_none [] ys none = refl
@@ -59,7 +84,7 @@ ends_none count exhausted None last acts ends none zero = absurd (awaited_some (
 ends_none count timed_out None last acts ends none zero = absurd ends
 
 -- A session read something: a body that runs none, and answers as if it had, has no transcript for it.
-pub no_session_from_nothing : {S : Type 0} (may : Behavior S) (s s' : S) (limit : ℕ) (result : Result SessionEnd SessionFault)
+pub no_session_from_nothing : {S : Type 0} (may : Behavior S) (s s' : S) (limit : Limits) (result : Result SessionEnd SessionFault)
     → ToldSession limit (SessionOut may s s') [] result → ⊥
 no_session_from_nothing may s s' limit result told =
     let order = told.in_order in

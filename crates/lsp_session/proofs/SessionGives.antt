@@ -7,6 +7,7 @@ use Rattle.lsp_message.specs.declared.frame.ReadFault.TheVariants.{Input, Memory
 use Rattle.lsp_message.specs.declared.frame.ReadFault.{ReadFault}
 use Rattle.lsp_message.specs.declared.frame.WriteFault.TheVariants.{Output, Memory as NoMemory}
 use Rattle.lsp_message.specs.declared.frame.WriteFault.{WriteFault}
+use Rattle.lsp_message.specs.declared.frame.limits.Limits.{Limits}
 use Rattle.lsp_session.proofs.Handing.{AreFramesOf-push, breaks_off, taken_frames, taken_keeps, Appends-Keeps}
 use Rattle.lsp_session.specs.Boxes.{Sends, Takes}
 use Rattle.lsp_session.specs.Event.{Event, closed, timeout}
@@ -32,9 +33,9 @@ use Rattle.std.specs.Io.KnownBytes.{Keeps}
 use Rattle.std.specs.List.{FoldsTo}
 use Rattle.std.specs.Prelude.{Result, Ok, Err, MatchOption}
 
-module _ {R : Type 0} (remaining : R → Option (List ℕ)) (limit : ℕ) where
+module _ {R : Type 0} (remaining : R → Option (List ℕ)) (limit : Limits) where
   -- receives from an inbox over a reader, as they are seen, and the reader that it was lent
-  pub streams_of : (events : List Event) (old new : StreamInbox R) → old.limit ≡ limit → FoldsTo (StreamInboxGives remaining) old events new
+  pub streams_of : (events : List Event) (old new : StreamInbox R) → old.limits ≡ limit → FoldsTo (StreamInboxGives remaining) old events new
       → FoldsTo (StreamGives limit) (stream_of remaining old) events (stream_of remaining new) × (new.reader.ghost_name ≡ old.reader.ghost_name)
   streams_of [] old new limited run = (ap (λ (s : StreamInbox R). stream_of remaining s) run, rw run refl)
   streams_of (event ∷ events) old new limited run =
@@ -43,7 +44,7 @@ module _ {R : Type 0} (remaining : R → Option (List ℕ)) (limit : ℕ) where
       ((stream_of remaining run.0, first, rest.0), rest.1 ∙ run.1.1)
 
   module _ {O : Type 0} (sends : Sends O) (first last : R) (old new : StreamInbox R) (before after : O)
-      (limited : old.limit ≡ limit) (same : old.reader.now ≡ first) (named : new.reader.ghost_name ≡ old.reader.ghost_name → last ≡ new.reader.now) where
+      (limited : old.limits ≡ limit) (same : old.reader.now ≡ first) (named : new.reader.ghost_name ≡ old.reader.ghost_name → last ≡ new.reader.now) where
     pub finishes_over : (reply : Message) (answer : FinishAnswer) → FinishesAt (StreamInboxGives remaining) sends reply (old, before) answer (new, after)
         → (end : Option ReadEnd) × FinishesAt (StreamGives limit) sends reply (record { remaining = remaining first; end = old.end }, before) answer (record { remaining = remaining last; end = end }, after)
     finishes_over reply answer (inl sent) =
@@ -55,7 +56,7 @@ module _ {R : Type 0} (remaining : R → Option (List ℕ)) (limit : ℕ) where
         (new.end, inr (lost.0, lost.1, lost.2, ap (λ (s : StreamInbox R). stream_of remaining s) lost.3))
 
 -- an inbox that reads has no timeouts
-pub no_timeout : (limit : ℕ) (old new : Stream) → StreamGives limit old timeout new → ⊥
+pub no_timeout : (limit : Limits) (old new : Stream) → StreamGives limit old timeout new → ⊥
 no_timeout limit old new gives = at old.end gives
   where
     at : (end : Option ReadEnd) → MatchOption end (StreamReads limit old.remaining timeout new.end new.remaining) (λ end. (timeout ≡ closed) × (new.end ≡ Some end) × Keeps old.remaining new.remaining) → ⊥
@@ -139,7 +140,7 @@ module _ {W : Type 0} (contents : W → Option (List ℕ)) where
   gets_keeps old new output shutdown_reply (refused fault) got = got.0.5.1 ∙ taken_keeps contents old got.0.0 got.0.2 got.0.4
   gets_keeps old new output shutdown_reply stop got = last_keeps shutdown_reply got.0 new got.2 ∙ taken_keeps contents old output got.0 got.1
 
-module _ (limit : ℕ) where
+module _ (limit : Limits) where
   -- a reading that failed
   unread_at : (fault : ReadFault) (at : List ℕ) → (reading_within limit at).outcome ≡ Err fault → reading_within limit at ≡ record { outcome = Err fault; rest = (reading_within limit at).rest }
   unread_at fault at is = ap (λ o. record { outcome = o; rest = (reading_within limit at).rest }) is

@@ -25,6 +25,7 @@ use Rattle.lsp_session.specs.declared.loops.handler.SessionEnd.{SessionEnd}
 use Rattle.lsp_session.specs.declared.loops.stream_session.SessionFault.{SessionFault}
 use Rattle.lsp_session.specs.declared.loops.served.StopReason.{StopReason}
 use Rattle.lsp_message.specs.declared.frame.WriteFault.{WriteFault}
+use Rattle.lsp_message.specs.declared.frame.limits.Limits.{Limits}
 use Rattle.lsp_session.specs.declared.loops.frame_outbox.FrameOutbox.{FrameOutbox}
 use Rattle.lsp_session.specs.declared.loops.tolerant_inbox.TolerantInbox.{TolerantInbox}
 use Rattle.lsp_session.specs.declared.loops.stream_transport.StreamTransport.{StreamTransport}
@@ -37,7 +38,7 @@ use Rattle.std.specs.Prelude.{Result, Ok, Err, MatchOption}
 abbrev Ends : Type 0
 Ends = Option ReadEnd × Option WriteFault
 
-TellsActs-append : (limit : ℕ) (ns ms : List Note) (a b c : Ends) → TellsActs limit a ns b → TellsActs limit b ms c → TellsActs limit a (ns ++ ms) c
+TellsActs-append : (limit : Limits) (ns ms : List Note) (a b c : Ends) → TellsActs limit a ns b → TellsActs limit b ms c → TellsActs limit a (ns ++ ms) c
 TellsActs-append limit [] ms a b c first second = subst (λ (ends : Ends). TellsActs limit ends ms c) first second
 TellsActs-append limit ((gave event, parts) ∷ ns) ms a b c first second = (first.0, first.1, first.2, TellsActs-append limit ns ms (first.0, a.1) b c first.3 second)
 TellsActs-append limit ((took m, parts) ∷ ns) ms a b c first second = (first.0, first.1, TellsActs-append limit ns ms (a.0, first.0) b c first.2 second)
@@ -55,13 +56,13 @@ given-append ((gave event, parts) ∷ ns) ms = given-append ns ms
 given-append ((took m, parts) ∷ ns) ms = ap (λ l. concat parts ++ l) (given-append ns ms) ∙ sym (append_assoc (concat parts) (bytes_given ns) (bytes_given ms))
 given-append ((lost m, parts) ∷ ns) ms = ap (λ l. concat parts ++ l) (given-append ns ms) ∙ sym (append_assoc (concat parts) (bytes_given ns) (bytes_given ms))
 
-tells_sent : (limit : ℕ) (end : Option ReadEnd) (old new : Option WriteFault) (m : Message) (outcome : Result (Unit {0}) SendFault) (parts : Parts) → SentParts old (sending m outcome) new parts
+tells_sent : (limit : Limits) (end : Option ReadEnd) (old new : Option WriteFault) (m : Message) (outcome : Result (Unit {0}) SendFault) (parts : Parts) → SentParts old (sending m outcome) new parts
     → TellsActs limit (end, old) ((sending m outcome, parts) ∷ []) (end, new) × (bytes_taken ((sending m outcome, parts) ∷ []) ≡ []) × (bytes_given ((sending m outcome, parts) ∷ []) ≡ concat parts)
 tells_sent limit end old new m (Ok done) parts sent = ((new, sent, refl), refl, append-nil (concat parts))
 tells_sent limit end old new m (Err fault) parts sent = ((new, sent, refl), refl, append-nil (concat parts))
 
 -- what ended the messages
-ends_after : {L : Type 0} (hears : L → ReadFault → L → Type 0) (limit : ℕ) (old new : Stream × L) (event : Event) → TolerantGives hears limit old event new → EndsAfter limit old.0.end event new.0.end
+ends_after : {L : Type 0} (hears : L → ReadFault → L → Type 0) (limit : Limits) (old new : Stream × L) (event : Event) → TolerantGives hears limit old event new → EndsAfter limit old.0.end event new.0.end
 ends_after hears limit old new woken gives = rw (gives.4) gives.5
 ends_after hears limit old new timeout gives = at old.0.end gives.0
   where
@@ -89,7 +90,7 @@ module _ {R W L : Type 0} (remaining : R → Option (List ℕ)) (hears : L → R
 
   -- the transcript grew by acts whose bytes it tells, and the limit is kept
   abbrev Tells : StreamTransport R W L → StreamTransport R W L → Type 0
-  Tells old new = (new.limit ≡ old.limit) × (notes : List Note) × (notes_of new.transcript.now ≡ notes_of old.transcript.now ++ notes) × TellsActs old.limit (ended old) notes (ended new)
+  Tells old new = (new.limits ≡ old.limits) × (notes : List Note) × (notes_of new.transcript.now ≡ notes_of old.transcript.now ++ notes) × TellsActs old.limits (ended old) notes (ended new)
       × PassesBetween remaining contents notes old new
 
   tells_own : (a : StreamTransport R W L) → Tells a a
@@ -100,7 +101,7 @@ module _ {R W L : Type 0} (remaining : R → Option (List ℕ)) (hears : L → R
     second.0 ∙ first.0,
     first.1 ++ second.1,
     second.2 ∙ ap (λ l. l ++ second.1) first.2 ∙ append_assoc (notes_of a.transcript.now) first.1 second.1,
-    TellsActs-append a.limit first.1 second.1 (ended a) (ended b) (ended c) first.3 (subst (λ n. TellsActs n (ended b) second.1 (ended c)) first.0 second.3),
+    TellsActs-append a.limits first.1 second.1 (ended a) (ended b) (ended c) first.3 (subst (λ n. TellsActs n (ended b) second.1 (ended c)) first.0 second.3),
     (
       subst (Consumes (remaining a.reader.now) (remaining c.reader.now)) (sym (taken-append first.1 second.1)) (Consumes-trans _ _ _ _ _ first.4.0 second.4.0),
       subst (Appends (contents a.writer.now) (contents c.writer.now)) (sym (given-append first.1 second.1)) (Appends-trans _ _ _ _ _ first.4.1 second.4.1),
@@ -116,7 +117,7 @@ module _ {R W L : Type 0} (remaining : R → Option (List ℕ)) (hears : L → R
         (
           b.end,
           told.3,
-          ends_after hears a.limit (stream_of remaining (inbox_of a), a.listener.now) (stream_of remaining (inbox_of b), b.listener.now) event gives.0.0,
+          ends_after hears a.limits (stream_of remaining (inbox_of a), a.listener.now) (stream_of remaining (inbox_of b), b.listener.now) event gives.0.0,
           ap (λ (o : FrameOutbox W). (b.end, o.fault)) gives.1,
         ),
         (
@@ -128,11 +129,11 @@ module _ {R W L : Type 0} (remaining : R → Option (List ℕ)) (hears : L → R
   tells_sending : (a : StreamTransport R W L) (m : Message) (outcome : Result (Unit {0}) SendFault) (b : StreamTransport R W L) → StreamTransportSends contents a m outcome b → Tells a b
   tells_sending a m outcome b sends =
       let told = sends.3 in
-      let is = tells_sent a.limit a.end a.fault b.fault m outcome told.0 told.3 in (
-        ap (λ (i : TolerantInbox R L). i.limit) sends.1,
+      let is = tells_sent a.limits a.end a.fault b.fault m outcome told.0 told.3 in (
+        ap (λ (i : TolerantInbox R L). i.limits) sends.1,
         (sending m outcome, told.0) ∷ [],
         told.1,
-        subst (λ (i : TolerantInbox R L). TellsActs a.limit (ended a) ((sending m outcome, told.0) ∷ []) (i.end, b.fault)) (sym sends.1) is.0,
+        subst (λ (i : TolerantInbox R L). TellsActs a.limits (ended a) ((sending m outcome, told.0) ∷ []) (i.end, b.fault)) (sym sends.1) is.0,
         (
           subst (λ (i : TolerantInbox R L). Consumes (remaining a.reader.now) (remaining i.reader.now) (bytes_taken ((sending m outcome, told.0) ∷ []))) (sym sends.1)
               (subst (Consumes (remaining a.reader.now) (remaining a.reader.now)) (sym is.1) (Consumes-nil (remaining a.reader.now))),
@@ -149,18 +150,18 @@ module _ {R W L : Type 0} (remaining : R → Option (List ℕ)) (hears : L → R
     all_noted = sym (tells.2 ∙ ap (λ (notes : List Note). notes ++ tells.1) unused.2)
 
     -- the transcript has the bytes of each act
-    tells_its_bytes : TellsActs old.limit (None, None) (notes_of new.transcript.now) (ended new)
+    tells_its_bytes : TellsActs old.limits (None, None) (notes_of new.transcript.now) (ended new)
     tells_its_bytes =
-        subst (λ (notes : List Note). TellsActs old.limit (None, None) notes (ended new)) all_noted
-        (subst (λ (end : Option ReadEnd). TellsActs old.limit (end, None) tells.1 (ended new)) unused.0
-        (subst (λ (fault : Option WriteFault). TellsActs old.limit (old.end, fault) tells.1 (ended new)) unused.1 tells.3))
+        subst (λ (notes : List Note). TellsActs old.limits (None, None) notes (ended new)) all_noted
+        (subst (λ (end : Option ReadEnd). TellsActs old.limits (end, None) tells.1 (ended new)) unused.0
+        (subst (λ (fault : Option WriteFault). TellsActs old.limits (old.end, fault) tells.1 (ended new)) unused.1 tells.3))
 
     -- and no others passed
     pub all_passed : PassesBetween remaining contents (notes_of new.transcript.now) old new
     all_passed = subst (λ (notes : List Note). PassesBetween remaining contents notes old new) all_noted tells.4
 
     -- and the acts are those of the session, in order
-    pub told_session : ToldSession old.limit (SessionOut may s s') (notes_of new.transcript.now) (session_answer reason answer new.end new.fault)
+    pub told_session : ToldSession old.limits (SessionOut may s s') (notes_of new.transcript.now) (session_answer reason answer new.end new.fault)
     told_session =
         let t = talks_in_order (StreamTransportGives remaining hears) listens (StreamTransportSends contents) (λ (t : StreamTransport R W L). account_of t) (keeps_account remaining hears contents) starting (Both (SessionOut may s s') (StopsFor reason)) old new answer talks in
         let all : t.0 ≡ acts_in (notes_of new.transcript.now) = sym (t.1 ∙ ap (λ (notes : List Note). acts_in notes ++ t.0) unused.2) in

@@ -1,5 +1,6 @@
 -- A session over a transport that keeps an account, in bytes.
 use Rattle.lsp_message.specs.declared.frame.ReadFault.{ReadFault}
+use Rattle.lsp_message.specs.declared.frame.limits.Limits.{Limits}
 use Rattle.lsp_session.proofs.Accounts.{talks_in_order}
 use Rattle.lsp_session.proofs.TransportRuns.{transport_runs}
 use Rattle.lsp_session.proofs.Passing.{session_gives}
@@ -59,14 +60,14 @@ module _ {R W L : Type 0} (remaining : R → Option (List ℕ)) (hears : L → R
 
     -- a session over a transport, in bytes
     pub gives_in_order : GivesInOrder remaining hears contents (SessionOut may s s') old (session_answer reason answer new.end new.fault) new
-    gives_in_order = session_gives hears old.limit remaining contents (Turns (account_of new)) (Both (SessionOut may s s') (InOrder (account_of new))) reason
+    gives_in_order = session_gives hears old.limits remaining contents (Turns (account_of new)) (Both (SessionOut may s s') (InOrder (account_of new))) reason
         (λ xs stop shutdown_reply answer both. ((both.0.0, both.1), both.0.1, session_facts may starting s s' refl xs stop shutdown_reply answer both.0.0))
         (inbox_of old) (inbox_of new) (outbox_of old) (outbox_of new) unused.0 refl unused.1 answer ran.0
         old.reader.now new.reader.now old.writer.now new.writer.now old.listener.now new.listener.now
         refl refl refl (λ same. refl) (λ same. refl) (λ same. refl)
 
     -- the same of the reader, the writer and the listener that were lent
-    pub lent_gives : (limit : ℕ) → old.limit ≡ limit → (first last : R) (first' last' : W) (heard heard' : L) → old.reader.now ≡ first → old.writer.now ≡ first'
+    pub lent_gives : (limit : Limits) → old.limits ≡ limit → (first last : R) (first' last' : W) (heard heard' : L) → old.reader.now ≡ first → old.writer.now ≡ first'
         → old.listener.now ≡ heard
         → (new.reader.ghost_name ≡ old.reader.ghost_name → last ≡ new.reader.now)
         → (new.listener.ghost_name ≡ old.listener.ghost_name → heard' ≡ new.listener.now)

@@ -12,6 +12,7 @@ use Rattle.lsp_message.specs.View.{message_view}
 use Rattle.lsp_message.specs.declared.frame.ReadFault.{ReadFault}
 use Rattle.lsp_message.specs.declared.frame.WriteFault.{WriteFault}
 use Rattle.lsp_message.specs.declared.msg.Message as msg
+use Rattle.lsp_message.specs.declared.frame.limits.Limits.{Limits}
 use Rattle.lsp_session.specs.Account.{Act, gave, took, lost, ActsInOrder}
 use Rattle.lsp_session.specs.Event.{Event, message, closed, woken}
 use Rattle.lsp_session.specs.Passing.{is_of_body}
@@ -36,8 +37,8 @@ SentParts None (lost m) (Some fault) parts = WritesParts m (Err fault) parts
 SentParts (Some fault) (lost m) new parts = (parts ≡ []) × (new ≡ Some fault)
 SentParts old act new parts = ⊥
 
--- content parts have at most so many bytes
-module _ (limit : ℕ) where
+-- the parts of a frame have at most so many bytes
+module _ (limit : Limits) where
   -- the parts are those of this outcome of a read
   abbrev pub AreOf : Result (Option Message) ReadFault → Parts → Type 0
   AreOf outcome parts = IsOfParts (λ m. m) (reading_within limit) outcome parts
@@ -93,7 +94,7 @@ bytes_given ((act, parts) ∷ notes) = concat parts ++ bytes_given notes
 
 -- A session in the bytes that passed: the acts are those of the session's exchanges, in order, and the bytes of each are told. It is
 -- answered by why it stopped, and by what ended the messages and the writes.
-pub record ToldSession (limit : ℕ) (P : SessionPart) (notes : List Note) (result : Result SessionEnd SessionFault) : Type 0 where
+pub record ToldSession (limit : Limits) (P : SessionPart) (notes : List Note) (result : Result SessionEnd SessionFault) : Type 0 where
   pub exchanges : List Exchange
   pub stop : Stop
   pub shutdown_reply : Option Message

@@ -1,7 +1,8 @@
 -- Content parts that are no messages, and an inbox that passes over them (LSP 3.17, "Base Protocol").
-use Rattle.std.specs.Prelude.{◌≡◌, ℕ, Bool, true, false, Option, Some, None, Err}
+use Rattle.std.specs.Prelude.{◌≡◌, Bool, true, false, Option, Some, None, Err}
 use Rattle.lsp_message.specs.declared.frame.ReadFault.{ReadFault}
 use Rattle.lsp_message.specs.declared.frame.ReadFault.TheVariants.{BodyNotText, NoJson, NoMessage, Batch}
+use Rattle.lsp_message.specs.declared.frame.limits.Limits.{Limits}
 use Rattle.lsp_session.specs.Event.{Event, woken}
 use Rattle.lsp_session.specs.Streams.{Stream, StreamGives, Reads}
 use Rattle.lsp_session.specs.declared.loops.ReadEnd.{ReadEnd}
@@ -20,7 +21,7 @@ abbrev pub ended_at_body : Option ReadEnd → Bool
 ended_at_body (Some (Fault fault)) = is_of_body fault
 ended_at_body end = false
 
-module _ {L : Type 0} (hears : L → ReadFault → L → Type 0) (limit : ℕ) where
+module _ {L : Type 0} (hears : L → ReadFault → L → Type 0) (limit : Limits) where
   -- What one receive gives. For a wake the bytes begin with a content part that is no message, the listener hears its fault, and
   -- what follows it is left. Each other event is that of an inbox which passes over nothing, and the listener hears nothing.
   abbrev pub TolerantGives : Stream × L → Event → Stream × L → Type 0

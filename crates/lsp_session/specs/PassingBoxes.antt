@@ -39,16 +39,16 @@ module _ {R L : Type 0} (remaining : R → Option (List ℕ)) where
   abbrev pub KeepsLent : TolerantInbox R L → TolerantInbox R L → Type 0
   KeepsLent old new =
       (new.reader.ghost_name ≡ old.reader.ghost_name)
-      × (new.listener.ghost_name ≡ old.listener.ghost_name) × (new.limit ≡ old.limit)
+      × (new.listener.ghost_name ≡ old.listener.ghost_name) × (new.limits ≡ old.limits)
 
   -- One read gives a message, or that no more come, or a fault that ends nothing yet. The listener hears nothing. For a private clause.
   abbrev pub ReadsNext : TolerantInbox R L → Result (Option msg.Message) ReadFault
       → TolerantInbox R L → Type 0
   ReadsNext old (Ok next) new =
-      StreamGives old.limit (stream_of old) (next_view next) (stream_of new)
+      StreamGives old.limits (stream_of old) (next_view next) (stream_of new)
       × (new.listener.now ≡ old.listener.now) × KeepsLent old new
   ReadsNext old (Err fault) new =
-      Reads old.limit (remaining old.reader.now) (Err fault) (remaining new.reader.now)
+      Reads old.limits (remaining old.reader.now) (Err fault) (remaining new.reader.now)
       × (old.end ≡ None) × (new.end ≡ None)
       × (new.listener.now ≡ old.listener.now) × KeepsLent old new
 
@@ -56,5 +56,5 @@ module _ {R L : Type 0} (remaining : R → Option (List ℕ)) where
   abbrev pub TolerantInboxGives : (L → ReadFault → L → Type 0) → TolerantInbox R L → Event
       → TolerantInbox R L → Type 0
   TolerantInboxGives hears old event new =
-      TolerantGives hears old.limit (stream_of old, old.listener.now) event
+      TolerantGives hears old.limits (stream_of old, old.listener.now) event
       (stream_of new, new.listener.now) × KeepsLent old new

@@ -4,6 +4,7 @@ use Rattle.std.specs.Prelude.{◌≡◌, ◌⊎◌, ℕ, true, List, Option, Som
 use Rattle.lsp_message.specs.Frame.{Begins, reading_within}
 use Rattle.lsp_message.specs.Message.{Message}
 use Rattle.lsp_message.specs.declared.frame.ReadFault.{ReadFault}
+use Rattle.lsp_message.specs.declared.frame.limits.Limits.{Limits}
 use Rattle.lsp_session.specs.Session.{SessionPart, Stop, exhausted}
 use Rattle.lsp_session.specs.SessionBytes.{SessionOver, Ends, Wrote}
 use Rattle.lsp_session.specs.declared.loops.handler.SessionEnd.{SessionEnd}
@@ -15,7 +16,7 @@ abbrev pub PassesNothingOver : {L : Type 0} → (L → ReadFault → L → Type 
 PassesNothingOver {L} hears = (old : L) (fault : ReadFault) (new : L) → hears old fault new → ⊥
 
 -- of a text and a listener, if content parts have at most so many bytes
-module _ {L : Type 0} (hears : L → ReadFault → L → Type 0) (limit : ℕ) where
+module _ {L : Type 0} (hears : L → ReadFault → L → Type 0) (limit : Limits) where
   -- The text begins with a content part that is no message. The listener hears its fault, and what follows it is left.
   abbrev pub PassesOver : List ℕ × L → List ℕ × L → Type 0
   PassesOver old new =

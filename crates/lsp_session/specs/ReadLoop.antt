@@ -7,6 +7,7 @@ use Rattle.lsp_message.specs.Message.{Message}
 use Rattle.lsp_message.specs.Reading.{StopsWithin}
 use Rattle.lsp_message.specs.declared.frame.ReadFault.TheVariants.{Input, Memory as NoMemory}
 use Rattle.lsp_message.specs.declared.msg.Message as msg
+use Rattle.lsp_message.specs.declared.frame.limits.Limits.{Limits}
 use Rattle.lsp_session.specs.Boxes.{Sends, Takes}
 use Rattle.lsp_session.specs.declared.lifecycle.SendFault.{SendFault}
 use Rattle.lsp_session.specs.declared.lifecycle.SendFault.TheVariants.{Closed as IsClosed, Memory as IsFull}
@@ -27,8 +28,8 @@ pub data Extent : Type 0 where
   -- the first of them, none of which is `exit`, and this one comes next
   up_to : Message → Extent
 
--- content parts have at most so many bytes
-module _ (limit : ℕ) where
+-- the parts of a frame have at most so many bytes
+module _ (limit : Limits) where
   -- These are the messages of the text so far. The rest follows them, and the one that comes next,
   -- if one is named.
   abbrev pub HasRead : Extent → List ℕ → List Message → List ℕ → Type 0
@@ -48,7 +49,7 @@ module _ (limit : ℕ) where
     pub left : Left rest
 
 -- of an outbox, and of what is left of the text
-module _ {O : Type 0} (limit : ℕ) (sends : Sends O) (text : List ℕ) (old new : O)
+module _ {O : Type 0} (limit : Limits) (sends : Sends O) (text : List ℕ) (old new : O)
     (left : Option (List ℕ)) where
   -- the outbox took these messages
   abbrev pub Took : List Message → Type 0

@@ -6,14 +6,15 @@ use Rattle.lsp_message.specs.Message.{Message}
 use Rattle.lsp_message.specs.Reading.{StopsWithin}
 use Rattle.lsp_message.specs.Written.{GetsFrames, GetsFramesAndPart, IsOutput}
 use Rattle.lsp_message.specs.declared.frame.ReadFault.TheVariants.{Input, Memory as NoMemoryToRead}
+use Rattle.lsp_message.specs.declared.frame.limits.Limits.{Limits}
 use Rattle.lsp_session.specs.Session.{SessionAnswer, SessionPart, Exchange, came_of, sends_of, Stop, decided, no_more, timed_out, refused}
 use Rattle.lsp_session.specs.declared.loops.handler.SessionEnd.{SessionEnd}
 use Rattle.lsp_session.specs.declared.loops.stream_session.SessionFault.{SessionFault}
 use Rattle.lsp_session.specs.declared.loops.stream_session.SessionFault.TheVariants.{Protocol, Read, Write, Memory}
 
--- The first frame of the text, whose content parts have at most so many bytes, is this message, and the rest follows it. A reader
+-- The first frame of the text, whose parts have at most so many bytes, is this message, and the rest follows it. A reader
 -- brings no wake.
-abbrev pub ReadsMessage : ℕ → List ℕ → Option Message → List ℕ → Type 0
+abbrev pub ReadsMessage : Limits → List ℕ → Option Message → List ℕ → Type 0
 ReadsMessage limit text (Some m) rest = Begins limit text m rest
 ReadsMessage limit text None rest = ⊥
 
@@ -46,7 +47,7 @@ pub record SessionOver {At : Type 0} (reads : At → Option Message → At
 
 -- What follows the last message is left, if that one decided. If the text ended instead, what follows its end is left:
 -- nothing. A session over bytes has no timeout, and its failures stand below.
-abbrev pub LeftAfter : ℕ → Stop → List ℕ → Option (List ℕ) → Type 0
+abbrev pub LeftAfter : Limits → Stop → List ℕ → Option (List ℕ) → Type 0
 LeftAfter limit decided at left = left ≡ Some at
 LeftAfter limit no_more at left = (rest : List ℕ)
     × (reading_within limit at ≡ record { outcome = Ok None; rest = rest }) × (left ≡ Some rest)
@@ -54,7 +55,7 @@ LeftAfter limit stop at left = ⊥
 
 -- What is left if a write or an allocation failed. If the last message decided, or the outbox refused what was sent for it, all
 -- that follows that message is left. Elsewhere a part of what came next may be taken, and nothing behind it.
-abbrev pub LeftWithin : ℕ → Stop → List ℕ → Option (List ℕ) → Type 0
+abbrev pub LeftWithin : Limits → Stop → List ℕ → Option (List ℕ) → Type 0
 LeftWithin limit decided at left = left ≡ Some at
 LeftWithin limit (refused refusal) at left = left ≡ Some at
 LeftWithin limit timed_out at left = ⊥
@@ -62,7 +63,7 @@ LeftWithin limit stop at left = StopsWithin left (reading_within limit at)
 
 -- For what a session over bytes answers: the answer by the lifecycle, and what is left of the text, of which `at` follows the last
 -- message that was used. The first row that fits counts.
-abbrev pub Ends : ℕ → Option (List ℕ) → Result SessionEnd SessionFault → SessionAnswer → Stop
+abbrev pub Ends : Limits → Option (List ℕ) → Result SessionEnd SessionFault → SessionAnswer → Stop
     → Option Message → List ℕ → Type 0
 Ends limit left (Ok end) answer stop shutdown_reply at = (answer ≡ Ok end)
     × LeftAfter limit stop at left
@@ -91,7 +92,7 @@ Wrote old new (Err Memory) stop shutdown_reply sends = GetsFrames sends old new
 Wrote old new result stop shutdown_reply sends = GetsFrames sends old new
 
 -- bytes in to bytes out
-abbrev pub Gives : ℕ → SessionPart → List ℕ → Option (List ℕ) → Option (List ℕ) → Option (List ℕ)
+abbrev pub Gives : Limits → SessionPart → List ℕ → Option (List ℕ) → Option (List ℕ) → Option (List ℕ)
     → Result SessionEnd SessionFault → Type 0
 Gives limit P text left old new result =
     SessionOver (ReadsMessage limit) P text (Ends limit left result) (Wrote old new result)

@@ -12,5 +12,5 @@ module _ {R : Type 0} (remaining : R → Option (List ℕ)) where
   -- one receive, which keeps the reader that the inbox was lent, and its limit
   abbrev pub StreamInboxGives : StreamInbox R → Event → StreamInbox R → Type 0
   StreamInboxGives old event new =
-      StreamGives old.limit (stream_of old) event (stream_of new)
-      × (new.reader.ghost_name ≡ old.reader.ghost_name) × (new.limit ≡ old.limit)
+      StreamGives old.limits (stream_of old) event (stream_of new)
+      × (new.reader.ghost_name ≡ old.reader.ghost_name) × (new.limits ≡ old.limits)

@@ -22,7 +22,7 @@ use Rattle.lsp_session.specs.declared.loops.tolerant_inbox.TolerantInbox.{Tolera
 module _ {R W L : Type 0} where
   -- the transport as an inbox
   abbrev pub inbox_of : StreamTransport R W L → TolerantInbox R L
-  inbox_of t = record { alloc = t.alloc; reader = t.reader; listener = t.listener; limit = t.limit; end = t.end }
+  inbox_of t = record { alloc = t.alloc; reader = t.reader; listener = t.listener; limits = t.limits; end = t.end }
 
   -- the transport as an outbox
   abbrev pub outbox_of : StreamTransport R W L → FrameOutbox W
@@ -51,7 +51,7 @@ module _ {R W L : Type 0} where
       × (outbox_of new ≡ outbox_of old) × (new.transcript.ghost_name ≡ old.transcript.ghost_name)
       × ((parts : Parts) × (notes_of new.transcript.now ≡ notes_of old.transcript.now ++ (gave event, parts) ∷ [])
       × Takes parts [] parts (remaining old.reader.now) (remaining new.reader.now)
-      × EventParts old.limit old.end event new.end parts)
+      × EventParts old.limits old.end event new.end parts)
 
   -- A wait that also gives wakes ended the messages at a content part that is no message only if the listener may end them.
   abbrev pub StreamTransportListens : (L → ReadFault → Type 0) → StreamTransport R W L → Event
@@ -71,7 +71,7 @@ module _ {R W L : Type 0} where
   -- A session over a transport that was not used yet: the transcript tells it, byte for byte, and the transport has the ends that it had.
   pub record Serves (P : SessionPart) (old : StreamTransport R W L) (result : Result SessionEnd SessionFault)
       (new : StreamTransport R W L) : Type 0 where
-    pub told : ToldSession old.limit P (notes_of new.transcript.now) result
+    pub told : ToldSession old.limits P (notes_of new.transcript.now) result
     pub same_ends : KeepsEnds old new
 
   -- the bytes of these notes are all that passed
@@ -86,7 +86,7 @@ module _ {R W L : Type 0} where
       → StreamTransport R W L → Type 0
   GivesInOrder remaining hears contents P old result new =
       IfSome (remaining old.reader.now) (λ text.
-      GivesAndTells hears old.limit (Both P (InOrder (account_of new))) text
+      GivesAndTells hears old.limits (Both P (InOrder (account_of new))) text
       (remaining new.reader.now)
       old.listener.now new.listener.now (contents old.writer.now)
       (contents new.writer.now) result)

@@ -7,6 +7,7 @@ use Rattle.lsp_message.specs.Message.{Message}
 use Rattle.lsp_message.specs.Methods.{is_exit}
 use Rattle.lsp_message.specs.Reading.{Answers}
 use Rattle.lsp_message.specs.declared.frame.ReadFault.{ReadFault}
+use Rattle.lsp_message.specs.declared.frame.limits.Limits.{Limits}
 use Rattle.lsp_session.specs.Event.{Event, message, closed}
 use Rattle.lsp_session.specs.declared.loops.ReadEnd.{ReadEnd}
 use Rattle.lsp_session.specs.declared.loops.ReadEnd.TheVariants.{Exit, End, Fault}
@@ -16,8 +17,8 @@ pub record Stream : Type 0 where
   pub remaining : Option (List ℕ)
   pub end : Option ReadEnd
 
--- content parts have at most so many bytes
-module _ (limit : ℕ) where
+-- the parts of a frame have at most so many bytes
+module _ (limit : Limits) where
   -- One read of a message: what the bytes begin with, and what follows it is left. A reader that fails and an allocation that
   -- fails stop within the message.
   abbrev pub Reads : Option (List ℕ) → Result (Option Message) ReadFault → Option (List ℕ) → Type 0

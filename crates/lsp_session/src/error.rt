@@ -3,6 +3,7 @@ ghost use Rattle.std.specs.Prelude.{◌≡◌, ◌⊎◌, IfOk};
 ghost use Rattle.lsp_session.specs.ProtocolError.{disconnected, expected_initialize, aborted, expected_initialized, unexpected_in_shutdown, shutdown_timeout, shutdown_disconnected, out_of_memory, Shows};
 ghost use Rattle.lsp_session.specs.Served.{reason_of_fault};
 
+use crate::beginning::beginning_of;
 use crate::lifecycle::SendFault;
 use crate::loops::StopReason;
 use lsp_message::Message;
@@ -30,8 +31,8 @@ enum ProtocolRepr {
 
 /// Why a handshake, or the end of a session, failed (LSP 3.17, "Server lifecycle").
 ///
-/// It prints one of these texts. Where the table has `..`, the message that came follows as `{:?}` prints it, and that part may
-/// change.
+/// It prints one of these texts. Where the table has `..`, the message that came follows as `{:?}` prints it, 400 bytes of it at
+/// most, and that part may change.
 ///
 /// | Text | `channel_is_disconnected` |
 /// |---|---|
@@ -168,7 +169,7 @@ impl ProtocolError {
     pub(crate) fn expected_initialize(alloc: Global, message: &Message) -> ProtocolError
         ensures { Shows expected_initialize result ⊎ (result ≡ out_of_memory) }
     {
-        match format!(in alloc; "{message:?}") {
+        match beginning_of(alloc, message) {
             Ok(shown) => ProtocolError(ProtocolRepr::ExpectedInitialize(shown)),
             Err(_) => ProtocolError::out_of_memory(),
         }
@@ -178,7 +179,7 @@ impl ProtocolError {
     pub(crate) fn expected_initialized(alloc: Global, message: &Message) -> ProtocolError
         ensures { Shows expected_initialized result ⊎ (result ≡ out_of_memory) }
     {
-        match format!(in alloc; "{message:?}") {
+        match beginning_of(alloc, message) {
             Ok(shown) => ProtocolError(ProtocolRepr::ExpectedInitialized(shown)),
             Err(_) => ProtocolError::out_of_memory(),
         }
@@ -188,7 +189,7 @@ impl ProtocolError {
     pub(crate) fn unexpected_in_shutdown(alloc: Global, message: &Message) -> ProtocolError
         ensures { Shows unexpected_in_shutdown result ⊎ (result ≡ out_of_memory) }
     {
-        match format!(in alloc; "{message:?}") {
+        match beginning_of(alloc, message) {
             Ok(shown) => ProtocolError(ProtocolRepr::UnexpectedInShutdown(shown)),
             Err(_) => ProtocolError::out_of_memory(),
         }

@@ -2,6 +2,7 @@
 //! between bytes and messages. `lsp_server` gives all of it on under the same names.
 #![tactic(auto)]
 
+mod beginning;
 mod error;
 pub mod laws;
 mod lifecycle;

@@ -1,6 +1,6 @@
 //! Loops over messages: from a reader to an outbox, and from an inbox to a writer (LSP 3.17, "Base Protocol").
 ghost use Rattle.std.specs.Prelude.{◌≡◌, IfSome, List};
-ghost use Rattle.lsp_message.specs.Frame.{no_limit};
+ghost use Rattle.lsp_message.specs.Frame.{no_limit, of_content};
 ghost use Rattle.lsp_message.specs.Message as plain;
 ghost use Rattle.lsp_session.specs.ReadLoop.{Hands, refused_end};
 ghost use Rattle.lsp_session.specs.WriteLoop.{OffersAll};
@@ -74,7 +74,7 @@ pub fn read_loop<R: BufRead, O: Outbox>(alloc: Global, reader: &mut R, outbox: &
 }
 
 /// Hands on a reader's messages, up to and with the first `exit`. A message whose content part has more than `limit` bytes
-/// ends the loop with `ReadFault::TooLong`, and is unread.
+/// ends the loop with `ReadFault::TooLong`, and is unread. A header part is not bounded.
 pub fn read_loop_within<R: BufRead, O: Outbox>(
     alloc: Global,
     reader: &mut R,
@@ -82,7 +82,7 @@ pub fn read_loop_within<R: BufRead, O: Outbox>(
     limit: u64,
 ) -> ReadEnd
     ensures handed { IfSome (R.remaining reader.old) (λ text.
-        Hands limit O.sends text outbox.old outbox.new (R.remaining reader.new) result) }
+        Hands (of_content limit) O.sends text outbox.old outbox.new (R.remaining reader.new) result) }
     ensures offered { (ms : List plain.Message) × OffersAll O.sends outbox.old ms outbox.new }
 {
     for _ in 0..u64::MAX {

@@ -20,8 +20,9 @@ use Rattle.lsp_session.specs.declared.loops.ReadEnd.{ReadEnd}
 use Rattle.lsp_session.specs.declared.loops.ReadEnd.TheVariants.{End, Fault}
 use Rattle.lsp_threads.proofs.HeaderFaults.{is_of_no_body}
 use Rattle.lsp_message.specs.Told.{Parts, Told, IsOfParts}
+use Rattle.lsp_message.specs.declared.frame.limits.Limits.{Limits}
 use Rattle.lsp_threads.proofs.Taken.{nothing_taken, told_last, told_next}
-use Rattle.lsp_threads.specs.Contents.{AreContents, BeginsAny, BeginsSource, BeginsWithContent, bytes_of, Contents, contents_of, Gathering, MaySend, parts_after, ReadsContents, StopsAt, TellsContents}
+use Rattle.lsp_threads.specs.Contents.{AreContents, BeginsAny, BeginsSource, BeginsWithContent, bytes_of, Contents, contents_of, Gathering, MaySend, parts_after, ReadsContents, StopsAt, TellsContents, source_of}
 use Rattle.lsp_threads.specs.Passing.{OfTaken, TakenFrom}
 
 -- ---- content parts in parcels
@@ -54,7 +55,7 @@ no_end (parcel.Message x ∷ rest) still is = no_end rest still is
 no_end (parcel.End ∷ rest) still is = absurd still
 
 -- ---- what was read
-module _ (limit : ℕ) where
+module _ (limit : Limits) where
   -- what was read follows what was read before
   reads_then : (contents more : List (List ℕ)) (text at : List ℕ) (end : ReadEnd) → FoldsTo (BeginsWithContent limit) text contents at → ReadsContents limit at end more
       → ReadsContents limit text end (contents ++ more)
@@ -128,10 +129,10 @@ module _ (limit : ℕ) where
             rw answers.1 (FoldsTo-push (BeginsWithContent limit) text contents at x.items (content_within limit at).rest run (content_is at x.items answers.0)))
 
   -- what was read so far may be sent
-  pub begins_any : (source : Option Source) (a : Option (List ℕ)) (contents : List (List ℕ)) (taken : Parts) → source ≡ Some (a, limit) → AreContents limit taken contents → TakenFrom a taken
+  pub begins_any : (source : Option Source) (a : Option (List ℕ)) (contents : List (List ℕ)) (taken : Parts) → source ≡ Some (source_of a limit) → AreContents limit taken contents → TakenFrom a taken
       → BeginsAny source contents taken
   begins_any source a contents taken is are from known e =
-      let same : (a, limit) ≡ known = cc in subst (λ (k : Source). BeginsSource k contents taken) same (are, from)
+      let same : source_of a limit ≡ known = cc in subst (λ (k : Source). BeginsSource k contents taken) same (are, from)
 
   -- if it may have been sent, reading may have stopped there
   pub reads_begin : (contents : List (List ℕ)) (taken : Parts) → AreContents limit taken contents → (rest : List ℕ) → ReadsContents limit (concat taken ++ rest) (Fault (Input Other)) contents

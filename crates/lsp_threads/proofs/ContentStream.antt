@@ -15,6 +15,7 @@ use Rattle.lsp_message.specs.Reading.{Reading, found}
 use Rattle.lsp_message.specs.ReadingSteps.{Decodes}
 use Rattle.lsp_message.specs.declared.frame.ReadFault.{ReadFault}
 use Rattle.lsp_message.specs.declared.frame.ReadFault.TheVariants.{BodyNotText, NoJson, NoMessage, Batch, Input, Memory as NoMemory}
+use Rattle.lsp_message.specs.declared.frame.limits.Limits.{Limits}
 use Rattle.lsp_relay.specs.Relay.{ended, has_end, Sending}
 use Rattle.lsp_relay.specs.declared.ends.Parcel.{Parcel}
 use Rattle.lsp_relay.specs.declared.ends.Parcel.TheVariants as parcel
@@ -94,7 +95,7 @@ not_ended : (end : Option ReadEnd) → is_some end ≡ false → end ≡ None
 not_ended None none = refl
 not_ended (Some end) none = absurd (cc (none))
 
-module _ (limit : ℕ) where
+module _ (limit : Limits) where
   -- bytes that were read are the first
   front : (at : List ℕ) → TakesFront (Some at) (Some (reading_within limit at).rest)
   front at = let unread = frame_unread body_means limit at in (unread.0, some_is unread.1)

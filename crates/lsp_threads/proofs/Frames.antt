@@ -27,6 +27,7 @@ use Rattle.lsp_threads.proofs.Handed.{After, extent_of, HandedOn, handed_on, IsN
 use Rattle.lsp_threads.specs.Framing.{parcel_bytes, AreEnded, Framing, FramingSends, Gathers, HandsFrames, HandsSome, TellsFrames, WritesBytes, WritesParcels, WritesUnlessFailed}
 use Rattle.lsp_message.specs.declared.frame.ReadFault.TheVariants.{Input, Memory as NoMemoryToRead}
 use Rattle.lsp_message.specs.declared.frame.WriteFault.TheVariants.{Output, Memory as NoMemory}
+use Rattle.lsp_message.specs.declared.frame.limits.Limits.{Limits}
 use Rattle.lsp_session.specs.declared.lifecycle.SendFault.TheVariants.{Memory as NoRoom}
 use Rattle.lsp_threads.proofs.Taken.{told_last, told_next}
 use Rattle.lsp_threads.specs.Passing.{OfTaken, TakenFrom}
@@ -76,7 +77,7 @@ framed_more m old new frame (Ok done) is joined = (joined.0, (frame, is, joined.
 framed_more m old new frame (Err fault) is joined = tt
 
 -- ---- what a thread that reads sent
-module _ (limit : ℕ) where
+module _ (limit : Limits) where
   pub handed_frames : (known : Option (List ℕ)) (tx : Sending (String Global)) (start mid : Framing) (left : Option (List ℕ)) (back : Sending (String Global)) (end : ReadEnd)
       → start ≡ record { relay = tx.relay; bytes = [] } → IfSome known (λ text. Hands limit FramingSends text start mid left end)
       → parcel_bytes back.sent ≡ mid.bytes → AreEnded back.sent → IfSome known (λ text. HandsFrames limit text tx end back)
@@ -107,7 +108,7 @@ module _ (limit : ℕ) where
       (mid, on, rw bytes frames.1)
 
 -- a look at the reader keeps what was handed on
-module _ (limit : ℕ) where
+module _ (limit : Limits) where
   pub Handed-kept : (a b c : Option (List ℕ)) (old new : Framing) → Handed limit FramingSends a b old new → Keeps b c → Handed limit FramingSends a c old new
   Handed-kept None b c old new so_far kept = tt
   Handed-kept (Some text) None c old new so_far kept = absurd so_far
@@ -115,7 +116,7 @@ module _ (limit : ℕ) where
   Handed-kept (Some text) (Some left) (Some more) old new so_far kept = rw kept so_far
 
 -- ---- what a thread that reads handed on, of the bytes that were taken
-module _ (limit : ℕ) (t u : Parts) (a b : Option (List ℕ)) (old mid : Framing)
+module _ (limit : Limits) (t u : Parts) (a b : Option (List ℕ)) (old mid : Framing)
     (so_far : (at : List ℕ) → Handed limit FramingSends (Some (concat t ++ at)) (Some at) old mid) where
   abbrev Reads : Result (Option msg.Message) ReadFault → Type 0
   Reads r = Told (IsOfParts message_view (reading_within limit) r) t u a b
@@ -152,7 +153,7 @@ module _ (limit : ℕ) (t u : Parts) (a b : Option (List ℕ)) (old mid : Framin
           subst (λ text. Handed limit FramingSends (Some text) (Some rest) old new) (sym at.1)
           (Handed-more limit FramingSends message_view (Some (concat t ++ at.0)) (Some at.0) (Some rest) old mid new x (so_far at.0) at.2 sent goes)
 
-pub told_frames_on : (limit : ℕ) (t : Parts) (old mid : Framing) → ((at : List ℕ) → Handed limit FramingSends (Some (concat t ++ at)) (Some at) old mid)
+pub told_frames_on : (limit : Limits) (t : Parts) (old mid : Framing) → ((at : List ℕ) → Handed limit FramingSends (Some (concat t ++ at)) (Some at) old mid)
     → OfTaken t (λ text. HandsSome limit text old mid (Fault (Input Other)))
 told_frames_on limit t old mid so_far rest ends = (Some rest, hands_on limit FramingSends old mid (Some (concat t ++ rest)) (Some rest) (so_far rest))
 
@@ -291,7 +292,7 @@ breaks ms text a b are some (part, rest, split, got) = at (breaks_in ms text par
       record { frames = frames; frames_of_whole = are'; frame = frame; frame_of_next = is'; part = begun; missing = missing; split = split'; got = rw all at got },
     )
 
-module _ (limit : ℕ) where
+module _ (limit : Limits) where
   module _ (text : List ℕ) (a b : Option (List ℕ)) (ms : List plain.Message) where
     -- all was written
     whole_pumped : (end : ReadEnd) (rest : List ℕ) → HasRead limit (extent_of end) text ms rest → IsNotClosed end → GetsFrames ms a b → Pumps limit text a b (pump_answer end None)

@@ -7,6 +7,7 @@ use Rattle.lsp_message.specs.Messages.{Begins, PassesAll, is_exit, exited, ended
 use Rattle.lsp_message.specs.Message.{Message}
 use Rattle.lsp_message.specs.declared.frame.ReadFault.TheVariants.{Input, Memory as NoMemory}
 use Rattle.lsp_message.specs.declared.msg.Message as msg
+use Rattle.lsp_message.specs.declared.frame.limits.Limits.{Limits}
 use Rattle.lsp_session.specs.Boxes.{Sends, Takes}
 use Rattle.lsp_session.specs.ReadLoop.{Extent, to_end, in_part, HasRead, Hands}
 use Rattle.lsp_session.specs.declared.lifecycle.SendFault.TheVariants.{Closed as IsClosed, Memory as IsFull}
@@ -26,7 +27,7 @@ abbrev pub IsNotClosed : ReadEnd → Type 0
 IsNotClosed Closed = ⊥
 IsNotClosed end = Unit {0}
 
-module _ (limit : ℕ) where
+module _ (limit : Limits) where
   -- reading may end so at this text; if an outbox was full, nothing is said
   abbrev pub EndsAt : List ℕ → ReadEnd → Type 0
   EndsAt text Exit = ⊥

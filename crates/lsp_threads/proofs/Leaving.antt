@@ -5,13 +5,14 @@ use Rattle.std.specs.List.{concat}
 use mathlib.Core.List.{IsPrefix}
 use Rattle.lsp_message.specs.Told.{Parts}
 use Rattle.lsp_message.specs.declared.frame.ReadFault.TheVariants.{Input}
+use Rattle.lsp_message.specs.declared.frame.limits.Limits.{Limits}
 use Rattle.lsp_relay.specs.Relay.{has_end, IsOpen, Sending}
 use Rattle.lsp_relay.specs.declared.ends.Parcel.{Parcel}
 use Rattle.lsp_relay.specs.declared.ends.Parcel.TheVariants as parcel
 use Rattle.lsp_session.specs.declared.loops.ReadEnd.{ReadEnd}
 use Rattle.lsp_session.specs.declared.loops.ReadEnd.TheVariants.{Fault}
 use Rattle.lsp_threads.proofs.ContentReads.{contents_of-end, ended_parcels, reads_begin}
-use Rattle.lsp_threads.specs.Contents.{Contents, contents_of, BeginsSource, HandsWhole, LeavesReading, parts_of, ReadsContents, Taking, TellsContents}
+use Rattle.lsp_threads.specs.Contents.{Contents, contents_of, BeginsSource, HandsWhole, LeavesReading, parts_of, ReadsContents, Taking, TellsContents, source_of}
 use Rattle.lsp_threads.specs.Passing.{OfTaken}
 
 pub open_taken : (taken : List (Parcel Contents)) → has_end taken ≡ false → IsOpen taken
@@ -24,7 +25,7 @@ end_in_more [] more e = absurd (cc (e))
 end_in_more (parcel.Message x ∷ rest) more e = end_in_more rest more e
 end_in_more (parcel.End ∷ rest) more e = refl
 
-module _ (limit : ℕ) (tx : Sending Contents) (parts : Taking) where
+module _ (limit : Limits) (tx : Sending Contents) (parts : Taking) where
   -- all was taken, and the thread was joined
   pub joined_reading : (known : Option (List ℕ)) (back : Sending Contents) (end : ReadEnd) (taken : Parts) → has_end parts.taken ≡ true → IsPrefix parts.taken back.sent
       → (back.wakeable ≡ false → parts.wakes ≡ 0) → TellsContents limit known tx end taken back → LeavesReading parts limit tx known taken end
@@ -34,7 +35,7 @@ module _ (limit : ℕ) (tx : Sending Contents) (parts : Taking) where
 
   -- not all was taken, and the thread was left to itself
   pub left_reading : (known : Option (List ℕ)) (taken : Parts) → has_end parts.taken ≡ false → parts.relay.2 ≡ tx.wakeable → taken ≡ parts_of parts.taken
-      → BeginsSource (known, limit) (contents_of parts.taken) (parts_of parts.taken) → (parts.relay.2 ≡ false → parts.wakes ≡ 0) → LeavesReading parts limit tx known taken (Fault (Input Other))
+      → BeginsSource (source_of known limit) (contents_of parts.taken) (parts_of parts.taken) → (parts.relay.2 ≡ false → parts.wakes ≡ 0) → LeavesReading parts limit tx known taken (Fault (Input Other))
   left_reading known taken is woken same begins silent =
       (back, parts.taken ++ parcel.End ∷ [], rw is ([], refl), ([], append-nil (parts.taken ++ parcel.End ∷ [])), silent, rw same whole, rw same begins.1)
     where

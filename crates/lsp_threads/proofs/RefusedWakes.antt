@@ -6,6 +6,7 @@ use Rattle.lsp_message.specs.Frame.{Begins, reading_within}
 use Rattle.lsp_message.specs.Message.{Message}
 use Rattle.lsp_message.specs.Reading.{Reading}
 use Rattle.lsp_message.specs.declared.frame.ReadFault.{ReadFault}
+use Rattle.lsp_message.specs.declared.frame.limits.Limits.{Limits}
 use Rattle.lsp_session.specs.Passing.{is_of_body}
 use Rattle.lsp_session.specs.PassingBytes.{HearsLast, PassesNothingOver}
 use Rattle.lsp_session.specs.Session.{Exchange, came_of, no_more, SessionPart}
@@ -21,7 +22,7 @@ abbrev pub TellsAWake : SessionPart
 TellsAWake exchanges stop shutdown_reply answer =
     (earlier : List Exchange) × (sent : List Message) × (later : List Exchange) × (exchanges ≡ earlier ++ record { came = None; sent = sent } ∷ later)
 
-module _ (limit : ℕ) where
+module _ (limit : Limits) where
   tells_none : (sent : List Message) (earlier later : List Exchange) (text at : List ℕ)
       → FoldsTo (ReadsOrWakes false limit) text (came_of (earlier ++ record { came = None; sent = sent } ∷ later)) at → ⊥
   tells_none sent [] later text at run = let e : false ≡ true = run.1.0 in absurd (cc (e))

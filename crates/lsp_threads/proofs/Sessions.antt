@@ -28,6 +28,7 @@ use Rattle.lsp_threads.specs.ContentBoxes.{InboxGives, KeepsLent, seen_of}
 use Rattle.lsp_threads.specs.Contents.{Contents, ContentsGive, HandsWhole}
 use Rattle.lsp_threads.specs.Framing.{parcel_bytes, AreEnded, WritesParcels}
 use Rattle.lsp_message.specs.Told.{Parts}
+use Rattle.lsp_message.specs.declared.frame.limits.Limits.{Limits}
 use Rattle.lsp_threads.specs.Passing.{OfTaken}
 use Rattle.lsp_threads.specs.Replies.{Replying, RepliesSend, reply_fault, WritesReplies}
 use Rattle.lsp_threads.specs.Threads.{ReadsFrameOrWakes, ReadsOrWakes, session_end, ThreadsGiveOver, ThreadsTellOver}
@@ -41,7 +42,7 @@ seen_all hears (event ∷ events) old new run =
     let rest = seen_all hears events run.0 new run.2 in
     ((seen_of run.0, run.1.0, rest.0), (rest.1.0 ∙ run.1.1.0, rest.1.1 ∙ run.1.1.1))
 
-module _ {L : Type 0} (hears : L → ReadFault → L → Type 0) (limit : ℕ) (P Q : SessionPart) (reason : StopReason)
+module _ {L : Type 0} (hears : L → ReadFault → L → Type 0) (limit : Limits) (P Q : SessionPart) (reason : StopReason)
     (knows : (xs : List Exchange) (stop : Stop) (shutdown_reply : Option Sent) (answer : SessionAnswer) → P xs stop shutdown_reply answer
     → Q xs stop shutdown_reply answer × StopsFor reason xs stop shutdown_reply answer × Facts stop (messages_of xs))
     (a b : Option (List ℕ)) {R : Type 0} (inbox inbox' : ContentInbox R L) (outbox outbox' : Replying) (answer : SessionAnswer)
@@ -79,7 +80,7 @@ module _ {L : Type 0} (hears : L → ReadFault → L → Type 0) (limit : ℕ) (
 
 -- A session in threads that is described otherwise.
 module _ (P Q : SessionPart)
-    (to : (xs : List Exchange) (stop : Stop) (shutdown_reply : Option Sent) (answer : SessionAnswer) → P xs stop shutdown_reply answer → Q xs stop shutdown_reply answer) (wakeable : Bool) (limit : ℕ) where
+    (to : (xs : List Exchange) (stop : Stop) (shutdown_reply : Option Sent) (answer : SessionAnswer) → P xs stop shutdown_reply answer → Q xs stop shutdown_reply answer) (wakeable : Bool) (limit : Limits) where
   -- if the bytes are known, and both threads were started
   pub started_as : {T F : Type 0} (contents : T → Option (List ℕ)) (answer_of : T → Result SessionEnd SessionFault) (known old : Option (List ℕ)) (result : Result T F)
       → IfSome known (λ text. IfOk result (λ done. ThreadsGiveOver wakeable limit P text old (contents done) (answer_of done)))
@@ -89,7 +90,7 @@ module _ (P Q : SessionPart)
   started_as contents answer_of (Some text) old (Err fault) gives = tt
 
 -- The same of one that asks a listener.
-module _ (wakeable : Bool) {L : Type 0} (hears : L → ReadFault → L → Type 0) (limit : ℕ) (first last : L) where
+module _ (wakeable : Bool) {L : Type 0} (hears : L → ReadFault → L → Type 0) (limit : Limits) (first last : L) where
   pub started_told_as : (P Q : SessionPart)
       (to : (xs : List Exchange) (stop : Stop) (shutdown_reply : Option Sent) (answer : SessionAnswer) → P xs stop shutdown_reply answer → Q xs stop shutdown_reply answer)
       {T F : Type 0} (contents : T → Option (List ℕ)) (answer_of : T → Result SessionEnd SessionFault) (known old : Option (List ℕ)) (result : Result T F)

@@ -15,6 +15,7 @@ use Rattle.lsp_message.specs.declared.frame.ReadFault.TheVariants.{Input, Memory
 use Rattle.lsp_message.specs.declared.frame.WriteFault.{WriteFault}
 use Rattle.lsp_message.specs.declared.frame.WriteFault.TheVariants.{Output, Memory as NoMemory}
 use Rattle.lsp_message.specs.declared.frame.passed.Passed.{Passed}
+use Rattle.lsp_message.specs.declared.frame.limits.Limits.{Limits}
 use Rattle.lsp_session.specs.ReadLoop.{Extent, ReadsOver}
 use Rattle.lsp_session.specs.Session.{SessionPart, Stop}
 use Rattle.lsp_session.specs.declared.loops.handler.SessionEnd.{SessionEnd}
@@ -131,7 +132,7 @@ module _ (all : List ℕ) (old new : Option (List ℕ)) (given : Appends old new
   wrote_known (Err Full) stop shutdown_reply sends first = (first.0, first.1, first.2, gets_known first.0 first.3)
   wrote_known result stop shutdown_reply sends gets = gets_known sends gets
 
-  pub session_known : (wakeable : Bool) {L : Type 0} (hears : L → ReadFault → L → Type 0) (limit : ℕ) (P : SessionPart) (first last : L) (result : Result SessionEnd SessionFault) (text : List ℕ)
+  pub session_known : (wakeable : Bool) {L : Type 0} (hears : L → ReadFault → L → Type 0) (limit : Limits) (P : SessionPart) (first last : L) (result : Result SessionEnd SessionFault) (text : List ℕ)
       → ThreadsTellOver wakeable hears limit P text first last (Some []) (Some all) result → ThreadsTellOver wakeable hears limit P text first last old new result
   session_known wakeable hears limit P first last result text tells = record {
     exchanges = tells.exchanges;
@@ -145,7 +146,7 @@ module _ (all : List ℕ) (old new : Option (List ℕ)) (given : Appends old new
     wrote = wrote_known result tells.stop tells.shutdown_reply _ tells.wrote;
   }
 
-  module _ (limit : ℕ) (text : List ℕ) where
+  module _ (limit : Limits) (text : List ℕ) where
     over_known : (extent : Extent) {G H : List Message → Type 0} → ((ms : List Message) → G ms → H ms) → ReadsOver limit extent text G (λ rest. Unit {0}) → ReadsOver limit extent text H (λ rest. Unit {0})
     over_known extent to reads = record { messages = reads.messages; rest = reads.rest; read = reads.read; got = to reads.messages reads.got; left = tt }
 
@@ -168,13 +169,13 @@ module _ (all : List ℕ) (old new : Option (List ℕ)) (given : Appends old new
     pump_known (Err (Start fault)) kept = kept_known kept
 
 -- What a pump says of all bytes, at those that are known.
-pub pumped_known : (limit : ℕ) (known : Option (List ℕ)) (taken : Parts) (given : Passed) (old new : Option (List ℕ)) (answer : Result (Unit {0}) PumpFault)
+pub pumped_known : (limit : Limits) (known : Option (List ℕ)) (taken : Parts) (given : Passed) (old new : Option (List ℕ)) (answer : Result (Unit {0}) PumpFault)
     → OfTaken taken (λ text. Pumps limit text (Some []) (noted given) answer) → TakenFrom known taken → GivenTo old given.parts new → IfSome known (λ text. Pumps limit text old new answer)
 pumped_known limit known taken given old new answer told from to =
     of_known known taken (λ text. Pumps limit text old new answer) (λ rest ends. pump_known (concat given.parts) old new to.appended limit (concat taken ++ rest) answer (told rest ends)) from
 
 -- What a session says of all bytes, at those that are known.
-pub told_known : (wakeable : Bool) {L : Type 0} (hears : L → ReadFault → L → Type 0) (limit : ℕ) (P : SessionPart) (first last : L) (answer : Result SessionEnd SessionFault)
+pub told_known : (wakeable : Bool) {L : Type 0} (hears : L → ReadFault → L → Type 0) (limit : Limits) (P : SessionPart) (first last : L) (answer : Result SessionEnd SessionFault)
     (known : Option (List ℕ)) (taken : Parts) (given : Passed) (old new : Option (List ℕ))
     → OfTaken taken (λ text. ThreadsTellOver wakeable hears limit P text first last (Some []) (noted given) answer) → TakenFrom known taken → GivenTo old given.parts new
     → IfSome known (λ text. ThreadsTellOver wakeable hears limit P text first last old new answer)

@@ -11,6 +11,7 @@ use Rattle.lsp_message.specs.ReadingSteps.{Decodes}
 use Rattle.lsp_message.specs.Told.{Parts}
 use Rattle.lsp_message.specs.declared.frame.ReadFault.{ReadFault}
 use Rattle.lsp_message.specs.declared.frame.ReadFault.TheVariants.{Input, Memory as NoMemory}
+use Rattle.lsp_message.specs.declared.frame.limits.Limits.{Limits}
 use Rattle.lsp_session.specs.Event.{Event, message, closed, woken}
 use Rattle.lsp_session.specs.Passing.{ended_at_body, is_of_body}
 use Rattle.lsp_session.specs.PassingBoxes.{MayEnd}
@@ -55,8 +56,8 @@ parts_of parcels = parts_after [] parcels
 abbrev pub IsExit : List ℕ → Type 0
 IsExit content = (m : Message) × (body_means content ≡ Ok m) × (is_exit m ≡ true)
 
--- content parts have at most so many bytes
-module _ (limit : ℕ) where
+-- the parts of a frame have at most so many bytes
+module _ (limit : Limits) where
   -- Reading may stop so at this text: at its end, or at a frame that can't be read. At a content part that was read to its end and is no
   -- message it may not: that one is handed on, and the session finds what it is. A reader that fails and an allocation that fails may stop
   -- reading anywhere, and so may a session that takes no more, which stops it as a reader that fails does.
@@ -104,9 +105,16 @@ module _ (limit : ℕ) where
   AreContents taken contents = (rest : List ℕ)
       → FoldsTo BeginsWithContent (concat taken ++ rest) contents rest
 
+-- what content parts are read of: bytes, if they are known, within limits
+abbrev pub source_of : Option (List ℕ) → Limits → Source
+source_of known limit = (known, (limit.header, limit.content))
+
+abbrev pub limits_of : Source → Limits
+limits_of source = record { header = source.1.0; content = source.1.1 }
+
 -- A session's plan: what is sent are content parts of the bytes that were taken up to their end.
 abbrev pub BeginsSource : Source → List (List ℕ) → Parts → Type 0
-BeginsSource source contents taken = AreContents source.1 taken contents × TakenFrom source.0 taken
+BeginsSource source contents taken = AreContents (limits_of source) taken contents × TakenFrom source.0 taken
 
 abbrev pub MaySend : Source → List (Parcel Contents) → Type 0
 MaySend source sent = IsOpen sent → BeginsSource source (contents_of sent) (parts_of sent)
@@ -116,9 +124,9 @@ abbrev pub BeginsAny : Option Source → List (List ℕ) → Parts → Type 0
 BeginsAny source contents taken = (known : Source) → source ≡ Some known
     → BeginsSource known contents taken
 
--- the end's plan is of these bytes and this limit
-abbrev pub ReadsFor : Option (List ℕ) → ℕ → Sending Contents → Type 0
-ReadsFor known limit tx = tx.source ≡ Some (known, limit)
+-- the end's plan is of these bytes and these limits
+abbrev pub ReadsFor : Option (List ℕ) → Limits → Sending Contents → Type 0
+ReadsFor known limit tx = tx.source ≡ Some (source_of known limit)
 
 -- an outbox that gathers content parts, as callers see it: those that were sent, and then those that wait to be sent
 pub record Gathering : Type 0 where
@@ -148,7 +156,7 @@ pub record Taking : Type 0 where
 
 -- For private clauses: how a session that takes no more leaves the thread that reads. What was taken is a beginning of what would be sent if
 -- reading stopped so.
-abbrev pub LeavesReading : Taking → ℕ → Sending Contents → Option (List ℕ) → Parts → ReadEnd → Type 0
+abbrev pub LeavesReading : Taking → Limits → Sending Contents → Option (List ℕ) → Parts → ReadEnd → Type 0
 LeavesReading parts limit tx known taken end =
     (back : Sending Contents) × (parcels : List (Parcel Contents))
     × MatchBool (has_end parts.taken) (parcels ≡ parts.taken)

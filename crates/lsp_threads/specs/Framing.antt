@@ -6,6 +6,7 @@ use Rattle.lsp_message.specs.Message as plain
 use Rattle.lsp_message.specs.Told.{Parts}
 use Rattle.lsp_message.specs.Written.{AppendsBeginning, IsFrameOf, IsOutput}
 use Rattle.lsp_message.specs.declared.frame.WriteFault.{WriteFault}
+use Rattle.lsp_message.specs.declared.frame.limits.Limits.{Limits}
 use Rattle.lsp_session.specs.ReadLoop.{Hands}
 use Rattle.lsp_session.specs.declared.lifecycle.SendFault.{SendFault}
 use Rattle.lsp_session.specs.declared.lifecycle.SendFault.TheVariants.{Closed, Memory}
@@ -38,19 +39,19 @@ abbrev pub AreEnded : List (Parcel (String Global)) → Type 0
 AreEnded sent = (texts : List (String Global)) × (sent ≡ ended texts)
 
 -- a loop over the messages of the text, whose content parts have at most so many bytes, hands on frames
-abbrev pub HandsSome : ℕ → List ℕ → Framing → Framing → ReadEnd → Type 0
+abbrev pub HandsSome : Limits → List ℕ → Framing → Framing → ReadEnd → Type 0
 HandsSome limit text old new end = (left : Option (List ℕ))
     × Hands limit FramingSends text old new left end
 
 -- what was sent is those frames, and then End
-abbrev pub HandsFrames : ℕ → List ℕ → Sending (String Global) → ReadEnd → Sending (String Global)
+abbrev pub HandsFrames : Limits → List ℕ → Sending (String Global) → ReadEnd → Sending (String Global)
     → Type 0
 HandsFrames limit text old end new = (mid : Framing) × (left : Option (List ℕ))
     × Hands limit FramingSends text (record { relay = old.relay; bytes = [] }) mid left end
     × (parcel_bytes new.sent ≡ mid.bytes) × AreEnded new.sent
 
 -- they are those of the bytes that were taken
-abbrev pub TellsFrames : ℕ → Option (List ℕ) → Sending (String Global) → ReadEnd → Parts
+abbrev pub TellsFrames : Limits → Option (List ℕ) → Sending (String Global) → ReadEnd → Parts
     → Sending (String Global) → Type 0
 TellsFrames limit known old end taken new =
     OfTaken taken (λ text. HandsFrames limit text old end new) × TakenFrom known taken

@@ -8,6 +8,7 @@ use Rattle.lsp_message.specs.Written.{GetsFrames, GetsFramesAndPart}
 use Rattle.lsp_message.specs.declared.frame.ReadFault.TheVariants.{Input, Memory}
 use Rattle.lsp_message.specs.declared.frame.WriteFault.TheVariants.{Output, Memory as NoMemory}
 use Rattle.lsp_message.specs.declared.frame.WriteFault.{WriteFault}
+use Rattle.lsp_message.specs.declared.frame.limits.Limits.{Limits}
 use Rattle.lsp_session.specs.ReadLoop.{Extent, to_end, in_part, up_to, ReadsOver}
 use Rattle.lsp_session.specs.declared.loops.ReadEnd.{ReadEnd}
 use Rattle.lsp_session.specs.declared.loops.ReadEnd.TheVariants.{Exit, End, Fault, Closed, Memory as Full}
@@ -16,8 +17,8 @@ use Rattle.lsp_threads.specs.declared.pumping.PumpFault.TheVariants.{Read, Write
 use Rattle.lsp_threads.specs.declared.workers.StartFault.{StartFault}
 use Rattle.lsp_threads.specs.declared.workers.StartFault.TheVariants.{Memory as StartMemory, Thread}
 
--- content parts have at most so many bytes
-module _ (limit : ℕ) (text : List ℕ) (old new : Option (List ℕ)) where
+-- the parts of a frame have at most so many bytes
+module _ (limit : Limits) (text : List ℕ) (old new : Option (List ℕ)) where
   -- The writer got frames of the messages of the text so far, in order. The reader is gone, so nothing
   -- is said of what is left.
   abbrev pub PassesOn : Extent → Type 0

@@ -4,6 +4,7 @@ use Rattle.lsp_message.specs.Frame.{Begins}
 use Rattle.lsp_message.specs.Message.{Message}
 use Rattle.lsp_message.specs.Written.{GetsFrames, GetsFramesAndPart, IsOutput}
 use Rattle.lsp_message.specs.declared.frame.ReadFault.{ReadFault}
+use Rattle.lsp_message.specs.declared.frame.limits.Limits.{Limits}
 use Rattle.lsp_session.specs.PassingBytes.{HearsLast, PassesOver}
 use Rattle.lsp_session.specs.Session.{SessionAnswer, SessionPart, Stop}
 use Rattle.lsp_session.specs.SessionBytes.{Ends, SessionOver}
@@ -24,12 +25,12 @@ GetsFirst ms old new = (sent : List Message) × (unsent : List Message) × (ms �
     × GetsFrames sent old new
 
 -- The first frame of the text is this message, and the rest follows it; or others woke the session, if they can, and nothing was read.
-abbrev pub ReadsOrWakes : Bool → ℕ → List ℕ → Option Message → List ℕ → Type 0
+abbrev pub ReadsOrWakes : Bool → Limits → List ℕ → Option Message → List ℕ → Type 0
 ReadsOrWakes wakeable limit text (Some m) rest = Begins limit text m rest
 ReadsOrWakes wakeable limit text None rest = (wakeable ≡ true) × (rest ≡ text)
 
 -- For what a session in threads answers: as one over bytes ends, whatever is left of the text, since the reader is gone.
-abbrev pub EndsInThreads : ℕ → Result SessionEnd SessionFault → SessionAnswer → Stop
+abbrev pub EndsInThreads : Limits → Result SessionEnd SessionFault → SessionAnswer → Stop
     → Option Message → List ℕ → Type 0
 EndsInThreads limit result answer stop shutdown_reply at = (left : Option (List ℕ))
     × Ends limit left result answer stop shutdown_reply at
@@ -44,19 +45,19 @@ WroteInThreads old new (Err Memory) stop shutdown_reply sends = GetsFirst sends 
 WroteInThreads old new result stop shutdown_reply sends = GetsFrames sends old new
 
 -- bytes in to bytes out, of a session that passes over nothing, and that others can wake or not
-abbrev pub ThreadsGiveOver : Bool → ℕ → SessionPart → List ℕ → Option (List ℕ) → Option (List ℕ)
+abbrev pub ThreadsGiveOver : Bool → Limits → SessionPart → List ℕ → Option (List ℕ) → Option (List ℕ)
     → Result SessionEnd SessionFault → Type 0
 ThreadsGiveOver wakeable limit P text old new result =
     SessionOver (ReadsOrWakes wakeable limit) P text (EndsInThreads limit result)
     (WroteInThreads old new result)
 
 -- nobody can wake the session
-abbrev pub ThreadsGive : ℕ → SessionPart → List ℕ → Option (List ℕ) → Option (List ℕ)
+abbrev pub ThreadsGive : Limits → SessionPart → List ℕ → Option (List ℕ) → Option (List ℕ)
     → Result SessionEnd SessionFault → Type 0
 ThreadsGive = ThreadsGiveOver false
 
 -- of a session that asks a listener at content parts which are no messages, and that others can wake or not
-module _ (wakeable : Bool) {L : Type 0} (hears : L → ReadFault → L → Type 0) (limit : ℕ) where
+module _ (wakeable : Bool) {L : Type 0} (hears : L → ReadFault → L → Type 0) (limit : Limits) where
   -- The first frame of the text is this message, and the listener hears nothing. Or the session is woken: by others, if they can, and
   -- nothing was read; or since the first frame is passed over, of which the listener hears.
   abbrev pub ReadsFrameOrWakes : List ℕ × L → Option Message → List ℕ × L → Type 0
@@ -73,7 +74,7 @@ module _ (wakeable : Bool) {L : Type 0} (hears : L → ReadFault → L → Type 
       × HearsLast hears limit stop at last) (WroteInThreads old new result)
 
 -- nobody can wake the session but for a content part that is passed over
-abbrev pub ThreadsTell : {L : Type 0} → (L → ReadFault → L → Type 0) → ℕ → SessionPart → List ℕ → L
+abbrev pub ThreadsTell : {L : Type 0} → (L → ReadFault → L → Type 0) → Limits → SessionPart → List ℕ → L
     → L → Option (List ℕ) → Option (List ℕ) → Result SessionEnd SessionFault → Type 0
 ThreadsTell = ThreadsTellOver false
 

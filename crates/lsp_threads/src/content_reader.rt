@@ -1,6 +1,6 @@
 //! The thread that reads: it hands on the content parts of a reader's messages as bytes.
 ghost use Rattle.std.specs.Prelude.{◌≡◌, [], false, Some};
-ghost use Rattle.lsp_threads.specs.Contents.{ReadsContents, ReadsFor, TellsContents};
+ghost use Rattle.lsp_threads.specs.Contents.{ReadsContents, ReadsFor, TellsContents, source_of};
 ghost use Rattle.lsp_threads.specs.Passing.{OfTaken, TakenFrom};
 
 use crate::backlog::Backlog;
@@ -9,7 +9,7 @@ use crate::goes_on::surely_goes_on;
 use crate::peeking_reader::PeekingReader;
 use crate::workers::ReadsInto;
 use json::Scratch;
-use lsp_message::{Passed, ReadFault, read_content_telling};
+use lsp_message::{Limits, Passed, ReadFault, read_content_telling};
 use lsp_relay::RelayTx;
 use lsp_session::ReadEnd;
 use std::alloc::Global;
@@ -23,20 +23,20 @@ fn read_contents<R: Wait + Drop, S: BufRead>(
     alloc: Global,
     reader: &mut PeekingReader<S>,
     outbox: &mut ContentOutbox<R>,
-    limit: u64,
+    limits: Limits,
     taken: &mut Passed,
 ) -> ReadEnd
     requires fresh { (outbox.old.contents ≡ []) × (taken.old.parts ≡ []) }
-    requires source { outbox.old.relay.1 ≡ Some (S.remaining reader.old.inner, limit) }
+    requires source { outbox.old.relay.1 ≡ Some (source_of (S.remaining reader.old.inner) limits) }
     ensures read { outbox.new.closed ≡ false → OfTaken taken.new.parts (λ text.
-        ReadsContents limit text result outbox.new.contents) }
+        ReadsContents limits text result outbox.new.contents) }
     ensures taken { TakenFrom (S.remaining reader.old.inner) taken.new.parts }
     ensures relay { outbox.new.relay ≡ outbox.old.relay }
     ensures wakeable { outbox.new.wakeable ≡ outbox.old.wakeable }
 {
     let mut scratch = Scratch::new(alloc);
     for _ in 0..u64::MAX {
-        let content = match read_content_telling(alloc, reader, limit, taken) {
+        let content = match read_content_telling(alloc, reader, limits, taken) {
             Ok(Some(content)) => content,
             Ok(None) => return ReadEnd::End,
             Err(fault) => return ReadEnd::Fault(fault),
@@ -76,18 +76,18 @@ impl ReadsInto for RelayTx<Contents, ContentsPlan> {
         rt: R,
         alloc: Global,
         reader: S,
-        limit: u64,
+        limits: Limits,
         backlog: Backlog,
     ) -> (ContentsTx, ReadEnd, Passed)
-        requires { (self.sent ≡ []) × ReadsFor (S.remaining reader) limit self }
+        requires { (self.sent ≡ []) × ReadsFor (S.remaining reader) limits self }
         ensures relay { result.0.relay ≡ self.relay }
-        ensures told { TellsContents limit (S.remaining reader) self result.1 result.2.parts
+        ensures told { TellsContents limits (S.remaining reader) self result.1 result.2.parts
             result.0 }
     {
         let mut reader = PeekingReader::new(reader);
         let mut outbox = ContentOutbox::new(rt, alloc, self, backlog);
         let mut taken = Passed::new();
-        let end = read_contents(alloc, &mut reader, &mut outbox, limit, &mut taken);
+        let end = read_contents(alloc, &mut reader, &mut outbox, limits, &mut taken);
         (outbox.finish(), end, taken)
     }
 }

@@ -12,13 +12,14 @@ ghost use Rattle.lsp_session.specs.HandlerService.{lent_handler};
 ghost use Rattle.lsp_session.specs.PassingBytes.{PassesNothingOver};
 ghost use Rattle.lsp_session.specs.declared.loops.handler_service.HandlerService.{HandlerService as ServiceOf};
 ghost use Rattle.lsp_threads.specs.Threads.{ThreadsGiveOver, ThreadsTellOver};
+ghost use Rattle.lsp_message.specs.declared.frame.limits.Limits.{Limits};
 
 use lsp_session::{Handler, Listener, Service};
 
 /// In threads each request of a handler's session gets exactly one reply, and the order of the lifecycle is kept, as
 /// `session_answers_requests` says it of one on one thread (JSON-RPC 2.0, section 5): a fact of each session that was run.
 pub fn threads_answer_requests<H: Handler>()
-    ensures { (wakeable : Bool) (limit : ℕ) (capabilities : Data) (old new : H) (text : List ℕ)
+    ensures { (wakeable : Bool) (limit : Limits) (capabilities : Data) (old new : H) (text : List ℕ)
         (before after : Option (List ℕ)) (answer : Result EndOfSession FaultOfSession)
         → ThreadsGiveOver wakeable limit
         (SessionOut (of_handler H.answers H.notes capabilities) old new) text before after
@@ -31,7 +32,7 @@ pub fn threads_answer_requests<H: Handler>()
 /// A session in threads keeps the order of the lifecycle, as `session_keeps_order` says it of one on one thread (LSP 3.17, "Server
 /// lifecycle"): a fact of each session that was run.
 pub fn threads_keep_order<S: Service>()
-    ensures { (wakeable : Bool) (limit : ℕ) (old new : S) (text : List ℕ)
+    ensures { (wakeable : Bool) (limit : Limits) (old new : S) (text : List ℕ)
         (before after : Option (List ℕ)) (answer : Result EndOfSession FaultOfSession)
         → ThreadsGiveOver wakeable limit (SessionOut S.behavior old new) text before after answer
         → ThreadsGiveOver wakeable limit (Both (SessionOut S.behavior old new) KeepsOrder) text
@@ -41,7 +42,7 @@ pub fn threads_keep_order<S: Service>()
 /// With a listener that passes over nothing, such as `EndSession`, a session of `run_threads_of_service_over` is one in which each frame is a
 /// message, and in which each wake is one of the relay's wakers: what `run_threads` says of its session is so of this one.
 pub fn nothing_is_passed_over_in_threads<S: Service, L: Listener>()
-    ensures { (wakeable : Bool) (limit : ℕ) (old new : S) (text : List ℕ) (first last : L)
+    ensures { (wakeable : Bool) (limit : Limits) (old new : S) (text : List ℕ) (first last : L)
         (before after : Option (List ℕ)) (answer : Result EndOfSession FaultOfSession)
         → PassesNothingOver L.hears
         → ThreadsTellOver wakeable L.hears limit (SessionOut S.behavior old new) text first last
@@ -51,7 +52,7 @@ pub fn nothing_is_passed_over_in_threads<S: Service, L: Listener>()
 
 /// `threads_keep_order` of a session with a listener: a fact of each session that was run by `run_threads_of_service`.
 pub fn threads_that_ask_keep_order<S: Service, L: Listener>()
-    ensures { (wakeable : Bool) (limit : ℕ) (old new : S) (text : List ℕ) (first last : L)
+    ensures { (wakeable : Bool) (limit : Limits) (old new : S) (text : List ℕ) (first last : L)
         (before after : Option (List ℕ)) (answer : Result EndOfSession FaultOfSession)
         → ThreadsTellOver wakeable L.hears limit (SessionOut S.behavior old new) text first last
         before after answer
@@ -62,7 +63,7 @@ pub fn threads_that_ask_keep_order<S: Service, L: Listener>()
 /// `threads_answer_requests` of a handler's session that was run as the service `HandlerService`, with a listener: it is one of the handler,
 /// which answers `initialize` with the capabilities that the service was lent, and each request gets exactly one reply.
 pub fn threads_that_ask_answer_requests<H: Handler, L: Listener>()
-    ensures { (wakeable : Bool) (limit : ℕ) (old new : ServiceOf H) (text : List ℕ) (first last : L)
+    ensures { (wakeable : Bool) (limit : Limits) (old new : ServiceOf H) (text : List ℕ) (first last : L)
         (before after : Option (List ℕ)) (answer : Result EndOfSession FaultOfSession)
         → ThreadsTellOver wakeable L.hears limit
         (SessionOut (lent_handler H.answers H.notes) old new) text first last before after

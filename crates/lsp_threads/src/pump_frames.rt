@@ -7,7 +7,7 @@ use crate::backlog::Backlog;
 use crate::peeking_reader::PeekingReader;
 use crate::relay_texts::FramingOutbox;
 use crate::workers::ReadsInto;
-use lsp_message::{Message, Passed, ReadFault};
+use lsp_message::{Limits, Message, Passed, ReadFault};
 use lsp_relay::RelayTx;
 use lsp_session::{ReadEnd, is_exit};
 use std::alloc::Global;
@@ -20,16 +20,16 @@ fn read_frames<R: Wait + Drop, S: BufRead>(
     alloc: Global,
     reader: &mut PeekingReader<S>,
     outbox: &mut FramingOutbox<R>,
-    limit: u64,
+    limits: Limits,
     taken: &mut Passed,
 ) -> ReadEnd
     requires { taken.old.parts ≡ [] }
-    ensures handed { OfTaken taken.new.parts (λ text. HandsSome limit text outbox.old outbox.new result) }
+    ensures handed { OfTaken taken.new.parts (λ text. HandsSome limits text outbox.old outbox.new result) }
     ensures taken { TakenFrom (S.remaining reader.old.inner) taken.new.parts }
     ensures relay { outbox.new.relay ≡ outbox.old.relay }
 {
     for _ in 0..u64::MAX {
-        let message = match Message::read_telling(alloc, reader, limit, taken) {
+        let message = match Message::read_telling(alloc, reader, limits, taken) {
             Ok(Some(message)) => message,
             Ok(None) => return ReadEnd::End,
             Err(fault) => return ReadEnd::Fault(fault),
@@ -64,17 +64,17 @@ impl ReadsInto for RelayTx<String> {
         rt: R,
         alloc: Global,
         reader: S,
-        limit: u64,
+        limits: Limits,
         backlog: Backlog,
     ) -> (RelayTx<String>, ReadEnd, Passed)
         requires { self.sent ≡ [] }
         ensures relay { result.0.relay ≡ self.relay }
-        ensures told { TellsFrames limit (S.remaining reader) self result.1 result.2.parts result.0 }
+        ensures told { TellsFrames limits (S.remaining reader) self result.1 result.2.parts result.0 }
     {
         let mut reader = PeekingReader::new(reader);
         let mut outbox = FramingOutbox::new(rt, alloc, self, backlog);
         let mut taken = Passed::new();
-        let end = read_frames(alloc, &mut reader, &mut outbox, limit, &mut taken);
+        let end = read_frames(alloc, &mut reader, &mut outbox, limits, &mut taken);
         (outbox.finish(), end, taken)
     }
 }

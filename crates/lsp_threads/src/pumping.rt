@@ -1,13 +1,13 @@
 //! Messages passed on from a reader, in a thread of its own, to a writer.
 ghost use Rattle.std.specs.Prelude.{◌≡◌, [], IfSome, Option, Some};
-ghost use Rattle.lsp_message.specs.Frame.{no_limit};
+ghost use Rattle.lsp_message.specs.Frame.{no_limit, of_content};
 ghost use Rattle.lsp_threads.specs.Passing.{GivenTo, OfTaken, TakenFrom, noted};
 ghost use Rattle.lsp_threads.specs.Pump.{Pumps, pump_answer};
 
 use crate::backlog::bounded_backlog;
 use crate::relay_texts::write_texts;
 use crate::workers::{StartFault, start_reader};
-use lsp_message::{Passed, ReadFault, WriteFault};
+use lsp_message::{Limits, Passed, ReadFault, WriteFault};
 use lsp_relay::{AnyPlan, RelayTx, relay, settle_all};
 use lsp_session::ReadEnd;
 use std::alloc::Global;
@@ -76,7 +76,7 @@ where
 }
 
 /// As `pump`, with a limit on what is read. If a content part is longer than `limit` bytes, the fault is `PumpFault::Read` with
-/// `ReadFault::TooLong`.
+/// `ReadFault::TooLong`. A header part is not bounded; `pump_by` bounds it too.
 pub fn pump_within<T, R, W>(
     rt: &T,
     alloc: Global,
@@ -89,28 +89,33 @@ where
     R: BufRead + Drop + Send + 'static,
     W: Write,
     ensures { IfSome (R.remaining reader) (λ text.
-        Pumps limit text (W.contents writer.old) (W.contents writer.new) result) }
+        Pumps (of_content limit) text (W.contents writer.old) (W.contents writer.new) result) }
 {
-    pump_by(rt, Builder::new(), alloc, reader, writer, limit)
+    let limits = Limits {
+        header: None,
+        content: limit,
+    };
+    pump_by(rt, Builder::new(), alloc, reader, writer, limits)
 }
 
-/// As `pump_within`, with a builder for the thread that reads, which can set the size of its stack.
+/// As `pump_within`, within limits on both parts of a frame, and with a builder for the thread that reads, which can set the size of its
+/// stack. After a header part that is too long the fault is `PumpFault::Read` with `ReadFault::HeaderTooLong`.
 pub fn pump_by<T, R, W>(
     rt: &T,
     builder: Builder,
     alloc: Global,
     reader: R,
     writer: &mut W,
-    limit: u64,
+    limits: Limits,
 ) -> Result<(), PumpFault>
 where
     T: Threads + Wait + Copy + Drop + Send + 'static,
     R: BufRead + Drop + Send + 'static,
     W: Write,
     ensures { IfSome (R.remaining reader) (λ text.
-        Pumps limit text (W.contents writer.old) (W.contents writer.new) result) }
+        Pumps limits text (W.contents writer.old) (W.contents writer.new) result) }
 {
-    pump_telling(rt, builder, alloc, reader, writer, limit).answer
+    pump_telling(rt, builder, alloc, reader, writer, limits).answer
 }
 
 /// What a pump did: its answer, and accounts of the bytes that it took and gave, which clauses alone see.
@@ -136,14 +141,14 @@ pub fn pump_telling<T, R, W>(
     alloc: Global,
     reader: R,
     writer: &mut W,
-    limit: u64,
+    limits: Limits,
 ) -> Pumped
 where
     T: Threads + Wait + Copy + Drop + Send + 'static,
     R: BufRead + Drop + Send + 'static,
     W: Write,
     ensures told { OfTaken result.taken.parts (λ text.
-        Pumps limit text (Some []) (noted result.given) result.answer) }
+        Pumps limits text (Some []) (noted result.given) result.answer) }
     ensures taken { TakenFrom (R.remaining reader) result.taken.parts }
     ensures given { GivenTo (W.contents writer.old) result.given.parts (W.contents writer.new) }
 {
@@ -154,7 +159,7 @@ where
         return not_started(StartFault::Memory);
     };
     let reading = match start_reader::<RelayTx<String>, T, R>(
-        rt, builder, alloc, reader, limit, tx, backlog,
+        rt, builder, alloc, reader, limits, tx, backlog,
     ) {
         Ok(reading) => reading,
         Err(fault) => return not_started(fault),

@@ -1,7 +1,7 @@
 //! Sessions whose reader and writer run in threads of their own: of a handler, and of any service.
 ghost use Rattle.serde_json.specs.View.{view};
 ghost use Rattle.std.specs.Prelude.{◌≡◌, [], IfOk, IfSome, OnErr, Some};
-ghost use Rattle.lsp_message.specs.Frame.{no_limit};
+ghost use Rattle.lsp_message.specs.Frame.{no_limit, of_content};
 ghost use Rattle.lsp_session.specs.HandlerSession.{of_handler};
 ghost use Rattle.lsp_session.specs.Session.{SessionOut};
 ghost use Rattle.lsp_threads.specs.Passing.{GivenTo, OfTaken, TakenFrom, noted};
@@ -10,7 +10,7 @@ ghost use Rattle.lsp_threads.specs.Threads.{ThreadsGive, ThreadsTell, ThreadsTel
 use crate::content_outbox::{Contents, ContentsPlan, ContentsRx, ContentsTx};
 use crate::serving::{serve_between, start_both};
 use crate::workers::{ROOM, StartFault};
-use lsp_message::Passed;
+use lsp_message::{Limits, Passed};
 use lsp_relay::relay;
 use lsp_session::{
     EndSession, Handler, HandlerService, Listener, Service, SessionEnd, SessionFault,
@@ -45,16 +45,16 @@ pub const UNREAD_BYTES: u64 = 1_048_576;
 /// How many bytes of messages of a session in threads may wait to be written, if its options say nothing else: 1 MiB.
 pub const UNWRITTEN_BYTES: u64 = 1_048_576;
 
-/// How a session in threads runs. But for `limit` it changes speed and memory only, and no answer.
+/// How a session in threads runs. But for `limits` it changes speed and memory only, and no answer.
 #[derive(Drop)]
 pub struct ThreadOptions {
     /// Starts the thread that writes. It can set the size of its stack.
     pub writer: Builder,
     /// Starts the thread that reads. It can set the size of its stack.
     pub reader: Builder,
-    /// How many bytes a content part may have. If the session comes to a longer one, the fault is `SessionFault::Read` with
-    /// `ReadFault::TooLong`.
-    pub limit: u64,
+    /// How many bytes a header part and a content part may have. If the session comes to a longer one, the fault is
+    /// `SessionFault::Read` with `ReadFault::HeaderTooLong` or `TooLong`.
+    pub limits: Limits,
     /// How many bytes of content parts may be read that the session did not take yet. Above that the client waits. A longer content
     /// part is read once nothing else is unread.
     pub unread: u64,
@@ -64,16 +64,19 @@ pub struct ThreadOptions {
 }
 
 impl ThreadOptions {
-    /// Builders that set nothing, no limit on a content part, `UNREAD_BYTES` and `UNWRITTEN_BYTES`.
+    /// Builders that set nothing, no limits, `UNREAD_BYTES` and `UNWRITTEN_BYTES`.
     pub fn new() -> ThreadOptions
-        ensures limit { result.limit ≡ no_limit }
+        ensures limits { result.limits ≡ no_limit }
         ensures unread { result.unread ≡ 1048576 }
         ensures unwritten { result.unwritten ≡ 1048576 }
     {
         ThreadOptions {
             writer: Builder::new(),
             reader: Builder::new(),
-            limit: u64::MAX,
+            limits: Limits {
+                header: None,
+                content: u64::MAX,
+            },
             unread: UNREAD_BYTES,
             unwritten: UNWRITTEN_BYTES,
         }
@@ -124,7 +127,7 @@ where
 }
 
 /// As `run_threads`, with a limit on what is read. If the session comes to a content part longer than `limit` bytes, the fault is
-/// `SessionFault::Read` with `ReadFault::TooLong`.
+/// `SessionFault::Read` with `ReadFault::TooLong`. A header part is not bounded; `ThreadOptions` bounds it too.
 pub fn run_threads_within<T, R, W, H>(
     rt: &T,
     alloc: Global,
@@ -141,20 +144,23 @@ where
     H: Handler,
     ensures unstarted { OnErr result (handler.new ≡ handler.old) }
     ensures told { IfOk result (λ done. OfTaken done.taken.parts (λ text.
-        ThreadsGive limit
+        ThreadsGive (of_content limit)
         (SessionOut (of_handler H.answers H.notes (view capabilities)) handler.old handler.new)
         text (Some []) (noted done.given) done.answer)) }
     ensures passed { IfOk result (λ done. TakenFrom (R.remaining reader) done.taken.parts
         × GivenTo (W.contents writer) done.given.parts (W.contents done.writer)) }
     ensures session { IfSome (R.remaining reader) (λ text. IfOk result (λ done.
-        ThreadsGive limit
+        ThreadsGive (of_content limit)
         (SessionOut (of_handler H.answers H.notes (view capabilities)) handler.old handler.new)
         text (W.contents writer) (W.contents done.writer) done.answer)) }
 {
     let mut capabilities = capabilities;
     let mut service = HandlerService::new(alloc, &mut capabilities, handler);
     let mut options = ThreadOptions::new();
-    options.limit = limit;
+    options.limits = Limits {
+        header: None,
+        content: limit,
+    };
     run_threads_of_service(
         rt,
         alloc,
@@ -194,12 +200,12 @@ where
     L: Listener,
     ensures unstarted { OnErr result ((service.new ≡ service.old) × (bad_bodies.new ≡ bad_bodies.old)) }
     ensures told { IfOk result (λ done. OfTaken done.taken.parts (λ text.
-        ThreadsTell L.hears options.limit (SessionOut S.behavior service.old service.new) text
+        ThreadsTell L.hears options.limits (SessionOut S.behavior service.old service.new) text
         bad_bodies.old bad_bodies.new (Some []) (noted done.given) done.answer)) }
     ensures passed { IfOk result (λ done. TakenFrom (R.remaining reader) done.taken.parts
         × GivenTo (W.contents writer) done.given.parts (W.contents done.writer)) }
     ensures session { IfSome (R.remaining reader) (λ text. IfOk result (λ done.
-        ThreadsTell L.hears options.limit (SessionOut S.behavior service.old service.new) text
+        ThreadsTell L.hears options.limits (SessionOut S.behavior service.old service.new) text
         bad_bodies.old bad_bodies.new (W.contents writer) (W.contents done.writer) done.answer)) }
 {
     let Ok(ends) = relay::<Contents, ContentsPlan>(alloc, ROOM) else {
@@ -237,13 +243,13 @@ where
     requires same { ends.1.relay ≡ ends.0.relay }
     ensures unstarted { OnErr result ((service.new ≡ service.old) × (bad_bodies.new ≡ bad_bodies.old)) }
     ensures told { IfOk result (λ done. OfTaken done.taken.parts (λ text.
-        ThreadsTellOver ends.0.wakeable L.hears options.limit
+        ThreadsTellOver ends.0.wakeable L.hears options.limits
         (SessionOut S.behavior service.old service.new) text
         bad_bodies.old bad_bodies.new (Some []) (noted done.given) done.answer)) }
     ensures passed { IfOk result (λ done. TakenFrom (R.remaining reader) done.taken.parts
         × GivenTo (W.contents writer) done.given.parts (W.contents done.writer)) }
     ensures session { IfSome (R.remaining reader) (λ text. IfOk result (λ done.
-        ThreadsTellOver ends.0.wakeable L.hears options.limit
+        ThreadsTellOver ends.0.wakeable L.hears options.limits
         (SessionOut S.behavior service.old service.new) text
         bad_bodies.old bad_bodies.new (W.contents writer) (W.contents done.writer) done.answer)) }
 {

@@ -1,7 +1,7 @@
 //! The session between the two threads, and how they are started.
 ghost use Rattle.std.specs.Prelude.{◌≡◌, [], IfOk, Some};
 ghost use Rattle.lsp_session.specs.Session.{SessionOut};
-ghost use Rattle.lsp_threads.specs.Contents.{LeavesReading};
+ghost use Rattle.lsp_threads.specs.Contents.{LeavesReading, source_of};
 ghost use Rattle.lsp_threads.specs.Passing.{GivenTo, OfTaken, TakenFrom, noted};
 ghost use Rattle.lsp_threads.specs.Threads.{ThreadsTellOver, session_end as session_end_spec};
 
@@ -14,7 +14,7 @@ use crate::reply_outbox::{ReplyOutbox, reply_fault};
 use crate::run::{ThreadOptions, Threaded};
 use crate::watched_writer::{WatchedWriter, WriteFaults, write_faults};
 use crate::workers::{ROOM, Reader, StartFault, Writer, start_reader, start_writer};
-use lsp_message::{Passed, ReadFault, WriteFault};
+use lsp_message::{Limits, Passed, ReadFault, WriteFault};
 use lsp_relay::{AnyPlan, Parcel, RelayRx, RelayTx, Source, plan, relay, settle_all};
 use lsp_session::{Listener, ReadEnd, Service, serve_service, session_answer};
 use std::alloc::Global;
@@ -68,9 +68,9 @@ where
         × (workers.reading.promise.tx.value.relay ≡ workers.rx.relay)
         × (workers.reading.promise.tx.value.sent ≡ [])
         × (workers.reading.promise.reader.value ≡ reader)
-        × (workers.reading.promise.limit ≡ options.limit)
+        × (workers.reading.promise.limits ≡ options.limits)
         × (workers.reading.promise.tx.value.wakeable ≡ ends.0.wakeable)
-        × (workers.rx.source ≡ Some (R.remaining reader, options.limit))
+        × (workers.rx.source ≡ Some (source_of (R.remaining reader) options.limits))
         × (workers.rx.wakeable ≡ ends.0.wakeable)) }
     ensures writing { IfOk result (λ workers. (workers.replies.sent ≡ [])
         × (workers.writing.promise.rx.value.relay ≡ workers.replies.relay)
@@ -89,7 +89,7 @@ where
         return Err(StartFault::Memory);
     };
     let (mut tx, mut rx) = ends;
-    plan_reading::<R, Brand>(&mut tx, &mut rx, &reader, options.limit);
+    plan_reading::<R, Brand>(&mut tx, &mut rx, &reader, options.limits);
     let writing = match start_writer::<String, T, WatchedWriter<W>>(
         rt,
         options.writer,
@@ -101,8 +101,8 @@ where
         Ok(writing) => writing,
         Err(fault) => return Err(fault),
     };
-    let limit = options.limit;
-    match start_reader::<ContentsTx, T, R>(rt, options.reader, alloc, reader, limit, tx, unread) {
+    let limits = options.limits;
+    match start_reader::<ContentsTx, T, R>(rt, options.reader, alloc, reader, limits, tx, unread) {
         Ok(reading) => Ok(Workers {
             rx,
             takes,
@@ -124,27 +124,27 @@ fn plan_reading<R: BufRead, W: Source>(
     tx: &mut ContentsTx,
     rx: &mut ContentsRx,
     reader: &R,
-    limit: u64,
+    limits: Limits,
 )
     requires same_relay { rx.old.relay ≡ tx.old.relay }
     requires fresh { tx.old.sent ≡ [] }
-    requires source { W.source ≡ (R.remaining reader.now, limit) }
+    requires source { W.source ≡ source_of (R.remaining reader.now) limits }
     ensures sender { tx.new ≡ record {
       relay = tx.old.relay;
       sent = [];
       wakeable = tx.old.wakeable;
-      source = Some (R.remaining reader.now, limit);
+      source = Some (source_of (R.remaining reader.now) limits);
     } }
     ensures receiver { rx.new ≡ record {
       relay = rx.old.relay;
       taken = rx.old.taken;
       wakes = rx.old.wakes;
       wakeable = tx.old.wakeable;
-      source = Some (R.remaining reader.now, limit);
+      source = Some (source_of (R.remaining reader.now) limits);
     } }
 {
     let _ = reader;
-    let _ = limit;
+    let _ = limits;
     plan::<Contents, ContentsPlan, W>(tx, rx);
 }
 
@@ -178,16 +178,14 @@ where
     requires reading { (workers.rx.taken ≡ [])
         × (workers.reading.promise.tx.value.relay ≡ workers.rx.relay)
         × (workers.reading.promise.tx.value.sent ≡ []) }
-    requires source { (workers.rx.source ≡ Some (
-      R.remaining workers.reading.promise.reader.value,
-      workers.reading.promise.limit,
-    ))
+    requires source { (workers.rx.source ≡ Some (source_of
+        (R.remaining workers.reading.promise.reader.value) workers.reading.promise.limits))
         × (workers.rx.wakeable ≡ workers.reading.promise.tx.value.wakeable) }
     requires writing { (workers.replies.sent ≡ [])
         × (workers.writing.promise.rx.value.relay ≡ workers.replies.relay) }
     ensures told { OfTaken result.taken.parts (λ text.
         ThreadsTellOver workers.reading.promise.tx.value.wakeable L.hears
-        workers.reading.promise.limit (SessionOut S.behavior service.old service.new) text
+        workers.reading.promise.limits (SessionOut S.behavior service.old service.new) text
         listener.old listener.new (Some []) (noted result.given) result.answer) }
     ensures taken { TakenFrom (R.remaining workers.reading.promise.reader.value)
         result.taken.parts }
@@ -240,9 +238,9 @@ where
     T: Threads + Wait + Copy + Drop,
     R: BufRead + Drop,
     requires known { (parts.relay.0 ≡ reading.promise.tx.value.relay)
-        × (parts.relay.1 ≡ Some (R.remaining reading.promise.reader.value, reading.promise.limit))
+        × (parts.relay.1 ≡ Some (source_of (R.remaining reading.promise.reader.value) reading.promise.limits))
         × (parts.relay.2 ≡ reading.promise.tx.value.wakeable) }
-    ensures { LeavesReading parts reading.promise.limit reading.promise.tx.value
+    ensures { LeavesReading parts reading.promise.limits reading.promise.tx.value
         (R.remaining reading.promise.reader.value) result.1.parts result.0 }
 {
     let drained = parts.is_drained();

@@ -6,7 +6,7 @@ ghost use Rattle.lsp_threads.specs.Passing.{GivenTo};
 
 use crate::backlog::{Backlog, Takes};
 use crate::relay_texts::write_texts;
-use lsp_message::{Passed, WriteFault};
+use lsp_message::{Limits, Passed, WriteFault};
 use lsp_relay::RelayRx;
 use lsp_session::ReadEnd;
 use std::alloc::Global;
@@ -51,31 +51,32 @@ impl Error for StartFault {}
 pub trait ReadsInto: Drop {
     ghost use Rattle.std.specs.Prelude.{ℕ, List, Option};
     ghost use Rattle.lsp_message.specs.Told.{Parts};
+    ghost use Rattle.lsp_message.specs.declared.frame.limits.Limits.{Limits as most};
     ghost use Rattle.lsp_session.specs.declared.loops.ReadEnd.{ReadEnd as read_end};
 
     /// Messages whose content parts have at most so many bytes were sent on this end of a relay and ended so. They are those of the bytes
     /// that were taken, the first of these if they are known, and the end is this then.
-    ghost tells: { ℕ → Option (List ℕ) → Self → read_end → Parts → Self → Type 0 };
+    ghost tells: { most → Option (List ℕ) → Self → read_end → Parts → Self → Type 0 };
 
     /// The two are the same end.
     ghost same_end: { Self → Self → Type 0 };
 
     /// The end may be given to a thread that reads these bytes, if they are known, with content parts of at most so many.
-    ghost may_read: { Option (List ℕ) → ℕ → Self → Type 0 };
+    ghost may_read: { Option (List ℕ) → most → Self → Type 0 };
 
-    /// Sends the messages of a reader, whose content parts have at most `limit` bytes, and then End, and accounts for what it took. It
+    /// Sends the messages of a reader, within `limits`, and then End, and accounts for what it took. It
     /// waits while too much is sent that the other end did not take or write.
     fn read_into<R: Wait + Drop, S: BufRead + Drop>(
         self,
         rt: R,
         alloc: Global,
         reader: S,
-        limit: u64,
+        limits: Limits,
         backlog: Backlog,
     ) -> (Self, ReadEnd, Passed)
-        requires { may_read (S.remaining reader) limit self }
+        requires { may_read (S.remaining reader) limits self }
         ensures relay { same_end self result.0 }
-        ensures told { tells limit (S.remaining reader) self result.1 result.2.parts result.0 };
+        ensures told { tells limits (S.remaining reader) self result.1 result.2.parts result.0 };
 }
 
 /// What a thread that writes takes from a relay. The thread is started for any such type, for the same reason.
@@ -108,13 +109,13 @@ pub trait WritesFrom: Drop {
 #[derive(Drop)]
 pub struct Reader<S, E> {
     pub reader: Snapshot<S>,
-    pub limit: u64,
+    pub limits: Limits,
     pub tx: Snapshot<E>,
 }
 
 impl<S: BufRead, E: ReadsInto> Promise<(E, ReadEnd, Passed)> for Reader<S, E> {
     ghost kept_by = { λ p r. E.same_end p.tx.value r.0
-        × E.tells p.limit (S.remaining p.reader.value) p.tx.value r.1 r.2.parts r.0 };
+        × E.tells p.limits (S.remaining p.reader.value) p.tx.value r.1 r.2.parts r.0 };
 }
 
 /// What the thread that writes gives back: the receiver's end of the relay that it was given, of which all was taken, and
@@ -142,7 +143,7 @@ pub fn start_reader<E, R, S>(
     builder: Builder,
     alloc: Global,
     reader: S,
-    limit: u64,
+    limits: Limits,
     tx: E,
     backlog: Backlog,
 ) -> Result<PromisedHandle<(E, ReadEnd, Passed), Reader<S, E>>, StartFault>
@@ -150,20 +151,20 @@ where
     E: ReadsInto + Drop + Send + 'static,
     R: Threads + Wait + Copy + Drop + Send + 'static,
     S: BufRead + Drop + Send + 'static,
-    requires { E.may_read (S.remaining reader) limit tx }
+    requires { E.may_read (S.remaining reader) limits tx }
     ensures { IfOk result (λ handle. (handle.promise.reader.value ≡ reader)
-        × (handle.promise.limit ≡ limit) × (handle.promise.tx.value ≡ tx)) }
+        × (handle.promise.limits ≡ limits) × (handle.promise.tx.value ≡ tx)) }
 {
     let promise = Reader {
         reader: Snapshot::of(&reader),
-        limit,
+        limits,
         tx: Snapshot::of(&tx),
     };
     let theirs = *rt;
     match builder.spawn_with(
         rt,
         promise,
-        move || tx.read_into(theirs, alloc, reader, limit, backlog),
+        move || tx.read_into(theirs, alloc, reader, limits, backlog),
     ) {
         Ok(handle) => Ok(handle),
         Err(_) => Err(StartFault::Thread),

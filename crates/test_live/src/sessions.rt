@@ -9,7 +9,7 @@ use crate::servers::{Echo, Talker};
 use crate::signals::{Signal, Signals, is_alone};
 use crate::table::{Call, Device, Given};
 use lsp_jobs::{PoolSize, run_jobs};
-use lsp_server::{Connection, UNREAD_WEIGHT};
+use lsp_server::{Connection, Limits, UNREAD_WEIGHT};
 use lsp_service::QueuedServer;
 use lsp_session::{FaultCounts, HandlerService, Service, SessionEnd, SessionFault};
 use lsp_threads::{
@@ -36,12 +36,13 @@ pub struct Run {
 }
 
 impl Run {
-    /// How many bytes a content part may have.
-    fn limit(self) -> u64 {
+    /// How many bytes a header part and a content part may have.
+    fn limits(self) -> Limits {
         match self.device {
-            Device::Limits => self.count as u64,
-            Device::Huge if self.count > 0 => self.count as u64,
-            _ => u64::MAX,
+            Device::Limits => Limits::of_content(self.count as u64),
+            Device::Headers => Limits::new(self.count as u64, u64::MAX),
+            Device::Huge if self.count > 0 => Limits::of_content(self.count as u64),
+            _ => Limits::none(),
         }
     }
 
@@ -306,7 +307,7 @@ fn options(run: Run) -> ThreadOptions {
     ThreadOptions {
         writer: builder(matches!(run.device, Device::NoWriter)),
         reader: builder(matches!(run.device, Device::NoReader)),
-        limit: run.limit(),
+        limits: run.limits(),
         unread: UNREAD_BYTES,
         unwritten: UNWRITTEN_BYTES,
     }
@@ -386,7 +387,7 @@ where
 {
     let mut writer = writer;
     let builder = builder(matches!(run.device, Device::NoReader));
-    match pump_by(rt, builder, alloc, reader, &mut writer, run.limit()) {
+    match pump_by(rt, builder, alloc, reader, &mut writer, run.limits()) {
         Ok(()) => told(alloc, run, "passed on", &writer),
         Err(PumpFault::Start(fault)) => not_started(alloc, fault, run, signals),
         Err(fault) => {
@@ -443,7 +444,7 @@ fn connected<R>(
 where
     R: Threads + Wait + Clock + AllocGlobal + Copy + Drop + Send + 'static,
 {
-    let opened = Connection::over_within(rt, reader, writer, run.limit(), run.bound());
+    let opened = Connection::over_within(rt, reader, writer, run.limits(), run.bound());
     let (connection, threads) = match opened {
         Ok(started) => started,
         Err(fault) => return Ok(Attempt::refused(format!(in alloc; "{fault}; wrote ")?)),

@@ -143,6 +143,8 @@ pub enum Device {
     Flushes,
     /// The call has a limit: a content part has at most so many bytes.
     Limits,
+    /// The call has a bound: a header part has at most so many bytes.
+    Headers,
     /// The connection has a bound: what is unread weighs at most so much.
     Bounds,
     /// No memory holds the content part, so the refusal is the answer. The count is the limit, or 0 if there is none.
@@ -219,7 +221,7 @@ static CALLS: [(&str, Call); 13] = [
     ("stuck", Call::Stuck),
 ];
 
-static DEVICES: [(&str, Device); 15] = [
+static DEVICES: [(&str, Device); 16] = [
     ("whole", Device::Whole),
     ("ends", Device::Ends),
     ("breaks", Device::Breaks),
@@ -227,6 +229,7 @@ static DEVICES: [(&str, Device); 15] = [
     ("fills", Device::Fills),
     ("flushes", Device::Flushes),
     ("limits", Device::Limits),
+    ("headers", Device::Headers),
     ("bounds", Device::Bounds),
     ("huge", Device::Huge),
     ("waits", Device::Waits),

@@ -3,7 +3,7 @@ use crate::devices::{Sink, Source};
 use crate::said::Said;
 use crate::servers::{Echo, Talker};
 use crate::table::{Case, Given};
-use lsp_message::{Front, Message, ReadFault, WriteFault, front, write_frames};
+use lsp_message::{Front, Limits, Message, Passed, ReadFault, WriteFault, front, write_frames};
 use lsp_service::{QueuedServer, WokenQueuedServer, session_with, session_with_over};
 use lsp_session::{
     EndSession, Event, FaultCounts, FrameOutbox, Ignore, Inbox, ListOutbox, Listener, Outbox,
@@ -38,6 +38,15 @@ impl Run<'_> {
             "limits" => Some(self.count as u64),
             "huge" if self.count > 0 => Some(self.count as u64),
             _ => None,
+        }
+    }
+
+    /// The limits of the call, if it has some.
+    fn limits(self) -> Option<Limits> {
+        match (self.at("headers"), self.limit()) {
+            (Some(bound), _) => Some(Limits::new(bound as u64, u64::MAX)),
+            (None, Some(limit)) => Some(Limits::of_content(limit)),
+            (None, None) => None,
         }
     }
 }
@@ -123,9 +132,13 @@ fn say_front(said: &mut Said, bytes: &[u8]) {
 
 /// What one read gives, and what it leaves.
 fn say_read(said: &mut Said, trial: &mut Trial<'_>) {
-    let read = match trial.run.limit() {
-        Some(limit) => Message::read_within(said.alloc, &mut trial.reader, limit),
-        None => Message::read(said.alloc, &mut trial.reader),
+    let read = match (trial.run.limit(), trial.run.limits()) {
+        (Some(limit), _) => Message::read_within(said.alloc, &mut trial.reader, limit),
+        (None, Some(limits)) => {
+            let mut taken = Passed::new();
+            Message::read_telling(said.alloc, &mut trial.reader, limits, &mut taken)
+        }
+        (None, None) => Message::read(said.alloc, &mut trial.reader),
     };
     say_message(said, read);
     said.bytes("; left ", trial.reader.left())
@@ -295,8 +308,8 @@ fn say_session(said: &mut Said, trial: &mut Trial<'_>) {
 
 /// How a session of the server that speaks ends, and what it wrote.
 fn say_speaks(said: &mut Said, trial: &mut Trial<'_>) {
-    let end = match trial.run.limit() {
-        Some(limit) => limited_end(said.alloc, trial, &mut EndSession, limit),
+    let end = match trial.run.limits() {
+        Some(limits) => limited_end(said.alloc, trial, &mut EndSession, limits),
         None => speaks_end(said.alloc, trial),
     };
     say_ended(said, end, &trial.writer)
@@ -306,7 +319,7 @@ fn limited_end<L: Listener>(
     alloc: Global,
     trial: &mut Trial<'_>,
     listener: &mut L,
-    limit: u64,
+    limits: Limits,
 ) -> Result<SessionEnd, SessionFault> {
     let talker = Talker::new(alloc);
     let (talker, end) = session_with(
@@ -315,7 +328,7 @@ fn limited_end<L: Listener>(
         &mut trial.writer,
         talker,
         listener,
-        limit,
+        limits,
     );
     drop(talker);
     end
@@ -329,7 +342,7 @@ fn speaks_end(alloc: Global, trial: &mut Trial<'_>) -> Result<SessionEnd, Sessio
         &mut trial.writer,
         &mut queued,
         &mut EndSession,
-        u64::MAX,
+        Limits::none(),
     );
     drop(queued);
     end
@@ -344,7 +357,7 @@ fn say_line(said: &mut Said, trial: &mut Trial<'_>) {
         &mut trial.reader,
         &mut trial.writer,
         &mut listener,
-        u64::MAX,
+        Limits::none(),
         &mut transcript,
     );
     let (server, end) = session_with_over(said.alloc, &mut transport, Talker::new(said.alloc));
@@ -355,8 +368,8 @@ fn say_line(said: &mut Said, trial: &mut Trial<'_>) {
 /// The same if content parts are passed over, and how many of each kind: not UTF-8, no JSON, no message, lists. With a limit the server is
 /// told of none.
 fn say_tolerant(said: &mut Said, trial: &mut Trial<'_>) {
-    if let Some(limit) = trial.run.limit() {
-        let end = limited_end(said.alloc, trial, &mut Ignore, limit);
+    if let Some(limits) = trial.run.limits() {
+        let end = limited_end(said.alloc, trial, &mut Ignore, limits);
         return say_ended(said, end, &trial.writer);
     }
     let mut counts = FaultCounts::new();
@@ -377,7 +390,7 @@ fn tolerant_end(
         &mut trial.writer,
         &mut woken,
         counts,
-        u64::MAX,
+        Limits::none(),
     );
     drop(woken);
     end

@@ -53,16 +53,16 @@ impl Given {
 /// | Call | What is called |
 /// |---|---|
 /// | `front` | the same |
-/// | `read` | `Message::read`, once; with a limit `Message::read_within` |
+/// | `read` | `Message::read`, once; with a limit `Message::read_within`, with a bound `Message::read_telling` |
 /// | `inbox` | a `StreamInbox`, up to the first event that is no message, and once more |
 /// | `loop` | `read_loop` into a list, for which the count of `fills` is the room; with a limit `read_loop_within` |
 /// | `write` | `Message::write` of the first message |
 /// | `frames` | `write_frames` of all bytes |
 /// | `outbox` | a `FrameOutbox` to which all messages are sent |
 /// | `session` | `session` of the echo, with no capabilities; with a limit `session_within` |
-/// | `speaks` | `session_of_service` of the server that speaks, with `EndSession`; with a limit `session_with` |
+/// | `speaks` | `session_of_service` of the server that speaks, with `EndSession`; with a limit or a bound `session_with` |
 /// | `line` | `serve_transport` of the same over a `StreamTransport` |
-/// | `tolerant` | the same, woken and with `FaultCounts`; with a limit `session_with` and `Ignore`, which wakes no server |
+/// | `tolerant` | the same, woken and with `FaultCounts`; with a limit or a bound `session_with` and `Ignore`, which wakes no server |
 ///
 /// | Device | What happens after the count |
 /// |---|---|
@@ -72,6 +72,7 @@ impl Given {
 /// | `fills` | the writer fails once after so many bytes, and takes more |
 /// | `flushes` | the flush of this number fails, from 1 |
 /// | `limits` | the call has a limit: a content part has at most so many bytes |
+/// | `headers` | the call has a bound: a header part has at most so many bytes |
 /// | `huge` | no memory holds the content part, so the refusal is the answer; the count is the limit, or 0 if there is none |
 #[derive(Clone, Copy)]
 pub struct Case<'a> {

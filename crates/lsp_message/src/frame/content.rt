@@ -7,48 +7,50 @@ ghost use Rattle.lsp_message.specs.Told.{Told, IsOfParts};
 
 use crate::frame::ReadFault;
 use crate::frame::body::read_body;
+use crate::frame::limits::Limits;
 use crate::frame::passed::Passed;
-use crate::frame::read::read_header;
+use crate::frame::read::read_header_within;
 use std::alloc::Global;
 use std::io::BufRead;
 
-/// Reads the content part of one message, which has at most `limit` bytes, and the header part before it (LSP 3.17, "Base
-/// Protocol"). `Ok(None)` means that the input ended at the start of a header line.
+/// Reads the content part of one message, and the header part before it, within limits (LSP 3.17, "Base Protocol"). `Ok(None)`
+/// means that the input ended at the start of a header line.
 ///
-/// The faults are those of `Message::read_within`, but for those of what the content part means: `Message::from_content` finds
+/// The faults are those of `Message::read_telling`, but for those of what the content part means: `Message::from_content` finds
 /// that out. After `Memory` none of the content part was taken.
 pub fn read_content_within<R: BufRead>(
     alloc: Global,
     reader: &mut R,
-    limit: u64,
+    limits: Limits,
 ) -> Result<Option<Vec<u8>>, ReadFault>
     ensures exact { IfSome (R.remaining reader.old) (λ text.
         Answers (λ content. content.items) result (R.remaining reader.new)
-        (content_within limit text)) }
+        (content_within limits text)) }
     ensures begun { TakesFront (R.remaining reader.old) (R.remaining reader.new) }
     ensures memory { result ≡ Err ReadFault.Memory → IfSome (R.remaining reader.old) (λ text.
-        RunsOutBefore limit text (R.remaining reader.new)) }
+        RunsOutBefore limits text (R.remaining reader.new)) }
 {
-    read_content_telling(alloc, reader, limit, &mut Passed::new())
+    read_content_telling(alloc, reader, limits, &mut Passed::new())
 }
 
 /// Reads the content part of one message, as `read_content_within` does, and adds the bytes that it takes to the account.
 pub fn read_content_telling<R: BufRead>(
     alloc: Global,
     reader: &mut R,
-    limit: u64,
+    limits: Limits,
     taken: &mut Passed,
 ) -> Result<Option<Vec<u8>>, ReadFault>
     ensures exact { IfSome (R.remaining reader.old) (λ text.
         Answers (λ content. content.items) result (R.remaining reader.new)
-        (content_within limit text)) }
+        (content_within limits text)) }
     ensures begun { TakesFront (R.remaining reader.old) (R.remaining reader.new) }
     ensures memory { result ≡ Err ReadFault.Memory → IfSome (R.remaining reader.old) (λ text.
-        RunsOutBefore limit text (R.remaining reader.new)) }
-    ensures told { Told (IsOfParts (λ content. content.items) (content_within limit) result)
+        RunsOutBefore limits text (R.remaining reader.new)) }
+    ensures told { Told (IsOfParts (λ content. content.items) (content_within limits) result)
         taken.old.parts taken.new.parts (R.remaining reader.old) (R.remaining reader.new) }
 {
-    let count = match read_header(alloc, reader, taken)? {
+    let limit = limits.content;
+    let count = match read_header_within(alloc, reader, limits.header, taken)? {
         Some(count) => count,
         None => return Ok(None),
     };

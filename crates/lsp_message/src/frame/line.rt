@@ -2,7 +2,7 @@
 ghost use Rattle.std.specs.Prelude.{◌≡◌, true, false, Ok, Err, OnOk, OnErr, OnSome, IfErr};
 ghost use Rattle.lsp_message.specs.Gathering.{TakesFront, IsFromOutside, KeepsLine, EndsLine, LeavesSome, StaysInLine};
 ghost use Rattle.lsp_message.specs.Told.{Told};
-ghost use Rattle.lsp_message.specs.ToldSteps.{GathersLine, GathersSome};
+ghost use Rattle.lsp_message.specs.ToldSteps.{GathersLine, GathersSome, Spends};
 
 use crate::frame::passed::Passed;
 use crate::frame::{ReadFault, unless_interrupted};
@@ -13,6 +13,7 @@ use std::io::{BufRead, ErrorKind};
 pub(crate) fn gather_line<R: BufRead>(
     reader: &mut R,
     line: &mut Vec<u8>,
+    room: &mut u64,
     taken: &mut Passed,
 ) -> Result<(), ReadFault>
     ensures line { OnOk result
@@ -24,19 +25,22 @@ pub(crate) fn gather_line<R: BufRead>(
         → OnSome (R.remaining reader.old) (LeavesSome (R.remaining reader.new)) }
     ensures told { Told (GathersLine result line.old.items line.new.items) taken.old.parts taken.new.parts
         (R.remaining reader.old) (R.remaining reader.new) }
+    ensures spent { Spends taken.old.parts taken.new.parts room.old room.new }
 {
     for _ in 0..u64::MAX {
-        if gather_some(reader, line, taken)? {
+        if gather_some(reader, line, room, taken)? {
             return Ok(());
         }
     }
     Err(ReadFault::Input(ErrorKind::Other))
 }
 
-/// Takes what the reader shows of the line, and says whether the line is at its end.
+/// Takes what the reader shows of the line, as far as there is room, and says whether the line is at its end. With no room it
+/// fails.
 fn gather_some<R: BufRead>(
     reader: &mut R,
     line: &mut Vec<u8>,
+    room: &mut u64,
     taken: &mut Passed,
 ) -> Result<bool, ReadFault>
     ensures more { result ≡ Ok false
@@ -51,11 +55,16 @@ fn gather_some<R: BufRead>(
         → OnSome (R.remaining reader.old) (LeavesSome (R.remaining reader.new)) }
     ensures told { Told (GathersSome result line.old.items line.new.items) taken.old.parts taken.new.parts
         (R.remaining reader.old) (R.remaining reader.new) }
+    ensures spent { Spends taken.old.parts taken.new.parts room.old room.new }
 {
+    if *room == 0 {
+        return Err(ReadFault::Input(ErrorKind::Other));
+    }
     let shown = match reader.fill_buf() {
         Ok(shown) => shown,
         Err(error) => return unless_interrupted(error, false),
     };
+    let shown = &shown[..shown.len().min(*room as usize)];
     let (count, is_whole) = match memchr(b'\n', shown) {
         Some(at) => (at + 1, true),
         None => (shown.len(), shown.is_empty()),
@@ -63,5 +72,6 @@ fn gather_some<R: BufRead>(
     line.extend_from_slice(&shown[..count])?;
     taken.add(&shown[..count]);
     reader.consume(count);
+    *room -= count as u64;
     Ok(is_whole)
 }

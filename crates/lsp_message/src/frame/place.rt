@@ -3,7 +3,7 @@ ghost use Rattle.std.specs.Prelude.{IfSome};
 ghost use Rattle.lsp_message.specs.ReadingSteps.{AnswersInPlace};
 ghost use Rattle.lsp_message.specs.Gathering.{TakesFront};
 ghost use Rattle.lsp_message.specs.Told.{Told};
-ghost use Rattle.lsp_message.specs.ToldSteps.{ReadsInPlace};
+ghost use Rattle.lsp_message.specs.ToldSteps.{ReadsInPlace, Spends};
 
 use crate::frame::header::{HeaderLine, header_line};
 use crate::frame::passed::Passed;
@@ -22,9 +22,10 @@ pub(crate) enum InPlace {
     AtEnd,
 }
 
-/// The next line, if the reader shows it whole. Otherwise nothing is taken.
+/// The next line, if the reader shows it whole, and there is room for it. Otherwise nothing is taken.
 pub(crate) fn line_in_place<R: BufRead>(
     reader: &mut R,
+    room: &mut u64,
     taken: &mut Passed,
 ) -> Result<InPlace, ReadFault>
     ensures exact { IfSome (R.remaining reader.old)
@@ -32,6 +33,7 @@ pub(crate) fn line_in_place<R: BufRead>(
     ensures begun { TakesFront (R.remaining reader.old) (R.remaining reader.new) }
     ensures told { Told (ReadsInPlace result) taken.old.parts taken.new.parts
         (R.remaining reader.old) (R.remaining reader.new) }
+    ensures spent { Spends taken.old.parts taken.new.parts room.old room.new }
 {
     let shown = match reader.fill_buf() {
         Ok(shown) => shown,
@@ -45,9 +47,13 @@ pub(crate) fn line_in_place<R: BufRead>(
         }
         None => return Ok(InPlace::Cut),
     };
+    if count as u64 > *room {
+        return Ok(InPlace::Cut);
+    }
     let line = header_line(&shown[..count]);
     taken.add(&shown[..count]);
     reader.consume(count);
+    *room -= count as u64;
     match line {
         Ok(line) => Ok(InPlace::Whole(line)),
         Err(fault) => Err(fault),

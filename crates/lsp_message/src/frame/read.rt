@@ -1,10 +1,11 @@
 // The header part, taken from a reader line by line.
-ghost use Rattle.std.specs.Prelude.{◌≡◌, Ok, IfSome};
+ghost use Rattle.std.specs.Prelude.{◌≡◌, Ok, Some, IfSome};
 ghost use Rattle.lsp_message.specs.Gathering.{TakesFront};
 ghost use Rattle.lsp_message.specs.HeaderPart.{at_last_line, header_of};
+ghost use Rattle.lsp_message.specs.Limits.{header_under};
 ghost use Rattle.lsp_message.specs.ReadingSteps.{AnswersHeader, first_line};
 ghost use Rattle.lsp_message.specs.Told.{Told, IsOfParts};
-ghost use Rattle.lsp_message.specs.ToldSteps.{ReadsLine};
+ghost use Rattle.lsp_message.specs.ToldSteps.{ReadsLine, Spends};
 
 use crate::frame::ReadFault;
 use crate::frame::header::{HeaderLine, header_line};
@@ -14,10 +15,57 @@ use crate::frame::place::{InPlace, line_in_place};
 use std::alloc::Global;
 use std::io::{BufRead, ErrorKind};
 
-/// The length of the content part, or nothing where the input ends at the start of a header line.
-pub(crate) fn read_header<R: BufRead>(
+/// The length of the content part, or nothing where the input ends at the start of a header line. A header part that is longer
+/// than the bound, if there is one, is a fault.
+pub(crate) fn read_header_within<R: BufRead>(
     alloc: Global,
     reader: &mut R,
+    bound: Option<u64>,
+    taken: &mut Passed,
+) -> Result<Option<u64>, ReadFault>
+    ensures exact { IfSome (R.remaining reader.old) (λ text.
+        AnswersHeader (λ n. n) result (R.remaining reader.new) (header_under bound text)) }
+    ensures begun { TakesFront (R.remaining reader.old) (R.remaining reader.new) }
+    ensures told { Told (IsOfParts (λ n. n) (header_under bound) result) taken.old.parts
+        taken.new.parts (R.remaining reader.old) (R.remaining reader.new) }
+{
+    match bound {
+        Some(most) => read_bounded_header(alloc, reader, most, taken),
+        None => {
+            let mut room = u64::MAX;
+            read_header(alloc, reader, &mut room, taken)
+        }
+    }
+}
+
+/// The same of a header part that has at most so many bytes. One byte more is taken of a longer one, and no other.
+fn read_bounded_header<R: BufRead>(
+    alloc: Global,
+    reader: &mut R,
+    most: u64,
+    taken: &mut Passed,
+) -> Result<Option<u64>, ReadFault>
+    ensures exact { IfSome (R.remaining reader.old) (λ text.
+        AnswersHeader (λ n. n) result (R.remaining reader.new) (header_under (Some most) text)) }
+    ensures begun { TakesFront (R.remaining reader.old) (R.remaining reader.new) }
+    ensures told { Told (IsOfParts (λ n. n) (header_under (Some most)) result) taken.old.parts
+        taken.new.parts (R.remaining reader.old) (R.remaining reader.new) }
+{
+    let all = most.saturating_add(1);
+    let mut room = all;
+    let answer = read_header(alloc, reader, &mut room, taken);
+    let count = all.saturating_sub(room);
+    if count > most {
+        return Err(ReadFault::HeaderTooLong);
+    }
+    answer
+}
+
+/// The header part, as far as there is room for it. Where there is no more room, it fails.
+fn read_header<R: BufRead>(
+    alloc: Global,
+    reader: &mut R,
+    room: &mut u64,
     taken: &mut Passed,
 ) -> Result<Option<u64>, ReadFault>
     ensures exact { IfSome (R.remaining reader.old) (λ text.
@@ -25,11 +73,12 @@ pub(crate) fn read_header<R: BufRead>(
     ensures begun { TakesFront (R.remaining reader.old) (R.remaining reader.new) }
     ensures told { Told (IsOfParts (λ n. n) header_of result) taken.old.parts taken.new.parts
         (R.remaining reader.old) (R.remaining reader.new) }
+    ensures spent { Spends taken.old.parts taken.new.parts room.old room.new }
 {
     let mut gathered = Vec::new(alloc);
     let mut length = None;
     for _ in 0..u64::MAX {
-        let line = match read_line(reader, &mut gathered, taken)? {
+        let line = match read_line(reader, &mut gathered, room, taken)? {
             Some(line) => line,
             None => return Ok(None),
         };
@@ -56,6 +105,7 @@ fn at_blank_line(length: Option<u64>) -> Result<Option<u64>, ReadFault>
 fn read_line<R: BufRead>(
     reader: &mut R,
     gathered: &mut Vec<u8>,
+    room: &mut u64,
     taken: &mut Passed,
 ) -> Result<Option<HeaderLine>, ReadFault>
     ensures exact { IfSome (R.remaining reader.old) (λ text.
@@ -63,11 +113,12 @@ fn read_line<R: BufRead>(
     ensures begun { TakesFront (R.remaining reader.old) (R.remaining reader.new) }
     ensures told { Told (ReadsLine result) taken.old.parts taken.new.parts
         (R.remaining reader.old) (R.remaining reader.new) }
+    ensures spent { Spends taken.old.parts taken.new.parts room.old room.new }
 {
-    match line_in_place(reader, taken)? {
+    match line_in_place(reader, room, taken)? {
         InPlace::Whole(line) => Ok(Some(line)),
         InPlace::AtEnd => Ok(None),
-        InPlace::Cut => gathered_line(reader, gathered, taken),
+        InPlace::Cut => gathered_line(reader, gathered, room, taken),
     }
 }
 
@@ -75,6 +126,7 @@ fn read_line<R: BufRead>(
 fn gathered_line<R: BufRead>(
     reader: &mut R,
     gathered: &mut Vec<u8>,
+    room: &mut u64,
     taken: &mut Passed,
 ) -> Result<Option<HeaderLine>, ReadFault>
     ensures exact { IfSome (R.remaining reader.old) (λ text.
@@ -82,9 +134,10 @@ fn gathered_line<R: BufRead>(
     ensures begun { TakesFront (R.remaining reader.old) (R.remaining reader.new) }
     ensures told { Told (ReadsLine result) taken.old.parts taken.new.parts
         (R.remaining reader.old) (R.remaining reader.new) }
+    ensures spent { Spends taken.old.parts taken.new.parts room.old room.new }
 {
     gathered.clear();
-    gather_line(reader, gathered, taken)?;
+    gather_line(reader, gathered, room, taken)?;
     if gathered.is_empty() {
         return Ok(None);
     }

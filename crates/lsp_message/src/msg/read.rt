@@ -3,7 +3,7 @@ ghost use Rattle.std.specs.Prelude.{◌≡◌, ◌≢◌, ◌<◌, ◌≤◌, le
 ghost use Rattle.std.specs.Result.{result_map_both};
 ghost use Rattle.serde_json.specs.Read.{read as read_json, max_depth};
 ghost use Rattle.serde_json.specs.View.{view};
-ghost use Rattle.lsp_message.specs.Frame.{body_means, tree_means, RunsOut, no_limit, reading_of, reading_within};
+ghost use Rattle.lsp_message.specs.Frame.{body_means, tree_means, RunsOut, no_limit, of_content, reading_of, reading_within};
 ghost use Rattle.lsp_message.specs.Gathering.{TakesFront};
 ghost use Rattle.lsp_message.specs.Ranges.{nesting};
 ghost use Rattle.lsp_message.specs.Readable.{WritesReadably};
@@ -14,6 +14,7 @@ ghost use Rattle.lsp_message.specs.View.{message_view};
 ghost use Rattle.lsp_message.specs.Written.{IsFrameOf, Writes};
 
 use crate::frame::content::read_content_telling;
+use crate::frame::limits::Limits;
 use crate::frame::passed::Passed;
 use crate::frame::write::{with_header, write_body};
 use crate::frame::{ReadFault, WriteFault};
@@ -45,39 +46,47 @@ impl Message {
     ///
     /// If the length is above the limit, the answer is `TooLong`, and the content part stays unread. The answer is never that no
     /// memory was left for it. That none is reserved for it is tested, and no part of the contract. If there are several lines
-    /// with `Content-Length`, the last one counts.
+    /// with `Content-Length`, the last one counts. The header part is not bounded: of a peer that sends no line end, all is gathered.
+    /// `read_telling` bounds it.
     pub fn read_within<R: BufRead>(
         alloc: Global,
         reader: &mut R,
         limit: u64,
     ) -> Result<Option<Message>, ReadFault>
         ensures exact { IfSome (R.remaining reader.old) (λ text.
-            Answers message_view result (R.remaining reader.new) (reading_within limit text)) }
+            Answers message_view result (R.remaining reader.new) (reading_within (of_content limit) text)) }
         ensures begun { TakesFront (R.remaining reader.old) (R.remaining reader.new) }
         ensures memory { result ≡ Err ReadFault.Memory → IfSome (R.remaining reader.old) (λ text.
-            RunsOut limit text (R.remaining reader.new)) }
+            RunsOut (of_content limit) text (R.remaining reader.new)) }
     {
-        Message::read_telling(alloc, reader, limit, &mut Passed::new())
+        let limits = Limits {
+            header: None,
+            content: limit,
+        };
+        Message::read_telling(alloc, reader, limits, &mut Passed::new())
     }
 
-    /// Reads one message, as `read_within` does, and adds the bytes that it takes to the account.
+    /// Reads one message within limits, as `read_within` does, and adds the bytes that it takes to the account.
+    ///
+    /// A header part that is longer than its bound is the fault `HeaderTooLong`. Just one byte above the bound was taken then. A bad line
+    /// below the bound has its own fault.
     ///
     /// What the account has is known of any reader, also of one that does not say which bytes it has left, as standard input.
     pub fn read_telling<R: BufRead>(
         alloc: Global,
         reader: &mut R,
-        limit: u64,
+        limits: Limits,
         taken: &mut Passed,
     ) -> Result<Option<Message>, ReadFault>
         ensures exact { IfSome (R.remaining reader.old) (λ text.
-            Answers message_view result (R.remaining reader.new) (reading_within limit text)) }
+            Answers message_view result (R.remaining reader.new) (reading_within limits text)) }
         ensures begun { TakesFront (R.remaining reader.old) (R.remaining reader.new) }
         ensures memory { result ≡ Err ReadFault.Memory → IfSome (R.remaining reader.old) (λ text.
-            RunsOut limit text (R.remaining reader.new)) }
-        ensures told { Told (IsOfParts message_view (reading_within limit) result) taken.old.parts
+            RunsOut limits text (R.remaining reader.new)) }
+        ensures told { Told (IsOfParts message_view (reading_within limits) result) taken.old.parts
             taken.new.parts (R.remaining reader.old) (R.remaining reader.new) }
     {
-        let content = match read_content_telling(alloc, reader, limit, taken)? {
+        let content = match read_content_telling(alloc, reader, limits, taken)? {
             Some(content) => content,
             None => return Ok(None),
         };

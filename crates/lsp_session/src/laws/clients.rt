@@ -7,6 +7,7 @@ ghost use Rattle.lsp_session.specs.SessionBytes.{Gives};
 ghost use Rattle.lsp_session.specs.SessionLaws.{Both};
 ghost use Rattle.lsp_session.specs.declared.loops.handler.SessionEnd.{SessionEnd as EndOfSession};
 ghost use Rattle.lsp_session.specs.declared.loops.stream_session.SessionFault.{SessionFault as FaultOfSession};
+ghost use Rattle.lsp_message.specs.declared.frame.limits.Limits.{Limits};
 
 use crate::loops::{Listener, Service};
 
@@ -15,14 +16,14 @@ use crate::loops::{Listener, Service};
 /// error comes back as absent if it is null. A fact of each session whose writer says what it holds, and that wrote fewer than 2^64 bytes,
 /// with a listener or without one. `frames_are_read_back` of `lsp_message` says it of frames alone.
 pub fn client_reads_what_was_sent<S: Service, L: Listener>()
-    ensures bytes { (limit : ℕ) (old new : S) (text : List ℕ) (left : Option (List ℕ))
+    ensures bytes { (limit : Limits) (old new : S) (text : List ℕ) (left : Option (List ℕ))
         (before written : List ℕ) (answer : Result EndOfSession FaultOfSession)
         → length written < 2 ^ 64
         → Gives limit (SessionOut S.behavior old new) text left (Some before)
         (Some (before ++ written)) answer
         → Gives limit (Both (SessionOut S.behavior old new) (ClientReads written answer)) text left
         (Some before) (Some (before ++ written)) answer }
-    ensures listener { (limit : ℕ) (old new : S) (text : List ℕ) (left : Option (List ℕ))
+    ensures listener { (limit : Limits) (old new : S) (text : List ℕ) (left : Option (List ℕ))
         (first last : L) (before written : List ℕ) (answer : Result EndOfSession FaultOfSession)
         → length written < 2 ^ 64
         → GivesAndTells L.hears limit (SessionOut S.behavior old new) text left first last

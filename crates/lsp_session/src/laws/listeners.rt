@@ -2,6 +2,7 @@
 ghost use Rattle.serde_json.specs.View.{view};
 ghost use Rattle.std.specs.Prelude.{ℕ, List, Option, Result};
 ghost use Rattle.lsp_message.specs.Message.{Message};
+ghost use Rattle.lsp_message.specs.declared.frame.limits.Limits.{Limits};
 ghost use Rattle.lsp_session.specs.Answered.{AnswersRequests};
 ghost use Rattle.lsp_session.specs.HandlerService.{lent_handler};
 ghost use Rattle.lsp_session.specs.HandlerSession.{of_handler};
@@ -18,7 +19,7 @@ use crate::loops::{Handler, Listener, Service};
 /// With a listener that passes over nothing, such as `EndSession`, a session of `session_of_service` is one in which each frame is a
 /// message: what `session` says of its session is so of this one.
 pub fn nothing_is_passed_over<S: Service, L: Listener>()
-    ensures { (limit : ℕ) (old new : S) (text : List ℕ) (left : Option (List ℕ)) (first last : L)
+    ensures { (limit : Limits) (old new : S) (text : List ℕ) (left : Option (List ℕ)) (first last : L)
         (before after : Option (List ℕ)) (answer : Result EndOfSession FaultOfSession)
         → PassesNothingOver L.hears
         → GivesAndTells L.hears limit (SessionOut S.behavior old new) text left first last before
@@ -28,7 +29,7 @@ pub fn nothing_is_passed_over<S: Service, L: Listener>()
 
 /// `sessions::session_keeps_order` of a session with a listener: a fact of each session that was run by `session_of_service`.
 pub fn session_that_asks_keeps_order<S: Service, L: Listener>()
-    ensures { (limit : ℕ) (old new : S) (text : List ℕ) (left : Option (List ℕ)) (first last : L)
+    ensures { (limit : Limits) (old new : S) (text : List ℕ) (left : Option (List ℕ)) (first last : L)
         (before after : Option (List ℕ)) (answer : Result EndOfSession FaultOfSession)
         → GivesAndTells L.hears limit (SessionOut S.behavior old new) text left first last before
         after answer
@@ -45,7 +46,7 @@ pub fn handler_service_runs_its_handler<H: Handler, L: Listener>()
         → SessionOut (lent_handler H.answers H.notes) old new exchanges stop shutdown_reply answer
         → SessionOut (of_handler H.answers H.notes (view old.capabilities.now)) old.handler.now
         new.handler.now exchanges stop shutdown_reply answer }
-    ensures bytes { (limit : ℕ) (old new : ServiceOf H) (text : List ℕ) (left : Option (List ℕ))
+    ensures bytes { (limit : Limits) (old new : ServiceOf H) (text : List ℕ) (left : Option (List ℕ))
         (first last : L) (before after : Option (List ℕ))
         (answer : Result EndOfSession FaultOfSession)
         → GivesAndTells L.hears limit (SessionOut (lent_handler H.answers H.notes) old new) text

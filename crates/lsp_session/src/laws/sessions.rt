@@ -2,6 +2,7 @@
 ghost use Rattle.serde_json.specs.Data.{Data};
 ghost use Rattle.std.specs.Prelude.{◌≡◌, true, false, ℕ, List, ◌∷◌, ◌++◌, Option, None, Result, Err};
 ghost use Rattle.lsp_message.specs.Message.{Message};
+ghost use Rattle.lsp_message.specs.declared.frame.limits.Limits.{Limits};
 ghost use Rattle.lsp_session.specs.Answered.{AllReplied, AnswersRequests};
 ghost use Rattle.lsp_session.specs.HandlerSession.{of_handler};
 ghost use Rattle.lsp_session.specs.ProtocolError.{ProtocolFault, is_disconnected};
@@ -37,7 +38,7 @@ pub fn session_answers_requests<I: Inbox, O: Outbox, H: Handler>()
         → Runs I.receives O.sends
         (Both (SessionOut (of_handler H.answers H.notes capabilities) old new)
         (Both AnswersRequests KeepsOrder)) before answer after }
-    ensures bytes { (limit : ℕ) (capabilities : Data) (old new : H) (text : List ℕ)
+    ensures bytes { (limit : Limits) (capabilities : Data) (old new : H) (text : List ℕ)
         (left before after : Option (List ℕ)) (answer : Result EndOfSession FaultOfSession)
         → Gives limit (SessionOut (of_handler H.answers H.notes capabilities) old new) text left
         before after answer
@@ -105,7 +106,7 @@ pub fn session_keeps_order<I: Inbox, O: Outbox, S: Service>()
         → Runs I.receives O.sends (SessionOut S.behavior old new) before answer after
         → Runs I.receives O.sends (Both (SessionOut S.behavior old new) KeepsOrder) before answer
         after }
-    ensures bytes { (limit : ℕ) (old new : S) (text : List ℕ) (left before after : Option (List ℕ))
+    ensures bytes { (limit : Limits) (old new : S) (text : List ℕ) (left before after : Option (List ℕ))
         (answer : Result EndOfSession FaultOfSession)
         → Gives limit (SessionOut S.behavior old new) text left before after answer
         → Gives limit (Both (SessionOut S.behavior old new) KeepsOrder) text left before after

@@ -3,6 +3,7 @@ ghost use Rattle.serde_json.specs.View.{view};
 ghost use Rattle.std.specs.Prelude.{◌≡◌, false, ℕ, List, Option, None, Result, IfSome};
 ghost use Rattle.lsp_message.specs.Frame.{no_limit};
 ghost use Rattle.lsp_message.specs.declared.frame.ReadFault.{ReadFault};
+ghost use Rattle.lsp_message.specs.declared.frame.limits.Limits.{Limits};
 ghost use Rattle.lsp_session.specs.Finish.{FinishesAt};
 ghost use Rattle.lsp_session.specs.Passing.{ended_at_body};
 ghost use Rattle.lsp_session.specs.PassingBytes.{GivesAndTells};
@@ -88,7 +89,7 @@ pub fn transport_tells_its_bytes<R: BufRead, W: Write, L: Listener, S: Service>(
 /// whatever the answer is, and whatever was written. So of a program over such a reader only a transcript tells what passed
 /// (`StreamTransport::serve`).
 pub fn unknown_bytes_say_nothing<L: Listener, S: Service>()
-    ensures { (limit : ℕ) (old new : S) (left before after : Option (List ℕ)) (first last : L)
+    ensures { (limit : Limits) (old new : S) (left before after : Option (List ℕ)) (first last : L)
         (answer : Result EndOfSession FaultOfSession)
         → IfSome None (λ text. GivesAndTells L.hears limit (SessionOut S.behavior old new) text left
         first last before after answer) }

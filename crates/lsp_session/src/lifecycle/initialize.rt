@@ -7,6 +7,7 @@ ghost use Rattle.lsp_session.specs.Event.{event_view, message as message_event};
 ghost use Rattle.lsp_session.specs.Start.{start_view, IsEarlyReply, PassesOver, Ends, StartsWithin};
 ghost use Rattle.lsp_session.specs.Turns.{got};
 
+use crate::beginning::beginning_of;
 use crate::error::ProtocolError;
 use crate::lifecycle::{Event, Gate, Inbox, Outbox};
 use lsp_message::{ErrorCode, Message, Request, RequestId, Response};
@@ -131,7 +132,7 @@ fn refuse_early<O: Outbox>(
 fn early_reply(alloc: Global, request: Request) -> Result<Message, AllocError>
     ensures { IfOk result (λ reply. IsEarlyReply request.id (message_view reply)) }
 {
-    let shown = format!(in alloc; "{request:?}")?;
+    let shown = beginning_of(alloc, &request)?;
     let message = format!(in alloc; "expected initialize request, got {shown}")?;
     let code = ErrorCode::ServerNotInitialized.number();
     Ok(Message::Response(Response::new_err(request.id, code, message)))

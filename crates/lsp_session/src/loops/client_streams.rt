@@ -1,8 +1,10 @@
 // The streams of a client.
-ghost use Rattle.std.specs.Prelude.{◌≡◌};
+ghost use Rattle.std.specs.Prelude.{◌≡◌, Some};
+ghost use Rattle.lsp_message.specs.Limits.{most_content};
 ghost use Rattle.lsp_session.specs.StreamTransports.{IsUnused};
 
 use crate::loops::{Listener, StreamTransport, Transcript};
+use lsp_message::Limits;
 use std::alloc::Global;
 use std::io::{BufRead, Write};
 
@@ -13,41 +15,49 @@ pub struct ClientStreams<R, W> {
     pub reader: R,
     /// What the client gets is written to it.
     pub writer: W,
+    /// How many bytes a header part and a content part of the client may have.
+    pub limits: Limits,
     transcript: Transcript,
 }
 
 impl<R: BufRead, W: Write> ClientStreams<R, W> {
-    /// The streams of a client of which nothing was read or written yet.
+    /// The streams of a client of which nothing was read or written yet. A header part may have `Limits::HEADER_BYTES` bytes, and a
+    /// content part any number.
     pub fn new(reader: R, writer: W) -> Self
         ensures reader { result.reader ≡ reader }
         ensures writer { result.writer ≡ writer }
+        ensures limits { result.limits ≡ record { header = Some 65536; content = most_content } }
     {
         ClientStreams {
             reader,
             writer,
+            limits: Limits {
+                header: Some(Limits::HEADER_BYTES),
+                content: u64::MAX,
+            },
             transcript: Transcript::new(),
         }
     }
 
-    /// A transport over the streams, with a new transcript. The limit and the listener are those of `StreamTransport::within`.
+    /// A transport over the streams, within their limits, with a new transcript. The listener is that of `StreamTransport::within`.
     pub fn transport<'a, L: Listener>(
         &'a mut self,
         alloc: Global,
         bad_bodies: &'a mut L,
-        limit: u64,
     ) -> StreamTransport<'a, R, W, L>
         ensures unused { IsUnused result }
         ensures reader { result.reader.now ≡ self.old.reader }
         ensures writer { result.writer.now ≡ self.old.writer }
-        ensures limited { result.limit ≡ limit }
+        ensures limited { result.limits ≡ self.old.limits }
     {
+        let limits = self.limits;
         self.transcript = Transcript::new();
         StreamTransport::within(
             alloc,
             &mut self.reader,
             &mut self.writer,
             bad_bodies,
-            limit,
+            limits,
             &mut self.transcript,
         )
     }

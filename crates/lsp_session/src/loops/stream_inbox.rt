@@ -1,12 +1,12 @@
 // An inbox that reads messages.
 ghost use Rattle.std.specs.Prelude.{◌≡◌, None};
-ghost use Rattle.lsp_message.specs.Frame.{no_limit};
+ghost use Rattle.lsp_message.specs.Frame.{no_limit, of_content};
 ghost use Rattle.lsp_session.specs.Event.{event_view};
 ghost use Rattle.lsp_session.specs.StreamBoxes.{StreamInboxGives};
 
 use crate::lifecycle::{Event, Inbox, is_exit};
 use crate::loops::ReadEnd;
-use lsp_message::Message;
+use lsp_message::{Limits, Message, Passed};
 use std::alloc::Global;
 use std::io::BufRead;
 
@@ -16,7 +16,7 @@ use std::io::BufRead;
 pub struct StreamInbox<'a, R> {
     alloc: Global,
     reader: &'a mut R,
-    limit: u64,
+    limits: Limits,
     end: Option<ReadEnd>,
 }
 
@@ -26,23 +26,26 @@ impl<'a, R: BufRead> StreamInbox<'a, R> {
         ensures same_reader { result.reader.ghost_name ≡ reader.entry.ghost_name }
         ensures unread { result.reader.now ≡ reader.old }
         ensures unended { result.end ≡ None }
-        ensures unlimited { result.limit ≡ no_limit }
+        ensures unlimited { result.limits ≡ no_limit }
     {
         StreamInbox::within(alloc, reader, u64::MAX)
     }
 
     /// An inbox over a reader, for messages whose content part has at most `limit` bytes. A longer one ends the messages
-    /// with `ReadFault::TooLong`. It takes no memory.
+    /// with `ReadFault::TooLong`. It takes no memory. A header part is not bounded; a `TolerantInbox` bounds it too.
     pub fn within(alloc: Global, reader: &'a mut R, limit: u64) -> Self
         ensures same_reader { result.reader.ghost_name ≡ reader.entry.ghost_name }
         ensures unread { result.reader.now ≡ reader.old }
         ensures unended { result.end ≡ None }
-        ensures limited { result.limit ≡ limit }
+        ensures limited { result.limits ≡ of_content limit }
     {
         StreamInbox {
             alloc,
             reader,
-            limit,
+            limits: Limits {
+                header: None,
+                content: limit,
+            },
             end: None,
         }
     }
@@ -60,7 +63,7 @@ impl<'a, R: BufRead> StreamInbox<'a, R> {
         if self.end.is_some() {
             return Event::Closed;
         }
-        match Message::read_within(self.alloc, self.reader, self.limit) {
+        match Message::read_telling(self.alloc, self.reader, self.limits, &mut Passed::new()) {
             Ok(Some(message)) => {
                 if is_exit(&message) {
                     self.end = Some(ReadEnd::Exit);

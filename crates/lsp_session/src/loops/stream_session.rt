@@ -1,7 +1,7 @@
 // A session over a reader and a writer.
 ghost use Rattle.serde_json.specs.View.{view};
 ghost use Rattle.std.specs.Prelude.{◌≡◌, [], IfSome};
-ghost use Rattle.lsp_message.specs.Frame.{no_limit};
+ghost use Rattle.lsp_message.specs.Frame.{no_limit, of_content};
 ghost use Rattle.lsp_session.specs.HandlerSession.{of_handler};
 ghost use Rattle.lsp_session.specs.Session.{SessionOut};
 ghost use Rattle.lsp_session.specs.PassingBytes.{GivesAndTells};
@@ -16,7 +16,7 @@ use crate::loops::{
     EndSession, Handler, Listener, ReadEnd, Served, Service, SessionEnd, StopReason,
     StreamTransport, Transcript, serve_transport,
 };
-use lsp_message::{ReadFault, WriteFault};
+use lsp_message::{Limits, ReadFault, WriteFault};
 use serde_json::Value;
 use std::alloc::Global;
 use std::error::Error;
@@ -81,7 +81,7 @@ pub fn session<R: BufRead, W: Write, H: Handler>(
 }
 
 /// Runs a session of a server, as `session` does, over messages whose content part has at most `limit` bytes. A longer one
-/// is `SessionFault::Read` of `ReadFault::TooLong`, and is unread.
+/// is `SessionFault::Read` of `ReadFault::TooLong`, and is unread. A header part is not bounded; `session_of_service` bounds it too.
 pub fn session_within<R: BufRead, W: Write, H: Handler>(
     alloc: Global,
     reader: &mut R,
@@ -91,17 +91,22 @@ pub fn session_within<R: BufRead, W: Write, H: Handler>(
     limit: u64,
 ) -> Result<SessionEnd, SessionFault>
     ensures { IfSome (R.remaining reader.old) (λ text.
-        Gives limit (SessionOut (of_handler H.answers H.notes (view capabilities)) handler.old
+        Gives (of_content limit) (SessionOut (of_handler H.answers H.notes (view capabilities)) handler.old
         handler.new)
         text (R.remaining reader.new) (W.contents writer.old) (W.contents writer.new) result) }
 {
     let mut capabilities = capabilities;
     let mut service = HandlerService::new(alloc, &mut capabilities, handler);
-    session_of_service(alloc, reader, writer, &mut service, &mut EndSession, limit)
+    let limits = Limits {
+        header: None,
+        content: limit,
+    };
+    session_of_service(alloc, reader, writer, &mut service, &mut EndSession, limits)
 }
 
-/// `serve_service` from bytes to bytes (LSP 3.17, "Base Protocol" and "Server lifecycle"), as `session` is `serve`, over messages whose
-/// content part has at most `limit` bytes. A longer one is `SessionFault::Read` of `ReadFault::TooLong`, and is unread.
+/// `serve_service` from bytes to bytes (LSP 3.17, "Base Protocol" and "Server lifecycle"), as `session` is `serve`, over messages within
+/// limits. A longer header part is `SessionFault::Read` of `ReadFault::HeaderTooLong`. A longer content part is that of `TooLong`, and is
+/// unread.
 ///
 /// At a content part that is no message (see `is_of_body`) the listener `bad_bodies` is asked. If it reads on, nothing is answered,
 /// the service is woken, and the next frame follows. That is so from `initialized` up to `shutdown`, if a service can be woken. Where
@@ -118,10 +123,10 @@ pub fn session_of_service<R: BufRead, W: Write, S: Service, L: Listener>(
     writer: &mut W,
     service: &mut S,
     bad_bodies: &mut L,
-    limit: u64,
+    limits: Limits,
 ) -> Result<SessionEnd, SessionFault>
     ensures { IfSome (R.remaining reader.old) (λ text.
-        GivesAndTells L.hears limit (SessionOut S.behavior service.old service.new) text
+        GivesAndTells L.hears limits (SessionOut S.behavior service.old service.new) text
         (R.remaining reader.new)
         bad_bodies.old bad_bodies.new (W.contents writer.old) (W.contents writer.new) result) }
 {
@@ -132,7 +137,7 @@ pub fn session_of_service<R: BufRead, W: Write, S: Service, L: Listener>(
         writer,
         service,
         bad_bodies,
-        limit,
+        limits,
         &mut transcript,
     )
 }
@@ -148,19 +153,19 @@ pub fn session_transcribed<R: BufRead, W: Write, S: Service, L: Listener>(
     writer: &mut W,
     service: &mut S,
     bad_bodies: &mut L,
-    limit: u64,
+    limits: Limits,
     transcript: &mut Transcript,
 ) -> Result<SessionEnd, SessionFault>
     requires { notes_of transcript.old ≡ [] }
-    ensures told { ToldSession limit (SessionOut S.behavior service.old service.new) (notes_of transcript.new) result }
+    ensures told { ToldSession limits (SessionOut S.behavior service.old service.new) (notes_of transcript.new) result }
     ensures passed { Passes (notes_of transcript.new) (R.remaining reader.old) (R.remaining reader.new) (W.contents writer.old) (W.contents writer.new) }
     ensures known { IfSome (R.remaining reader.old) (λ text.
-        GivesAndTells L.hears limit (SessionOut S.behavior service.old service.new) text
+        GivesAndTells L.hears limits (SessionOut S.behavior service.old service.new) text
         (R.remaining reader.new)
         bad_bodies.old bad_bodies.new (W.contents writer.old) (W.contents writer.new) result) }
 {
     let mut transport = StreamTransport::within(
-        alloc, reader, writer, bad_bodies, limit, transcript,
+        alloc, reader, writer, bad_bodies, limits, transcript,
     );
     let served = serve_transport(alloc, &mut transport, service);
     transport.answer(served)

@@ -14,7 +14,7 @@ use crate::loops::{
     FrameOutbox, Handler, HandlerService, Listener, ReadEnd, Served, Service, SessionEnd,
     SessionFault, TolerantInbox, serve_transport, session_answer,
 };
-use lsp_message::{Message, Passed, WriteFault};
+use lsp_message::{Limits, Message, Passed, WriteFault};
 use serde_json::Value;
 use std::alloc::Global;
 use std::io::{BufRead, Write};
@@ -32,21 +32,21 @@ pub struct StreamTransport<'a, R, W, L> {
     writer: &'a mut W,
     listener: &'a mut L,
     transcript: &'a mut Transcript,
-    limit: u64,
+    limits: Limits,
     end: Option<ReadEnd>,
     fault: Option<WriteFault>,
 }
 
 impl<'a, R: BufRead, W: Write, L: Listener> StreamTransport<'a, R, W, L> {
-    /// A transport over a reader and a writer, for messages whose content part has at most `limit` bytes. A longer one ends the messages
-    /// with `ReadFault::TooLong`. The listener is asked as by a `TolerantInbox`; with `EndSession` no content part is passed over. It takes
+    /// A transport over a reader and a writer, for messages within limits. A longer header part or content part ends the messages with
+    /// `ReadFault::HeaderTooLong` or `TooLong`. The listener is asked as by a `TolerantInbox`; with `EndSession` no content part is passed over. It takes
     /// no memory.
     pub fn within(
         alloc: Global,
         reader: &'a mut R,
         writer: &'a mut W,
         bad_bodies: &'a mut L,
-        limit: u64,
+        limits: Limits,
         transcript: &'a mut Transcript,
     ) -> Self
         ensures same_reader { result.reader.ghost_name ≡ reader.entry.ghost_name }
@@ -57,7 +57,7 @@ impl<'a, R: BufRead, W: Write, L: Listener> StreamTransport<'a, R, W, L> {
         ensures unwritten { result.writer.now ≡ writer.old }
         ensures untold { result.listener.now ≡ bad_bodies.old }
         ensures transcribed { result.transcript.now ≡ transcript.old }
-        ensures limited { result.limit ≡ limit }
+        ensures limited { result.limits ≡ limits }
         ensures unended { result.end ≡ None }
         ensures unfailed { result.fault ≡ None }
     {
@@ -67,7 +67,7 @@ impl<'a, R: BufRead, W: Write, L: Listener> StreamTransport<'a, R, W, L> {
             writer,
             listener: bad_bodies,
             transcript,
-            limit,
+            limits,
             end: None,
             fault: None,
         }
@@ -132,7 +132,7 @@ impl<'a, R: BufRead, W: Write, L: Listener> StreamTransport<'a, R, W, L> {
             self.alloc,
             &mut *self.reader,
             &mut *self.listener,
-            self.limit,
+            self.limits,
             self.end,
         );
         let event = inbox.next_event(&mut taken);
@@ -153,7 +153,7 @@ impl<'a, R: BufRead, W: Write, L: Listener> StreamTransport<'a, R, W, L> {
             self.alloc,
             &mut *self.reader,
             &mut *self.listener,
-            self.limit,
+            self.limits,
             self.end,
         );
         let arrival = inbox.next_arrival(&mut taken);

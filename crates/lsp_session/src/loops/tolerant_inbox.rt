@@ -8,7 +8,7 @@ ghost use Rattle.lsp_session.specs.PassingBoxes.{EndsAtBody, NeverEndsAtBody, Re
 
 use crate::lifecycle::{Arrival, Event, Inbox, WakingInbox, is_exit};
 use crate::loops::{Listener, ReadEnd};
-use lsp_message::{Message, Passed, ReadFault};
+use lsp_message::{Limits, Message, Passed, ReadFault};
 use std::alloc::Global;
 use std::io::BufRead;
 
@@ -31,26 +31,26 @@ pub struct TolerantInbox<'a, R, L> {
     alloc: Global,
     reader: &'a mut R,
     listener: &'a mut L,
-    limit: u64,
+    limits: Limits,
     end: Option<ReadEnd>,
 }
 
 impl<'a, R: BufRead, L: Listener> TolerantInbox<'a, R, L> {
-    /// An inbox over a reader, for messages whose content part has at most `limit` bytes. A longer one ends the messages
-    /// with `ReadFault::TooLong`. It takes no memory.
-    pub fn within(alloc: Global, reader: &'a mut R, listener: &'a mut L, limit: u64) -> Self
+    /// An inbox over a reader, for messages within limits. A longer header part or content part ends the messages with
+    /// `ReadFault::HeaderTooLong` or `TooLong`. It takes no memory.
+    pub fn within(alloc: Global, reader: &'a mut R, listener: &'a mut L, limits: Limits) -> Self
         ensures same_reader { result.reader.ghost_name ≡ reader.entry.ghost_name }
         ensures unread { result.reader.now ≡ reader.old }
         ensures same_listener { result.listener.ghost_name ≡ listener.entry.ghost_name }
         ensures untold { result.listener.now ≡ listener.old }
         ensures unended { result.end ≡ None }
-        ensures limited { result.limit ≡ limit }
+        ensures limited { result.limits ≡ limits }
     {
         TolerantInbox {
             alloc,
             reader,
             listener,
-            limit,
+            limits,
             end: None,
         }
     }
@@ -60,20 +60,20 @@ impl<'a, R: BufRead, L: Listener> TolerantInbox<'a, R, L> {
         alloc: Global,
         reader: &'a mut R,
         listener: &'a mut L,
-        limit: u64,
+        limits: Limits,
         end: Option<ReadEnd>,
     ) -> Self
         ensures same_reader { result.reader.ghost_name ≡ reader.entry.ghost_name }
         ensures unread { result.reader.now ≡ reader.old }
         ensures same_listener { result.listener.ghost_name ≡ listener.entry.ghost_name }
         ensures untold { result.listener.now ≡ listener.old }
-        ensures resumed { (result.end ≡ end) × (result.limit ≡ limit) × (result.alloc ≡ alloc) }
+        ensures resumed { (result.end ≡ end) × (result.limits ≡ limits) × (result.alloc ≡ alloc) }
     {
         TolerantInbox {
             alloc,
             reader,
             listener,
-            limit,
+            limits,
             end,
         }
     }
@@ -89,13 +89,13 @@ impl<'a, R: BufRead, L: Listener> TolerantInbox<'a, R, L> {
     fn read_next(&mut self, taken: &mut Passed) -> Result<Option<Message>, ReadFault>
         ensures read { ReadsNext R.remaining self.old result self.new }
         ensures reads_on { NeverEndsAtBody self.old self.new }
-        ensures told { Told (ReadParts self.old.limit self.old.end result self.new.end) taken.old.parts
+        ensures told { Told (ReadParts self.old.limits self.old.end result self.new.end) taken.old.parts
             taken.new.parts (R.remaining self.old.reader.now) (R.remaining self.new.reader.now) }
     {
         if self.end.is_some() {
             return Ok(None);
         }
-        match Message::read_telling(self.alloc, self.reader, self.limit, taken)? {
+        match Message::read_telling(self.alloc, self.reader, self.limits, taken)? {
             Some(message) => {
                 if is_exit(&message) {
                     self.end = Some(ReadEnd::Exit);
@@ -114,7 +114,7 @@ impl<'a, R: BufRead, L: Listener> TolerantInbox<'a, R, L> {
         ensures gives { TolerantInboxGives R.remaining L.hears self.old (arrival_view result)
             self.new }
         ensures reads_on { EndsAtBody L.ends self.old self.new }
-        ensures told { Told (EventParts self.old.limit self.old.end (arrival_view result) self.new.end)
+        ensures told { Told (EventParts self.old.limits self.old.end (arrival_view result) self.new.end)
             taken.old.parts taken.new.parts (R.remaining self.old.reader.now) (R.remaining self.new.reader.now) }
     {
         match self.read_next(taken) {
@@ -133,7 +133,7 @@ impl<'a, R: BufRead, L: Listener> TolerantInbox<'a, R, L> {
     /// What one wait gives that gives no wakes.
     pub(crate) fn next_event(&mut self, taken: &mut Passed) -> Event
         ensures gives { TolerantInboxGives R.remaining L.hears self.old (event_view result) self.new }
-        ensures told { Told (EventParts self.old.limit self.old.end (event_view result) self.new.end)
+        ensures told { Told (EventParts self.old.limits self.old.end (event_view result) self.new.end)
             taken.old.parts taken.new.parts (R.remaining self.old.reader.now) (R.remaining self.new.reader.now) }
     {
         match self.read_next(taken) {

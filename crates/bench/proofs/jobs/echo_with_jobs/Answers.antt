@@ -14,4 +14,4 @@ returns g c =
     true no_limit (λ (done : Threaded _). g.W.Write.contents done.writer) (λ (done : Threaded _). done.answer) _ _ _
     (started_untold true _ no_limit _ _ (λ old fault new heard. heard) _
     (λ (done : Threaded _). g.W.Write.contents done.writer) (λ (done : Threaded _). done.answer) _ _ _
-    (rw c.new-options.ensures.limit at c.run_jobs-done.ensures.session))
+    (rw c.new-options.ensures.limits at c.run_jobs-done.ensures.session))

@@ -10,4 +10,4 @@ pub returns-clause-told : goal.returns-clause-told
 returns-clause-told g c =
     taken_told_as false _ no_limit _ _ _ _ (answers_once _ _ _ c.server_keeps_laws.ensures.exchanges)
     (λ (done : Threaded _). done.taken.parts) (λ (done : Threaded _). noted done.given) (λ (done : Threaded _). done.answer) _
-    (rw c.new-options.ensures.limit at c.run_threads_with.ensures.told)
+    (rw c.new-options.ensures.limits at c.run_threads_with.ensures.told)

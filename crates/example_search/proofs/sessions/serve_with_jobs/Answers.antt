@@ -9,4 +9,4 @@ pub returns-clause-told : goal.returns-clause-told
 returns-clause-told g c =
     taken_told_as true _ no_limit _ _ _ _ (c.session_with_jobs_keeps_laws.ensures.exchanges _ _)
     (λ (done : Threaded _). done.taken.parts) (λ (done : Threaded _). noted done.given) (λ (done : Threaded _). done.answer) _
-    (rw c.new-options.ensures.limit at c.run_jobs.ensures.told)
+    (rw c.new-options.ensures.limits at c.run_jobs.ensures.told)

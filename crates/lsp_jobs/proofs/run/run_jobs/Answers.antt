@@ -14,7 +14,7 @@ returns-clause-session g c =
     let may = seen_with_jobs g.row.T.Denot g.S.Server g.S.JobServer g.J.Job in
     let old = c.new-queued.result in
     let new = c.run_threads_of_service_over-done.new.service in
-    started_told_as true g.L.Listener.hears c.args.options.limit c.args.bad_bodies.now _
+    started_told_as true g.L.Listener.hears c.args.options.limits c.args.bad_bodies.now _
     (SessionOut (woken_with_queues may) old new) (JobSession g.row.T.Denot g.S.Server g.S.JobServer g.J.Job c.args.server _)
     (job_session g.row.T.Denot g.S.Server g.S.JobServer g.J.Job old new c.new-pooled.result c.args.server _ c.new-queued.ensures
     (c.new-pooled.ensures ∙ ap (λ t. (c.args.server, t)) c.in-Ok-start_pool.ensures)
@@ -26,7 +26,7 @@ returns-clause-told g c =
     let may = seen_with_jobs g.row.T.Denot g.S.Server g.S.JobServer g.J.Job in
     let old = c.new-queued.result in
     let new = c.run_threads_of_service_over-done.new.service in
-    taken_told_as true g.L.Listener.hears c.args.options.limit c.args.bad_bodies.now _
+    taken_told_as true g.L.Listener.hears c.args.options.limits c.args.bad_bodies.now _
     (SessionOut (woken_with_queues may) old new) (JobSession g.row.T.Denot g.S.Server g.S.JobServer g.J.Job c.args.server _)
     (job_session g.row.T.Denot g.S.Server g.S.JobServer g.J.Job old new c.new-pooled.result c.args.server _ c.new-queued.ensures
     (c.new-pooled.ensures ∙ ap (λ t. (c.args.server, t)) c.in-Ok-start_pool.ensures)

@@ -1,4 +1,4 @@
-use Rattle.std.proofs.Common.{rules, ap, ◌∙◌, ◌≡◌, sym, Some}
+use Rattle.std.proofs.Common.{rules, ap, ◌∙◌, sym, Some}
 use Rattle.lsp_relay.specs.Relay.{Sending, receiver_account}
 use Rattle.lsp_relay.specs.declared.account.Account.{Account}
 use Rattle.lsp_relay.proofs.Accounts.{lends, joins, plans, planned}

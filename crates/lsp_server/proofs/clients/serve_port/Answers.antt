@@ -2,4 +2,4 @@ use Rattle.std.proofs.Common.{rules}
 use Rattle.lsp_server.proofs.clients.serve_port.Goals as goal
 
 pub returns : goal.returns
-returns g c = (_, c.serve.ensures, search rules, search rules)
+returns g c = (_, c.serve.ensures, search rules, search rules, search rules)

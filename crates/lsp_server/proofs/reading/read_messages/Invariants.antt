@@ -7,5 +7,5 @@ use Rattle.lsp_server.proofs.reading.read_messages.Given as goal
 -- the messages so far were handed on
 abbrev pub invariant-loop : goal.invariant-loop
 invariant-loop g l =
-    Handed l.limit sends_one (g.B.Read.remaining l.fn.reader) (g.B.Read.remaining l.reader)
+    Handed l.limits sends_one (g.B.Read.remaining l.fn.reader) (g.B.Read.remaining l.reader)
     (map message_view l.fn.outlet.sent.messages) (map message_view l.outlet.sent.messages)

@@ -12,7 +12,7 @@ pub returns-clause-session : goal.returns-clause-session
 returns-clause-session g c =
     let old = c.new-queued.result in
     let new = c.run_threads_of_service-done.new.service in
-    started_told_as false g.L.Listener.hears c.args.options.limit c.args.bad_bodies.now _
+    started_told_as false g.L.Listener.hears c.args.options.limits c.args.bad_bodies.now _
     (SessionOut (with_queues (unwoken g.S.Server)) old new) (ServerSession (unwoken g.S.Server) c.args.server _)
     (session_of (unwoken g.S.Server) old new c.args.server _ c.new-queued.ensures c.into_server.ensures)
     (λ (done : Threaded _). g.W.Write.contents done.writer) (λ (done : Threaded _). done.answer) _ _ _ c.run_threads_of_service-done.ensures.session
@@ -21,7 +21,7 @@ pub returns-clause-told : goal.returns-clause-told
 returns-clause-told g c =
     let old = c.new-queued.result in
     let new = c.run_threads_of_service-done.new.service in
-    taken_told_as false g.L.Listener.hears c.args.options.limit c.args.bad_bodies.now _
+    taken_told_as false g.L.Listener.hears c.args.options.limits c.args.bad_bodies.now _
     (SessionOut (with_queues (unwoken g.S.Server)) old new) (ServerSession (unwoken g.S.Server) c.args.server _)
     (session_of (unwoken g.S.Server) old new c.args.server _ c.new-queued.ensures c.into_server.ensures)
     (λ (done : Threaded _). done.taken.parts) (λ (done : Threaded _). noted done.given) (λ (done : Threaded _). done.answer) _ c.run_threads_of_service-done.ensures.told

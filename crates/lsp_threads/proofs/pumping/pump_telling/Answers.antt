@@ -12,7 +12,7 @@ returns-clause-told g c = λ rest ends.
     let back = c.join-tx.result in
     let tells = subst (λ l. TellsFrames l (g.R.Read.remaining promise.reader.value) promise.tx.value back.1 back.2.parts back.0) started.1 c.join-tx.ensures.1 in
     rw c.answer_of.ensures
-    (pumped_over c.args.limit (Some (concat back.2.parts ++ rest)) (Some []) _ promise.tx.value back.0 c.write_texts-rx.result.0.taken back.1 c.write_texts-rx.result.1 (tells.0 rest ends)
+    (pumped_over c.args.limits (Some (concat back.2.parts ++ rest)) (Some []) _ promise.tx.value back.0 c.write_texts-rx.result.0.taken back.1 c.write_texts-rx.result.1 (tells.0 rest ends)
     (rw c.new-given.ensures at c.write_texts-rx.ensures.written) c.settle_all.ensures.settled)
 
 pub returns-clause-taken : goal.returns-clause-taken

@@ -8,6 +8,7 @@ use Rattle.lsp_threads.specs.declared.run.Threaded.{Threaded}
 use Rattle.lsp_threads.proofs.Sessions.{started_as, started_told, started_untold, unstarted_handler}
 use Rattle.lsp_threads.specs.Passing.{noted}
 use Rattle.lsp_threads.proofs.run.run_threads_within.Goals as goal
+use Rattle.lsp_message.specs.Limits.{of_content}
 
 pub returns-clause-unstarted : goal.returns-clause-unstarted
 returns-clause-unstarted g c = unstarted_handler c.new-service.result c.run_threads_of_service.new.service c.args.handler.now _
@@ -21,9 +22,9 @@ returns-clause-session g c =
     let new = c.run_threads_of_service.new.service in
     started_as (SessionOut (lent_handler answers notes) old new) (SessionOut (of_handler answers notes (view c.args.capabilities)) c.args.handler.now _)
     (session_as answers notes (view c.args.capabilities) old new _ (λ names. c.handler-1.given.1 (sym c.new-service.ensures.same_handler ∙ sym names))
-    c.args.handler.now c.new-service.ensures.unchanged (ap view c.new-service.ensures.capabilities)) false c.args.limit
+    c.args.handler.now c.new-service.ensures.unchanged (ap view c.new-service.ensures.capabilities)) false (of_content c.args.limit)
     (λ (done : Threaded _). g.W.Write.contents done.writer) (λ (done : Threaded _). done.answer) _ _ _
-    (started_untold false _ c.args.limit _ _ (λ first fault last told. told) _
+    (started_untold false _ (of_content c.args.limit) _ _ (λ first fault last told. told) _
     (λ (done : Threaded _). g.W.Write.contents done.writer) (λ (done : Threaded _). done.answer) _ _ _ c.run_threads_of_service.ensures.session)
 
 pub returns-clause-told : goal.returns-clause-told
@@ -32,7 +33,7 @@ returns-clause-told g c =
     let notes = g.H.Handler.notes in
     let old = c.new-service.result in
     let new = c.run_threads_of_service.new.service in
-    started_told false _ c.args.limit _ _ (λ first fault last told. told) (SessionOut (lent_handler answers notes) old new)
+    started_told false _ (of_content c.args.limit) _ _ (λ first fault last told. told) (SessionOut (lent_handler answers notes) old new)
     (SessionOut (of_handler answers notes (view c.args.capabilities)) c.args.handler.now _)
     (session_as answers notes (view c.args.capabilities) old new _ (λ names. c.handler-1.given.1 (sym c.new-service.ensures.same_handler ∙ sym names))
     c.args.handler.now c.new-service.ensures.unchanged (ap view c.new-service.ensures.capabilities))

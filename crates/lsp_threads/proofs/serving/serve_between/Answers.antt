@@ -51,7 +51,7 @@ returns-clause-told g c = λ rest ends.
     let ended = c.session_end.ensures ∙ (λ i. session_end (c.end-ended.ensures i) (drained i) c.leave_reading-read.result.0) in
     let fault = c.reply_fault-fault.ensures ∙ (λ i. reply_fault c.join-replies_rx.result.2 (c.finish-replies.ensures.failed i)) in
     let answer = c.session_answer-answer.ensures ∙ (λ i. session_answer served.stop served.answer (ended i) (fault i)) in
-    rw (answer, told, sym c.new-inbox.ensures.untold) (threads_tell hears c.args.workers.reading.promise.limit (Both (SessionOut g.S.Service.behavior old new) (StopsFor served.stop))
+    rw (answer, told, sym c.new-inbox.ensures.untold) (threads_tell hears c.args.workers.reading.promise.limits (Both (SessionOut g.S.Service.behavior old new) (StopsFor served.stop))
     (SessionOut g.S.Service.behavior old new) served.stop
     (λ xs stop shutdown_reply answer both. (both.0, both.1, session_facts g.S.Service.behavior starting old new refl xs stop shutdown_reply answer both.0))
     _ _ c.new-inbox.result c.serve_service-served.new.inbox c.new-outbox.result c.serve_service-served.new.outbox served.answer runs

@@ -15,6 +15,7 @@ loop-preserved g c = record {
   line = KeepsLine-trans _ _ _ _ _ _ c.loop.invariant.line (c.in_ok-gather_some.ensures.more (ap Ok c.if-branch.false));
   begun = TakesFront-trans _ _ _ c.loop.invariant.begun c.gather_some.ensures.begun;
   told = told_more (Ok false) _ _ _ _ _ _ _ _ _ c.loop.invariant.told (rw (c.if-branch.false) at c.in_ok-gather_some.ensures.told);
+  spent = c.gather_some.ensures.spent ∙ c.loop.invariant.spent;
 }
 
 pub returns-in_err-gather_some-clause-memory : goal.returns-in_err-gather_some-clause-memory
@@ -44,3 +45,9 @@ returns-in_err-gather_some-clause-told g c =
 
 pub returns-clause-told : goal.returns-clause-told
 returns-clause-told g c = (c.loop.invariant.told.0, c.loop.invariant.told.1, c.loop.invariant.told.2.1)
+
+pub returns-in_err-gather_some-clause-spent : goal.returns-in_err-gather_some-clause-spent
+returns-in_err-gather_some-clause-spent g c = c.gather_some.ensures.spent ∙ c.loop.invariant.spent
+
+pub returns-then-branch-clause-spent : goal.returns-then-branch-clause-spent
+returns-then-branch-clause-spent g c = c.gather_some.ensures.spent ∙ c.loop.invariant.spent

@@ -1,4 +1,5 @@
-use Rattle.std.proofs.Common.{Ok, Err, [], sym, ◌∙◌, eqb-true, refl}
+use Rattle.std.proofs.Common.{Ok, Err, [], sym, ◌∙◌, eqb-true, refl, arith, ◌+◌}
+use Rattle.lsp_message.proofs.Bounds.{spends_taken, spends_none}
 use Rattle.lsp_message.proofs.Places.{placed_line, placed_begun, not_shown}
 use Rattle.lsp_message.proofs.Shown.{kept_shown}
 use Rattle.lsp_message.proofs.Takings.{TakesFront-kept}
@@ -55,3 +56,22 @@ pub returns-in-Err-line-clause-told : goal.returns-in-Err-line-clause-told
 returns-in-Err-line-clause-told g c =
     let kept = kept_shown _ _ _ _ _ c.in-Ok.is c.fill_buf.follows.holds-at-none in
     told_placed _ _ _ _ _ _ _ _ c.in-Some.ensures c.in-Ok.ensures.front c.in-Ok.ensures.end kept c.consume.ensures.bytes c.add-2.ensures (Err c.in-Err-line.fault) (sym c.in-Err-line.is ∙ c.header_line-line.ensures)
+
+pub returns-then-count-room-clause-begun : goal.returns-then-count-room-clause-begun
+returns-then-count-room-clause-begun g c = TakesFront-kept _ _ c.fill_buf.follows.holds-at-none.0
+
+pub returns-then-count-room-clause-told : goal.returns-then-count-room-clause-told
+returns-then-count-room-clause-told g c = ([], Takes-none _ _ _ c.fill_buf.follows.holds-at-none.0, refl)
+
+pub returns-in-None-clause-spent : goal.returns-in-None-clause-spent
+returns-in-None-clause-spent g c = spends_none _ _ _ _ c.add.ensures (eqb-true _ _ (sym c.is_empty.ensures ∙ c.if-is_empty.true))
+
+pub returns-in-Ok-line-clause-spent : goal.returns-in-Ok-line-clause-spent
+returns-in-Ok-line-clause-spent g c =
+    let below = c.in-Some.ensures.0.high in
+    spends_taken (c.in-Some.at + 1) c.in-Ok.shown.now _ _ _ c.add-2.ensures (omega (arith, below)) c.if-count-room.false
+
+pub returns-in-Err-line-clause-spent : goal.returns-in-Err-line-clause-spent
+returns-in-Err-line-clause-spent g c =
+    let below = c.in-Some.ensures.0.high in
+    spends_taken (c.in-Some.at + 1) c.in-Ok.shown.now _ _ _ c.add-2.ensures (omega (arith, below)) c.if-count-room.false

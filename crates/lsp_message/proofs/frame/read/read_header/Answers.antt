@@ -1,4 +1,4 @@
-use Rattle.std.proofs.Common.{◌≡◌, [], Ok, Some, IfSome, sym, ap, subst, ◌∙◌}
+use Rattle.std.proofs.Common.{◌≡◌, [], Ok, Some, IfSome, refl, sym, ap, subst, ◌∙◌}
 use Rattle.std.proofs.lemmas.Result.{err_from_is_err_and}
 use Rattle.lsp_message.specs.HeaderPart.{header_of}
 use Rattle.lsp_message.specs.ReadingSteps.{AnswersHeader}
@@ -52,6 +52,7 @@ loop-preserved g c =
         | in-Length w ↦ told_goes_as _ _ _ _ _ _ (sym w.length-is) (told_after _ w.in-Length.is)
         | in-Other w ↦ told_goes_as _ _ _ _ _ _ (sym w.length-is) (told_after _ w.in-Other.is)
       ];
+      spent = c.read_line.ensures.spent ∙ c.loop.invariant.spent;
     }
 
 pub returns-clause-exact : goal.returns-clause-exact
@@ -79,4 +80,14 @@ loop-init g c = record {
   header = starts _;
   begun = (_, Consumes-nil _);
   told = ([], Takes-none _ _ _ (Keeps-refl _), begins);
+  spent = refl;
 }
+
+pub returns-in_err-line-clause-spent : goal.returns-in_err-line-clause-spent
+returns-in_err-line-clause-spent g c = c.read_line.ensures.spent ∙ c.loop.invariant.spent
+
+pub returns-in-None-clause-spent : goal.returns-in-None-clause-spent
+returns-in-None-clause-spent g c = c.read_line.ensures.spent ∙ c.loop.invariant.spent
+
+pub returns-in-Blank-clause-spent : goal.returns-in-Blank-clause-spent
+returns-in-Blank-clause-spent g c = c.read_line.ensures.spent ∙ c.loop.invariant.spent

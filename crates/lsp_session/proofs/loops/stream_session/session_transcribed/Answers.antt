@@ -33,7 +33,7 @@ returns-clause-known g c =
     let unused : IsUnused c.within-transport.result =
     (c.within-transport.ensures.unended, c.within-transport.ensures.unfailed, ap (λ (t : Transcript). notes_of t) c.within-transport.ensures.transcribed ∙ c.requires) in
     rw (c.answer.ensures) (lent_gives g.R.Read.remaining g.L.Listener.hears g.W.Write.contents g.S.Service.behavior (StreamTransportListens g.L.Listener.ends) _ _ _ _ unused _ _ c.serve_transport-served.ensures
-    c.args.limit c.within-transport.ensures.limited c.args.reader.now _ c.args.writer.now _ c.args.bad_bodies.now _
+    c.args.limits c.within-transport.ensures.limited c.args.reader.now _ c.args.writer.now _ c.args.bad_bodies.now _
     c.within-transport.ensures.unread c.within-transport.ensures.unwritten c.within-transport.ensures.untold
     (λ names. c.reader-1.given.1 (sym c.within-transport.ensures.same_reader ∙ sym names))
     (λ names. c.bad_bodies-1.given.1 (sym c.within-transport.ensures.same_listener ∙ sym names))

@@ -6,6 +6,7 @@ use Rattle.lsp_session.specs.Session.{SessionOut}
 use Rattle.lsp_session.proofs.Lending.{known_as, session_as}
 use Rattle.lsp_session.proofs.Passing.{untold}
 use Rattle.lsp_session.proofs.loops.stream_session.session_within.Goals as goal
+use Rattle.lsp_message.specs.Limits.{of_content}
 
 pub returns : goal.returns
 returns g c =
@@ -15,5 +16,5 @@ returns g c =
     let new = c.session_of_service.new.service in
     known_as (SessionOut (lent_handler answers notes) old new) (SessionOut (of_handler answers notes (view c.args.capabilities)) c.args.handler.now _)
     (session_as answers notes (view c.args.capabilities) old new _ (λ names. c.handler-1.given.1 (sym c.new-service.ensures.same_handler ∙ sym names))
-    c.args.handler.now c.new-service.ensures.unchanged (ap view c.new-service.ensures.capabilities)) c.args.limit
-    _ _ _ _ _ (untold _ (λ first fault last told. told) c.args.limit _ _ _ _ _ _ _ _ c.session_of_service.ensures)
+    c.args.handler.now c.new-service.ensures.unchanged (ap view c.new-service.ensures.capabilities)) (of_content c.args.limit)
+    _ _ _ _ _ (untold _ (λ first fault last told. told) (of_content c.args.limit) _ _ _ _ _ _ _ _ c.session_of_service.ensures)
