@@ -333,6 +333,104 @@ def typed_answer(text):
         return ["refused"]
 
 
+def pair(value):
+    """A list of a small number and a truth."""
+    fits(isinstance(value, list) and len(value) == 2)
+    return [read_as(it, item) for it, item in zip([SMALL, TRUTH], value)]
+
+
+def of_members(**members):
+    """An object with these members. What a name with `_` stands for may be missing or null, and is written as null."""
+
+    def read(value):
+        fits(isinstance(value, dict))
+        return {
+            name.rstrip("_"): None if name.endswith("_") and value.get(name.rstrip("_")) is None else read_as(how, value.get(name.rstrip("_")))
+            for name, how in members.items()
+        }
+
+    return read
+
+
+def alone(read):
+    """The same of an object that has no members beside these."""
+
+    def known(value):
+        found = read(value)
+        fits(value.keys() <= found.keys())
+        return found
+
+    return known
+
+
+def first_of(*ways):
+    """The first type that fits."""
+
+    def read(value):
+        found = [it for it in (if_fits(lambda value, way=way: [read_as(way, value)])(value) for way in ways) if it]
+        fits(found)
+        return found[0][0]
+
+    return read
+
+
+def tagged(value):
+    """An object whose member `t` says what it is."""
+    fits(isinstance(value, dict) and value.get("t") in ("A", "B"))
+    return {"t": value["t"], "n": read_as(SMALL if value["t"] == "A" else TEXT, value.get("n"))}
+
+
+def first(value):
+    """The first number of a list. What a type leaves unread does not count."""
+    fits(isinstance(value, list) and value)
+    return read_as(SMALL, value[0])
+
+
+def or_zero(value):
+    """A number, or 0 for another value."""
+    return value if is_number(value) and 0 <= value < 2**64 else 0
+
+
+SMALL = kind(lambda value: is_number(value) and 0 <= value < 2**8)
+LONG = kind(lambda value: is_number(value) and -(2**63) <= value < 2**63)
+LISTS = each(some(SMALL))
+STRICT = alone(of_members(a=SMALL, b_=SMALL))
+# By serde's rules. A list stands for an object's members in their order, if the object says so.
+PLAIN = {
+    "bool": TRUTH,
+    "u8": SMALL,
+    "i64": LONG,
+    "u64": kind(lambda value: is_number(value) and 0 <= value < 2**64),
+    "f64": lambda value: float(kind(lambda value: isinstance(value, float) or is_number(value))(value)),
+    "char": kind(lambda value: isinstance(value, str) and len(value) == 1),
+    "text": TEXT,
+    "any": ANY,
+    "option": lambda value: None if value is None else SMALL(value),
+    "list": some(LONG),
+    "pair": pair,
+    "lists": LISTS,
+    "strict": STRICT,
+    "untagged": some(first_of(SMALL, TEXT, pair, some(LONG), STRICT, LISTS)),
+    "tagged": tagged,
+    "flat": of_members(z=SMALL, a=SMALL, b_=SMALL),
+    "first": first,
+    "or zero": or_zero,
+    "empty": lambda value: fits(value == {}),
+}
+
+
+def plain_answers(row):
+    name, _, values = row.partition(": ")
+    return [plain_answer(PLAIN[name], json.loads(it)) for it in values.split("; ")]
+
+
+def plain_answer(how, value):
+    try:
+        return ordered(how(value))
+    except Misfit:
+        return "refused"
+
+
 def quoted(text):
     return json.dumps(text, ensure_ascii=False)
 
@@ -410,4 +508,4 @@ def lines_answer(text):
     return [" ".join([*map(quoted, re.split("\r\n|\n|\r", json.loads(text))), "none"])]
 
 
-ROWS = {"typed": typed_answer, "uri": uri_answer, "path": path_answer, "names": names_answer, "folders": folders_answer, "tokens": tokens_answer, "offset": offset_answer, "lines": lines_answer}
+ROWS = {"plain": plain_answers, "typed": typed_answer, "uri": uri_answer, "path": path_answer, "names": names_answer, "folders": folders_answer, "tokens": tokens_answer, "offset": offset_answer, "lines": lines_answer}

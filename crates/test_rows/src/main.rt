@@ -9,7 +9,7 @@
 //! - `body`: what a content part means. `id`: how an id prints. `values`: a message that is cloned, converted and written. `extract`:
 //!   params that are taken out.
 //! - `queues`, `dispatch`, `link`: calls on a state, as steps. `replay`: all steps of a dispatcher at once.
-//! - `typed`: a value that is read and written by a type of `lsp_types`. `uri`, `path`: a path and its URI. `names`: whether
+//! - `plain`, `typed`: values that are read and written by a type: one of serde's kinds, or of `lsp_types`. `uri`, `path`: a path and its URI. `names`: whether
 //!   a URI names a path. `tokens`: the numbers of semantic tokens. `offset`: the place of a position that was read. `lines`:
 //!   the lines of a text, and whether there is one more.
 //! - `document`: a notification of an open document.
@@ -27,6 +27,7 @@ mod escapes;
 mod links;
 mod lists;
 mod messages;
+mod plain;
 mod queues;
 mod rows;
 mod said;

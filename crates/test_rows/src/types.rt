@@ -2,6 +2,7 @@
 use crate::messages::{text_in, value_in};
 use crate::said::Said;
 use lsp_documents::Agreed;
+use lsp_trees::from_value;
 use lsp_types::{
     ApplyWorkspaceEditParams, ApplyWorkspaceEditResult, CodeAction, CodeActionOptions,
     CodeActionParams, Command, CompletionItem, CompletionList, CompletionOptions,
@@ -17,7 +18,7 @@ use lsp_types::{
     WorkDoneProgressReport,
 };
 use serde::{DeserializeOwned, Serialize};
-use serde_json::{Error, Value, from_value, to_value};
+use serde_json::{Error, Value, to_value};
 use std::alloc::{AllocError, Global};
 
 /// What comes of a type's name and a value: the value as it is written again, or `refused`.
@@ -67,15 +68,60 @@ pub fn say_written<T: Serialize>(said: &mut Said, value: &T) {
     }
 }
 
-/// A value that is read and written by a type.
-fn back<T: Serialize + DeserializeOwned + Drop>(said: &mut Said, text: &str) {
-    match read_typed::<T>(said.alloc, text) {
-        Ok(read) => {
-            say_written(said, &read);
-            drop(read);
-        }
-        Err(error) => said.refuse(error),
+/// Says the value that a text of JSON has by a type, as it is written again, or `refused`. It is read straight and through its text; if
+/// the two differ, it says both.
+pub fn back<T: Serialize + DeserializeOwned + Drop>(said: &mut Said, text: &str) {
+    said.is_wrong = false;
+    let straight = written(said, read_typed::<T>(said.alloc, text));
+    let by_text = written(said, read_text::<T>(said.alloc, text));
+    if straight != by_text {
+        said.push(straight.as_str());
+        said.push(", but by its text ");
+        said.push(by_text.as_str());
+    } else if said.is_wrong {
+        said.push("refused");
+    } else {
+        said.push(straight.as_str());
     }
+    said.is_wrong = false;
+}
+
+/// The value that a text of JSON has by its type, read through the text.
+fn read_text<T: DeserializeOwned>(alloc: Global, text: &str) -> Result<T, Error> {
+    match Value::from_str(alloc, text) {
+        Ok(value) => serde_json::from_value(alloc, value),
+        Err(error) => Err(error),
+    }
+}
+
+/// What was read, as it is written again, or why it was not.
+fn written<T: Serialize + Drop>(said: &mut Said, read: Result<T, Error>) -> String {
+    match read {
+        Ok(value) => {
+            let told = text_by(said, &value);
+            drop(value);
+            told
+        }
+        Err(error) => reason(said, error),
+    }
+}
+
+/// A value as JSON writes it, or why it does not.
+fn text_by<T: Serialize>(said: &mut Said, value: &T) -> String {
+    match to_value(said.alloc, value) {
+        Ok(tree) => {
+            let told = tree.to_string(said.alloc);
+            drop(tree);
+            said.made(told, String::new(said.alloc))
+        }
+        Err(error) => reason(said, error),
+    }
+}
+
+fn reason(said: &mut Said, error: Error) -> String {
+    let told = format!(in said.alloc; "{error}");
+    said.refuse(error);
+    said.made(told, String::new(said.alloc))
 }
 
 fn of_document(said: &mut Said, name: &str, text: &str) {

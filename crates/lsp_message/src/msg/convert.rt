@@ -1,4 +1,5 @@
-// Requests, notifications, responses and errors over types of their own, which go through their compact text.
+// Requests, notifications, responses and errors over types of their own. They are read from the tree, and written through their
+// compact text.
 ghost use Rattle.std.specs.Prelude.{IfErr, IfOk};
 ghost use Rattle.lsp_message.specs.Converted.{IsFault, IsOutcomeOf};
 ghost use Rattle.lsp_message.specs.View.{error_view, outcome_view};
@@ -13,15 +14,15 @@ use std::alloc::{AllocError, Global};
 /// Reads a tree as a type of your own. A tree that does not fit gives the error to reply with: -32602, with the reason as its
 /// text (JSON-RPC 2.0, section 5.1).
 ///
-/// `Err(AllocError)` means that an allocation failed. The tree goes through its compact text. What the type takes from it, no
-/// contract says: test it.
+/// `Err(AllocError)` means that an allocation failed. What the type takes from the tree, no contract says: test it. A tree that does
+/// not fit is written out and read again, so that the reason is that of its compact text.
 pub fn read_as<P: DeserializeOwned>(
     alloc: Global,
     value: Value,
 ) -> Result<Result<P, ResponseError>, AllocError>
     ensures { IfOk result (λ read. IfErr read (λ e. IsFault InvalidParams (error_view e))) }
 {
-    match serde_json::from_value(alloc, value) {
+    match lsp_trees::from_value(alloc, value) {
         Ok(read) => Ok(Ok(read)),
         Err(error) => Ok(Err(fault(alloc, ErrorCode::InvalidParams, error)?)),
     }
@@ -134,7 +135,7 @@ impl Request {
             return Err(ExtractError::MethodMismatch(self));
         }
         let Request { id, method, params } = self;
-        match serde_json::from_value(alloc, params) {
+        match lsp_trees::from_value(alloc, params) {
             Ok(params) => Ok((id, params)),
             Err(error) => Err(ExtractError::JsonError { method, error }),
         }
@@ -194,7 +195,7 @@ impl Notification {
             return Err(ExtractError::MethodMismatch(self));
         }
         let Notification { method, params } = self;
-        match serde_json::from_value(alloc, params) {
+        match lsp_trees::from_value(alloc, params) {
             Ok(params) => Ok(params),
             Err(error) => Err(ExtractError::JsonError { method, error }),
         }

@@ -1,0 +1,141 @@
+// Values that are read by types of serde's own kinds and written again. A row is `plain TYPE: VALUE; VALUE; ..`.
+use crate::said::{Said, Stepped};
+use crate::types::back;
+use serde::{Deserialize, DeserializeOwned, Deserializer, Format, Serialize};
+use serde_json::Value;
+use std::alloc::Global;
+use std::collections::BTreeMap;
+
+#[derive(Drop, Serialize, Deserialize)]
+#[serde(deny_unknown_fields)]
+struct Strict {
+    a: u8,
+    b: Option<u8>,
+}
+
+#[derive(Drop, Serialize, Deserialize)]
+#[serde(untagged)]
+enum Untagged {
+    Number(u8),
+    Text(String),
+    Pair(u8, bool),
+    Numbers(Vec<i64>),
+    Strict(Strict),
+    Lists(BTreeMap<String, Vec<u8>>),
+}
+
+#[derive(Drop, Serialize, Deserialize)]
+#[serde(tag = "t")]
+enum Tagged {
+    A { n: u8 },
+    B { n: String },
+}
+
+#[derive(Drop, Serialize, Deserialize)]
+struct Inner {
+    a: u8,
+    b: Option<u8>,
+}
+
+#[derive(Drop, Serialize, Deserialize)]
+struct Flat {
+    z: u8,
+    #[serde(flatten)]
+    inner: Inner,
+}
+
+/// The first item of a list, whose others it leaves unread.
+#[derive(Drop, Serialize)]
+struct First(u8);
+
+impl DeserializeOwned for First {
+    fn deserialize_owned<F: Format>(
+        alloc: Global,
+        from: &mut Deserializer<'_, '_, F>,
+    ) -> Result<First, F::Error> {
+        from.begin_seq()?;
+        from.expect_item()?;
+        let item = u8::deserialize_owned(alloc, from)?;
+        from.next_item()?;
+        Ok(First(item))
+    }
+}
+
+/// A number, or 0 for what is none.
+#[derive(Drop, Serialize)]
+struct OrZero(u64);
+
+impl DeserializeOwned for OrZero {
+    fn deserialize_owned<F: Format>(
+        _alloc: Global,
+        from: &mut Deserializer<'_, '_, F>,
+    ) -> Result<OrZero, F::Error> {
+        match from.u64() {
+            Ok(number) => Ok(OrZero(number)),
+            Err(error) if from.is_fatal(&error) => Err(error),
+            Err(_) => Ok(OrZero(0)),
+        }
+    }
+}
+
+/// An object or a list, of which it takes the end for that of an object.
+#[derive(Drop, Serialize)]
+struct Empty;
+
+impl DeserializeOwned for Empty {
+    fn deserialize_owned<F: Format>(
+        _alloc: Global,
+        from: &mut Deserializer<'_, '_, F>,
+    ) -> Result<Empty, F::Error> {
+        from.begin_struct()?;
+        match from.next_key(&[])? {
+            Some(_) => Err(from.unknown_key()),
+            None => Ok(Empty),
+        }
+    }
+}
+
+/// The name of a type.
+#[derive(Drop)]
+struct Named<'n> {
+    name: &'n str,
+}
+
+impl Stepped for Named<'_> {
+    fn step(&mut self, said: &mut Said, step: &str) {
+        match self.name {
+            "bool" => back::<bool>(said, step),
+            "u8" => back::<u8>(said, step),
+            "i64" => back::<i64>(said, step),
+            "u64" => back::<u64>(said, step),
+            "f64" => back::<f64>(said, step),
+            "char" => back::<char>(said, step),
+            "text" => back::<String>(said, step),
+            "any" => back::<Value>(said, step),
+            _ => composed(said, self.name, step),
+        }
+    }
+}
+
+fn composed(said: &mut Said, name: &str, step: &str) {
+    match name {
+        "option" => back::<Option<u8>>(said, step),
+        "list" => back::<Vec<i64>>(said, step),
+        "pair" => back::<(u8, bool)>(said, step),
+        "lists" => back::<BTreeMap<String, Vec<u8>>>(said, step),
+        "strict" => back::<Strict>(said, step),
+        "untagged" => back::<Vec<Untagged>>(said, step),
+        "tagged" => back::<Tagged>(said, step),
+        "flat" => back::<Flat>(said, step),
+        "first" => back::<First>(said, step),
+        "or zero" => back::<OrZero>(said, step),
+        "empty" => back::<Empty>(said, step),
+        _ => said.unknown(),
+    }
+}
+
+/// What comes of a type's name and values: each as it is written again, or `refused`.
+pub fn answers(said: &mut Said, row: &str) {
+    let (name, values) = said.cut(row, ": ");
+    said.steps_on(values, Named { name });
+}
