@@ -1,7 +1,8 @@
 //! What a server can do. An options struct of which each field is `None` says as much as the standard's `true`.
-use lsp_text::PositionEncoding;
+// `tools/types` wrote this file from `types.txt`: change that.
+use crate::json::{Keyed, Sink, WriteMembers, write_object};
+use serde::{Described, Serialize, Serializer};
 use serde_json::Value;
-use std::alloc::{AllocError, Global};
 
 /// What a server can do (LSP 3.17, "ServerCapabilities"). What the fields lack goes into `more`.
 #[derive(Drop)]
@@ -90,36 +91,54 @@ impl Default for ServerCapabilities {
     }
 }
 
-impl ServerCapabilities {
-    ghost use Rattle.std.specs.Prelude.{◌≡◌, Some, None, true, option_map, IfOk, string_bytes};
-    ghost use Rattle.lsp_text.specs.Characters.{encoding_name};
+impl Described for ServerCapabilities {}
 
-    /// A server that keeps its documents by `lsp_documents`, whose `Agreed::with_capabilities` calls this: the client counts characters as
-    /// was agreed on, and tells of opening, closing, the parts that changed, and saving, with the text. What else the server can do
-    /// goes into the other fields. `Err` means that an allocation failed.
-    pub fn of_documents(
-        alloc: Global,
-        encoding: PositionEncoding,
-    ) -> Result<ServerCapabilities, AllocError>
-        ensures encoding { IfOk result (λ can.
-            option_map string_bytes can.position_encoding ≡ Some (encoding_name encoding)) }
-        ensures sync { IfOk result (λ can. can.text_document_sync ≡ Some (record {
-          open_close = Some true;
-          change = Some (record { 0 = 2 });
-          will_save = None;
-          will_save_wait_until = None;
-          save = Some (record { include_text = Some true });
-        })) }
-    {
-        let name = String::from_str(alloc, encoding.name())?;
-        let mut sync = TextDocumentSyncOptions::new(TextDocumentSyncKind::INCREMENTAL);
-        sync.save = Some(SaveOptions {
-            include_text: Some(true),
-        });
-        let mut can = ServerCapabilities::default();
-        can.position_encoding = Some(name);
-        can.text_document_sync = Some(sync);
-        Ok(can)
+impl Keyed for ServerCapabilities {
+    const KEYS: &'static [&'static str] = &[
+        "positionEncoding",
+        "textDocumentSync",
+        "completionProvider",
+        "hoverProvider",
+        "signatureHelpProvider",
+        "definitionProvider",
+        "referencesProvider",
+        "documentSymbolProvider",
+        "codeActionProvider",
+        "documentFormattingProvider",
+        "documentRangeFormattingProvider",
+        "renameProvider",
+        "executeCommandProvider",
+        "semanticTokensProvider",
+        "inlayHintProvider",
+        "workspaceSymbolProvider",
+    ];
+}
+
+impl WriteMembers for ServerCapabilities {
+    fn write<O: Sink>(&self, out: O) -> O {
+        out.some(&self.position_encoding)
+            .some(&self.text_document_sync)
+            .some(&self.completion_provider)
+            .some(&self.hover_provider)
+            .some(&self.signature_help_provider)
+            .some(&self.definition_provider)
+            .some(&self.references_provider)
+            .some(&self.document_symbol_provider)
+            .some(&self.code_action_provider)
+            .some(&self.document_formatting_provider)
+            .some(&self.document_range_formatting_provider)
+            .some(&self.rename_provider)
+            .some(&self.execute_command_provider)
+            .some(&self.semantic_tokens_provider)
+            .some(&self.inlay_hint_provider)
+            .some(&self.workspace_symbol_provider)
+            .rest(&self.more)
+    }
+}
+
+impl Serialize for ServerCapabilities {
+    fn serialize<S: Serializer>(&self, out: &mut S) -> Result<(), S::Error> {
+        write_object(self, out)
     }
 }
 
@@ -134,6 +153,14 @@ impl TextDocumentSyncKind {
     pub const FULL: TextDocumentSyncKind = TextDocumentSyncKind(1);
     /// By the parts that changed.
     pub const INCREMENTAL: TextDocumentSyncKind = TextDocumentSyncKind(2);
+}
+
+impl Described for TextDocumentSyncKind {}
+
+impl Serialize for TextDocumentSyncKind {
+    fn serialize<S: Serializer>(&self, out: &mut S) -> Result<(), S::Error> {
+        self.0.serialize(out)
+    }
 }
 
 /// What a client is to tell of its documents (LSP 3.17, "TextDocumentSyncOptions").
@@ -174,11 +201,57 @@ impl TextDocumentSyncOptions {
     }
 }
 
+impl Described for TextDocumentSyncOptions {}
+
+impl Keyed for TextDocumentSyncOptions {
+    const KEYS: &'static [&'static str] = &[
+        "openClose",
+        "change",
+        "willSave",
+        "willSaveWaitUntil",
+        "save",
+    ];
+}
+
+impl WriteMembers for TextDocumentSyncOptions {
+    fn write<O: Sink>(&self, out: O) -> O {
+        out.some(&self.open_close)
+            .some(&self.change)
+            .some(&self.will_save)
+            .some(&self.will_save_wait_until)
+            .some(&self.save)
+    }
+}
+
+impl Serialize for TextDocumentSyncOptions {
+    fn serialize<S: Serializer>(&self, out: &mut S) -> Result<(), S::Error> {
+        write_object(self, out)
+    }
+}
+
 /// What a client tells of saving (LSP 3.17, "SaveOptions").
 #[derive(Clone, Copy, Drop)]
 pub struct SaveOptions {
     /// Whether it sends the text, too.
     pub include_text: Option<bool>,
+}
+
+impl Described for SaveOptions {}
+
+impl Keyed for SaveOptions {
+    const KEYS: &'static [&'static str] = &["includeText"];
+}
+
+impl WriteMembers for SaveOptions {
+    fn write<O: Sink>(&self, out: O) -> O {
+        out.some(&self.include_text)
+    }
+}
+
+impl Serialize for SaveOptions {
+    fn serialize<S: Serializer>(&self, out: &mut S) -> Result<(), S::Error> {
+        write_object(self, out)
+    }
 }
 
 /// How completion is offered (LSP 3.17, "Completion Request").
@@ -190,6 +263,25 @@ pub struct CompletionOptions {
     pub resolve_provider: Option<bool>,
 }
 
+impl Described for CompletionOptions {}
+
+impl Keyed for CompletionOptions {
+    const KEYS: &'static [&'static str] = &["triggerCharacters", "resolveProvider"];
+}
+
+impl WriteMembers for CompletionOptions {
+    fn write<O: Sink>(&self, out: O) -> O {
+        out.some(&self.trigger_characters)
+            .some(&self.resolve_provider)
+    }
+}
+
+impl Serialize for CompletionOptions {
+    fn serialize<S: Serializer>(&self, out: &mut S) -> Result<(), S::Error> {
+        write_object(self, out)
+    }
+}
+
 /// How signature help is offered (LSP 3.17, "Signature Help Request").
 #[derive(Drop)]
 pub struct SignatureHelpOptions {
@@ -197,6 +289,25 @@ pub struct SignatureHelpOptions {
     pub trigger_characters: Option<Vec<String>>,
     /// Which ask again while it is shown, beside these.
     pub retrigger_characters: Option<Vec<String>>,
+}
+
+impl Described for SignatureHelpOptions {}
+
+impl Keyed for SignatureHelpOptions {
+    const KEYS: &'static [&'static str] = &["triggerCharacters", "retriggerCharacters"];
+}
+
+impl WriteMembers for SignatureHelpOptions {
+    fn write<O: Sink>(&self, out: O) -> O {
+        out.some(&self.trigger_characters)
+            .some(&self.retrigger_characters)
+    }
+}
+
+impl Serialize for SignatureHelpOptions {
+    fn serialize<S: Serializer>(&self, out: &mut S) -> Result<(), S::Error> {
+        write_object(self, out)
+    }
 }
 
 /// How code actions are offered (LSP 3.17, "Code Action Request").
@@ -208,6 +319,25 @@ pub struct CodeActionOptions {
     pub resolve_provider: Option<bool>,
 }
 
+impl Described for CodeActionOptions {}
+
+impl Keyed for CodeActionOptions {
+    const KEYS: &'static [&'static str] = &["codeActionKinds", "resolveProvider"];
+}
+
+impl WriteMembers for CodeActionOptions {
+    fn write<O: Sink>(&self, out: O) -> O {
+        out.some(&self.code_action_kinds)
+            .some(&self.resolve_provider)
+    }
+}
+
+impl Serialize for CodeActionOptions {
+    fn serialize<S: Serializer>(&self, out: &mut S) -> Result<(), S::Error> {
+        write_object(self, out)
+    }
+}
+
 /// How renaming is offered (LSP 3.17, "Rename Request").
 #[derive(Clone, Copy, Drop)]
 pub struct RenameOptions {
@@ -215,11 +345,47 @@ pub struct RenameOptions {
     pub prepare_provider: Option<bool>,
 }
 
+impl Described for RenameOptions {}
+
+impl Keyed for RenameOptions {
+    const KEYS: &'static [&'static str] = &["prepareProvider"];
+}
+
+impl WriteMembers for RenameOptions {
+    fn write<O: Sink>(&self, out: O) -> O {
+        out.some(&self.prepare_provider)
+    }
+}
+
+impl Serialize for RenameOptions {
+    fn serialize<S: Serializer>(&self, out: &mut S) -> Result<(), S::Error> {
+        write_object(self, out)
+    }
+}
+
 /// Which commands there are (LSP 3.17, "Execute a command").
 #[derive(Drop)]
 pub struct ExecuteCommandOptions {
     /// Their names.
     pub commands: Vec<String>,
+}
+
+impl Described for ExecuteCommandOptions {}
+
+impl Keyed for ExecuteCommandOptions {
+    const KEYS: &'static [&'static str] = &["commands"];
+}
+
+impl WriteMembers for ExecuteCommandOptions {
+    fn write<O: Sink>(&self, out: O) -> O {
+        out.member(&self.commands)
+    }
+}
+
+impl Serialize for ExecuteCommandOptions {
+    fn serialize<S: Serializer>(&self, out: &mut S) -> Result<(), S::Error> {
+        write_object(self, out)
+    }
 }
 
 /// How semantic tokens are offered (LSP 3.17, "Semantic Tokens").
@@ -233,6 +399,24 @@ pub struct SemanticTokensOptions {
     pub full: Option<bool>,
 }
 
+impl Described for SemanticTokensOptions {}
+
+impl Keyed for SemanticTokensOptions {
+    const KEYS: &'static [&'static str] = &["legend", "range", "full"];
+}
+
+impl WriteMembers for SemanticTokensOptions {
+    fn write<O: Sink>(&self, out: O) -> O {
+        out.member(&self.legend).some(&self.range).some(&self.full)
+    }
+}
+
+impl Serialize for SemanticTokensOptions {
+    fn serialize<S: Serializer>(&self, out: &mut S) -> Result<(), S::Error> {
+        write_object(self, out)
+    }
+}
+
 /// What the numbers of semantic tokens stand for (LSP 3.17, "SemanticTokensLegend").
 #[derive(Drop)]
 pub struct SemanticTokensLegend {
@@ -240,4 +424,22 @@ pub struct SemanticTokensLegend {
     pub token_types: Vec<String>,
     /// The name of each modifier, from the lowest bit, as `readonly`.
     pub token_modifiers: Vec<String>,
+}
+
+impl Described for SemanticTokensLegend {}
+
+impl Keyed for SemanticTokensLegend {
+    const KEYS: &'static [&'static str] = &["tokenTypes", "tokenModifiers"];
+}
+
+impl WriteMembers for SemanticTokensLegend {
+    fn write<O: Sink>(&self, out: O) -> O {
+        out.member(&self.token_types).member(&self.token_modifiers)
+    }
+}
+
+impl Serialize for SemanticTokensLegend {
+    fn serialize<S: Serializer>(&self, out: &mut S) -> Result<(), S::Error> {
+        write_object(self, out)
+    }
 }

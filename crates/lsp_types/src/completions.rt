@@ -1,8 +1,15 @@
 //! Completions: what a client offers while a user types.
+// `tools/types` wrote this file from `types.txt`: change that.
 use crate::edits::TextEdit;
 use crate::hovers::MarkupContent;
+use crate::json::{Keyed, ReadMembers, Sink, Source, WriteMembers, read_object, write_object};
+use crate::numbers::number_within;
 use crate::workspace::Command;
+use serde::{
+    Described, Deserialize, DeserializeOwned, Deserializer, Format, Serialize, Serializer,
+};
 use serde_json::Value;
+use std::alloc::Global;
 
 /// What a completion inserts (LSP 3.17, "CompletionItemKind"). On reading, another number is refused.
 #[derive(Clone, Copy, Drop)]
@@ -61,6 +68,35 @@ impl CompletionItemKind {
     pub const TYPE_PARAMETER: CompletionItemKind = CompletionItemKind(25);
 }
 
+impl Described for CompletionItemKind {}
+
+impl Serialize for CompletionItemKind {
+    fn serialize<S: Serializer>(&self, out: &mut S) -> Result<(), S::Error> {
+        self.0.serialize(out)
+    }
+}
+
+impl<'de> Deserialize<'de> for CompletionItemKind {
+    fn deserialize<F: Format>(
+        alloc: Global,
+        from: &mut Deserializer<'de, '_, F>,
+    ) -> Result<CompletionItemKind, F::Error> {
+        match number_within(alloc, from, 1, 25) {
+            Ok(number) => Ok(CompletionItemKind(number)),
+            Err(failed) => Err(failed),
+        }
+    }
+}
+
+impl DeserializeOwned for CompletionItemKind {
+    fn deserialize_owned<F: Format>(
+        alloc: Global,
+        from: &mut Deserializer<'_, '_, F>,
+    ) -> Result<CompletionItemKind, F::Error> {
+        CompletionItemKind::deserialize(alloc, from)
+    }
+}
+
 /// How the text of a completion is meant (LSP 3.17, "InsertTextFormat"). On reading, another number is refused.
 #[derive(Clone, Copy, Drop)]
 pub struct InsertTextFormat(pub u32);
@@ -70,6 +106,35 @@ impl InsertTextFormat {
     pub const PLAIN_TEXT: InsertTextFormat = InsertTextFormat(1);
     /// A snippet, with places to fill in.
     pub const SNIPPET: InsertTextFormat = InsertTextFormat(2);
+}
+
+impl Described for InsertTextFormat {}
+
+impl Serialize for InsertTextFormat {
+    fn serialize<S: Serializer>(&self, out: &mut S) -> Result<(), S::Error> {
+        self.0.serialize(out)
+    }
+}
+
+impl<'de> Deserialize<'de> for InsertTextFormat {
+    fn deserialize<F: Format>(
+        alloc: Global,
+        from: &mut Deserializer<'de, '_, F>,
+    ) -> Result<InsertTextFormat, F::Error> {
+        match number_within(alloc, from, 1, 2) {
+            Ok(number) => Ok(InsertTextFormat(number)),
+            Err(failed) => Err(failed),
+        }
+    }
+}
+
+impl DeserializeOwned for InsertTextFormat {
+    fn deserialize_owned<F: Format>(
+        alloc: Global,
+        from: &mut Deserializer<'_, '_, F>,
+    ) -> Result<InsertTextFormat, F::Error> {
+        InsertTextFormat::deserialize(alloc, from)
+    }
 }
 
 /// A completion (LSP 3.17, "CompletionItem"). The params and the result of `completionItem/resolve` are one.
@@ -138,6 +203,85 @@ impl CompletionItem {
     }
 }
 
+impl Described for CompletionItem {}
+
+impl Keyed for CompletionItem {
+    const KEYS: &'static [&'static str] = &[
+        "label",
+        "kind",
+        "detail",
+        "documentation",
+        "sortText",
+        "filterText",
+        "insertText",
+        "insertTextFormat",
+        "textEdit",
+        "additionalTextEdits",
+        "command",
+        "data",
+    ];
+}
+
+impl WriteMembers for CompletionItem {
+    fn write<O: Sink>(&self, out: O) -> O {
+        out.member(&self.label)
+            .some(&self.kind)
+            .some(&self.detail)
+            .some(&self.documentation)
+            .some(&self.sort_text)
+            .some(&self.filter_text)
+            .some(&self.insert_text)
+            .some(&self.insert_text_format)
+            .some(&self.text_edit)
+            .some(&self.additional_text_edits)
+            .some(&self.command)
+            .some(&self.data)
+    }
+}
+
+impl Serialize for CompletionItem {
+    fn serialize<S: Serializer>(&self, out: &mut S) -> Result<(), S::Error> {
+        write_object(self, out)
+    }
+}
+
+impl ReadMembers for CompletionItem {
+    fn read<S: Source>(members: &mut S) -> CompletionItem {
+        CompletionItem {
+            label: members.required(),
+            kind: members.optional(),
+            detail: members.optional(),
+            documentation: members.optional(),
+            sort_text: members.optional(),
+            filter_text: members.optional(),
+            insert_text: members.optional(),
+            insert_text_format: members.optional(),
+            text_edit: members.optional(),
+            additional_text_edits: members.optional(),
+            command: members.optional(),
+            data: members.optional(),
+        }
+    }
+}
+
+impl<'de> Deserialize<'de> for CompletionItem {
+    fn deserialize<F: Format>(
+        alloc: Global,
+        from: &mut Deserializer<'de, '_, F>,
+    ) -> Result<CompletionItem, F::Error> {
+        read_object(alloc, from)
+    }
+}
+
+impl DeserializeOwned for CompletionItem {
+    fn deserialize_owned<F: Format>(
+        alloc: Global,
+        from: &mut Deserializer<'_, '_, F>,
+    ) -> Result<CompletionItem, F::Error> {
+        read_object(alloc, from)
+    }
+}
+
 /// The result of `textDocument/completion`, or null (LSP 3.17, "CompletionList").
 #[derive(Drop)]
 pub struct CompletionList {
@@ -145,4 +289,40 @@ pub struct CompletionList {
     pub is_incomplete: bool,
     /// The completions.
     pub items: Vec<CompletionItem>,
+}
+
+impl Described for CompletionList {}
+
+impl Keyed for CompletionList {
+    const KEYS: &'static [&'static str] = &["isIncomplete", "items"];
+}
+
+impl WriteMembers for CompletionList {
+    fn write<O: Sink>(&self, out: O) -> O {
+        out.member(&self.is_incomplete).member(&self.items)
+    }
+}
+
+impl Serialize for CompletionList {
+    fn serialize<S: Serializer>(&self, out: &mut S) -> Result<(), S::Error> {
+        write_object(self, out)
+    }
+}
+
+impl ReadMembers for CompletionList {
+    fn read<S: Source>(members: &mut S) -> CompletionList {
+        CompletionList {
+            is_incomplete: members.required(),
+            items: members.required(),
+        }
+    }
+}
+
+impl DeserializeOwned for CompletionList {
+    fn deserialize_owned<F: Format>(
+        alloc: Global,
+        from: &mut Deserializer<'_, '_, F>,
+    ) -> Result<CompletionList, F::Error> {
+        read_object(alloc, from)
+    }
 }

@@ -1,7 +1,15 @@
 //! What a server finds wrong with a document.
+// `tools/types` wrote this file from `types.txt`: change that.
+use crate::choices::NumberOrString;
 use crate::documents::Location;
+use crate::json::{Keyed, ReadMembers, Sink, Source, WriteMembers, read_object, write_object};
+use crate::numbers::number_within;
 use lsp_text::Range;
+use serde::{
+    Described, Deserialize, DeserializeOwned, Deserializer, Format, Serialize, Serializer,
+};
 use serde_json::Value;
+use std::alloc::Global;
 
 /// How severe a diagnostic is (LSP 3.17, "DiagnosticSeverity"). On reading, another number is refused.
 #[derive(Clone, Copy, Drop)]
@@ -18,6 +26,35 @@ impl DiagnosticSeverity {
     pub const HINT: DiagnosticSeverity = DiagnosticSeverity(4);
 }
 
+impl Described for DiagnosticSeverity {}
+
+impl Serialize for DiagnosticSeverity {
+    fn serialize<S: Serializer>(&self, out: &mut S) -> Result<(), S::Error> {
+        self.0.serialize(out)
+    }
+}
+
+impl<'de> Deserialize<'de> for DiagnosticSeverity {
+    fn deserialize<F: Format>(
+        alloc: Global,
+        from: &mut Deserializer<'de, '_, F>,
+    ) -> Result<DiagnosticSeverity, F::Error> {
+        match number_within(alloc, from, 1, 4) {
+            Ok(number) => Ok(DiagnosticSeverity(number)),
+            Err(failed) => Err(failed),
+        }
+    }
+}
+
+impl DeserializeOwned for DiagnosticSeverity {
+    fn deserialize_owned<F: Format>(
+        alloc: Global,
+        from: &mut Deserializer<'_, '_, F>,
+    ) -> Result<DiagnosticSeverity, F::Error> {
+        DiagnosticSeverity::deserialize(alloc, from)
+    }
+}
+
 /// How a client may show a diagnostic (LSP 3.17, "DiagnosticTag"). On reading, another number is refused.
 #[derive(Clone, Copy, Drop)]
 pub struct DiagnosticTag(pub u32);
@@ -29,13 +66,33 @@ impl DiagnosticTag {
     pub const DEPRECATED: DiagnosticTag = DiagnosticTag(2);
 }
 
-/// A number or a text: the code of a diagnostic, or a token of progress (LSP 3.17, "Diagnostic" and "ProgressToken").
-#[derive(Drop)]
-pub enum NumberOrString {
-    /// A number.
-    Number(i32),
-    /// A text.
-    String(String),
+impl Described for DiagnosticTag {}
+
+impl Serialize for DiagnosticTag {
+    fn serialize<S: Serializer>(&self, out: &mut S) -> Result<(), S::Error> {
+        self.0.serialize(out)
+    }
+}
+
+impl<'de> Deserialize<'de> for DiagnosticTag {
+    fn deserialize<F: Format>(
+        alloc: Global,
+        from: &mut Deserializer<'de, '_, F>,
+    ) -> Result<DiagnosticTag, F::Error> {
+        match number_within(alloc, from, 1, 2) {
+            Ok(number) => Ok(DiagnosticTag(number)),
+            Err(failed) => Err(failed),
+        }
+    }
+}
+
+impl DeserializeOwned for DiagnosticTag {
+    fn deserialize_owned<F: Format>(
+        alloc: Global,
+        from: &mut Deserializer<'_, '_, F>,
+    ) -> Result<DiagnosticTag, F::Error> {
+        DiagnosticTag::deserialize(alloc, from)
+    }
 }
 
 /// A place that has to do with a diagnostic (LSP 3.17, "DiagnosticRelatedInformation").
@@ -45,6 +102,51 @@ pub struct DiagnosticRelatedInformation {
     pub location: Location,
     /// What it has to do with it.
     pub message: String,
+}
+
+impl Described for DiagnosticRelatedInformation {}
+
+impl Keyed for DiagnosticRelatedInformation {
+    const KEYS: &'static [&'static str] = &["location", "message"];
+}
+
+impl WriteMembers for DiagnosticRelatedInformation {
+    fn write<O: Sink>(&self, out: O) -> O {
+        out.member(&self.location).member(&self.message)
+    }
+}
+
+impl Serialize for DiagnosticRelatedInformation {
+    fn serialize<S: Serializer>(&self, out: &mut S) -> Result<(), S::Error> {
+        write_object(self, out)
+    }
+}
+
+impl ReadMembers for DiagnosticRelatedInformation {
+    fn read<S: Source>(members: &mut S) -> DiagnosticRelatedInformation {
+        DiagnosticRelatedInformation {
+            location: members.required(),
+            message: members.required(),
+        }
+    }
+}
+
+impl<'de> Deserialize<'de> for DiagnosticRelatedInformation {
+    fn deserialize<F: Format>(
+        alloc: Global,
+        from: &mut Deserializer<'de, '_, F>,
+    ) -> Result<DiagnosticRelatedInformation, F::Error> {
+        read_object(alloc, from)
+    }
+}
+
+impl DeserializeOwned for DiagnosticRelatedInformation {
+    fn deserialize_owned<F: Format>(
+        alloc: Global,
+        from: &mut Deserializer<'_, '_, F>,
+    ) -> Result<DiagnosticRelatedInformation, F::Error> {
+        read_object(alloc, from)
+    }
 }
 
 /// What is wrong with a part of a document (LSP 3.17, "Diagnostic").
@@ -97,6 +199,73 @@ impl Diagnostic {
     }
 }
 
+impl Described for Diagnostic {}
+
+impl Keyed for Diagnostic {
+    const KEYS: &'static [&'static str] = &[
+        "range",
+        "severity",
+        "code",
+        "source",
+        "message",
+        "tags",
+        "relatedInformation",
+        "data",
+    ];
+}
+
+impl WriteMembers for Diagnostic {
+    fn write<O: Sink>(&self, out: O) -> O {
+        out.member(&self.range)
+            .some(&self.severity)
+            .some(&self.code)
+            .some(&self.source)
+            .member(&self.message)
+            .some(&self.tags)
+            .some(&self.related_information)
+            .some(&self.data)
+    }
+}
+
+impl Serialize for Diagnostic {
+    fn serialize<S: Serializer>(&self, out: &mut S) -> Result<(), S::Error> {
+        write_object(self, out)
+    }
+}
+
+impl ReadMembers for Diagnostic {
+    fn read<S: Source>(members: &mut S) -> Diagnostic {
+        Diagnostic {
+            range: members.required(),
+            severity: members.optional(),
+            code: members.optional(),
+            source: members.optional(),
+            message: members.required(),
+            tags: members.optional(),
+            related_information: members.optional(),
+            data: members.optional(),
+        }
+    }
+}
+
+impl<'de> Deserialize<'de> for Diagnostic {
+    fn deserialize<F: Format>(
+        alloc: Global,
+        from: &mut Deserializer<'de, '_, F>,
+    ) -> Result<Diagnostic, F::Error> {
+        read_object(alloc, from)
+    }
+}
+
+impl DeserializeOwned for Diagnostic {
+    fn deserialize_owned<F: Format>(
+        alloc: Global,
+        from: &mut Deserializer<'_, '_, F>,
+    ) -> Result<Diagnostic, F::Error> {
+        read_object(alloc, from)
+    }
+}
+
 /// The params of `textDocument/publishDiagnostics` (LSP 3.17, "PublishDiagnostics Notification").
 #[derive(Drop)]
 pub struct PublishDiagnosticsParams {
@@ -106,4 +275,43 @@ pub struct PublishDiagnosticsParams {
     pub version: Option<i32>,
     /// All that is wrong with it. An empty list takes away what was shown before.
     pub diagnostics: Vec<Diagnostic>,
+}
+
+impl Described for PublishDiagnosticsParams {}
+
+impl Keyed for PublishDiagnosticsParams {
+    const KEYS: &'static [&'static str] = &["uri", "version", "diagnostics"];
+}
+
+impl WriteMembers for PublishDiagnosticsParams {
+    fn write<O: Sink>(&self, out: O) -> O {
+        out.member(&self.uri)
+            .some(&self.version)
+            .member(&self.diagnostics)
+    }
+}
+
+impl Serialize for PublishDiagnosticsParams {
+    fn serialize<S: Serializer>(&self, out: &mut S) -> Result<(), S::Error> {
+        write_object(self, out)
+    }
+}
+
+impl ReadMembers for PublishDiagnosticsParams {
+    fn read<S: Source>(members: &mut S) -> PublishDiagnosticsParams {
+        PublishDiagnosticsParams {
+            uri: members.required(),
+            version: members.optional(),
+            diagnostics: members.required(),
+        }
+    }
+}
+
+impl DeserializeOwned for PublishDiagnosticsParams {
+    fn deserialize_owned<F: Format>(
+        alloc: Global,
+        from: &mut Deserializer<'_, '_, F>,
+    ) -> Result<PublishDiagnosticsParams, F::Error> {
+        read_object(alloc, from)
+    }
 }

@@ -1,5 +1,14 @@
 //! Places in documents, and what a client tells of its documents.
+// `tools/types` wrote this file from `types.txt`: change that.
+use crate::json::{
+    Changes, Keyed, ReadMembers, Sink, Source, WriteMembers, if_fits, read_object, text_or_empty,
+    write_object,
+};
 use lsp_text::{ContentChange, Position, Range};
+use serde::{
+    Described, Deserialize, DeserializeOwned, Deserializer, Format, Serialize, Serializer,
+};
+use std::alloc::Global;
 
 /// A part of a document (LSP 3.17, "Location").
 #[derive(Drop)]
@@ -10,11 +19,100 @@ pub struct Location {
     pub range: Range,
 }
 
+impl Described for Location {}
+
+impl Keyed for Location {
+    const KEYS: &'static [&'static str] = &["uri", "range"];
+}
+
+impl WriteMembers for Location {
+    fn write<O: Sink>(&self, out: O) -> O {
+        out.member(&self.uri).member(&self.range)
+    }
+}
+
+impl Serialize for Location {
+    fn serialize<S: Serializer>(&self, out: &mut S) -> Result<(), S::Error> {
+        write_object(self, out)
+    }
+}
+
+impl ReadMembers for Location {
+    fn read<S: Source>(members: &mut S) -> Location {
+        Location {
+            uri: members.required(),
+            range: members.required(),
+        }
+    }
+}
+
+impl<'de> Deserialize<'de> for Location {
+    fn deserialize<F: Format>(
+        alloc: Global,
+        from: &mut Deserializer<'de, '_, F>,
+    ) -> Result<Location, F::Error> {
+        read_object(alloc, from)
+    }
+}
+
+impl DeserializeOwned for Location {
+    fn deserialize_owned<F: Format>(
+        alloc: Global,
+        from: &mut Deserializer<'_, '_, F>,
+    ) -> Result<Location, F::Error> {
+        read_object(alloc, from)
+    }
+}
+
 /// A document (LSP 3.17, "TextDocumentIdentifier").
 #[derive(Drop)]
 pub struct TextDocumentIdentifier {
     /// Its URI.
     pub uri: String,
+}
+
+impl Described for TextDocumentIdentifier {}
+
+impl Keyed for TextDocumentIdentifier {
+    const KEYS: &'static [&'static str] = &["uri"];
+}
+
+impl WriteMembers for TextDocumentIdentifier {
+    fn write<O: Sink>(&self, out: O) -> O {
+        out.member(&self.uri)
+    }
+}
+
+impl Serialize for TextDocumentIdentifier {
+    fn serialize<S: Serializer>(&self, out: &mut S) -> Result<(), S::Error> {
+        write_object(self, out)
+    }
+}
+
+impl ReadMembers for TextDocumentIdentifier {
+    fn read<S: Source>(members: &mut S) -> TextDocumentIdentifier {
+        TextDocumentIdentifier {
+            uri: members.required(),
+        }
+    }
+}
+
+impl<'de> Deserialize<'de> for TextDocumentIdentifier {
+    fn deserialize<F: Format>(
+        alloc: Global,
+        from: &mut Deserializer<'de, '_, F>,
+    ) -> Result<TextDocumentIdentifier, F::Error> {
+        read_object(alloc, from)
+    }
+}
+
+impl DeserializeOwned for TextDocumentIdentifier {
+    fn deserialize_owned<F: Format>(
+        alloc: Global,
+        from: &mut Deserializer<'_, '_, F>,
+    ) -> Result<TextDocumentIdentifier, F::Error> {
+        read_object(alloc, from)
+    }
 }
 
 /// A document at a version (LSP 3.17, "VersionedTextDocumentIdentifier").
@@ -24,6 +122,51 @@ pub struct VersionedTextDocumentIdentifier {
     pub uri: String,
     /// Its version, which grows with each change. On reading, none if it is missing, is null or no number of 32 bits.
     pub version: Option<i32>,
+}
+
+impl Described for VersionedTextDocumentIdentifier {}
+
+impl Keyed for VersionedTextDocumentIdentifier {
+    const KEYS: &'static [&'static str] = &["uri", "version"];
+}
+
+impl WriteMembers for VersionedTextDocumentIdentifier {
+    fn write<O: Sink>(&self, out: O) -> O {
+        out.member(&self.uri).some(&self.version)
+    }
+}
+
+impl Serialize for VersionedTextDocumentIdentifier {
+    fn serialize<S: Serializer>(&self, out: &mut S) -> Result<(), S::Error> {
+        write_object(self, out)
+    }
+}
+
+impl ReadMembers for VersionedTextDocumentIdentifier {
+    fn read<S: Source>(members: &mut S) -> VersionedTextDocumentIdentifier {
+        VersionedTextDocumentIdentifier {
+            uri: members.required(),
+            version: if_fits(members),
+        }
+    }
+}
+
+impl<'de> Deserialize<'de> for VersionedTextDocumentIdentifier {
+    fn deserialize<F: Format>(
+        alloc: Global,
+        from: &mut Deserializer<'de, '_, F>,
+    ) -> Result<VersionedTextDocumentIdentifier, F::Error> {
+        read_object(alloc, from)
+    }
+}
+
+impl DeserializeOwned for VersionedTextDocumentIdentifier {
+    fn deserialize_owned<F: Format>(
+        alloc: Global,
+        from: &mut Deserializer<'_, '_, F>,
+    ) -> Result<VersionedTextDocumentIdentifier, F::Error> {
+        read_object(alloc, from)
+    }
 }
 
 /// A document with its text (LSP 3.17, "TextDocumentItem").
@@ -39,11 +182,96 @@ pub struct TextDocumentItem {
     pub text: String,
 }
 
+impl Described for TextDocumentItem {}
+
+impl Keyed for TextDocumentItem {
+    const KEYS: &'static [&'static str] = &["uri", "languageId", "version", "text"];
+}
+
+impl WriteMembers for TextDocumentItem {
+    fn write<O: Sink>(&self, out: O) -> O {
+        out.member(&self.uri)
+            .member(&self.language_id)
+            .some(&self.version)
+            .member(&self.text)
+    }
+}
+
+impl Serialize for TextDocumentItem {
+    fn serialize<S: Serializer>(&self, out: &mut S) -> Result<(), S::Error> {
+        write_object(self, out)
+    }
+}
+
+impl ReadMembers for TextDocumentItem {
+    fn read<S: Source>(members: &mut S) -> TextDocumentItem {
+        TextDocumentItem {
+            uri: members.required(),
+            language_id: text_or_empty(members),
+            version: if_fits(members),
+            text: members.required(),
+        }
+    }
+}
+
+impl<'de> Deserialize<'de> for TextDocumentItem {
+    fn deserialize<F: Format>(
+        alloc: Global,
+        from: &mut Deserializer<'de, '_, F>,
+    ) -> Result<TextDocumentItem, F::Error> {
+        read_object(alloc, from)
+    }
+}
+
+impl DeserializeOwned for TextDocumentItem {
+    fn deserialize_owned<F: Format>(
+        alloc: Global,
+        from: &mut Deserializer<'_, '_, F>,
+    ) -> Result<TextDocumentItem, F::Error> {
+        read_object(alloc, from)
+    }
+}
+
 /// The params of `textDocument/didOpen` (LSP 3.17, "DidOpenTextDocument Notification").
 #[derive(Drop)]
 pub struct DidOpenTextDocumentParams {
     /// The document that was opened.
     pub text_document: TextDocumentItem,
+}
+
+impl Described for DidOpenTextDocumentParams {}
+
+impl Keyed for DidOpenTextDocumentParams {
+    const KEYS: &'static [&'static str] = &["textDocument"];
+}
+
+impl WriteMembers for DidOpenTextDocumentParams {
+    fn write<O: Sink>(&self, out: O) -> O {
+        out.member(&self.text_document)
+    }
+}
+
+impl Serialize for DidOpenTextDocumentParams {
+    fn serialize<S: Serializer>(&self, out: &mut S) -> Result<(), S::Error> {
+        write_object(self, out)
+    }
+}
+
+impl ReadMembers for DidOpenTextDocumentParams {
+    fn read<S: Source>(members: &mut S) -> DidOpenTextDocumentParams {
+        DidOpenTextDocumentParams {
+            text_document: members.required(),
+        }
+    }
+}
+
+impl DeserializeOwned for DidOpenTextDocumentParams {
+    fn deserialize_owned<F: Format>(
+        alloc: Global,
+        from: &mut Deserializer<'_, '_, F>,
+    ) -> Result<DidOpenTextDocumentParams, F::Error> {
+        read_object(alloc, from)
+    }
 }
 
 /// The params of `textDocument/didChange` (LSP 3.17, "DidChangeTextDocument Notification").
@@ -55,6 +283,43 @@ pub struct DidChangeTextDocumentParams {
     pub content_changes: Vec<ContentChange>,
 }
 
+impl Described for DidChangeTextDocumentParams {}
+
+impl Keyed for DidChangeTextDocumentParams {
+    const KEYS: &'static [&'static str] = &["textDocument", "contentChanges"];
+}
+
+impl WriteMembers for DidChangeTextDocumentParams {
+    fn write<O: Sink>(&self, out: O) -> O {
+        out.member(&self.text_document)
+            .member(&self.content_changes)
+    }
+}
+
+impl Serialize for DidChangeTextDocumentParams {
+    fn serialize<S: Serializer>(&self, out: &mut S) -> Result<(), S::Error> {
+        write_object(self, out)
+    }
+}
+
+impl ReadMembers for DidChangeTextDocumentParams {
+    fn read<S: Source>(members: &mut S) -> DidChangeTextDocumentParams {
+        DidChangeTextDocumentParams {
+            text_document: members.required(),
+            content_changes: members.required::<Changes>().0,
+        }
+    }
+}
+
+impl DeserializeOwned for DidChangeTextDocumentParams {
+    fn deserialize_owned<F: Format>(
+        alloc: Global,
+        from: &mut Deserializer<'_, '_, F>,
+    ) -> Result<DidChangeTextDocumentParams, F::Error> {
+        read_object(alloc, from)
+    }
+}
+
 /// The params of `textDocument/didSave` (LSP 3.17, "DidSaveTextDocument Notification").
 #[derive(Drop)]
 pub struct DidSaveTextDocumentParams {
@@ -64,11 +329,82 @@ pub struct DidSaveTextDocumentParams {
     pub text: Option<String>,
 }
 
+impl Described for DidSaveTextDocumentParams {}
+
+impl Keyed for DidSaveTextDocumentParams {
+    const KEYS: &'static [&'static str] = &["textDocument", "text"];
+}
+
+impl WriteMembers for DidSaveTextDocumentParams {
+    fn write<O: Sink>(&self, out: O) -> O {
+        out.member(&self.text_document).some(&self.text)
+    }
+}
+
+impl Serialize for DidSaveTextDocumentParams {
+    fn serialize<S: Serializer>(&self, out: &mut S) -> Result<(), S::Error> {
+        write_object(self, out)
+    }
+}
+
+impl ReadMembers for DidSaveTextDocumentParams {
+    fn read<S: Source>(members: &mut S) -> DidSaveTextDocumentParams {
+        DidSaveTextDocumentParams {
+            text_document: members.required(),
+            text: members.optional(),
+        }
+    }
+}
+
+impl DeserializeOwned for DidSaveTextDocumentParams {
+    fn deserialize_owned<F: Format>(
+        alloc: Global,
+        from: &mut Deserializer<'_, '_, F>,
+    ) -> Result<DidSaveTextDocumentParams, F::Error> {
+        read_object(alloc, from)
+    }
+}
+
 /// A document: the params of requests about a whole one (LSP 3.17, "DocumentSymbolParams" and others).
 #[derive(Drop)]
 pub struct TextDocumentParams {
     /// The document.
     pub text_document: TextDocumentIdentifier,
+}
+
+impl Described for TextDocumentParams {}
+
+impl Keyed for TextDocumentParams {
+    const KEYS: &'static [&'static str] = &["textDocument"];
+}
+
+impl WriteMembers for TextDocumentParams {
+    fn write<O: Sink>(&self, out: O) -> O {
+        out.member(&self.text_document)
+    }
+}
+
+impl Serialize for TextDocumentParams {
+    fn serialize<S: Serializer>(&self, out: &mut S) -> Result<(), S::Error> {
+        write_object(self, out)
+    }
+}
+
+impl ReadMembers for TextDocumentParams {
+    fn read<S: Source>(members: &mut S) -> TextDocumentParams {
+        TextDocumentParams {
+            text_document: members.required(),
+        }
+    }
+}
+
+impl DeserializeOwned for TextDocumentParams {
+    fn deserialize_owned<F: Format>(
+        alloc: Global,
+        from: &mut Deserializer<'_, '_, F>,
+    ) -> Result<TextDocumentParams, F::Error> {
+        read_object(alloc, from)
+    }
 }
 
 /// The params of `textDocument/didClose` (LSP 3.17, "DidCloseTextDocument Notification").
@@ -89,6 +425,42 @@ pub struct TextDocumentPositionParams {
     pub position: Position,
 }
 
+impl Described for TextDocumentPositionParams {}
+
+impl Keyed for TextDocumentPositionParams {
+    const KEYS: &'static [&'static str] = &["textDocument", "position"];
+}
+
+impl WriteMembers for TextDocumentPositionParams {
+    fn write<O: Sink>(&self, out: O) -> O {
+        out.member(&self.text_document).member(&self.position)
+    }
+}
+
+impl Serialize for TextDocumentPositionParams {
+    fn serialize<S: Serializer>(&self, out: &mut S) -> Result<(), S::Error> {
+        write_object(self, out)
+    }
+}
+
+impl ReadMembers for TextDocumentPositionParams {
+    fn read<S: Source>(members: &mut S) -> TextDocumentPositionParams {
+        TextDocumentPositionParams {
+            text_document: members.required(),
+            position: members.required(),
+        }
+    }
+}
+
+impl DeserializeOwned for TextDocumentPositionParams {
+    fn deserialize_owned<F: Format>(
+        alloc: Global,
+        from: &mut Deserializer<'_, '_, F>,
+    ) -> Result<TextDocumentPositionParams, F::Error> {
+        read_object(alloc, from)
+    }
+}
+
 /// A part of a document: the params of requests about one (LSP 3.17, "InlayHintParams" and others).
 #[derive(Drop)]
 pub struct TextDocumentRangeParams {
@@ -96,6 +468,42 @@ pub struct TextDocumentRangeParams {
     pub text_document: TextDocumentIdentifier,
     /// The part of it.
     pub range: Range,
+}
+
+impl Described for TextDocumentRangeParams {}
+
+impl Keyed for TextDocumentRangeParams {
+    const KEYS: &'static [&'static str] = &["textDocument", "range"];
+}
+
+impl WriteMembers for TextDocumentRangeParams {
+    fn write<O: Sink>(&self, out: O) -> O {
+        out.member(&self.text_document).member(&self.range)
+    }
+}
+
+impl Serialize for TextDocumentRangeParams {
+    fn serialize<S: Serializer>(&self, out: &mut S) -> Result<(), S::Error> {
+        write_object(self, out)
+    }
+}
+
+impl ReadMembers for TextDocumentRangeParams {
+    fn read<S: Source>(members: &mut S) -> TextDocumentRangeParams {
+        TextDocumentRangeParams {
+            text_document: members.required(),
+            range: members.required(),
+        }
+    }
+}
+
+impl DeserializeOwned for TextDocumentRangeParams {
+    fn deserialize_owned<F: Format>(
+        alloc: Global,
+        from: &mut Deserializer<'_, '_, F>,
+    ) -> Result<TextDocumentRangeParams, F::Error> {
+        read_object(alloc, from)
+    }
 }
 
 /// The params of `textDocument/inlayHint` (LSP 3.17, "Inlay Hint Request").
@@ -115,9 +523,92 @@ pub struct ReferenceParams {
     pub context: ReferenceContext,
 }
 
+impl Described for ReferenceParams {}
+
+impl Keyed for ReferenceParams {
+    const KEYS: &'static [&'static str] = &["textDocument", "position", "context"];
+}
+
+impl WriteMembers for ReferenceParams {
+    fn write<O: Sink>(&self, out: O) -> O {
+        out.member(&self.text_document)
+            .member(&self.position)
+            .member(&self.context)
+    }
+}
+
+impl Serialize for ReferenceParams {
+    fn serialize<S: Serializer>(&self, out: &mut S) -> Result<(), S::Error> {
+        write_object(self, out)
+    }
+}
+
+impl ReadMembers for ReferenceParams {
+    fn read<S: Source>(members: &mut S) -> ReferenceParams {
+        ReferenceParams {
+            text_document: members.required(),
+            position: members.required(),
+            context: members.required(),
+        }
+    }
+}
+
+impl DeserializeOwned for ReferenceParams {
+    fn deserialize_owned<F: Format>(
+        alloc: Global,
+        from: &mut Deserializer<'_, '_, F>,
+    ) -> Result<ReferenceParams, F::Error> {
+        read_object(alloc, from)
+    }
+}
+
 /// Which references are asked for (LSP 3.17, "ReferenceContext").
 #[derive(Clone, Copy, Drop)]
 pub struct ReferenceContext {
     /// Whether the declaration is one of them.
     pub include_declaration: bool,
+}
+
+impl Described for ReferenceContext {}
+
+impl Keyed for ReferenceContext {
+    const KEYS: &'static [&'static str] = &["includeDeclaration"];
+}
+
+impl WriteMembers for ReferenceContext {
+    fn write<O: Sink>(&self, out: O) -> O {
+        out.member(&self.include_declaration)
+    }
+}
+
+impl Serialize for ReferenceContext {
+    fn serialize<S: Serializer>(&self, out: &mut S) -> Result<(), S::Error> {
+        write_object(self, out)
+    }
+}
+
+impl ReadMembers for ReferenceContext {
+    fn read<S: Source>(members: &mut S) -> ReferenceContext {
+        ReferenceContext {
+            include_declaration: members.required(),
+        }
+    }
+}
+
+impl<'de> Deserialize<'de> for ReferenceContext {
+    fn deserialize<F: Format>(
+        alloc: Global,
+        from: &mut Deserializer<'de, '_, F>,
+    ) -> Result<ReferenceContext, F::Error> {
+        read_object(alloc, from)
+    }
+}
+
+impl DeserializeOwned for ReferenceContext {
+    fn deserialize_owned<F: Format>(
+        alloc: Global,
+        from: &mut Deserializer<'_, '_, F>,
+    ) -> Result<ReferenceContext, F::Error> {
+        read_object(alloc, from)
+    }
 }

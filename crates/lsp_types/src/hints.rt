@@ -1,6 +1,13 @@
 //! Inlay hints: what a client shows between the characters of a text.
+// `tools/types` wrote this file from `types.txt`: change that.
+use crate::json::{Keyed, ReadMembers, Sink, Source, WriteMembers, read_object, write_object};
+use crate::numbers::number_within;
 use lsp_text::Position;
+use serde::{
+    Described, Deserialize, DeserializeOwned, Deserializer, Format, Serialize, Serializer,
+};
 use serde_json::Value;
+use std::alloc::Global;
 
 /// What a hint tells (LSP 3.17, "InlayHintKind"). On reading, another number is refused.
 #[derive(Clone, Copy, Drop)]
@@ -11,6 +18,35 @@ impl InlayHintKind {
     pub const TYPE: InlayHintKind = InlayHintKind(1);
     /// A parameter.
     pub const PARAMETER: InlayHintKind = InlayHintKind(2);
+}
+
+impl Described for InlayHintKind {}
+
+impl Serialize for InlayHintKind {
+    fn serialize<S: Serializer>(&self, out: &mut S) -> Result<(), S::Error> {
+        self.0.serialize(out)
+    }
+}
+
+impl<'de> Deserialize<'de> for InlayHintKind {
+    fn deserialize<F: Format>(
+        alloc: Global,
+        from: &mut Deserializer<'de, '_, F>,
+    ) -> Result<InlayHintKind, F::Error> {
+        match number_within(alloc, from, 1, 2) {
+            Ok(number) => Ok(InlayHintKind(number)),
+            Err(failed) => Err(failed),
+        }
+    }
+}
+
+impl DeserializeOwned for InlayHintKind {
+    fn deserialize_owned<F: Format>(
+        alloc: Global,
+        from: &mut Deserializer<'_, '_, F>,
+    ) -> Result<InlayHintKind, F::Error> {
+        InlayHintKind::deserialize(alloc, from)
+    }
 }
 
 /// A hint (LSP 3.17, "Inlay Hint Request").
@@ -30,4 +66,59 @@ pub struct InlayHint {
     pub padding_right: Option<bool>,
     /// What the client gives back in `inlayHint/resolve`.
     pub data: Option<Value>,
+}
+
+impl Described for InlayHint {}
+
+impl Keyed for InlayHint {
+    const KEYS: &'static [&'static str] = &[
+        "position",
+        "label",
+        "kind",
+        "tooltip",
+        "paddingLeft",
+        "paddingRight",
+        "data",
+    ];
+}
+
+impl WriteMembers for InlayHint {
+    fn write<O: Sink>(&self, out: O) -> O {
+        out.member(&self.position)
+            .member(&self.label)
+            .some(&self.kind)
+            .some(&self.tooltip)
+            .some(&self.padding_left)
+            .some(&self.padding_right)
+            .some(&self.data)
+    }
+}
+
+impl Serialize for InlayHint {
+    fn serialize<S: Serializer>(&self, out: &mut S) -> Result<(), S::Error> {
+        write_object(self, out)
+    }
+}
+
+impl ReadMembers for InlayHint {
+    fn read<S: Source>(members: &mut S) -> InlayHint {
+        InlayHint {
+            position: members.required(),
+            label: members.required(),
+            kind: members.optional(),
+            tooltip: members.optional(),
+            padding_left: members.optional(),
+            padding_right: members.optional(),
+            data: members.optional(),
+        }
+    }
+}
+
+impl DeserializeOwned for InlayHint {
+    fn deserialize_owned<F: Format>(
+        alloc: Global,
+        from: &mut Deserializer<'_, '_, F>,
+    ) -> Result<InlayHint, F::Error> {
+        read_object(alloc, from)
+    }
 }

@@ -1,14 +1,12 @@
 //! Texts that a client shows, and hovers.
+// `tools/types` wrote this file from `types.txt`: change that.
+use crate::choices::MarkupKind;
+use crate::json::{Keyed, ReadMembers, Sink, Source, WriteMembers, read_object, write_object};
 use lsp_text::Range;
-
-/// How a text is marked up (LSP 3.17, "MarkupContent"). On reading, another name is refused.
-#[derive(Clone, Copy, Drop)]
-pub enum MarkupKind {
-    /// Plain text.
-    PlainText,
-    /// Markdown.
-    Markdown,
-}
+use serde::{
+    Described, Deserialize, DeserializeOwned, Deserializer, Format, Serialize, Serializer,
+};
+use std::alloc::Global;
 
 /// A text to show (LSP 3.17, "MarkupContent").
 #[derive(Drop)]
@@ -17,6 +15,51 @@ pub struct MarkupContent {
     pub kind: MarkupKind,
     /// The text.
     pub value: String,
+}
+
+impl Described for MarkupContent {}
+
+impl Keyed for MarkupContent {
+    const KEYS: &'static [&'static str] = &["kind", "value"];
+}
+
+impl WriteMembers for MarkupContent {
+    fn write<O: Sink>(&self, out: O) -> O {
+        out.member(&self.kind).member(&self.value)
+    }
+}
+
+impl Serialize for MarkupContent {
+    fn serialize<S: Serializer>(&self, out: &mut S) -> Result<(), S::Error> {
+        write_object(self, out)
+    }
+}
+
+impl ReadMembers for MarkupContent {
+    fn read<S: Source>(members: &mut S) -> MarkupContent {
+        MarkupContent {
+            kind: members.required(),
+            value: members.required(),
+        }
+    }
+}
+
+impl<'de> Deserialize<'de> for MarkupContent {
+    fn deserialize<F: Format>(
+        alloc: Global,
+        from: &mut Deserializer<'de, '_, F>,
+    ) -> Result<MarkupContent, F::Error> {
+        read_object(alloc, from)
+    }
+}
+
+impl DeserializeOwned for MarkupContent {
+    fn deserialize_owned<F: Format>(
+        alloc: Global,
+        from: &mut Deserializer<'_, '_, F>,
+    ) -> Result<MarkupContent, F::Error> {
+        read_object(alloc, from)
+    }
 }
 
 /// The result of `textDocument/hover`, or null (LSP 3.17, "Hover Request").
@@ -28,19 +71,38 @@ pub struct Hover {
     pub range: Option<Range>,
 }
 
-impl Hover {
-    ghost use Rattle.std.specs.Prelude.{◌≡◌, None};
+impl Described for Hover {}
 
-    /// A text, about the place that was asked for.
-    pub fn new(kind: MarkupKind, value: String) -> Hover
-        ensures { result ≡ record {
-          contents = record { kind = kind; value = value };
-          range = None;
-        } }
-    {
+impl Keyed for Hover {
+    const KEYS: &'static [&'static str] = &["contents", "range"];
+}
+
+impl WriteMembers for Hover {
+    fn write<O: Sink>(&self, out: O) -> O {
+        out.member(&self.contents).some(&self.range)
+    }
+}
+
+impl Serialize for Hover {
+    fn serialize<S: Serializer>(&self, out: &mut S) -> Result<(), S::Error> {
+        write_object(self, out)
+    }
+}
+
+impl ReadMembers for Hover {
+    fn read<S: Source>(members: &mut S) -> Hover {
         Hover {
-            contents: MarkupContent { kind, value },
-            range: None,
+            contents: members.required(),
+            range: members.optional(),
         }
+    }
+}
+
+impl DeserializeOwned for Hover {
+    fn deserialize_owned<F: Format>(
+        alloc: Global,
+        from: &mut Deserializer<'_, '_, F>,
+    ) -> Result<Hover, F::Error> {
+        read_object(alloc, from)
     }
 }

@@ -2,26 +2,13 @@
 // up on its own: what fails is kept until the object's end, so that nothing is let go half way. That is what makes the derives dear
 // for the prover. A type's own writer and reader have one type parameter each, no lifetime and no key at a call; the impls of serde's
 // traits only call them.
-mod actions;
 mod blanks;
-mod capabilities;
-mod completions;
-mod diagnostics;
-mod documents;
-mod edits;
+mod changes;
 mod fitting;
-mod hints;
-mod hovers;
-mod lifecycle;
-mod progress;
 mod reading;
-mod signatures;
-mod symbols;
-mod tokens;
-mod window;
-mod workspace;
 mod writing;
 
+pub use changes::Changes;
 pub use fitting::{if_fits, text_or_empty, those_that_fit};
 pub use reading::{Blank, ReadMembers, Source, read_object};
 pub use writing::{Object, Sink, WriteMembers, write_object};

@@ -15,8 +15,10 @@
 
 mod actions;
 mod capabilities;
+mod choices;
 pub mod code_action_kinds;
 mod completions;
+mod constructors;
 mod diagnostics;
 mod documents;
 mod edits;
@@ -29,6 +31,7 @@ mod lifecycle;
 pub mod methods;
 mod numbers;
 mod progress;
+mod semantic_tokens;
 mod signatures;
 mod symbols;
 mod tokens;
@@ -41,9 +44,10 @@ pub use capabilities::{
     SemanticTokensLegend, SemanticTokensOptions, ServerCapabilities, SignatureHelpOptions,
     TextDocumentSyncKind, TextDocumentSyncOptions,
 };
+pub use choices::{MarkupKind, NumberOrString};
 pub use completions::{CompletionItem, CompletionItemKind, CompletionList, InsertTextFormat};
 pub use diagnostics::{
-    Diagnostic, DiagnosticRelatedInformation, DiagnosticSeverity, DiagnosticTag, NumberOrString,
+    Diagnostic, DiagnosticRelatedInformation, DiagnosticSeverity, DiagnosticTag,
     PublishDiagnosticsParams,
 };
 pub use documents::{
@@ -59,7 +63,7 @@ pub use edits::{
 };
 pub use file_uri::{FileUriFault, names_path, path_of_uri, paths_come_back, uri_of_path};
 pub use hints::{InlayHint, InlayHintKind};
-pub use hovers::{Hover, MarkupContent, MarkupKind};
+pub use hovers::{Hover, MarkupContent};
 pub use lifecycle::{ClientInfo, InitializeParams, InitializeResult, ServerInfo};
 pub use lsp_text::{ContentChange as TextDocumentContentChangeEvent, Position, Range};
 pub use progress::{
@@ -67,9 +71,10 @@ pub use progress::{
     WorkDoneProgressCreateParams, WorkDoneProgressEnd, WorkDoneProgressParams,
     WorkDoneProgressReport,
 };
+pub use semantic_tokens::SemanticTokens;
 pub use signatures::{ParameterInformation, SignatureHelp, SignatureInformation};
 pub use symbols::{DocumentSymbol, SymbolKind};
-pub use tokens::{SemanticToken, SemanticTokens};
+pub use tokens::SemanticToken;
 pub use window::{LogMessageParams, MessageType, ShowMessageParams};
 pub use workspace::{
     ApplyWorkspaceEditParams, ApplyWorkspaceEditResult, Command, ConfigurationItem,

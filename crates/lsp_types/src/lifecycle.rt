@@ -1,8 +1,15 @@
 //! The handshake.
+// `tools/types` wrote this file from `types.txt`: change that.
 use crate::capabilities::ServerCapabilities;
+use crate::json::{
+    Keyed, ReadMembers, Sink, Source, WriteMembers, if_fits, read_object, write_object,
+};
 use crate::workspace::WorkspaceFolder;
+use serde::{
+    Described, Deserialize, DeserializeOwned, Deserializer, Format, Serialize, Serializer,
+};
 use serde_json::Value;
-use std::alloc::{AllocError, Global};
+use std::alloc::Global;
 
 /// The params of `initialize`, as far as most servers read them (LSP 3.17, "Initialize Request").
 #[derive(Drop)]
@@ -21,6 +28,58 @@ pub struct InitializeParams {
     pub capabilities: Value,
 }
 
+impl Described for InitializeParams {}
+
+impl Keyed for InitializeParams {
+    const KEYS: &'static [&'static str] = &[
+        "processId",
+        "clientInfo",
+        "rootUri",
+        "workspaceFolders",
+        "initializationOptions",
+        "capabilities",
+    ];
+}
+
+impl WriteMembers for InitializeParams {
+    fn write<O: Sink>(&self, out: O) -> O {
+        out.member(&self.process_id)
+            .some(&self.client_info)
+            .member(&self.root_uri)
+            .some(&self.workspace_folders)
+            .some(&self.initialization_options)
+            .member(&self.capabilities)
+    }
+}
+
+impl Serialize for InitializeParams {
+    fn serialize<S: Serializer>(&self, out: &mut S) -> Result<(), S::Error> {
+        write_object(self, out)
+    }
+}
+
+impl ReadMembers for InitializeParams {
+    fn read<S: Source>(members: &mut S) -> InitializeParams {
+        InitializeParams {
+            process_id: if_fits(members),
+            client_info: if_fits(members),
+            root_uri: members.optional(),
+            workspace_folders: members.optional(),
+            initialization_options: members.optional(),
+            capabilities: members.required(),
+        }
+    }
+}
+
+impl DeserializeOwned for InitializeParams {
+    fn deserialize_owned<F: Format>(
+        alloc: Global,
+        from: &mut Deserializer<'_, '_, F>,
+    ) -> Result<InitializeParams, F::Error> {
+        read_object(alloc, from)
+    }
+}
+
 /// A name and a version: the server's, or the client's (LSP 3.17, "Initialize Request").
 #[derive(Drop)]
 pub struct ServerInfo {
@@ -28,6 +87,51 @@ pub struct ServerInfo {
     pub name: String,
     /// Its version.
     pub version: Option<String>,
+}
+
+impl Described for ServerInfo {}
+
+impl Keyed for ServerInfo {
+    const KEYS: &'static [&'static str] = &["name", "version"];
+}
+
+impl WriteMembers for ServerInfo {
+    fn write<O: Sink>(&self, out: O) -> O {
+        out.member(&self.name).some(&self.version)
+    }
+}
+
+impl Serialize for ServerInfo {
+    fn serialize<S: Serializer>(&self, out: &mut S) -> Result<(), S::Error> {
+        write_object(self, out)
+    }
+}
+
+impl ReadMembers for ServerInfo {
+    fn read<S: Source>(members: &mut S) -> ServerInfo {
+        ServerInfo {
+            name: members.required(),
+            version: members.optional(),
+        }
+    }
+}
+
+impl<'de> Deserialize<'de> for ServerInfo {
+    fn deserialize<F: Format>(
+        alloc: Global,
+        from: &mut Deserializer<'de, '_, F>,
+    ) -> Result<ServerInfo, F::Error> {
+        read_object(alloc, from)
+    }
+}
+
+impl DeserializeOwned for ServerInfo {
+    fn deserialize_owned<F: Format>(
+        alloc: Global,
+        from: &mut Deserializer<'_, '_, F>,
+    ) -> Result<ServerInfo, F::Error> {
+        read_object(alloc, from)
+    }
 }
 
 /// The client's name and version (LSP 3.17, "Initialize Request").
@@ -42,31 +146,20 @@ pub struct InitializeResult {
     pub server_info: ServerInfo,
 }
 
-impl InitializeResult {
-    ghost use Rattle.std.specs.Prelude.{◌≡◌, None, IfOk, string_bytes};
+impl Described for InitializeResult {}
 
-    /// What the server can do, and its name. `Err` means that an allocation failed.
-    pub fn new(
-        alloc: Global,
-        capabilities: ServerCapabilities,
-        name: &str,
-    ) -> Result<InitializeResult, AllocError>
-        ensures capabilities { IfOk result (λ r. r.«capabilities» ≡ «capabilities») }
-        ensures name { IfOk result (λ r. string_bytes r.server_info.«name» ≡ «name».now) }
-        ensures version { IfOk result (λ r. r.server_info.version ≡ None) }
-    {
-        match String::from_str(alloc, name) {
-            Ok(name) => Ok(InitializeResult {
-                capabilities,
-                server_info: ServerInfo {
-                    name,
-                    version: None,
-                },
-            }),
-            Err(failed) => {
-                drop(capabilities);
-                Err(failed)
-            }
-        }
+impl Keyed for InitializeResult {
+    const KEYS: &'static [&'static str] = &["capabilities", "serverInfo"];
+}
+
+impl WriteMembers for InitializeResult {
+    fn write<O: Sink>(&self, out: O) -> O {
+        out.member(&self.capabilities).member(&self.server_info)
+    }
+}
+
+impl Serialize for InitializeResult {
+    fn serialize<S: Serializer>(&self, out: &mut S) -> Result<(), S::Error> {
+        write_object(self, out)
     }
 }

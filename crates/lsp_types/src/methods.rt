@@ -1,4 +1,5 @@
 //! The methods that most servers meet, to be compared with (LSP 3.17, "Language Features" and others).
+// `tools/types` wrote this file from `types.txt`: change that.
 
 /// `initialize`: a request, with `InitializeParams`; the result is an `InitializeResult`.
 pub const INITIALIZE: &str = "initialize";

@@ -1,7 +1,8 @@
 //! Symbols of a document and of a workspace.
-use crate::documents::Location;
+// `tools/types` wrote this file from `types.txt`: change that.
+use crate::json::{Keyed, Object, Sink};
 use lsp_text::Range;
-use serde_json::Value;
+use serde::{Described, Serialize, Serializer};
 
 /// What a symbol is (LSP 3.17, "SymbolKind").
 #[derive(Clone, Copy, Drop)]
@@ -62,6 +63,14 @@ impl SymbolKind {
     pub const TYPE_PARAMETER: SymbolKind = SymbolKind(26);
 }
 
+impl Described for SymbolKind {}
+
+impl Serialize for SymbolKind {
+    fn serialize<S: Serializer>(&self, out: &mut S) -> Result<(), S::Error> {
+        self.0.serialize(out)
+    }
+}
+
 /// A symbol of a document, with those inside it (LSP 3.17, "DocumentSymbol").
 #[derive(Drop)]
 pub struct DocumentSymbol {
@@ -77,4 +86,31 @@ pub struct DocumentSymbol {
     pub selection_range: Range,
     /// Those inside it.
     pub children: Vec<DocumentSymbol>,
+}
+
+impl Described for DocumentSymbol {}
+
+impl Keyed for DocumentSymbol {
+    const KEYS: &'static [&'static str] = &[
+        "name",
+        "detail",
+        "kind",
+        "range",
+        "selectionRange",
+        "children",
+    ];
+}
+
+impl Serialize for DocumentSymbol {
+    // One function, since it has others of its type in it.
+    fn serialize<S: Serializer>(&self, out: &mut S) -> Result<(), S::Error> {
+        let mut object = Object::begin(DocumentSymbol::KEYS, out)
+            .member(&self.name)
+            .some(&self.detail)
+            .member(&self.kind)
+            .member(&self.range)
+            .member(&self.selection_range)
+            .member(&self.children);
+        object.end()
+    }
 }

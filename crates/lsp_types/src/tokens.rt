@@ -1,6 +1,7 @@
 //! Semantic tokens: what each word of a text is.
 ghost use Rattle.std.specs.Prelude.{◌≡◌, true, false, IfOk, MatchOption, None, OnOk, ◌++◌};
 
+use crate::semantic_tokens::SemanticTokens;
 use std::alloc::{AllocError, Global};
 
 /// A word of a text, and what it is (LSP 3.17, "Semantic Tokens").
@@ -16,15 +17,6 @@ pub struct SemanticToken {
     pub token_type: u32,
     /// Its modifiers: bit 0 stands for the first of the legend's `token_modifiers`, and so on.
     pub token_modifiers: u32,
-}
-
-/// The result of `textDocument/semanticTokens/full` and `/range`, or null (LSP 3.17, "Semantic Tokens").
-#[derive(Drop)]
-pub struct SemanticTokens {
-    /// A name for this result, for requests of what changed since.
-    pub result_id: Option<String>,
-    /// Five numbers for each token.
-    pub data: Vec<u32>,
 }
 
 impl SemanticToken {

@@ -1,7 +1,14 @@
 //! Folders, configuration and commands of a workspace.
+// `tools/types` wrote this file from `types.txt`: change that.
 use crate::edits::WorkspaceEdit;
+use crate::json::{
+    Keyed, ReadMembers, Sink, Source, WriteMembers, if_fits, read_object, write_object,
+};
+use serde::{
+    Described, Deserialize, DeserializeOwned, Deserializer, Format, Serialize, Serializer,
+};
 use serde_json::Value;
-use std::alloc::{AllocError, Global};
+use std::alloc::Global;
 
 /// A folder that is open in the client (LSP 3.17, "WorkspaceFolder").
 #[derive(Drop)]
@@ -12,6 +19,51 @@ pub struct WorkspaceFolder {
     pub name: Option<String>,
 }
 
+impl Described for WorkspaceFolder {}
+
+impl Keyed for WorkspaceFolder {
+    const KEYS: &'static [&'static str] = &["uri", "name"];
+}
+
+impl WriteMembers for WorkspaceFolder {
+    fn write<O: Sink>(&self, out: O) -> O {
+        out.member(&self.uri).some(&self.name)
+    }
+}
+
+impl Serialize for WorkspaceFolder {
+    fn serialize<S: Serializer>(&self, out: &mut S) -> Result<(), S::Error> {
+        write_object(self, out)
+    }
+}
+
+impl ReadMembers for WorkspaceFolder {
+    fn read<S: Source>(members: &mut S) -> WorkspaceFolder {
+        WorkspaceFolder {
+            uri: members.required(),
+            name: if_fits(members),
+        }
+    }
+}
+
+impl<'de> Deserialize<'de> for WorkspaceFolder {
+    fn deserialize<F: Format>(
+        alloc: Global,
+        from: &mut Deserializer<'de, '_, F>,
+    ) -> Result<WorkspaceFolder, F::Error> {
+        read_object(alloc, from)
+    }
+}
+
+impl DeserializeOwned for WorkspaceFolder {
+    fn deserialize_owned<F: Format>(
+        alloc: Global,
+        from: &mut Deserializer<'_, '_, F>,
+    ) -> Result<WorkspaceFolder, F::Error> {
+        read_object(alloc, from)
+    }
+}
+
 /// The params of `workspace/configuration` (LSP 3.17, "Configuration Request"). The result is a list with a value for each item.
 #[derive(Drop)]
 pub struct ConfigurationParams {
@@ -19,23 +71,38 @@ pub struct ConfigurationParams {
     pub items: Vec<ConfigurationItem>,
 }
 
-impl ConfigurationParams {
-    ghost use Rattle.std.specs.Prelude.{◌≡◌, ◌∷◌, [], Some, None, IfOk, option_map, string_bytes};
-    ghost use Rattle.lsp_types.specs.declared.workspace.ConfigurationItem.{ConfigurationItem as Item};
+impl Described for ConfigurationParams {}
 
-    /// One section, of no document. `Err` means that an allocation failed.
-    pub fn section(alloc: Global, section: &str) -> Result<ConfigurationParams, AllocError>
-        ensures { IfOk result (λ params. (item : Item) × (params.items.items ≡ item ∷ [])
-            × (item.scope_uri ≡ None)
-            × (option_map string_bytes item.«section» ≡ Some «section».now)) }
-    {
-        let item = ConfigurationItem {
-            scope_uri: None,
-            section: Some(String::from_str(alloc, section)?),
-        };
-        Ok(ConfigurationParams {
-            items: vec![in alloc; item]?,
-        })
+impl Keyed for ConfigurationParams {
+    const KEYS: &'static [&'static str] = &["items"];
+}
+
+impl WriteMembers for ConfigurationParams {
+    fn write<O: Sink>(&self, out: O) -> O {
+        out.member(&self.items)
+    }
+}
+
+impl Serialize for ConfigurationParams {
+    fn serialize<S: Serializer>(&self, out: &mut S) -> Result<(), S::Error> {
+        write_object(self, out)
+    }
+}
+
+impl ReadMembers for ConfigurationParams {
+    fn read<S: Source>(members: &mut S) -> ConfigurationParams {
+        ConfigurationParams {
+            items: members.required(),
+        }
+    }
+}
+
+impl DeserializeOwned for ConfigurationParams {
+    fn deserialize_owned<F: Format>(
+        alloc: Global,
+        from: &mut Deserializer<'_, '_, F>,
+    ) -> Result<ConfigurationParams, F::Error> {
+        read_object(alloc, from)
     }
 }
 
@@ -46,6 +113,51 @@ pub struct ConfigurationItem {
     pub scope_uri: Option<String>,
     /// The section, as the name of the server.
     pub section: Option<String>,
+}
+
+impl Described for ConfigurationItem {}
+
+impl Keyed for ConfigurationItem {
+    const KEYS: &'static [&'static str] = &["scopeUri", "section"];
+}
+
+impl WriteMembers for ConfigurationItem {
+    fn write<O: Sink>(&self, out: O) -> O {
+        out.some(&self.scope_uri).some(&self.section)
+    }
+}
+
+impl Serialize for ConfigurationItem {
+    fn serialize<S: Serializer>(&self, out: &mut S) -> Result<(), S::Error> {
+        write_object(self, out)
+    }
+}
+
+impl ReadMembers for ConfigurationItem {
+    fn read<S: Source>(members: &mut S) -> ConfigurationItem {
+        ConfigurationItem {
+            scope_uri: members.optional(),
+            section: members.optional(),
+        }
+    }
+}
+
+impl<'de> Deserialize<'de> for ConfigurationItem {
+    fn deserialize<F: Format>(
+        alloc: Global,
+        from: &mut Deserializer<'de, '_, F>,
+    ) -> Result<ConfigurationItem, F::Error> {
+        read_object(alloc, from)
+    }
+}
+
+impl DeserializeOwned for ConfigurationItem {
+    fn deserialize_owned<F: Format>(
+        alloc: Global,
+        from: &mut Deserializer<'_, '_, F>,
+    ) -> Result<ConfigurationItem, F::Error> {
+        read_object(alloc, from)
+    }
 }
 
 /// A command that the client shows and sends back (LSP 3.17, "Command").
@@ -59,6 +171,54 @@ pub struct Command {
     pub arguments: Option<Vec<Value>>,
 }
 
+impl Described for Command {}
+
+impl Keyed for Command {
+    const KEYS: &'static [&'static str] = &["title", "command", "arguments"];
+}
+
+impl WriteMembers for Command {
+    fn write<O: Sink>(&self, out: O) -> O {
+        out.member(&self.title)
+            .member(&self.command)
+            .some(&self.arguments)
+    }
+}
+
+impl Serialize for Command {
+    fn serialize<S: Serializer>(&self, out: &mut S) -> Result<(), S::Error> {
+        write_object(self, out)
+    }
+}
+
+impl ReadMembers for Command {
+    fn read<S: Source>(members: &mut S) -> Command {
+        Command {
+            title: members.required(),
+            command: members.required(),
+            arguments: members.optional(),
+        }
+    }
+}
+
+impl<'de> Deserialize<'de> for Command {
+    fn deserialize<F: Format>(
+        alloc: Global,
+        from: &mut Deserializer<'de, '_, F>,
+    ) -> Result<Command, F::Error> {
+        read_object(alloc, from)
+    }
+}
+
+impl DeserializeOwned for Command {
+    fn deserialize_owned<F: Format>(
+        alloc: Global,
+        from: &mut Deserializer<'_, '_, F>,
+    ) -> Result<Command, F::Error> {
+        read_object(alloc, from)
+    }
+}
+
 /// The params of `workspace/executeCommand` (LSP 3.17, "Execute a command").
 #[derive(Drop)]
 pub struct ExecuteCommandParams {
@@ -66,6 +226,42 @@ pub struct ExecuteCommandParams {
     pub command: String,
     /// What the command has with it.
     pub arguments: Option<Vec<Value>>,
+}
+
+impl Described for ExecuteCommandParams {}
+
+impl Keyed for ExecuteCommandParams {
+    const KEYS: &'static [&'static str] = &["command", "arguments"];
+}
+
+impl WriteMembers for ExecuteCommandParams {
+    fn write<O: Sink>(&self, out: O) -> O {
+        out.member(&self.command).some(&self.arguments)
+    }
+}
+
+impl Serialize for ExecuteCommandParams {
+    fn serialize<S: Serializer>(&self, out: &mut S) -> Result<(), S::Error> {
+        write_object(self, out)
+    }
+}
+
+impl ReadMembers for ExecuteCommandParams {
+    fn read<S: Source>(members: &mut S) -> ExecuteCommandParams {
+        ExecuteCommandParams {
+            command: members.required(),
+            arguments: members.optional(),
+        }
+    }
+}
+
+impl DeserializeOwned for ExecuteCommandParams {
+    fn deserialize_owned<F: Format>(
+        alloc: Global,
+        from: &mut Deserializer<'_, '_, F>,
+    ) -> Result<ExecuteCommandParams, F::Error> {
+        read_object(alloc, from)
+    }
 }
 
 /// The params of `workspace/applyEdit` (LSP 3.17, "Applies a WorkspaceEdit").
@@ -77,6 +273,42 @@ pub struct ApplyWorkspaceEditParams {
     pub edit: WorkspaceEdit,
 }
 
+impl Described for ApplyWorkspaceEditParams {}
+
+impl Keyed for ApplyWorkspaceEditParams {
+    const KEYS: &'static [&'static str] = &["label", "edit"];
+}
+
+impl WriteMembers for ApplyWorkspaceEditParams {
+    fn write<O: Sink>(&self, out: O) -> O {
+        out.some(&self.label).member(&self.edit)
+    }
+}
+
+impl Serialize for ApplyWorkspaceEditParams {
+    fn serialize<S: Serializer>(&self, out: &mut S) -> Result<(), S::Error> {
+        write_object(self, out)
+    }
+}
+
+impl ReadMembers for ApplyWorkspaceEditParams {
+    fn read<S: Source>(members: &mut S) -> ApplyWorkspaceEditParams {
+        ApplyWorkspaceEditParams {
+            label: members.optional(),
+            edit: members.required(),
+        }
+    }
+}
+
+impl DeserializeOwned for ApplyWorkspaceEditParams {
+    fn deserialize_owned<F: Format>(
+        alloc: Global,
+        from: &mut Deserializer<'_, '_, F>,
+    ) -> Result<ApplyWorkspaceEditParams, F::Error> {
+        read_object(alloc, from)
+    }
+}
+
 /// The result of `workspace/applyEdit` (LSP 3.17, "ApplyWorkspaceEditResult").
 #[derive(Drop)]
 pub struct ApplyWorkspaceEditResult {
@@ -86,4 +318,43 @@ pub struct ApplyWorkspaceEditResult {
     pub failure_reason: Option<String>,
     /// Which change failed, from 0.
     pub failed_change: Option<u32>,
+}
+
+impl Described for ApplyWorkspaceEditResult {}
+
+impl Keyed for ApplyWorkspaceEditResult {
+    const KEYS: &'static [&'static str] = &["applied", "failureReason", "failedChange"];
+}
+
+impl WriteMembers for ApplyWorkspaceEditResult {
+    fn write<O: Sink>(&self, out: O) -> O {
+        out.member(&self.applied)
+            .some(&self.failure_reason)
+            .some(&self.failed_change)
+    }
+}
+
+impl Serialize for ApplyWorkspaceEditResult {
+    fn serialize<S: Serializer>(&self, out: &mut S) -> Result<(), S::Error> {
+        write_object(self, out)
+    }
+}
+
+impl ReadMembers for ApplyWorkspaceEditResult {
+    fn read<S: Source>(members: &mut S) -> ApplyWorkspaceEditResult {
+        ApplyWorkspaceEditResult {
+            applied: members.required(),
+            failure_reason: members.optional(),
+            failed_change: members.optional(),
+        }
+    }
+}
+
+impl DeserializeOwned for ApplyWorkspaceEditResult {
+    fn deserialize_owned<F: Format>(
+        alloc: Global,
+        from: &mut Deserializer<'_, '_, F>,
+    ) -> Result<ApplyWorkspaceEditResult, F::Error> {
+        read_object(alloc, from)
+    }
 }

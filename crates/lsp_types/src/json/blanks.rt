@@ -1,6 +1,5 @@
 // What stands for a value that could not be read.
-use crate::diagnostics::NumberOrString;
-use crate::hovers::MarkupKind;
+use crate::choices::{MarkupKind, NumberOrString};
 use crate::json::Blank;
 use crate::window::MessageType;
 use lsp_text::{Position, Range};

@@ -1,6 +1,6 @@
 use Rattle.std.proofs.Common.{◌≡◌, ◌++◌, drop}
 use Rattle.lsp_types.specs.Tokens.{are_behind, numbers_behind}
-use Rattle.lsp_types.proofs.tokens.SemanticTokens.encode.Given as goal
+use Rattle.lsp_types.proofs.semantic_tokens.SemanticTokens.encode.Given as goal
 
 abbrev pub invariant-loop-token : goal.invariant-loop-token
 invariant-loop-token l = record {

@@ -1,8 +1,17 @@
-// Semantic tokens as JSON.
+//! The result of requests for semantic tokens.
+// `tools/types` wrote this file from `types.txt`: change that.
 use crate::json::{Keyed, ReadMembers, Sink, Source, WriteMembers, read_object, write_object};
-use crate::tokens::SemanticTokens;
 use serde::{Described, DeserializeOwned, Deserializer, Format, Serialize, Serializer};
 use std::alloc::Global;
+
+/// The result of `textDocument/semanticTokens/full` and `/range`, or null (LSP 3.17, "Semantic Tokens").
+#[derive(Drop)]
+pub struct SemanticTokens {
+    /// A name for this result, for requests of what changed since.
+    pub result_id: Option<String>,
+    /// Five numbers for each token.
+    pub data: Vec<u32>,
+}
 
 impl Described for SemanticTokens {}
 
