@@ -65,6 +65,7 @@ def some(read):
         fits(isinstance(value, list))
         return [read_as(read, it) for it in value]
 
+    items.fitting = lambda key: [sample(read, key)]
     return items
 
 
@@ -75,6 +76,7 @@ def each(read):
         fits(isinstance(value, dict))
         return {name: read_as(read, it) for name, it in value.items()}
 
+    members.fitting = lambda key: {"file:///a": sample(read, key)}
     return members
 
 
@@ -84,6 +86,7 @@ def nullable(read):
     def or_null(value):
         return None if value is None else read_as(read, value)
 
+    or_null.fitting = lambda key: sample(read, key)
     or_null.is_kept = True
     return or_null
 
@@ -97,6 +100,7 @@ def if_fits(read):
         except Misfit:
             return None
 
+    or_none.fitting = lambda key: sample(read, key)
     return or_none
 
 
@@ -115,6 +119,7 @@ def those_that_fit(read):
         fits(isinstance(value, list))
         return [it for it in map(if_fits(read), value) if it is not None]
 
+    items.fitting = lambda key: [sample(read, key)]
     return items
 
 
@@ -127,6 +132,9 @@ def progress(value):
 DOCUMENT = {"textDocument": "TextDocumentIdentifier"}
 PLACE = {**DOCUMENT, "position": "Position"}
 PART = {**DOCUMENT, "range": "Range"}
+# The members of params by which a client asks for progress, and for parts of the result.
+DONE = {"workDoneToken?": if_fits(NUMBER_OR_TEXT)}
+PARTS = {**DONE, "partialResultToken?": if_fits(NUMBER_OR_TEXT)}
 MESSAGE = {"type": among(1, 4), "message": TEXT}
 # A name with `?` is of a member that may be missing or null.
 TYPES = {
@@ -143,28 +151,41 @@ TYPES = {
         "contentChanges": some("TextDocumentContentChangeEvent"),
     },
     "DidSaveTextDocumentParams": {**DOCUMENT, "text?": TEXT},
-    "TextDocumentParams": DOCUMENT,
+    "WillSaveTextDocumentParams": {**DOCUMENT, "reason": among(1, 3)},
+    "DidCloseTextDocumentParams": DOCUMENT,
+    "TextDocumentParams": {**DOCUMENT, **PARTS},
     "TextDocumentPositionParams": PLACE,
-    "TextDocumentRangeParams": PART,
+    "InlayHintParams": {**PART, **DONE},
+    "TextDocumentRangeParams": {**PART, **PARTS},
     "ReferenceContext": {"includeDeclaration": TRUTH},
-    "ReferenceParams": {**PLACE, "context": "ReferenceContext"},
+    "ReferenceParams": {**PLACE, "context": "ReferenceContext", **PARTS},
     "WorkspaceFolder": {"uri": TEXT, "name?": if_fits(TEXT)},
     "ServerInfo": {"name": TEXT, "version?": TEXT},
     "InitializeParams": {
         "processId": nullable(if_fits(INTEGER)),
         "clientInfo?": if_fits("ServerInfo"),
+        "locale?": if_fits(TEXT),
+        "rootPath?": if_fits(TEXT),
         "rootUri": nullable(TEXT),
         "workspaceFolders?": some("WorkspaceFolder"),
         "initializationOptions?": ANY,
         "capabilities": ANY,
+        "trace?": if_fits(TEXT),
+        **DONE,
     },
     "MarkupContent": {"kind": named("plaintext", "markdown"), "value": TEXT},
     "Hover": {"contents": "MarkupContent", "range?": "Range"},
     "TextEdit": {"range": "Range", "newText": TEXT},
     "OptionalVersionedTextDocumentIdentifier": {"uri": TEXT, "version": nullable(INTEGER)},
     "TextDocumentEdit": {"textDocument": "OptionalVersionedTextDocumentIdentifier", "edits": some("TextEdit")},
-    "WorkspaceEdit": {"changes?": each(some("TextEdit")), "documentChanges?": some("TextDocumentEdit")},
-    "RenameParams": {**PLACE, "newName": TEXT},
+    "ChangeAnnotation": {"label": TEXT, "needsConfirmation?": TRUTH, "description?": TEXT},
+    "WorkspaceEdit": {
+        "changes?": each(some("TextEdit")),
+        "documentChanges?": some("TextDocumentEdit"),
+        "changeAnnotations?": each("ChangeAnnotation"),
+    },
+    "RenameParams": {**PLACE, "newName": TEXT, **DONE},
+    "PrepareRenameResult": {"range": "Range", "placeholder": TEXT},
     "FormattingOptions": {
         "tabSize": UNSIGNED,
         "insertSpaces": TRUTH,
@@ -172,31 +193,49 @@ TYPES = {
         "insertFinalNewline?": TRUTH,
         "trimFinalNewlines?": TRUTH,
     },
-    "DocumentFormattingParams": {**DOCUMENT, "options": "FormattingOptions"},
+    "DocumentFormattingParams": {**DOCUMENT, "options": "FormattingOptions", **DONE},
+    "DocumentRangeFormattingParams": {**PART, "options": "FormattingOptions", **DONE},
     "Command": {"title": TEXT, "command": TEXT, "arguments?": some(ANY)},
-    "ExecuteCommandParams": {"command": TEXT, "arguments?": some(ANY)},
+    "ExecuteCommandParams": {"command": TEXT, "arguments?": some(ANY), **DONE},
     "ApplyWorkspaceEditParams": {"label?": TEXT, "edit": "WorkspaceEdit"},
     "ApplyWorkspaceEditResult": {"applied": TRUTH, "failureReason?": TEXT, "failedChange?": UNSIGNED},
+    "CompletionItemLabelDetails": {"detail?": TEXT, "description?": TEXT},
     "CompletionItem": {
         "label": TEXT,
+        "labelDetails?": "CompletionItemLabelDetails",
         "kind?": among(1, 25),
+        "tags?": some(among(1, 1)),
         "detail?": TEXT,
         "documentation?": "MarkupContent",
+        "deprecated?": TRUTH,
+        "preselect?": TRUTH,
         "sortText?": TEXT,
         "filterText?": TEXT,
         "insertText?": TEXT,
         "insertTextFormat?": among(1, 2),
+        "insertTextMode?": among(1, 2),
         "textEdit?": "TextEdit",
+        "textEditText?": TEXT,
         "additionalTextEdits?": some("TextEdit"),
+        "commitCharacters?": some(TEXT),
         "command?": "Command",
         "data?": ANY,
     },
-    "CompletionList": {"isIncomplete": TRUTH, "items": some("CompletionItem")},
+    "CompletionItemDefaults": {
+        "commitCharacters?": some(TEXT),
+        "editRange?": "Range",
+        "insertTextFormat?": among(1, 2),
+        "insertTextMode?": among(1, 2),
+        "data?": ANY,
+    },
+    "CompletionList": {"isIncomplete": TRUTH, "itemDefaults?": "CompletionItemDefaults", "items": some("CompletionItem")},
+    "CodeDescription": {"href": TEXT},
     "DiagnosticRelatedInformation": {"location": "Location", "message": TEXT},
     "Diagnostic": {
         "range": "Range",
         "severity?": among(1, 4),
         "code?": NUMBER_OR_TEXT,
+        "codeDescription?": "CodeDescription",
         "source?": TEXT,
         "message": TEXT,
         "tags?": some(among(1, 2)),
@@ -205,12 +244,14 @@ TYPES = {
     },
     "PublishDiagnosticsParams": {"uri": TEXT, "version?": INTEGER, "diagnostics": some("Diagnostic")},
     "CodeActionContext": {"diagnostics": those_that_fit("Diagnostic"), "only?": some(TEXT), "triggerKind?": if_fits(among(1, 2))},
-    "CodeActionParams": {**PART, "context": "CodeActionContext"},
+    "CodeActionParams": {**PART, "context": "CodeActionContext", **PARTS},
+    "CodeActionDisabled": {"reason": TEXT},
     "CodeAction": {
         "title": TEXT,
         "kind?": TEXT,
         "diagnostics?": some("Diagnostic"),
         "isPreferred?": TRUTH,
+        "disabled?": "CodeActionDisabled",
         "edit?": "WorkspaceEdit",
         "command?": "Command",
         "data?": ANY,
@@ -219,9 +260,20 @@ TYPES = {
         "name": TEXT,
         "detail?": TEXT,
         "kind": UNSIGNED,
+        "tags?": some(among(1, 1)),
+        "deprecated?": TRUTH,
         "range": "Range",
         "selectionRange": "Range",
         "children": some("DocumentSymbol"),
+    },
+    "WorkspaceSymbolParams": {"query": TEXT, **PARTS},
+    "WorkspaceSymbol": {
+        "name": TEXT,
+        "kind": among(1, 26),
+        "tags?": some(among(1, 1)),
+        "containerName?": TEXT,
+        "location": "Location",
+        "data?": ANY,
     },
     "ParameterInformation": {"label": TEXT, "documentation?": "MarkupContent"},
     "SignatureInformation": {
@@ -236,6 +288,7 @@ TYPES = {
         "position": "Position",
         "label": TEXT,
         "kind?": among(1, 2),
+        "textEdits?": some("TextEdit"),
         "tooltip?": TEXT,
         "paddingLeft?": TRUTH,
         "paddingRight?": TRUTH,
@@ -255,18 +308,72 @@ TYPES = {
 
 def all_capabilities(characters, names):
     """The members of `ServerCapabilities` that have a field, as the program of rows fills them in."""
-    true = "hover references documentSymbol documentFormatting documentRangeFormatting inlayHint workspaceSymbol"
+    true = (
+        "callHierarchy color declaration documentFormatting documentHighlight documentRangeFormatting documentSymbol foldingRange hover "
+        "implementation inlayHint inlineValue linkedEditingRange moniker references selectionRange typeDefinition typeHierarchy workspaceSymbol"
+    )
+    done = {"workDoneProgress": True}
+    resolved = {"resolveProvider": True, **done}
+    legend = {"tokenTypes": names, "tokenModifiers": characters}
+    item = {"allCommitCharacters": characters, "completionItem": {"labelDetailsSupport": True}}
+    folders = {"supported": True, "changeNotifications": False}
     return {
         "textDocumentSync": {"openClose": True, "change": 2, "willSave": False, "willSaveWaitUntil": True, "save": {"includeText": True}},
-        "completionProvider": {"triggerCharacters": characters, "resolveProvider": True},
-        "signatureHelpProvider": {"triggerCharacters": characters, "retriggerCharacters": names},
-        "codeActionProvider": {"codeActionKinds": names, "resolveProvider": True},
-        "renameProvider": {"prepareProvider": True},
-        "executeCommandProvider": {"commands": names},
-        "semanticTokensProvider": {"legend": {"tokenTypes": names, "tokenModifiers": characters}, "range": False, "full": True},
+        "notebookDocumentSync": {"notebook": names},
+        "completionProvider": {"triggerCharacters": characters, **item, **resolved},
+        "signatureHelpProvider": {"triggerCharacters": characters, "retriggerCharacters": names, **done},
+        "codeActionProvider": {"codeActionKinds": names, **resolved},
+        "codeLensProvider": resolved,
+        "documentLinkProvider": resolved,
+        "documentOnTypeFormattingProvider": {"firstTriggerCharacter": "}", "moreTriggerCharacter": characters},
+        "renameProvider": {"prepareProvider": True, **done},
+        "executeCommandProvider": {"commands": names, **done},
+        "semanticTokensProvider": {"legend": legend, "range": False, "full": True, **done},
+        "diagnosticProvider": {"identifier": "}", "interFileDependencies": True, "workspaceDiagnostics": False, **done},
+        "workspace": {"workspaceFolders": folders, "fileOperations": {"notebook": names}},
+        "experimental": {"notebook": names},
         "definitionProvider": False,
         **{f"{it}Provider": True for it in true.split()},
     }
+
+
+def sample(how, key):
+    """A value that fits. A text is the member's key, so that no two are alike."""
+    if isinstance(how, str):
+        return {name.rstrip("?"): sample(member, name.rstrip("?")) for name, member in TYPES[how].items()}
+    return how.fitting(key) if hasattr(how, "fitting") else next(it for it in [key, True, 1, "markdown"] if is_fit(how, it))
+
+
+def is_fit(how, value):
+    try:
+        how(value)
+    except Misfit:
+        return False
+    return True
+
+
+# Types of which there are rows with all members, with those alone that have to be there, and without each of these.
+WHOLE = (
+    "InitializeParams DidOpenTextDocumentParams DidChangeTextDocumentParams WillSaveTextDocumentParams DidSaveTextDocumentParams "
+    "DidCloseTextDocumentParams TextDocumentParams TextDocumentPositionParams TextDocumentRangeParams InlayHintParams ReferenceParams "
+    "CodeActionParams CodeAction Command RenameParams PrepareRenameResult DocumentFormattingParams DocumentRangeFormattingParams "
+    "ExecuteCommandParams ApplyWorkspaceEditParams ApplyWorkspaceEditResult Hover CompletionList CompletionItem SignatureHelp Location "
+    "SemanticTokens InlayHint WorkspaceSymbolParams WorkspaceSymbol PublishDiagnosticsParams ShowMessageParams ConfigurationParams "
+    "WorkDoneProgressParams WorkDoneProgressCreateParams"
+)
+
+
+def rows():
+    """Each of these types whole, at the least, and too little."""
+    yield "# Types with all members, with those that have to be there, and without one of them."
+    for name in WHOLE.split():
+        whole = sample(name, "")
+        needed = [it for it in TYPES[name] if not it.endswith("?")]
+        yield f"typed {name} {ordered(whole)}"
+        if len(needed) < len(whole):
+            yield f"typed {name} {ordered({it: whole[it] for it in needed})}"
+        for left_out in needed:
+            yield f"typed {name} {ordered({it: whole[it] for it in needed if it != left_out})}"
 
 
 def read_as(how, value):

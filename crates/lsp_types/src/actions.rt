@@ -8,6 +8,7 @@ use crate::json::{
     write_object,
 };
 use crate::numbers::number_within;
+use crate::progress::ProgressToken;
 use crate::workspace::Command;
 use lsp_text::Range;
 use serde::{
@@ -25,12 +26,22 @@ pub struct CodeActionParams {
     pub range: Range,
     /// What else is known.
     pub context: CodeActionContext,
+    /// The token to report progress with. None if it is not asked for, or does not fit.
+    pub work_done_token: Option<ProgressToken>,
+    /// The token to send parts of the result with. None if they are not asked for, or it does not fit.
+    pub partial_result_token: Option<ProgressToken>,
 }
 
 impl Described for CodeActionParams {}
 
 impl Keyed for CodeActionParams {
-    const KEYS: &'static [&'static str] = &["textDocument", "range", "context"];
+    const KEYS: &'static [&'static str] = &[
+        "textDocument",
+        "range",
+        "context",
+        "workDoneToken",
+        "partialResultToken",
+    ];
 }
 
 impl WriteMembers for CodeActionParams {
@@ -38,6 +49,8 @@ impl WriteMembers for CodeActionParams {
         out.member(&self.text_document)
             .member(&self.range)
             .member(&self.context)
+            .some(&self.work_done_token)
+            .some(&self.partial_result_token)
     }
 }
 
@@ -53,6 +66,8 @@ impl ReadMembers for CodeActionParams {
             text_document: members.required(),
             range: members.required(),
             context: members.required(),
+            work_done_token: if_fits(members),
+            partial_result_token: if_fits(members),
         }
     }
 }
@@ -165,6 +180,48 @@ impl DeserializeOwned for CodeActionTriggerKind {
     }
 }
 
+/// Why a change can not be taken now (LSP 3.17, "CodeAction").
+#[derive(Drop)]
+pub struct CodeActionDisabled {
+    /// The reason, for people.
+    pub reason: String,
+}
+
+impl Described for CodeActionDisabled {}
+
+impl Keyed for CodeActionDisabled {
+    const KEYS: &'static [&'static str] = &["reason"];
+}
+
+impl WriteMembers for CodeActionDisabled {
+    fn write<O: Sink>(&self, out: O) -> O {
+        out.member(&self.reason)
+    }
+}
+
+impl Serialize for CodeActionDisabled {
+    fn serialize<S: Serializer>(&self, out: &mut S) -> Result<(), S::Error> {
+        write_object(self, out)
+    }
+}
+
+impl ReadMembers for CodeActionDisabled {
+    fn read<S: Source>(members: &mut S) -> CodeActionDisabled {
+        CodeActionDisabled {
+            reason: members.required(),
+        }
+    }
+}
+
+impl DeserializeOwned for CodeActionDisabled {
+    fn deserialize_owned<F: Format>(
+        alloc: Global,
+        from: &mut Deserializer<'_, '_, F>,
+    ) -> Result<CodeActionDisabled, F::Error> {
+        read_object(alloc, from)
+    }
+}
+
 /// A change that a user may choose (LSP 3.17, "CodeAction").
 #[derive(Drop)]
 pub struct CodeAction {
@@ -176,6 +233,8 @@ pub struct CodeAction {
     pub diagnostics: Option<Vec<Diagnostic>>,
     /// Whether it is the one to take if the user asks for no choice.
     pub is_preferred: Option<bool>,
+    /// Why it can not be taken now.
+    pub disabled: Option<CodeActionDisabled>,
     /// What it changes, before its command is sent.
     pub edit: Option<WorkspaceEdit>,
     /// The command that the client sends then.
@@ -192,6 +251,7 @@ impl Keyed for CodeAction {
         "kind",
         "diagnostics",
         "isPreferred",
+        "disabled",
         "edit",
         "command",
         "data",
@@ -204,6 +264,7 @@ impl WriteMembers for CodeAction {
             .some(&self.kind)
             .some(&self.diagnostics)
             .some(&self.is_preferred)
+            .some(&self.disabled)
             .some(&self.edit)
             .some(&self.command)
             .some(&self.data)
@@ -223,6 +284,7 @@ impl ReadMembers for CodeAction {
             kind: members.optional(),
             diagnostics: members.optional(),
             is_preferred: members.optional(),
+            disabled: members.optional(),
             edit: members.optional(),
             command: members.optional(),
             data: members.optional(),

@@ -5,6 +5,7 @@ use crate::hovers::MarkupContent;
 use crate::json::{Keyed, ReadMembers, Sink, Source, WriteMembers, read_object, write_object};
 use crate::numbers::number_within;
 use crate::workspace::Command;
+use lsp_text::Range;
 use serde::{
     Described, Deserialize, DeserializeOwned, Deserializer, Format, Serialize, Serializer,
 };
@@ -137,17 +138,149 @@ impl DeserializeOwned for InsertTextFormat {
     }
 }
 
+/// How a client may show a completion (LSP 3.17, "CompletionItemTag"). On reading, another number is refused.
+#[derive(Clone, Copy, Drop)]
+pub struct CompletionItemTag(pub u32);
+
+impl CompletionItemTag {
+    /// Struck through: code that is not to be used.
+    pub const DEPRECATED: CompletionItemTag = CompletionItemTag(1);
+}
+
+impl Described for CompletionItemTag {}
+
+impl Serialize for CompletionItemTag {
+    fn serialize<S: Serializer>(&self, out: &mut S) -> Result<(), S::Error> {
+        self.0.serialize(out)
+    }
+}
+
+impl<'de> Deserialize<'de> for CompletionItemTag {
+    fn deserialize<F: Format>(
+        alloc: Global,
+        from: &mut Deserializer<'de, '_, F>,
+    ) -> Result<CompletionItemTag, F::Error> {
+        match number_within(alloc, from, 1, 1) {
+            Ok(number) => Ok(CompletionItemTag(number)),
+            Err(failed) => Err(failed),
+        }
+    }
+}
+
+impl DeserializeOwned for CompletionItemTag {
+    fn deserialize_owned<F: Format>(
+        alloc: Global,
+        from: &mut Deserializer<'_, '_, F>,
+    ) -> Result<CompletionItemTag, F::Error> {
+        CompletionItemTag::deserialize(alloc, from)
+    }
+}
+
+/// What becomes of the whitespace in a completion of several lines (LSP 3.17, "InsertTextMode"). On reading, another number is
+/// refused.
+#[derive(Clone, Copy, Drop)]
+pub struct InsertTextMode(pub u32);
+
+impl InsertTextMode {
+    /// It stays as it is.
+    pub const AS_IS: InsertTextMode = InsertTextMode(1);
+    /// Its lines are indented as the one that it stands in.
+    pub const ADJUST_INDENTATION: InsertTextMode = InsertTextMode(2);
+}
+
+impl Described for InsertTextMode {}
+
+impl Serialize for InsertTextMode {
+    fn serialize<S: Serializer>(&self, out: &mut S) -> Result<(), S::Error> {
+        self.0.serialize(out)
+    }
+}
+
+impl<'de> Deserialize<'de> for InsertTextMode {
+    fn deserialize<F: Format>(
+        alloc: Global,
+        from: &mut Deserializer<'de, '_, F>,
+    ) -> Result<InsertTextMode, F::Error> {
+        match number_within(alloc, from, 1, 2) {
+            Ok(number) => Ok(InsertTextMode(number)),
+            Err(failed) => Err(failed),
+        }
+    }
+}
+
+impl DeserializeOwned for InsertTextMode {
+    fn deserialize_owned<F: Format>(
+        alloc: Global,
+        from: &mut Deserializer<'_, '_, F>,
+    ) -> Result<InsertTextMode, F::Error> {
+        InsertTextMode::deserialize(alloc, from)
+    }
+}
+
+/// What is shown beside a label (LSP 3.17, "CompletionItemLabelDetails").
+#[derive(Drop)]
+pub struct CompletionItemLabelDetails {
+    /// Right behind it, as the params of a function.
+    pub detail: Option<String>,
+    /// Further behind, as a path.
+    pub description: Option<String>,
+}
+
+impl Described for CompletionItemLabelDetails {}
+
+impl Keyed for CompletionItemLabelDetails {
+    const KEYS: &'static [&'static str] = &["detail", "description"];
+}
+
+impl WriteMembers for CompletionItemLabelDetails {
+    fn write<O: Sink>(&self, out: O) -> O {
+        out.some(&self.detail).some(&self.description)
+    }
+}
+
+impl Serialize for CompletionItemLabelDetails {
+    fn serialize<S: Serializer>(&self, out: &mut S) -> Result<(), S::Error> {
+        write_object(self, out)
+    }
+}
+
+impl ReadMembers for CompletionItemLabelDetails {
+    fn read<S: Source>(members: &mut S) -> CompletionItemLabelDetails {
+        CompletionItemLabelDetails {
+            detail: members.optional(),
+            description: members.optional(),
+        }
+    }
+}
+
+impl DeserializeOwned for CompletionItemLabelDetails {
+    fn deserialize_owned<F: Format>(
+        alloc: Global,
+        from: &mut Deserializer<'_, '_, F>,
+    ) -> Result<CompletionItemLabelDetails, F::Error> {
+        read_object(alloc, from)
+    }
+}
+
 /// A completion (LSP 3.17, "CompletionItem"). The params and the result of `completionItem/resolve` are one.
 #[derive(Drop)]
 pub struct CompletionItem {
     /// What is shown, and inserted if nothing else is said.
     pub label: String,
+    /// What is shown beside it.
+    pub label_details: Option<CompletionItemLabelDetails>,
     /// What it is.
     pub kind: Option<CompletionItemKind>,
+    /// How it may be shown.
+    pub tags: Option<Vec<CompletionItemTag>>,
     /// More about it, as its type.
     pub detail: Option<String>,
     /// All about it.
     pub documentation: Option<MarkupContent>,
+    /// Whether it is not to be used. `tags` has come in its place.
+    pub deprecated: Option<bool>,
+    /// Whether it is the one to take first.
+    pub preselect: Option<bool>,
     /// What it is sorted by, in place of its label.
     pub sort_text: Option<String>,
     /// What typed text is compared with, in place of its label.
@@ -156,10 +289,16 @@ pub struct CompletionItem {
     pub insert_text: Option<String>,
     /// How the inserted text is meant. `None` means plain text.
     pub insert_text_format: Option<InsertTextFormat>,
+    /// What becomes of its whitespace. `None` means what the client does.
+    pub insert_text_mode: Option<InsertTextMode>,
     /// The edit that inserts it.
     pub text_edit: Option<TextEdit>,
+    /// The text of that edit, if its range is that of the list.
+    pub text_edit_text: Option<String>,
     /// Edits elsewhere in the document, as of an import.
     pub additional_text_edits: Option<Vec<TextEdit>>,
+    /// Which characters take it as they are typed.
+    pub commit_characters: Option<Vec<String>>,
     /// The command that the client sends once it is inserted.
     pub command: Option<Command>,
     /// What the client gives back in `completionItem/resolve`.
@@ -173,30 +312,44 @@ impl CompletionItem {
     pub fn new(label: String, kind: CompletionItemKind) -> CompletionItem
         ensures { result ≡ record {
           label = label;
+          label_details = None;
           kind = Some kind;
+          tags = None;
           detail = None;
           documentation = None;
+          deprecated = None;
+          preselect = None;
           sort_text = None;
           filter_text = None;
           insert_text = None;
           insert_text_format = None;
+          insert_text_mode = None;
           text_edit = None;
+          text_edit_text = None;
           additional_text_edits = None;
+          commit_characters = None;
           command = None;
           «data» = None;
         } }
     {
         CompletionItem {
             label,
+            label_details: None,
             kind: Some(kind),
+            tags: None,
             detail: None,
             documentation: None,
+            deprecated: None,
+            preselect: None,
             sort_text: None,
             filter_text: None,
             insert_text: None,
             insert_text_format: None,
+            insert_text_mode: None,
             text_edit: None,
+            text_edit_text: None,
             additional_text_edits: None,
+            commit_characters: None,
             command: None,
             data: None,
         }
@@ -208,15 +361,22 @@ impl Described for CompletionItem {}
 impl Keyed for CompletionItem {
     const KEYS: &'static [&'static str] = &[
         "label",
+        "labelDetails",
         "kind",
+        "tags",
         "detail",
         "documentation",
+        "deprecated",
+        "preselect",
         "sortText",
         "filterText",
         "insertText",
         "insertTextFormat",
+        "insertTextMode",
         "textEdit",
+        "textEditText",
         "additionalTextEdits",
+        "commitCharacters",
         "command",
         "data",
     ];
@@ -225,15 +385,22 @@ impl Keyed for CompletionItem {
 impl WriteMembers for CompletionItem {
     fn write<O: Sink>(&self, out: O) -> O {
         out.member(&self.label)
+            .some(&self.label_details)
             .some(&self.kind)
+            .some(&self.tags)
             .some(&self.detail)
             .some(&self.documentation)
+            .some(&self.deprecated)
+            .some(&self.preselect)
             .some(&self.sort_text)
             .some(&self.filter_text)
             .some(&self.insert_text)
             .some(&self.insert_text_format)
+            .some(&self.insert_text_mode)
             .some(&self.text_edit)
+            .some(&self.text_edit_text)
             .some(&self.additional_text_edits)
+            .some(&self.commit_characters)
             .some(&self.command)
             .some(&self.data)
     }
@@ -249,15 +416,22 @@ impl ReadMembers for CompletionItem {
     fn read<S: Source>(members: &mut S) -> CompletionItem {
         CompletionItem {
             label: members.required(),
+            label_details: members.optional(),
             kind: members.optional(),
+            tags: members.optional(),
             detail: members.optional(),
             documentation: members.optional(),
+            deprecated: members.optional(),
+            preselect: members.optional(),
             sort_text: members.optional(),
             filter_text: members.optional(),
             insert_text: members.optional(),
             insert_text_format: members.optional(),
+            insert_text_mode: members.optional(),
             text_edit: members.optional(),
+            text_edit_text: members.optional(),
             additional_text_edits: members.optional(),
+            commit_characters: members.optional(),
             command: members.optional(),
             data: members.optional(),
         }
@@ -282,11 +456,77 @@ impl DeserializeOwned for CompletionItem {
     }
 }
 
+/// What the items of a list have that do not say it themselves (LSP 3.17, "CompletionList").
+#[derive(Drop)]
+pub struct CompletionItemDefaults {
+    /// Which characters take them as they are typed.
+    pub commit_characters: Option<Vec<String>>,
+    /// The part that they replace.
+    pub edit_range: Option<Range>,
+    /// How their texts are meant.
+    pub insert_text_format: Option<InsertTextFormat>,
+    /// What becomes of their whitespace.
+    pub insert_text_mode: Option<InsertTextMode>,
+    /// What the client gives back in `completionItem/resolve`.
+    pub data: Option<Value>,
+}
+
+impl Described for CompletionItemDefaults {}
+
+impl Keyed for CompletionItemDefaults {
+    const KEYS: &'static [&'static str] = &[
+        "commitCharacters",
+        "editRange",
+        "insertTextFormat",
+        "insertTextMode",
+        "data",
+    ];
+}
+
+impl WriteMembers for CompletionItemDefaults {
+    fn write<O: Sink>(&self, out: O) -> O {
+        out.some(&self.commit_characters)
+            .some(&self.edit_range)
+            .some(&self.insert_text_format)
+            .some(&self.insert_text_mode)
+            .some(&self.data)
+    }
+}
+
+impl Serialize for CompletionItemDefaults {
+    fn serialize<S: Serializer>(&self, out: &mut S) -> Result<(), S::Error> {
+        write_object(self, out)
+    }
+}
+
+impl ReadMembers for CompletionItemDefaults {
+    fn read<S: Source>(members: &mut S) -> CompletionItemDefaults {
+        CompletionItemDefaults {
+            commit_characters: members.optional(),
+            edit_range: members.optional(),
+            insert_text_format: members.optional(),
+            insert_text_mode: members.optional(),
+            data: members.optional(),
+        }
+    }
+}
+
+impl DeserializeOwned for CompletionItemDefaults {
+    fn deserialize_owned<F: Format>(
+        alloc: Global,
+        from: &mut Deserializer<'_, '_, F>,
+    ) -> Result<CompletionItemDefaults, F::Error> {
+        read_object(alloc, from)
+    }
+}
+
 /// The result of `textDocument/completion`, or null (LSP 3.17, "CompletionList").
 #[derive(Drop)]
 pub struct CompletionList {
     /// Whether more typing is to ask again.
     pub is_incomplete: bool,
+    /// What items have that do not say it themselves.
+    pub item_defaults: Option<CompletionItemDefaults>,
     /// The completions.
     pub items: Vec<CompletionItem>,
 }
@@ -294,12 +534,14 @@ pub struct CompletionList {
 impl Described for CompletionList {}
 
 impl Keyed for CompletionList {
-    const KEYS: &'static [&'static str] = &["isIncomplete", "items"];
+    const KEYS: &'static [&'static str] = &["isIncomplete", "itemDefaults", "items"];
 }
 
 impl WriteMembers for CompletionList {
     fn write<O: Sink>(&self, out: O) -> O {
-        out.member(&self.is_incomplete).member(&self.items)
+        out.member(&self.is_incomplete)
+            .some(&self.item_defaults)
+            .member(&self.items)
     }
 }
 
@@ -313,6 +555,7 @@ impl ReadMembers for CompletionList {
     fn read<S: Source>(members: &mut S) -> CompletionList {
         CompletionList {
             is_incomplete: members.required(),
+            item_defaults: members.optional(),
             items: members.required(),
         }
     }

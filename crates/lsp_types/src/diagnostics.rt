@@ -149,6 +149,48 @@ impl DeserializeOwned for DiagnosticRelatedInformation {
     }
 }
 
+/// Where a rule is told (LSP 3.17, "CodeDescription").
+#[derive(Drop)]
+pub struct CodeDescription {
+    /// The URI of a page.
+    pub href: String,
+}
+
+impl Described for CodeDescription {}
+
+impl Keyed for CodeDescription {
+    const KEYS: &'static [&'static str] = &["href"];
+}
+
+impl WriteMembers for CodeDescription {
+    fn write<O: Sink>(&self, out: O) -> O {
+        out.member(&self.href)
+    }
+}
+
+impl Serialize for CodeDescription {
+    fn serialize<S: Serializer>(&self, out: &mut S) -> Result<(), S::Error> {
+        write_object(self, out)
+    }
+}
+
+impl ReadMembers for CodeDescription {
+    fn read<S: Source>(members: &mut S) -> CodeDescription {
+        CodeDescription {
+            href: members.required(),
+        }
+    }
+}
+
+impl DeserializeOwned for CodeDescription {
+    fn deserialize_owned<F: Format>(
+        alloc: Global,
+        from: &mut Deserializer<'_, '_, F>,
+    ) -> Result<CodeDescription, F::Error> {
+        read_object(alloc, from)
+    }
+}
+
 /// What is wrong with a part of a document (LSP 3.17, "Diagnostic").
 #[derive(Drop)]
 pub struct Diagnostic {
@@ -158,6 +200,8 @@ pub struct Diagnostic {
     pub severity: Option<DiagnosticSeverity>,
     /// The code of the rule that it breaks.
     pub code: Option<NumberOrString>,
+    /// Where that rule is told.
+    pub code_description: Option<CodeDescription>,
     /// Who says so, as the name of a compiler.
     pub source: Option<String>,
     /// What is wrong, for people.
@@ -179,6 +223,7 @@ impl Diagnostic {
           range = range;
           severity = Some severity;
           code = None;
+          code_description = None;
           source = None;
           message = message;
           tags = None;
@@ -190,6 +235,7 @@ impl Diagnostic {
             range,
             severity: Some(severity),
             code: None,
+            code_description: None,
             source: None,
             message,
             tags: None,
@@ -206,6 +252,7 @@ impl Keyed for Diagnostic {
         "range",
         "severity",
         "code",
+        "codeDescription",
         "source",
         "message",
         "tags",
@@ -219,6 +266,7 @@ impl WriteMembers for Diagnostic {
         out.member(&self.range)
             .some(&self.severity)
             .some(&self.code)
+            .some(&self.code_description)
             .some(&self.source)
             .member(&self.message)
             .some(&self.tags)
@@ -239,6 +287,7 @@ impl ReadMembers for Diagnostic {
             range: members.required(),
             severity: members.optional(),
             code: members.optional(),
+            code_description: members.optional(),
             source: members.optional(),
             message: members.required(),
             tags: members.optional(),

@@ -1,9 +1,11 @@
 //! Places in documents, and what a client tells of its documents.
 // `tools/types` wrote this file from `types.txt`: change that.
 use crate::json::{
-    Changes, Keyed, ReadMembers, Sink, Source, WriteMembers, if_fits, read_object, text_or_empty,
-    write_object,
+    Blank, Changes, Keyed, ReadMembers, Sink, Source, WriteMembers, if_fits, read_object,
+    text_or_empty, write_object,
 };
+use crate::numbers::number_within;
+use crate::progress::ProgressToken;
 use lsp_text::{ContentChange, Position, Range};
 use serde::{
     Described, Deserialize, DeserializeOwned, Deserializer, Format, Serialize, Serializer,
@@ -365,56 +367,197 @@ impl DeserializeOwned for DidSaveTextDocumentParams {
     }
 }
 
-/// A document: the params of requests about a whole one (LSP 3.17, "DocumentSymbolParams" and others).
+/// The params of `textDocument/willSave` and `willSaveWaitUntil` (LSP 3.17, "WillSaveTextDocument Notification"). The result of the
+/// second is a list of `TextEdit` or null.
 #[derive(Drop)]
-pub struct TextDocumentParams {
-    /// The document.
+pub struct WillSaveTextDocumentParams {
+    /// The document that will be saved.
     pub text_document: TextDocumentIdentifier,
+    /// Why.
+    pub reason: TextDocumentSaveReason,
 }
 
-impl Described for TextDocumentParams {}
+impl Described for WillSaveTextDocumentParams {}
 
-impl Keyed for TextDocumentParams {
-    const KEYS: &'static [&'static str] = &["textDocument"];
+impl Keyed for WillSaveTextDocumentParams {
+    const KEYS: &'static [&'static str] = &["textDocument", "reason"];
 }
 
-impl WriteMembers for TextDocumentParams {
+impl WriteMembers for WillSaveTextDocumentParams {
     fn write<O: Sink>(&self, out: O) -> O {
-        out.member(&self.text_document)
+        out.member(&self.text_document).member(&self.reason)
     }
 }
 
-impl Serialize for TextDocumentParams {
+impl Serialize for WillSaveTextDocumentParams {
     fn serialize<S: Serializer>(&self, out: &mut S) -> Result<(), S::Error> {
         write_object(self, out)
     }
 }
 
-impl ReadMembers for TextDocumentParams {
-    fn read<S: Source>(members: &mut S) -> TextDocumentParams {
-        TextDocumentParams {
+impl ReadMembers for WillSaveTextDocumentParams {
+    fn read<S: Source>(members: &mut S) -> WillSaveTextDocumentParams {
+        WillSaveTextDocumentParams {
+            text_document: members.required(),
+            reason: members.required(),
+        }
+    }
+}
+
+impl DeserializeOwned for WillSaveTextDocumentParams {
+    fn deserialize_owned<F: Format>(
+        alloc: Global,
+        from: &mut Deserializer<'_, '_, F>,
+    ) -> Result<WillSaveTextDocumentParams, F::Error> {
+        read_object(alloc, from)
+    }
+}
+
+/// Why a document is saved (LSP 3.17, "TextDocumentSaveReason"). On reading, another number is refused.
+#[derive(Clone, Copy, Drop)]
+pub struct TextDocumentSaveReason(pub u32);
+
+impl TextDocumentSaveReason {
+    /// The user asked, or a command.
+    pub const MANUAL: TextDocumentSaveReason = TextDocumentSaveReason(1);
+    /// Some time went by.
+    pub const AFTER_DELAY: TextDocumentSaveReason = TextDocumentSaveReason(2);
+    /// The editor lost the focus.
+    pub const FOCUS_OUT: TextDocumentSaveReason = TextDocumentSaveReason(3);
+}
+
+impl Described for TextDocumentSaveReason {}
+
+impl Serialize for TextDocumentSaveReason {
+    fn serialize<S: Serializer>(&self, out: &mut S) -> Result<(), S::Error> {
+        self.0.serialize(out)
+    }
+}
+
+impl<'de> Deserialize<'de> for TextDocumentSaveReason {
+    fn deserialize<F: Format>(
+        alloc: Global,
+        from: &mut Deserializer<'de, '_, F>,
+    ) -> Result<TextDocumentSaveReason, F::Error> {
+        match number_within(alloc, from, 1, 3) {
+            Ok(number) => Ok(TextDocumentSaveReason(number)),
+            Err(failed) => Err(failed),
+        }
+    }
+}
+
+impl DeserializeOwned for TextDocumentSaveReason {
+    fn deserialize_owned<F: Format>(
+        alloc: Global,
+        from: &mut Deserializer<'_, '_, F>,
+    ) -> Result<TextDocumentSaveReason, F::Error> {
+        TextDocumentSaveReason::deserialize(alloc, from)
+    }
+}
+
+impl Blank for TextDocumentSaveReason {
+    fn blank(_alloc: Global) -> TextDocumentSaveReason {
+        TextDocumentSaveReason::MANUAL
+    }
+}
+
+/// The params of `textDocument/didClose` (LSP 3.17, "DidCloseTextDocument Notification").
+#[derive(Drop)]
+pub struct DidCloseTextDocumentParams {
+    /// The document.
+    pub text_document: TextDocumentIdentifier,
+}
+
+impl Described for DidCloseTextDocumentParams {}
+
+impl Keyed for DidCloseTextDocumentParams {
+    const KEYS: &'static [&'static str] = &["textDocument"];
+}
+
+impl WriteMembers for DidCloseTextDocumentParams {
+    fn write<O: Sink>(&self, out: O) -> O {
+        out.member(&self.text_document)
+    }
+}
+
+impl Serialize for DidCloseTextDocumentParams {
+    fn serialize<S: Serializer>(&self, out: &mut S) -> Result<(), S::Error> {
+        write_object(self, out)
+    }
+}
+
+impl ReadMembers for DidCloseTextDocumentParams {
+    fn read<S: Source>(members: &mut S) -> DidCloseTextDocumentParams {
+        DidCloseTextDocumentParams {
             text_document: members.required(),
         }
     }
 }
 
-impl DeserializeOwned for TextDocumentParams {
+impl DeserializeOwned for DidCloseTextDocumentParams {
     fn deserialize_owned<F: Format>(
         alloc: Global,
         from: &mut Deserializer<'_, '_, F>,
-    ) -> Result<TextDocumentParams, F::Error> {
+    ) -> Result<DidCloseTextDocumentParams, F::Error> {
         read_object(alloc, from)
     }
 }
 
-/// The params of `textDocument/didClose` (LSP 3.17, "DidCloseTextDocument Notification").
-pub type DidCloseTextDocumentParams = TextDocumentParams;
-
 /// The params of `textDocument/documentSymbol` (LSP 3.17, "Document Symbols Request").
-pub type DocumentSymbolParams = TextDocumentParams;
+#[derive(Drop)]
+pub struct DocumentSymbolParams {
+    /// The document.
+    pub text_document: TextDocumentIdentifier,
+    /// The token to report progress with. None if it is not asked for, or does not fit.
+    pub work_done_token: Option<ProgressToken>,
+    /// The token to send parts of the result with. None if they are not asked for, or it does not fit.
+    pub partial_result_token: Option<ProgressToken>,
+}
+
+impl Described for DocumentSymbolParams {}
+
+impl Keyed for DocumentSymbolParams {
+    const KEYS: &'static [&'static str] = &["textDocument", "workDoneToken", "partialResultToken"];
+}
+
+impl WriteMembers for DocumentSymbolParams {
+    fn write<O: Sink>(&self, out: O) -> O {
+        out.member(&self.text_document)
+            .some(&self.work_done_token)
+            .some(&self.partial_result_token)
+    }
+}
+
+impl Serialize for DocumentSymbolParams {
+    fn serialize<S: Serializer>(&self, out: &mut S) -> Result<(), S::Error> {
+        write_object(self, out)
+    }
+}
+
+impl ReadMembers for DocumentSymbolParams {
+    fn read<S: Source>(members: &mut S) -> DocumentSymbolParams {
+        DocumentSymbolParams {
+            text_document: members.required(),
+            work_done_token: if_fits(members),
+            partial_result_token: if_fits(members),
+        }
+    }
+}
+
+impl DeserializeOwned for DocumentSymbolParams {
+    fn deserialize_owned<F: Format>(
+        alloc: Global,
+        from: &mut Deserializer<'_, '_, F>,
+    ) -> Result<DocumentSymbolParams, F::Error> {
+        read_object(alloc, from)
+    }
+}
+
+/// A document: the params of requests about a whole one (LSP 3.17, "DocumentSymbolParams" and others).
+pub type TextDocumentParams = DocumentSymbolParams;
 
 /// The params of `textDocument/semanticTokens/full` (LSP 3.17, "Semantic Tokens").
-pub type SemanticTokensParams = TextDocumentParams;
+pub type SemanticTokensParams = DocumentSymbolParams;
 
 /// A place in a document: the params of hover, definition, signature help and others (LSP 3.17, "TextDocumentPositionParams").
 #[derive(Drop)]
@@ -461,56 +604,117 @@ impl DeserializeOwned for TextDocumentPositionParams {
     }
 }
 
-/// A part of a document: the params of requests about one (LSP 3.17, "InlayHintParams" and others).
+/// The params of `textDocument/inlayHint` (LSP 3.17, "Inlay Hint Request").
 #[derive(Drop)]
-pub struct TextDocumentRangeParams {
+pub struct InlayHintParams {
     /// The document.
     pub text_document: TextDocumentIdentifier,
     /// The part of it.
     pub range: Range,
+    /// The token to report progress with. None if it is not asked for, or does not fit.
+    pub work_done_token: Option<ProgressToken>,
 }
 
-impl Described for TextDocumentRangeParams {}
+impl Described for InlayHintParams {}
 
-impl Keyed for TextDocumentRangeParams {
-    const KEYS: &'static [&'static str] = &["textDocument", "range"];
+impl Keyed for InlayHintParams {
+    const KEYS: &'static [&'static str] = &["textDocument", "range", "workDoneToken"];
 }
 
-impl WriteMembers for TextDocumentRangeParams {
+impl WriteMembers for InlayHintParams {
     fn write<O: Sink>(&self, out: O) -> O {
-        out.member(&self.text_document).member(&self.range)
+        out.member(&self.text_document)
+            .member(&self.range)
+            .some(&self.work_done_token)
     }
 }
 
-impl Serialize for TextDocumentRangeParams {
+impl Serialize for InlayHintParams {
     fn serialize<S: Serializer>(&self, out: &mut S) -> Result<(), S::Error> {
         write_object(self, out)
     }
 }
 
-impl ReadMembers for TextDocumentRangeParams {
-    fn read<S: Source>(members: &mut S) -> TextDocumentRangeParams {
-        TextDocumentRangeParams {
+impl ReadMembers for InlayHintParams {
+    fn read<S: Source>(members: &mut S) -> InlayHintParams {
+        InlayHintParams {
             text_document: members.required(),
             range: members.required(),
+            work_done_token: if_fits(members),
         }
     }
 }
 
-impl DeserializeOwned for TextDocumentRangeParams {
+impl DeserializeOwned for InlayHintParams {
     fn deserialize_owned<F: Format>(
         alloc: Global,
         from: &mut Deserializer<'_, '_, F>,
-    ) -> Result<TextDocumentRangeParams, F::Error> {
+    ) -> Result<InlayHintParams, F::Error> {
         read_object(alloc, from)
     }
 }
 
-/// The params of `textDocument/inlayHint` (LSP 3.17, "Inlay Hint Request").
-pub type InlayHintParams = TextDocumentRangeParams;
-
 /// The params of `textDocument/semanticTokens/range` (LSP 3.17, "Semantic Tokens").
-pub type SemanticTokensRangeParams = TextDocumentRangeParams;
+#[derive(Drop)]
+pub struct SemanticTokensRangeParams {
+    /// The document.
+    pub text_document: TextDocumentIdentifier,
+    /// The part of it.
+    pub range: Range,
+    /// The token to report progress with. None if it is not asked for, or does not fit.
+    pub work_done_token: Option<ProgressToken>,
+    /// The token to send parts of the result with. None if they are not asked for, or it does not fit.
+    pub partial_result_token: Option<ProgressToken>,
+}
+
+impl Described for SemanticTokensRangeParams {}
+
+impl Keyed for SemanticTokensRangeParams {
+    const KEYS: &'static [&'static str] = &[
+        "textDocument",
+        "range",
+        "workDoneToken",
+        "partialResultToken",
+    ];
+}
+
+impl WriteMembers for SemanticTokensRangeParams {
+    fn write<O: Sink>(&self, out: O) -> O {
+        out.member(&self.text_document)
+            .member(&self.range)
+            .some(&self.work_done_token)
+            .some(&self.partial_result_token)
+    }
+}
+
+impl Serialize for SemanticTokensRangeParams {
+    fn serialize<S: Serializer>(&self, out: &mut S) -> Result<(), S::Error> {
+        write_object(self, out)
+    }
+}
+
+impl ReadMembers for SemanticTokensRangeParams {
+    fn read<S: Source>(members: &mut S) -> SemanticTokensRangeParams {
+        SemanticTokensRangeParams {
+            text_document: members.required(),
+            range: members.required(),
+            work_done_token: if_fits(members),
+            partial_result_token: if_fits(members),
+        }
+    }
+}
+
+impl DeserializeOwned for SemanticTokensRangeParams {
+    fn deserialize_owned<F: Format>(
+        alloc: Global,
+        from: &mut Deserializer<'_, '_, F>,
+    ) -> Result<SemanticTokensRangeParams, F::Error> {
+        read_object(alloc, from)
+    }
+}
+
+/// A part of a document: the params of requests about one (LSP 3.17, "SemanticTokensRangeParams" and others).
+pub type TextDocumentRangeParams = SemanticTokensRangeParams;
 
 /// The params of `textDocument/references` (LSP 3.17, "Find References Request").
 #[derive(Drop)]
@@ -521,12 +725,22 @@ pub struct ReferenceParams {
     pub position: Position,
     /// Which references are asked for.
     pub context: ReferenceContext,
+    /// The token to report progress with. None if it is not asked for, or does not fit.
+    pub work_done_token: Option<ProgressToken>,
+    /// The token to send parts of the result with. None if they are not asked for, or it does not fit.
+    pub partial_result_token: Option<ProgressToken>,
 }
 
 impl Described for ReferenceParams {}
 
 impl Keyed for ReferenceParams {
-    const KEYS: &'static [&'static str] = &["textDocument", "position", "context"];
+    const KEYS: &'static [&'static str] = &[
+        "textDocument",
+        "position",
+        "context",
+        "workDoneToken",
+        "partialResultToken",
+    ];
 }
 
 impl WriteMembers for ReferenceParams {
@@ -534,6 +748,8 @@ impl WriteMembers for ReferenceParams {
         out.member(&self.text_document)
             .member(&self.position)
             .member(&self.context)
+            .some(&self.work_done_token)
+            .some(&self.partial_result_token)
     }
 }
 
@@ -549,6 +765,8 @@ impl ReadMembers for ReferenceParams {
             text_document: members.required(),
             position: members.required(),
             context: members.required(),
+            work_done_token: if_fits(members),
+            partial_result_token: if_fits(members),
         }
     }
 }

@@ -1,7 +1,10 @@
 //! Changes of texts that a server makes: edits, renames and formatting.
 // `tools/types` wrote this file from `types.txt`: change that.
 use crate::documents::TextDocumentIdentifier;
-use crate::json::{Keyed, ReadMembers, Sink, Source, WriteMembers, read_object, write_object};
+use crate::json::{
+    Keyed, ReadMembers, Sink, Source, WriteMembers, if_fits, read_object, write_object,
+};
+use crate::progress::ProgressToken;
 use lsp_text::{Position, Range};
 use serde::{
     Described, Deserialize, DeserializeOwned, Deserializer, Format, Serialize, Serializer,
@@ -179,17 +182,21 @@ pub struct WorkspaceEdit {
     /// The same with versions, for clients with `workspace.workspaceEdit.documentChanges`. A client may take these and pass
     /// `changes` over.
     pub document_changes: Option<Vec<TextDocumentEdit>>,
+    /// What is said of changes, by the name that they have.
+    pub change_annotations: Option<BTreeMap<String, ChangeAnnotation>>,
 }
 
 impl Described for WorkspaceEdit {}
 
 impl Keyed for WorkspaceEdit {
-    const KEYS: &'static [&'static str] = &["changes", "documentChanges"];
+    const KEYS: &'static [&'static str] = &["changes", "documentChanges", "changeAnnotations"];
 }
 
 impl WriteMembers for WorkspaceEdit {
     fn write<O: Sink>(&self, out: O) -> O {
-        out.some(&self.changes).some(&self.document_changes)
+        out.some(&self.changes)
+            .some(&self.document_changes)
+            .some(&self.change_annotations)
     }
 }
 
@@ -204,6 +211,7 @@ impl ReadMembers for WorkspaceEdit {
         WorkspaceEdit {
             changes: members.optional(),
             document_changes: members.optional(),
+            change_annotations: members.optional(),
         }
     }
 }
@@ -226,6 +234,56 @@ impl DeserializeOwned for WorkspaceEdit {
     }
 }
 
+/// What is said of a change, before the user agrees to it (LSP 3.17, "ChangeAnnotation").
+#[derive(Drop)]
+pub struct ChangeAnnotation {
+    /// What is shown.
+    pub label: String,
+    /// Whether the user has to agree.
+    pub needs_confirmation: Option<bool>,
+    /// More about it.
+    pub description: Option<String>,
+}
+
+impl Described for ChangeAnnotation {}
+
+impl Keyed for ChangeAnnotation {
+    const KEYS: &'static [&'static str] = &["label", "needsConfirmation", "description"];
+}
+
+impl WriteMembers for ChangeAnnotation {
+    fn write<O: Sink>(&self, out: O) -> O {
+        out.member(&self.label)
+            .some(&self.needs_confirmation)
+            .some(&self.description)
+    }
+}
+
+impl Serialize for ChangeAnnotation {
+    fn serialize<S: Serializer>(&self, out: &mut S) -> Result<(), S::Error> {
+        write_object(self, out)
+    }
+}
+
+impl ReadMembers for ChangeAnnotation {
+    fn read<S: Source>(members: &mut S) -> ChangeAnnotation {
+        ChangeAnnotation {
+            label: members.required(),
+            needs_confirmation: members.optional(),
+            description: members.optional(),
+        }
+    }
+}
+
+impl DeserializeOwned for ChangeAnnotation {
+    fn deserialize_owned<F: Format>(
+        alloc: Global,
+        from: &mut Deserializer<'_, '_, F>,
+    ) -> Result<ChangeAnnotation, F::Error> {
+        read_object(alloc, from)
+    }
+}
+
 /// The params of `textDocument/rename` (LSP 3.17, "Rename Request"). The result is a `WorkspaceEdit` or null.
 #[derive(Drop)]
 pub struct RenameParams {
@@ -235,12 +293,14 @@ pub struct RenameParams {
     pub position: Position,
     /// Its new name.
     pub new_name: String,
+    /// The token to report progress with. None if it is not asked for, or does not fit.
+    pub work_done_token: Option<ProgressToken>,
 }
 
 impl Described for RenameParams {}
 
 impl Keyed for RenameParams {
-    const KEYS: &'static [&'static str] = &["textDocument", "position", "newName"];
+    const KEYS: &'static [&'static str] = &["textDocument", "position", "newName", "workDoneToken"];
 }
 
 impl WriteMembers for RenameParams {
@@ -248,6 +308,7 @@ impl WriteMembers for RenameParams {
         out.member(&self.text_document)
             .member(&self.position)
             .member(&self.new_name)
+            .some(&self.work_done_token)
     }
 }
 
@@ -263,6 +324,7 @@ impl ReadMembers for RenameParams {
             text_document: members.required(),
             position: members.required(),
             new_name: members.required(),
+            work_done_token: if_fits(members),
         }
     }
 }
@@ -272,6 +334,51 @@ impl DeserializeOwned for RenameParams {
         alloc: Global,
         from: &mut Deserializer<'_, '_, F>,
     ) -> Result<RenameParams, F::Error> {
+        read_object(alloc, from)
+    }
+}
+
+/// The result of `textDocument/prepareRename`, or null (LSP 3.17, "Prepare Rename Request").
+#[derive(Drop)]
+pub struct PrepareRenameResult {
+    /// The part that is renamed.
+    pub range: Range,
+    /// The name that the user may change.
+    pub placeholder: String,
+}
+
+impl Described for PrepareRenameResult {}
+
+impl Keyed for PrepareRenameResult {
+    const KEYS: &'static [&'static str] = &["range", "placeholder"];
+}
+
+impl WriteMembers for PrepareRenameResult {
+    fn write<O: Sink>(&self, out: O) -> O {
+        out.member(&self.range).member(&self.placeholder)
+    }
+}
+
+impl Serialize for PrepareRenameResult {
+    fn serialize<S: Serializer>(&self, out: &mut S) -> Result<(), S::Error> {
+        write_object(self, out)
+    }
+}
+
+impl ReadMembers for PrepareRenameResult {
+    fn read<S: Source>(members: &mut S) -> PrepareRenameResult {
+        PrepareRenameResult {
+            range: members.required(),
+            placeholder: members.required(),
+        }
+    }
+}
+
+impl DeserializeOwned for PrepareRenameResult {
+    fn deserialize_owned<F: Format>(
+        alloc: Global,
+        from: &mut Deserializer<'_, '_, F>,
+    ) -> Result<PrepareRenameResult, F::Error> {
         read_object(alloc, from)
     }
 }
@@ -356,17 +463,21 @@ pub struct DocumentFormattingParams {
     pub text_document: TextDocumentIdentifier,
     /// How to format it.
     pub options: FormattingOptions,
+    /// The token to report progress with. None if it is not asked for, or does not fit.
+    pub work_done_token: Option<ProgressToken>,
 }
 
 impl Described for DocumentFormattingParams {}
 
 impl Keyed for DocumentFormattingParams {
-    const KEYS: &'static [&'static str] = &["textDocument", "options"];
+    const KEYS: &'static [&'static str] = &["textDocument", "options", "workDoneToken"];
 }
 
 impl WriteMembers for DocumentFormattingParams {
     fn write<O: Sink>(&self, out: O) -> O {
-        out.member(&self.text_document).member(&self.options)
+        out.member(&self.text_document)
+            .member(&self.options)
+            .some(&self.work_done_token)
     }
 }
 
@@ -381,6 +492,7 @@ impl ReadMembers for DocumentFormattingParams {
         DocumentFormattingParams {
             text_document: members.required(),
             options: members.required(),
+            work_done_token: if_fits(members),
         }
     }
 }
@@ -390,6 +502,61 @@ impl DeserializeOwned for DocumentFormattingParams {
         alloc: Global,
         from: &mut Deserializer<'_, '_, F>,
     ) -> Result<DocumentFormattingParams, F::Error> {
+        read_object(alloc, from)
+    }
+}
+
+/// The params of `textDocument/rangeFormatting` (LSP 3.17, "Document Range Formatting Request"). The result is a list of `TextEdit`
+/// or null.
+#[derive(Drop)]
+pub struct DocumentRangeFormattingParams {
+    /// The document.
+    pub text_document: TextDocumentIdentifier,
+    /// The part to format.
+    pub range: Range,
+    /// How to format it.
+    pub options: FormattingOptions,
+    /// The token to report progress with. None if it is not asked for, or does not fit.
+    pub work_done_token: Option<ProgressToken>,
+}
+
+impl Described for DocumentRangeFormattingParams {}
+
+impl Keyed for DocumentRangeFormattingParams {
+    const KEYS: &'static [&'static str] = &["textDocument", "range", "options", "workDoneToken"];
+}
+
+impl WriteMembers for DocumentRangeFormattingParams {
+    fn write<O: Sink>(&self, out: O) -> O {
+        out.member(&self.text_document)
+            .member(&self.range)
+            .member(&self.options)
+            .some(&self.work_done_token)
+    }
+}
+
+impl Serialize for DocumentRangeFormattingParams {
+    fn serialize<S: Serializer>(&self, out: &mut S) -> Result<(), S::Error> {
+        write_object(self, out)
+    }
+}
+
+impl ReadMembers for DocumentRangeFormattingParams {
+    fn read<S: Source>(members: &mut S) -> DocumentRangeFormattingParams {
+        DocumentRangeFormattingParams {
+            text_document: members.required(),
+            range: members.required(),
+            options: members.required(),
+            work_done_token: if_fits(members),
+        }
+    }
+}
+
+impl DeserializeOwned for DocumentRangeFormattingParams {
+    fn deserialize_owned<F: Format>(
+        alloc: Global,
+        from: &mut Deserializer<'_, '_, F>,
+    ) -> Result<DocumentRangeFormattingParams, F::Error> {
         read_object(alloc, from)
     }
 }

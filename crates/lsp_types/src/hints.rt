@@ -1,5 +1,6 @@
 //! Inlay hints: what a client shows between the characters of a text.
 // `tools/types` wrote this file from `types.txt`: change that.
+use crate::edits::TextEdit;
 use crate::json::{Keyed, ReadMembers, Sink, Source, WriteMembers, read_object, write_object};
 use crate::numbers::number_within;
 use lsp_text::Position;
@@ -58,6 +59,8 @@ pub struct InlayHint {
     pub label: String,
     /// What it tells.
     pub kind: Option<InlayHintKind>,
+    /// Edits that make it a part of the text, if the user takes it.
+    pub text_edits: Option<Vec<TextEdit>>,
     /// What is shown as the mouse stands over it.
     pub tooltip: Option<String>,
     /// Whether a space stands before it.
@@ -75,6 +78,7 @@ impl Keyed for InlayHint {
         "position",
         "label",
         "kind",
+        "textEdits",
         "tooltip",
         "paddingLeft",
         "paddingRight",
@@ -87,6 +91,7 @@ impl WriteMembers for InlayHint {
         out.member(&self.position)
             .member(&self.label)
             .some(&self.kind)
+            .some(&self.text_edits)
             .some(&self.tooltip)
             .some(&self.padding_left)
             .some(&self.padding_right)
@@ -106,6 +111,7 @@ impl ReadMembers for InlayHint {
             position: members.required(),
             label: members.required(),
             kind: members.optional(),
+            text_edits: members.optional(),
             tooltip: members.optional(),
             padding_left: members.optional(),
             padding_right: members.optional(),

@@ -4,6 +4,7 @@ use crate::capabilities::ServerCapabilities;
 use crate::json::{
     Keyed, ReadMembers, Sink, Source, WriteMembers, if_fits, read_object, write_object,
 };
+use crate::progress::ProgressToken;
 use crate::workspace::WorkspaceFolder;
 use serde::{
     Described, Deserialize, DeserializeOwned, Deserializer, Format, Serialize, Serializer,
@@ -18,6 +19,10 @@ pub struct InitializeParams {
     pub process_id: Option<i32>,
     /// Who the client is. On reading, none if it does not fit.
     pub client_info: Option<ClientInfo>,
+    /// The language that the client shows, as `de-CH`. On reading, none if it does not fit.
+    pub locale: Option<String>,
+    /// The path of the folder that is open. `root_uri` has come in its place. On reading, none if it does not fit.
+    pub root_path: Option<String>,
     /// The folder that is open. `workspace_folders` has come in its place.
     pub root_uri: Option<String>,
     /// The folders that are open. `None` means that the client has no such list, or no folder is open.
@@ -26,6 +31,10 @@ pub struct InitializeParams {
     pub initialization_options: Option<Value>,
     /// What the client can do. Read a member by `pointer`.
     pub capabilities: Value,
+    /// How much the client wants to be told: `off`, `messages` or `verbose`. On reading, none if it does not fit.
+    pub trace: Option<String>,
+    /// The token to report progress with. None if it is not asked for, or does not fit.
+    pub work_done_token: Option<ProgressToken>,
 }
 
 impl Described for InitializeParams {}
@@ -34,10 +43,14 @@ impl Keyed for InitializeParams {
     const KEYS: &'static [&'static str] = &[
         "processId",
         "clientInfo",
+        "locale",
+        "rootPath",
         "rootUri",
         "workspaceFolders",
         "initializationOptions",
         "capabilities",
+        "trace",
+        "workDoneToken",
     ];
 }
 
@@ -45,10 +58,14 @@ impl WriteMembers for InitializeParams {
     fn write<O: Sink>(&self, out: O) -> O {
         out.member(&self.process_id)
             .some(&self.client_info)
+            .some(&self.locale)
+            .some(&self.root_path)
             .member(&self.root_uri)
             .some(&self.workspace_folders)
             .some(&self.initialization_options)
             .member(&self.capabilities)
+            .some(&self.trace)
+            .some(&self.work_done_token)
     }
 }
 
@@ -63,10 +80,14 @@ impl ReadMembers for InitializeParams {
         InitializeParams {
             process_id: if_fits(members),
             client_info: if_fits(members),
+            locale: if_fits(members),
+            root_path: if_fits(members),
             root_uri: members.optional(),
             workspace_folders: members.optional(),
             initialization_options: members.optional(),
             capabilities: members.required(),
+            trace: if_fits(members),
+            work_done_token: if_fits(members),
         }
     }
 }

@@ -23,8 +23,13 @@ pub const CODE_ACTION: &str = "textDocument/codeAction";
 pub const CODE_ACTION_RESOLVE: &str = "codeAction/resolve";
 /// `textDocument/formatting`: a request, with `DocumentFormattingParams`; the result is a list of `TextEdit` or null.
 pub const FORMATTING: &str = "textDocument/formatting";
+/// `textDocument/rangeFormatting`: a request, with `DocumentRangeFormattingParams`; the result is a list of `TextEdit` or null.
+pub const RANGE_FORMATTING: &str = "textDocument/rangeFormatting";
 /// `textDocument/rename`: a request, with `RenameParams`; the result is a `WorkspaceEdit` or null.
 pub const RENAME: &str = "textDocument/rename";
+/// `textDocument/prepareRename`: a request, with `TextDocumentPositionParams`; the result is a `PrepareRenameResult`, a `Range` or
+/// null.
+pub const PREPARE_RENAME: &str = "textDocument/prepareRename";
 /// `textDocument/semanticTokens/full`: a request, with `SemanticTokensParams`; the result is `SemanticTokens` or null.
 pub const SEMANTIC_TOKENS_FULL: &str = "textDocument/semanticTokens/full";
 /// `textDocument/semanticTokens/range`: a request, with `SemanticTokensRangeParams`; the result is `SemanticTokens` or null.
@@ -33,10 +38,18 @@ pub const SEMANTIC_TOKENS_RANGE: &str = "textDocument/semanticTokens/range";
 pub const INLAY_HINT: &str = "textDocument/inlayHint";
 /// `workspace/executeCommand`: a request, with `ExecuteCommandParams`; the result is any value.
 pub const EXECUTE_COMMAND: &str = "workspace/executeCommand";
+/// `workspace/symbol`: a request, with `WorkspaceSymbolParams`; the result is a list of `WorkspaceSymbol` or null.
+pub const WORKSPACE_SYMBOL: &str = "workspace/symbol";
+/// `workspaceSymbol/resolve`: a request, with a `WorkspaceSymbol`; the result is the same, with more.
+pub const WORKSPACE_SYMBOL_RESOLVE: &str = "workspaceSymbol/resolve";
 /// `textDocument/didOpen`: a notification, with `DidOpenTextDocumentParams`.
 pub const DID_OPEN: &str = "textDocument/didOpen";
 /// `textDocument/didChange`: a notification, with `DidChangeTextDocumentParams`.
 pub const DID_CHANGE: &str = "textDocument/didChange";
+/// `textDocument/willSave`: a notification, with `WillSaveTextDocumentParams`.
+pub const WILL_SAVE: &str = "textDocument/willSave";
+/// `textDocument/willSaveWaitUntil`: a request, with `WillSaveTextDocumentParams`; the result is a list of `TextEdit` or null.
+pub const WILL_SAVE_WAIT_UNTIL: &str = "textDocument/willSaveWaitUntil";
 /// `textDocument/didSave`: a notification, with `DidSaveTextDocumentParams`.
 pub const DID_SAVE: &str = "textDocument/didSave";
 /// `textDocument/didClose`: a notification, with `DidCloseTextDocumentParams`.

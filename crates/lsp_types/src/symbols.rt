@@ -1,10 +1,20 @@
 //! Symbols of a document and of a workspace.
 // `tools/types` wrote this file from `types.txt`: change that.
-use crate::json::{Keyed, Object, Sink};
+use crate::documents::Location;
+use crate::json::{
+    Blank, Keyed, Object, ReadMembers, Sink, Source, WriteMembers, if_fits, read_object,
+    write_object,
+};
+use crate::numbers::number_within;
+use crate::progress::ProgressToken;
 use lsp_text::Range;
-use serde::{Described, Serialize, Serializer};
+use serde::{
+    Described, Deserialize, DeserializeOwned, Deserializer, Format, Serialize, Serializer,
+};
+use serde_json::Value;
+use std::alloc::Global;
 
-/// What a symbol is (LSP 3.17, "SymbolKind").
+/// What a symbol is (LSP 3.17, "SymbolKind"). On reading, another number is refused.
 #[derive(Clone, Copy, Drop)]
 pub struct SymbolKind(pub u32);
 
@@ -71,6 +81,71 @@ impl Serialize for SymbolKind {
     }
 }
 
+impl<'de> Deserialize<'de> for SymbolKind {
+    fn deserialize<F: Format>(
+        alloc: Global,
+        from: &mut Deserializer<'de, '_, F>,
+    ) -> Result<SymbolKind, F::Error> {
+        match number_within(alloc, from, 1, 26) {
+            Ok(number) => Ok(SymbolKind(number)),
+            Err(failed) => Err(failed),
+        }
+    }
+}
+
+impl DeserializeOwned for SymbolKind {
+    fn deserialize_owned<F: Format>(
+        alloc: Global,
+        from: &mut Deserializer<'_, '_, F>,
+    ) -> Result<SymbolKind, F::Error> {
+        SymbolKind::deserialize(alloc, from)
+    }
+}
+
+impl Blank for SymbolKind {
+    fn blank(_alloc: Global) -> SymbolKind {
+        SymbolKind::FILE
+    }
+}
+
+/// How a client may show a symbol (LSP 3.17, "SymbolTag"). On reading, another number is refused.
+#[derive(Clone, Copy, Drop)]
+pub struct SymbolTag(pub u32);
+
+impl SymbolTag {
+    /// Struck through: code that is not to be used.
+    pub const DEPRECATED: SymbolTag = SymbolTag(1);
+}
+
+impl Described for SymbolTag {}
+
+impl Serialize for SymbolTag {
+    fn serialize<S: Serializer>(&self, out: &mut S) -> Result<(), S::Error> {
+        self.0.serialize(out)
+    }
+}
+
+impl<'de> Deserialize<'de> for SymbolTag {
+    fn deserialize<F: Format>(
+        alloc: Global,
+        from: &mut Deserializer<'de, '_, F>,
+    ) -> Result<SymbolTag, F::Error> {
+        match number_within(alloc, from, 1, 1) {
+            Ok(number) => Ok(SymbolTag(number)),
+            Err(failed) => Err(failed),
+        }
+    }
+}
+
+impl DeserializeOwned for SymbolTag {
+    fn deserialize_owned<F: Format>(
+        alloc: Global,
+        from: &mut Deserializer<'_, '_, F>,
+    ) -> Result<SymbolTag, F::Error> {
+        SymbolTag::deserialize(alloc, from)
+    }
+}
+
 /// A symbol of a document, with those inside it (LSP 3.17, "DocumentSymbol").
 #[derive(Drop)]
 pub struct DocumentSymbol {
@@ -80,6 +155,10 @@ pub struct DocumentSymbol {
     pub detail: Option<String>,
     /// What it is.
     pub kind: SymbolKind,
+    /// How it may be shown.
+    pub tags: Option<Vec<SymbolTag>>,
+    /// Whether it is not to be used. `tags` has come in its place.
+    pub deprecated: Option<bool>,
     /// All of it.
     pub range: Range,
     /// The part to select, as its name. It lies in `range`.
@@ -95,6 +174,8 @@ impl Keyed for DocumentSymbol {
         "name",
         "detail",
         "kind",
+        "tags",
+        "deprecated",
         "range",
         "selectionRange",
         "children",
@@ -108,9 +189,130 @@ impl Serialize for DocumentSymbol {
             .member(&self.name)
             .some(&self.detail)
             .member(&self.kind)
+            .some(&self.tags)
+            .some(&self.deprecated)
             .member(&self.range)
             .member(&self.selection_range)
             .member(&self.children);
         object.end()
+    }
+}
+
+/// The params of `workspace/symbol` (LSP 3.17, "Workspace Symbols Request"). The result is a list of `WorkspaceSymbol` or null.
+#[derive(Drop)]
+pub struct WorkspaceSymbolParams {
+    /// What the user typed. The empty text asks for all.
+    pub query: String,
+    /// The token to report progress with. None if it is not asked for, or does not fit.
+    pub work_done_token: Option<ProgressToken>,
+    /// The token to send parts of the result with. None if they are not asked for, or it does not fit.
+    pub partial_result_token: Option<ProgressToken>,
+}
+
+impl Described for WorkspaceSymbolParams {}
+
+impl Keyed for WorkspaceSymbolParams {
+    const KEYS: &'static [&'static str] = &["query", "workDoneToken", "partialResultToken"];
+}
+
+impl WriteMembers for WorkspaceSymbolParams {
+    fn write<O: Sink>(&self, out: O) -> O {
+        out.member(&self.query)
+            .some(&self.work_done_token)
+            .some(&self.partial_result_token)
+    }
+}
+
+impl Serialize for WorkspaceSymbolParams {
+    fn serialize<S: Serializer>(&self, out: &mut S) -> Result<(), S::Error> {
+        write_object(self, out)
+    }
+}
+
+impl ReadMembers for WorkspaceSymbolParams {
+    fn read<S: Source>(members: &mut S) -> WorkspaceSymbolParams {
+        WorkspaceSymbolParams {
+            query: members.required(),
+            work_done_token: if_fits(members),
+            partial_result_token: if_fits(members),
+        }
+    }
+}
+
+impl DeserializeOwned for WorkspaceSymbolParams {
+    fn deserialize_owned<F: Format>(
+        alloc: Global,
+        from: &mut Deserializer<'_, '_, F>,
+    ) -> Result<WorkspaceSymbolParams, F::Error> {
+        read_object(alloc, from)
+    }
+}
+
+/// A symbol of a workspace (LSP 3.17, "Workspace Symbols Request"). The params and the result of `workspaceSymbol/resolve` are one.
+#[derive(Drop)]
+pub struct WorkspaceSymbol {
+    /// Its name.
+    pub name: String,
+    /// What it is.
+    pub kind: SymbolKind,
+    /// How it may be shown.
+    pub tags: Option<Vec<SymbolTag>>,
+    /// What it stands in, for people.
+    pub container_name: Option<String>,
+    /// Where it is.
+    pub location: Location,
+    /// What the client gives back in `workspaceSymbol/resolve`.
+    pub data: Option<Value>,
+}
+
+impl Described for WorkspaceSymbol {}
+
+impl Keyed for WorkspaceSymbol {
+    const KEYS: &'static [&'static str] = &[
+        "name",
+        "kind",
+        "tags",
+        "containerName",
+        "location",
+        "data",
+    ];
+}
+
+impl WriteMembers for WorkspaceSymbol {
+    fn write<O: Sink>(&self, out: O) -> O {
+        out.member(&self.name)
+            .member(&self.kind)
+            .some(&self.tags)
+            .some(&self.container_name)
+            .member(&self.location)
+            .some(&self.data)
+    }
+}
+
+impl Serialize for WorkspaceSymbol {
+    fn serialize<S: Serializer>(&self, out: &mut S) -> Result<(), S::Error> {
+        write_object(self, out)
+    }
+}
+
+impl ReadMembers for WorkspaceSymbol {
+    fn read<S: Source>(members: &mut S) -> WorkspaceSymbol {
+        WorkspaceSymbol {
+            name: members.required(),
+            kind: members.required(),
+            tags: members.optional(),
+            container_name: members.optional(),
+            location: members.required(),
+            data: members.optional(),
+        }
+    }
+}
+
+impl DeserializeOwned for WorkspaceSymbol {
+    fn deserialize_owned<F: Format>(
+        alloc: Global,
+        from: &mut Deserializer<'_, '_, F>,
+    ) -> Result<WorkspaceSymbol, F::Error> {
+        read_object(alloc, from)
     }
 }

@@ -1,6 +1,8 @@
 //! What a server shows.
 // `tools/types` wrote this file from `types.txt`: change that.
-use crate::json::{Keyed, ReadMembers, Sink, Source, WriteMembers, read_object, write_object};
+use crate::json::{
+    Blank, Keyed, ReadMembers, Sink, Source, WriteMembers, read_object, write_object,
+};
 use crate::numbers::number_within;
 use serde::{
     Described, Deserialize, DeserializeOwned, Deserializer, Format, Serialize, Serializer,
@@ -48,6 +50,12 @@ impl DeserializeOwned for MessageType {
         from: &mut Deserializer<'_, '_, F>,
     ) -> Result<MessageType, F::Error> {
         MessageType::deserialize(alloc, from)
+    }
+}
+
+impl Blank for MessageType {
+    fn blank(_alloc: Global) -> MessageType {
+        MessageType::ERROR
     }
 }
 

@@ -4,6 +4,7 @@ use crate::edits::WorkspaceEdit;
 use crate::json::{
     Keyed, ReadMembers, Sink, Source, WriteMembers, if_fits, read_object, write_object,
 };
+use crate::progress::ProgressToken;
 use serde::{
     Described, Deserialize, DeserializeOwned, Deserializer, Format, Serialize, Serializer,
 };
@@ -226,17 +227,21 @@ pub struct ExecuteCommandParams {
     pub command: String,
     /// What the command has with it.
     pub arguments: Option<Vec<Value>>,
+    /// The token to report progress with. None if it is not asked for, or does not fit.
+    pub work_done_token: Option<ProgressToken>,
 }
 
 impl Described for ExecuteCommandParams {}
 
 impl Keyed for ExecuteCommandParams {
-    const KEYS: &'static [&'static str] = &["command", "arguments"];
+    const KEYS: &'static [&'static str] = &["command", "arguments", "workDoneToken"];
 }
 
 impl WriteMembers for ExecuteCommandParams {
     fn write<O: Sink>(&self, out: O) -> O {
-        out.member(&self.command).some(&self.arguments)
+        out.member(&self.command)
+            .some(&self.arguments)
+            .some(&self.work_done_token)
     }
 }
 
@@ -251,6 +256,7 @@ impl ReadMembers for ExecuteCommandParams {
         ExecuteCommandParams {
             command: members.required(),
             arguments: members.optional(),
+            work_done_token: if_fits(members),
         }
     }
 }

@@ -5,20 +5,24 @@ use lsp_documents::Agreed;
 use lsp_trees::from_value;
 use lsp_types::{
     ApplyWorkspaceEditParams, ApplyWorkspaceEditResult, CodeAction, CodeActionOptions,
-    CodeActionParams, Command, CompletionItem, CompletionList, CompletionOptions,
-    ConfigurationParams, DidChangeTextDocumentParams, DidOpenTextDocumentParams,
-    DidSaveTextDocumentParams, DocumentFormattingParams, DocumentSymbol, ExecuteCommandOptions,
-    ExecuteCommandParams, Hover, InitializeParams, InitializeResult, InlayHint, Location,
-    NumberOrString, Position, ProgressParams, PublishDiagnosticsParams, Range, ReferenceParams,
-    RenameOptions, RenameParams, SaveOptions, SemanticTokens, SemanticTokensLegend,
-    SemanticTokensOptions, ServerCapabilities, ServerInfo, ShowMessageParams, SignatureHelp,
-    SignatureHelpOptions, SymbolKind, TextDocumentParams, TextDocumentPositionParams,
-    TextDocumentRangeParams, TextDocumentSyncKind, TextDocumentSyncOptions, WorkDoneProgressBegin,
+    CodeActionParams, CodeLensOptions, Command, CompletionItem, CompletionItemOptions,
+    CompletionList, CompletionOptions, ConfigurationParams, DiagnosticOptions,
+    DidChangeTextDocumentParams, DidCloseTextDocumentParams, DidOpenTextDocumentParams,
+    DidSaveTextDocumentParams, DocumentFormattingParams, DocumentLinkOptions,
+    DocumentOnTypeFormattingOptions, DocumentRangeFormattingParams, DocumentSymbol,
+    ExecuteCommandOptions, ExecuteCommandParams, Hover, InitializeParams, InitializeResult,
+    InlayHint, InlayHintParams, Location, NumberOrString, Position, PrepareRenameResult,
+    ProgressParams, PublishDiagnosticsParams, Range, ReferenceParams, RenameOptions, RenameParams,
+    SaveOptions, SemanticTokens, SemanticTokensLegend, SemanticTokensOptions, ServerCapabilities,
+    ServerInfo, ShowMessageParams, SignatureHelp, SignatureHelpOptions, SymbolKind,
+    TextDocumentParams, TextDocumentPositionParams, TextDocumentRangeParams, TextDocumentSyncKind,
+    TextDocumentSyncOptions, WillSaveTextDocumentParams, WorkDoneProgressBegin,
     WorkDoneProgressCreateParams, WorkDoneProgressEnd, WorkDoneProgressParams,
-    WorkDoneProgressReport,
+    WorkDoneProgressReport, WorkspaceFoldersServerCapabilities, WorkspaceOptions, WorkspaceSymbol,
+    WorkspaceSymbolParams,
 };
 use serde::{DeserializeOwned, Serialize};
-use serde_json::{Error, Value, to_value};
+use serde_json::{Error, Map, Value, to_value};
 use std::alloc::{AllocError, Global};
 
 /// What comes of a type's name and a value: the value as it is written again, or `refused`.
@@ -133,7 +137,20 @@ fn of_document(said: &mut Said, name: &str, text: &str) {
         "TextDocumentParams" => back::<TextDocumentParams>(said, text),
         "TextDocumentPositionParams" => back::<TextDocumentPositionParams>(said, text),
         "TextDocumentRangeParams" => back::<TextDocumentRangeParams>(said, text),
+        "InlayHintParams" => back::<InlayHintParams>(said, text),
         "ReferenceParams" => back::<ReferenceParams>(said, text),
+        _ => of_saved(said, name, text),
+    }
+}
+
+fn of_saved(said: &mut Said, name: &str, text: &str) {
+    match name {
+        "WillSaveTextDocumentParams" => back::<WillSaveTextDocumentParams>(said, text),
+        "DidCloseTextDocumentParams" => back::<DidCloseTextDocumentParams>(said, text),
+        "PrepareRenameResult" => back::<PrepareRenameResult>(said, text),
+        "DocumentRangeFormattingParams" => back::<DocumentRangeFormattingParams>(said, text),
+        "WorkspaceSymbolParams" => back::<WorkspaceSymbolParams>(said, text),
+        "WorkspaceSymbol" => back::<WorkspaceSymbol>(said, text),
         _ => of_change(said, name, text),
     }
 }
@@ -291,6 +308,8 @@ fn symbol(said: &mut Said, found: &Value) -> DocumentSymbol {
         name: get(said, found, "name", String::new(said.alloc)),
         detail: get(said, found, "detail", None),
         kind: SymbolKind(get(said, found, "kind", 0)),
+        tags: get(said, found, "tags", None),
+        deprecated: get(said, found, "deprecated", None),
         range: get(said, found, "range", Range::new(start, start)),
         selection_range: get(said, found, "selectionRange", Range::new(start, start)),
         children: Vec::new(said.alloc),
@@ -315,34 +334,88 @@ fn capabilities(said: &mut Said, found: &Value) -> ServerCapabilities {
     ServerCapabilities {
         position_encoding: get(said, found, "positionEncoding", None),
         text_document_sync: Some(synchronization()),
-        completion_provider: Some(CompletionOptions {
-            trigger_characters: get(said, found, "characters", None),
-            resolve_provider: Some(true),
-        }),
-        hover_provider: Some(true),
+        completion_provider: Some(completions(said, found)),
         signature_help_provider: Some(SignatureHelpOptions {
             trigger_characters: get(said, found, "characters", None),
             retrigger_characters: get(said, found, "names", None),
+            work_done_progress: Some(true),
         }),
-        definition_provider: Some(false),
-        references_provider: Some(true),
-        document_symbol_provider: Some(true),
         code_action_provider: Some(CodeActionOptions {
             code_action_kinds: get(said, found, "names", None),
             resolve_provider: Some(true),
+            work_done_progress: Some(true),
         }),
-        document_formatting_provider: Some(true),
-        document_range_formatting_provider: Some(true),
-        rename_provider: Some(RenameOptions {
-            prepare_provider: Some(true),
+        document_on_type_formatting_provider: Some(DocumentOnTypeFormattingOptions {
+            first_trigger_character: said.text_of("}"),
+            more_trigger_character: get(said, found, "characters", None),
         }),
         execute_command_provider: Some(ExecuteCommandOptions {
             commands: words(said, found, "names"),
+            work_done_progress: Some(true),
         }),
         semantic_tokens_provider: Some(tokens(said, found)),
+        more: get(said, found, "more", None),
+        ..objects(said, found)
+    }
+}
+
+/// What has no list of names.
+fn objects(said: &mut Said, found: &Value) -> ServerCapabilities {
+    ServerCapabilities {
+        notebook_document_sync: Some(notebook(said, found)),
+        code_lens_provider: Some(CodeLensOptions {
+            resolve_provider: Some(true),
+            work_done_progress: Some(true),
+        }),
+        document_link_provider: Some(DocumentLinkOptions {
+            resolve_provider: Some(true),
+            work_done_progress: Some(true),
+        }),
+        rename_provider: Some(RenameOptions {
+            prepare_provider: Some(true),
+            work_done_progress: Some(true),
+        }),
+        diagnostic_provider: Some(DiagnosticOptions {
+            identifier: Some(said.text_of("}")),
+            inter_file_dependencies: true,
+            workspace_diagnostics: false,
+            work_done_progress: Some(true),
+        }),
+        workspace: Some(WorkspaceOptions {
+            workspace_folders: Some(WorkspaceFoldersServerCapabilities {
+                supported: Some(true),
+                change_notifications: Some(false),
+            }),
+            file_operations: Some(notebook(said, found)),
+        }),
+        experimental: Some(notebook(said, found)),
+        ..truths()
+    }
+}
+
+fn truths() -> ServerCapabilities {
+    ServerCapabilities {
+        hover_provider: Some(true),
+        declaration_provider: Some(true),
+        definition_provider: Some(false),
+        type_definition_provider: Some(true),
+        implementation_provider: Some(true),
+        references_provider: Some(true),
+        document_highlight_provider: Some(true),
+        document_symbol_provider: Some(true),
+        color_provider: Some(true),
+        document_formatting_provider: Some(true),
+        document_range_formatting_provider: Some(true),
+        folding_range_provider: Some(true),
+        selection_range_provider: Some(true),
+        call_hierarchy_provider: Some(true),
+        linked_editing_range_provider: Some(true),
+        moniker_provider: Some(true),
+        type_hierarchy_provider: Some(true),
+        inline_value_provider: Some(true),
         inlay_hint_provider: Some(true),
         workspace_symbol_provider: Some(true),
-        more: get(said, found, "more", None),
+        ..ServerCapabilities::default()
     }
 }
 
@@ -357,6 +430,29 @@ fn synchronization() -> TextDocumentSyncOptions {
     }
 }
 
+fn completions(said: &mut Said, found: &Value) -> CompletionOptions {
+    CompletionOptions {
+        trigger_characters: get(said, found, "characters", None),
+        resolve_provider: Some(true),
+        all_commit_characters: get(said, found, "characters", None),
+        completion_item: Some(CompletionItemOptions {
+            label_details_support: Some(true),
+        }),
+        work_done_progress: Some(true),
+    }
+}
+
+/// An object that stands for one that has no type.
+fn notebook(said: &mut Said, found: &Value) -> Value {
+    let mut members = Map::new(said.alloc);
+    let names = get(said, found, "names", Value::Null);
+    let key = said.text_of("notebook");
+    if members.insert(key, names).is_err() {
+        said.is_short = true;
+    }
+    Value::Object(members)
+}
+
 fn tokens(said: &mut Said, found: &Value) -> SemanticTokensOptions {
     SemanticTokensOptions {
         legend: SemanticTokensLegend {
@@ -365,6 +461,7 @@ fn tokens(said: &mut Said, found: &Value) -> SemanticTokensOptions {
         },
         range: Some(false),
         full: Some(true),
+        work_done_progress: Some(true),
     }
 }
 

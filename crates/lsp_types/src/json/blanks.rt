@@ -1,7 +1,6 @@
 // What stands for a value that could not be read.
 use crate::choices::{MarkupKind, NumberOrString};
 use crate::json::Blank;
-use crate::window::MessageType;
 use lsp_text::{Position, Range};
 use serde_json::Value;
 use std::alloc::Global;
@@ -51,12 +50,6 @@ impl Blank for NumberOrString {
 impl Blank for MarkupKind {
     fn blank(_alloc: Global) -> MarkupKind {
         MarkupKind::PlainText
-    }
-}
-
-impl Blank for MessageType {
-    fn blank(_alloc: Global) -> MessageType {
-        MessageType::LOG
     }
 }
 
