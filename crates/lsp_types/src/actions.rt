@@ -243,6 +243,35 @@ pub struct CodeAction {
     pub data: Option<Value>,
 }
 
+impl CodeAction {
+    ghost use Rattle.std.specs.Prelude.{◌≡◌, Some, None};
+
+    /// A change of some kind, which changes nothing yet.
+    pub fn new(title: String, kind: String) -> CodeAction
+        ensures { result ≡ record {
+          title = title;
+          kind = Some kind;
+          diagnostics = None;
+          is_preferred = None;
+          disabled = None;
+          edit = None;
+          command = None;
+          «data» = None;
+        } }
+    {
+        CodeAction {
+            title,
+            kind: Some(kind),
+            diagnostics: None,
+            is_preferred: None,
+            disabled: None,
+            edit: None,
+            command: None,
+            data: None,
+        }
+    }
+}
+
 impl Described for CodeAction {}
 
 impl Keyed for CodeAction {

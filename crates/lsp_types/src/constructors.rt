@@ -5,12 +5,14 @@ use crate::capabilities::{
     SaveOptions, ServerCapabilities, TextDocumentSyncKind, TextDocumentSyncOptions,
 };
 use crate::choices::MarkupKind;
+use crate::edits::{TextEdit, WorkspaceEdit};
 use crate::hovers::{Hover, MarkupContent};
 use crate::lifecycle::{InitializeResult, ServerInfo};
 use crate::window::MessageType;
 use crate::workspace::{ConfigurationItem, ConfigurationParams};
 use lsp_text::PositionEncoding;
 use std::alloc::{AllocError, Global};
+use std::collections::BTreeMap;
 
 impl Hover {
     ghost use Rattle.std.specs.Prelude.{◌≡◌, None};
@@ -116,5 +118,29 @@ impl From<MessageType> for u32 {
 
     fn from(kind: MessageType) -> u32 {
         kind.0
+    }
+}
+
+impl WorkspaceEdit {
+    ghost use Rattle.std.specs.Prelude.{◌≡◌, ◌∷◌, [], None, Some, IfOk, option_map};
+
+    /// Changes of one document. `Err` means that an allocation failed.
+    pub fn of_document(
+        alloc: Global,
+        uri: String,
+        edits: Vec<TextEdit>,
+    ) -> Result<WorkspaceEdit, AllocError>
+        ensures changes { IfOk result (λ edit.
+            option_map (λ changes. changes.entries) edit.changes ≡ Some ((uri, edits) ∷ [])) }
+        ensures others { IfOk result (λ edit.
+            (edit.document_changes ≡ None) × (edit.change_annotations ≡ None)) }
+    {
+        let mut changes = BTreeMap::new(alloc);
+        drop(changes.insert(uri, edits)?);
+        Ok(WorkspaceEdit {
+            changes: Some(changes),
+            document_changes: None,
+            change_annotations: None,
+        })
     }
 }

@@ -167,6 +167,42 @@ pub struct DocumentSymbol {
     pub children: Vec<DocumentSymbol>,
 }
 
+impl DocumentSymbol {
+    ghost use Rattle.std.specs.Prelude.{◌≡◌, None};
+    ghost use Rattle.lsp_types.specs.declared.symbols.DocumentSymbol.{out-DocumentSymbol};
+
+    /// A symbol, where it stands, and those inside it.
+    pub fn new(
+        name: String,
+        kind: SymbolKind,
+        range: Range,
+        selection_range: Range,
+        children: Vec<DocumentSymbol>,
+    ) -> DocumentSymbol
+        ensures { out-DocumentSymbol result ≡ record {
+          name = name;
+          detail = None;
+          kind = kind;
+          tags = None;
+          deprecated = None;
+          range = range;
+          selection_range = selection_range;
+          children = children;
+        } }
+    {
+        DocumentSymbol {
+            name,
+            detail: None,
+            kind,
+            tags: None,
+            deprecated: None,
+            range,
+            selection_range,
+            children,
+        }
+    }
+}
+
 impl Described for DocumentSymbol {}
 
 impl Keyed for DocumentSymbol {
