@@ -1,11 +1,12 @@
 //! The requests that have no reply yet, of both sides (JSON-RPC 2.0, section 5).
 ghost use Rattle.std.specs.Prelude.{◌≡◌, ◌==◌, ◌+◌, ◌^◌, ◌<◌, ◌≤◌, ◌||◌, not, pos, Ok, Err, None, option_copied, option_map, IfOk, IfErr, OnOk, OnErr, if◌then◌else◌};
 ghost use Rattle.std.specs.FinMap as map;
+ghost use Rattle.std.specs.List.{list_any};
 ghost use Rattle.serde_json.specs.Data.{depth};
 ghost use Rattle.serde_json.specs.Read.{max_depth};
 ghost use Rattle.serde_json.specs.View.{view};
 ghost use Rattle.lsp_message.specs.Converted.{IsTreeOf};
-ghost use Rattle.lsp_message.specs.Id.{number, id_cmp};
+ghost use Rattle.lsp_message.specs.Id.{Id, number, id_cmp, same_id};
 ghost use Rattle.lsp_message.specs.View.{response_view};
 ghost use Rattle.lsp_queue.specs.Queue.{pending_of, count_of, all_ids, cancelled};
 ghost use Rattle.lsp_queue.specs.Registering.{IsFaultOf};
@@ -90,6 +91,19 @@ impl<I> Incoming<I> {
         ensures { result ≡ not (map.len self.now == 0) }
     {
         self.pending.len() != 0
+    }
+
+    /// The ids of all pending requests. An `Err` is a failed allocation.
+    pub fn ids(&self) -> Result<Vec<RequestId>, AllocError>
+        ensures { IfOk result (λ ids. (id : Id)
+            → list_any (same_id id) ids.items ≡ map.contains_key self.now id) }
+    {
+        let mut ids = Vec::new(self.alloc);
+        for id in self.pending.keys() {
+            let id = id.clone()?;
+            ids.push(id)?;
+        }
+        Ok(ids)
     }
 
     /// The data of a pending request.

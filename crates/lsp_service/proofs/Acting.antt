@@ -1,20 +1,21 @@
 -- What the server does at a message or a wake is all that is sent.
-use Rattle.lsp_message.specs.Id.{Id, id_cmp}
+use Rattle.lsp_message.specs.Id.{Id, id_cmp, same_id}
 use Rattle.lsp_message.specs.IdKeys.{id_antisymmetric}
 use Rattle.lsp_message.specs.IdLaws.{id_total, id_decides}
 use Rattle.lsp_message.specs.Message.{Message, request, notification, response, ErrorObject}
 use Rattle.lsp_queue.specs.Queue.{pending_of, count_of, Asked}
-use Rattle.lsp_service.specs.Acts.{Act, tells, answers_cancelled, cancelled_by, Queues, does, does_all, unsent, given, cleared, TakesBack, Acts, ids_after, unsent_by}
+use Rattle.lsp_service.specs.Acts.{Act, tells, replies, answers_cancelled, cancelled_by, ended_by_shutdown, ends_all, Queues, does, does_all, unsent, given, released, cleared, TakesBack, Acts, ids_after, unsent_by}
 use Rattle.lsp_service.specs.Law.{Handed}
-use Rattle.lsp_service.specs.QueuedServer.{WorksSending, Works}
-use Rattle.lsp_service.specs.SentByActs.{brought_by, sends_by, all_sends, queues_at, cancelled_answer, acts_done_at, ActsAt}
+use Rattle.lsp_service.specs.QueuedServer.{WorksSending, Works, PartsSending}
+use Rattle.lsp_service.specs.SentByActs.{brought_by, sends_by, all_sends, queues_at, cancelled_answer, acts_done_at, ActsAt, ActsAtShutdown}
 use Rattle.lsp_service.specs.Stated.{Stated}
 use Rattle.serde_json.specs.Data.{Data}
-use Rattle.std.proofs.Common.{◌≡◌, refl, sym, ◌∙◌, ap, List, [], ◌∷◌, ◌++◌, append_assoc, append-nil, arith, Option, Some, None, Bool, true, false, cond}
+use Rattle.std.proofs.Common.{◌≡◌, refl, sym, ◌∙◌, ap, List, [], ◌∷◌, ◌++◌, length, append_assoc, append-nil, arith, Option, Some, None, Bool, true, false, cond}
 use Rattle.std.specs.FinMap as map
-use Rattle.std.specs.FinMap.{FinMap, get-remove, same_map}
+use Rattle.std.specs.FinMap.{FinMap, get-empty, get-remove, same_map}
+use Rattle.std.specs.List.{list_any}
 use Rattle.std.specs.Ordering.{eq_by_cmp}
-use Rattle.std.specs.Prelude.{MatchOption, Result}
+use Rattle.std.specs.Prelude.{MatchOption, Result, Err, is_some, ◌||◌}
 
 module _ {P : Type 0} where
   sent_one : (d : Queues P) (act : Act P) → (does d act).sent ≡ d.sent ++ sends_by d act
@@ -93,6 +94,32 @@ module _ {S P : Type 0} (may : Stated S P) where
       let w = gives.1 in
       acts_so old None sent new None w.0 w.1 gives.0 refl (w.2, refl) w.3 w.4 gives.2 gives.3
 
+  -- the same at `shutdown`
+  pub acts_at_shutdown : (old : S × Queues P) (id : Id) (sent : List Message) (new : S × Queues P) → PartsSending may old id sent new → ActsAtShutdown may old id sent new
+  acts_at_shutdown old id sent new gives =
+      let after = gives.0 in
+      let parts = gives.1 in
+      let did = parts.1 in
+      let held = parts.2 in
+      let d : Queues P = released old.1 id in
+      let queues : after.1 ≡ does_all d (did.0 ++ ends_all held.ids) =
+      held.answered ∙ ap (λ (x : Queues P). does_all x (ends_all held.ids)) did.4 ∙ sym (does-append d did.0 (ends_all held.ids)) in
+      record {
+        acts = did.0;
+        did = did.1;
+        stated = did.2;
+        back = rw (ap (λ (x : S × Queues P). x.0) gives.3 ∙ parts.3) did.3;
+        ids = held.ids;
+        sent = gives.2 ∙ ap (λ (x : Queues P). x.sent) queues ∙ sent_all d (did.0 ++ ends_all held.ids);
+        queues = ap (λ (x : S × Queues P). x.1) gives.3 ∙ ap (λ (x : Queues P). cleared x) queues;
+        none = ap (λ (x : S × Queues P). x.1.held) gives.3 ∙ held.none;
+      }
+
+  -- all that was sent, as it stood beside the queues
+  pub sent_at_shutdown : (old : S × Queues P) (id : Id) (sent : List Message) (new : S × Queues P) (a : ActsAtShutdown may old id sent new)
+      → sent ≡ (does_all (released old.1 id) (a.acts ++ ends_all a.ids)).sent
+  sent_at_shutdown old id sent new a = a.sent ∙ sym (sent_all (released old.1 id) (a.acts ++ ends_all a.ids))
+
 -- What the queues are after a message.
 -- one act more
 pub does_push : {P : Type 0} (d : Queues P) (acts : List (Act P)) (act : Act P) → does_all d (acts ++ act ∷ []) ≡ does (does_all d acts) act
@@ -125,6 +152,51 @@ remove_absent {X} m k absent = same_map id_total id_antisymmetric _ _ (λ q. get
     same_at : (q : Id) (b : Bool) → eq_by_cmp id_cmp q k ≡ b → cond b None (map.get m q) ≡ map.get m q
     same_at q true e = let same : q ≡ k = (id_decides q k).0 e in rw same (sym absent)
     same_at q false e = refl
+
+-- all of a list were gone over
+pub all_done : (done rest all : List Id) → done ++ rest ≡ all → length rest ≡ 0 → done ≡ all
+all_done done [] all whole none = sym (append-nil done) ∙ whole
+all_done done (id ∷ rest) all whole none = absurd (omega (arith, none))
+
+module _ {P : Type 0} where
+  -- a request is held no more once it was answered
+  held_after : (d : Queues P) (id : Id) (outcome : Result Data ErrorObject) → (does d (replies id outcome)).held ≡ map.remove d.held id
+  held_after d id outcome = at (map.contains_key d.held id) refl
+    where
+      none_there : (o : Option (Unit {0})) → is_some o ≡ false → o ≡ None
+      none_there None e = refl
+      none_there (Some u) e = absurd (cc (e))
+
+      at : (b : Bool) → map.contains_key d.held id ≡ b → (does d (replies id outcome)).held ≡ map.remove d.held id
+      at true e = rw e refl
+      at false e = rw e (sym (remove_absent d.held id (none_there (map.get d.held id) e)))
+
+  -- nor are others than these
+  got_after : (d : Queues P) (ids : List Id) (q : Id) → map.get (does_all d (ends_all ids)).held q ≡ cond (list_any (same_id q) ids) None (map.get d.held q)
+  got_after d [] q = refl
+  got_after d (id ∷ ids) q =
+      got_after (does d (replies id (Err ended_by_shutdown))) ids q
+      ∙ ap (λ (o : Option (Unit {0})). cond (list_any (same_id q) ids) None o)
+      (ap (λ (m : FinMap id_cmp (Unit {0})). map.get m q) (held_after d id (Err ended_by_shutdown)) ∙ get-remove id_total d.held id q)
+      ∙ both (same_id q id) (list_any (same_id q) ids)
+    where
+      both : (a b : Bool) → cond b None (cond a None (map.get d.held q)) ≡ cond (a || b) None (map.get d.held q)
+      both true true = refl
+      both true false = refl
+      both false b = refl
+
+  -- once all that are held were answered none is held
+  pub none_left : (d : Queues P) (ids : List Id) → ((id : Id) → list_any (same_id id) ids ≡ map.contains_key d.held id) → (does_all d (ends_all ids)).held ≡ map.empty
+  none_left d ids all = same_map id_total id_antisymmetric _ _ (λ q. got_after d ids q ∙ at q (map.get d.held q) refl (all q) ∙ sym (get-empty id_cmp q))
+    where
+      at : (q : Id) (o : Option (Unit {0})) → map.get d.held q ≡ o → list_any (same_id q) ids ≡ is_some (map.get d.held q) → cond (list_any (same_id q) ids) None (map.get d.held q) ≡ None
+      at q None e is = rw (is, e) refl
+      at q (Some u) e is = rw (is, e) refl
+
+  -- one answer more
+  pub ends_push : (ids : List Id) (id : Id) → ◌≡◌ {A = List (Act P)} (ends_all (ids ++ id ∷ [])) (ends_all ids ++ replies id (Err ended_by_shutdown) ∷ [])
+  ends_push [] id = refl
+  ends_push (i ∷ ids) id = ap (λ (l : List (Act P)). replies i (Err ended_by_shutdown) ∷ l) (ends_push ids id)
 
 module _ {S P : Type 0} (may : Stated S P) where
   -- a reply under an id that no request of the server's has

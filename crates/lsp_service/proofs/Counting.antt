@@ -4,18 +4,18 @@ use Rattle.lsp_message.specs.IdLaws.{id_total, id_decides}
 use Rattle.lsp_message.specs.Message.{Message, ErrorObject, request, notification, response}
 use Rattle.lsp_message.specs.Methods.{is_exit}
 use Rattle.lsp_queue.specs.Queue.{Pending}
-use Rattle.lsp_service.proofs.Acting.{acts_at, does_push, sent_so}
-use Rattle.lsp_service.specs.Acts.{Queues, Act, replies, does, does_all, empty_queues, canceled, cancelled_by}
-use Rattle.lsp_service.specs.Law.{one_if, came_with, is_request_under, is_reply_under, how_many, held_under, AnswersCancelled, AnswersLast, Cancels, IsGone, IsOwedWhatIsHeld, IsWhole, NeverMore, OnceOrEnded, WasToSend}
-use Rattle.lsp_service.specs.QueuedServer.{with_queues, WorksSending}
+use Rattle.lsp_service.proofs.Acting.{acts_at, acts_at_shutdown, does_push, sent_so, sent_at_shutdown}
+use Rattle.lsp_service.specs.Acts.{Queues, Act, replies, does, does_all, empty_queues, canceled, ends_all, released, cancelled_by}
+use Rattle.lsp_service.specs.Law.{one_if, came_with, is_request_under, is_reply_under, how_many, held_under, AnswersCancelled, AnswersLast, AnswersLastInFull, Cancels, IsGone, IsOwedWhatIsHeld, IsWhole, NeverMore, OnceOrEnded, WasToSend}
+use Rattle.lsp_service.specs.QueuedServer.{with_queues, WorksSending, PartsSending}
 use Rattle.lsp_service.specs.SentByActs.{queues_at, acts_done_at, cancelled_answer}
 use Rattle.lsp_service.specs.View.{queues_of, seen}
 use Rattle.lsp_service.specs.declared.queued_server.QueuedServer.{QueuedServer}
 use Rattle.lsp_service.specs.Stated.{Stated}
-use Rattle.lsp_session.proofs.Ran.{Ran, reaches_ran, steps_both, one_step, sends_both, stops_by, IsNoRequest, Idle, early_request, early_note, unasked, uninvited, shuts, leaves, exits, late, stays, StepCase, at_initialize, at_initialized, at_served, at_woken, idle, row, exit_no_request, initialized_no_request, reply_no_request}
+use Rattle.lsp_session.proofs.Ran.{Ran, reaches_ran, steps_both, one_step, sends_both, stops_by, IsNoRequest, Idle, early_request, early_note, unasked, uninvited, leaves, exits, late, stays, StepCase, at_initialize, at_initialized, at_served, at_woken, at_shutdown, idle, row, exit_no_request, initialized_no_request, reply_no_request}
 use Rattle.lsp_session.specs.ProtocolError.{ProtocolFault, ShowsUnallowed, expected_initialize, expected_initialized, unexpected_in_shutdown}
 use Rattle.lsp_session.specs.Replies.{null_reply}
-use Rattle.lsp_session.specs.Session.{Behavior, Exchange, messages_of, sends_of, SessionAnswer, Stop, decided, timed_out, refused, exhausted, Phase, starting, replied as in_reply, serving, asked, ended, phase_after, is_reply, Step, Steps, Reaches, Stops}
+use Rattle.lsp_session.specs.Session.{Behavior, Exchange, messages_of, sends_of, SessionAnswer, Stop, decided, timed_out, refused, exhausted, Phase, starting, replied as in_reply, serving, asked, ended, phase_after, shutdown_reply_of, offered_reply_of, is_reply, Step, Steps, Reaches, Stops}
 use Rattle.lsp_session.specs.declared.loops.handler.SessionEnd.TheVariants.{Closed, ShutDown}
 use Rattle.serde_json.specs.Data.{Data}
 use Rattle.std.proofs.Common.{◌≡◌, refl, sym, ◌∙◌, ap, inl, inr, ◌⊎◌, ℕ, zero, suc, ◌+◌, ◌≤◌, Bool, true, false, List, [], ◌∷◌, ◌++◌, append_assoc, arith, subst, Option, Some, None, cond}
@@ -23,7 +23,7 @@ use Rattle.std.specs.FinMap as map
 use Rattle.std.specs.FinMap.{get-empty, get-insert, get-remove}
 use Rattle.std.specs.Ordering.{eq_by_cmp}
 use Rattle.std.proofs.lemmas.Slice.Eq.{bytes_eq-Decides}
-use Rattle.std.specs.Prelude.{Result, Ok, Err, is_some, IsSomeAnd, IsErrAnd, codes}
+use Rattle.std.specs.Prelude.{Result, Ok, Err, is_some, IsSome, IsSomeAnd, IsErrAnd, codes}
 
 pub how_many-append : (p : Message → Bool) (xs ys : List Message) → how_many p (xs ++ ys) ≡ how_many p xs + how_many p ys
 how_many-append p [] ys = omega arith
@@ -70,7 +70,6 @@ kept_to_last can p s s' exhausted answer stops = inl refl
 kept_to_last can (ended shutdown_reply by) s s' decided answer stops = inr stops.1
 kept_to_last can (ended shutdown_reply by) s s' stop answer stops = absurd stops
 kept_to_last can p s s' decided answer stops = absurd stops
-kept_to_last can (asked i) s s' (refused fault) answer stops = absurd stops
 kept_to_last can (asked i) s s' stop answer stops = inr stops.1
 kept_to_last can p s s' timed_out answer stops = absurd stops
 kept_to_last can p s s' stop answer stops = inr stops.1
@@ -199,8 +198,6 @@ module _ {S P : Type 0} (may : Stated S P) where
         rw (sent, next) (count_even p w w (ended None (Err (expected_initialize shown))) (Some m) [] (none_under m mute) refl refl tt)
     count_idle p q w m output clean (uninvited shown begun e sent next) =
         count_fault p w w q m output None (expected_initialized shown) sent next refl (λ is. inl (shown, refl))
-    count_idle p q w m output clean (shuts i method params begun is e sent next) =
-        rw (is, sent, next) (count_even p w w (asked i) (Some (request i method params)) (null_reply i ∷ []) (omega arith) refl refl tt)
     count_idle p q w m output clean (leaves begun e sent next) =
         rw (sent, next) (count_even p w w (ended None (Ok Closed)) (Some m) [] (none_under m (exit_no_request m e)) refl refl tt)
     count_idle p q w m output clean (exits i begun e sent next) =
@@ -209,6 +206,28 @@ module _ {S P : Type 0} (may : Stated S P) where
         rw (sent, next) (count_even p w w (asked i) (Some m) [] (none_under m (reply_no_request m is)) refl refl tt)
     count_idle p q w m output clean (stays i shown begun e sent next) =
         count_fault p w w q m output (Some (null_reply i)) (unexpected_in_shutdown shown) sent next refl (λ is. inr (shown, refl))
+
+    -- at `shutdown` what was held is answered, and `shutdown` itself
+    count_shut : (w w' : QueuedServer S P) (i : Id) (method : List ℕ) (params : Data) (parting : List Message) → (queues_of w.queues).sent ≡ [] → PartsSending may (seen w) i parting (seen w')
+        → Count serving w w' (asked i) (Some (request i method params)) (parting ++ null_reply i ∷ [])
+    count_shut w w' i method params parting silent gives =
+        let a = acts_at_shutdown may (seen w) i parting (seen w') gives in
+        let d = queues_of w.queues in
+        let done = does_all (released d i) (a.acts ++ ends_all a.ids) in
+        let all = due_acts id (released d i) (a.acts ++ ends_all a.ids) in
+        let first = held_remove id d.held i in
+        let none : R d.sent ≡ 0 = ap R silent in
+        let kept : owed w' ≡ held_under id done.held = ap (λ (x : Queues P). held_under id x.held) a.queues in
+        let free : owed w' ≡ 0 = ap (λ m. held_under id m) a.none ∙ ap (λ o. one_if (is_some o)) (get-empty id_cmp id) in
+        let sent : R parting ≡ R done.sent = ap R (sent_at_shutdown may (seen w) i parting (seen w') a) in
+        let whole = how_many-append (is_reply_under id) parting (null_reply i ∷ []) in
+        let so = counted (eq_by_cmp id_cmp id i) (R (parting ++ null_reply i ∷ [])) (owed w) (omega (arith, all, first, none, kept, free, sent, whole)) free in
+        record { last = so.0; least = so.1; clean = tt }
+      where
+        counted : (b : Bool) (r h : ℕ) → r ≡ cond b 0 h + (one_if b + 0) → owed w' ≡ 0
+            → (r + 0 ≤ cond b 1 h) × (1 ≤ one_if b + h → (1 ≤ r + owed w') ⊎ Unallowed (Some (request i method params)) (asked i))
+        counted true r h e free = (omega (arith, e), λ some. inl (omega (arith, e)))
+        counted false r h e free = (omega (arith, e), λ some. inl (omega (arith, e, some)))
 
     clean_after : (outcome : Result Data ErrorObject) (w : QueuedServer S P) → Fresh w → Clean (phase_after outcome) w
     clean_after (Ok result) w clear = clear
@@ -243,6 +262,7 @@ module _ {S P : Type 0} (may : Stated S P) where
             })
         by (at_served m begun there e gives next) = rw (begun, there, next) (called (Some m) (rw begun at clean) gives)
         by (at_woken begun none gives next) = rw (begun, none, next) (called None (rw begun at clean) gives)
+        by (at_shutdown i method params parting begun there e gives sent next) = rw (begun, there, sent, next) (count_shut w w' i method params parting (rw begun at clean) gives)
         by (idle m there same any is) = rw (there, same) (count_idle p q w m output clean is)
 
     -- a beginning of the exchanges, the last of which may be cut off
@@ -432,11 +452,11 @@ module _ {S P : Type 0} (may : Stated S P) where
         by (at_initialized m begun there e opened next) = inl (let none = due_opened w w' output (rw begun at clean) opened in omega (arith, none))
         by (at_served m begun there e gives next) = inl (cancel_served w w' m output (rw there at cancels) gives)
         by (at_woken begun none gives next) = absurd (rw none at cancels)
+        by (at_shutdown i method params parting begun there e gives sent next) = absurd (rw there at cancels)
         by (idle m there same any (early_request i method params reply begun is early sent next)) = absurd (rw (there, is) at cancels)
         by (idle m there same any (early_note begun mute e sent next)) = inl (ap owed same ∙ unowed w (rw begun at clean))
         by (idle m there same any (unasked shown begun mute other sent next)) = inl (ap owed same ∙ unowed w (rw begun at clean))
         by (idle m there same any (uninvited shown begun e sent next)) = inl (ap owed same ∙ unowed w (rw begun at clean))
-        by (idle m there same any (shuts i method params begun is e sent next)) = absurd (rw (there, is) at cancels)
         by (idle m there same any (leaves begun e sent next)) = absurd (no_exit_at m (rw there at cancels) e)
         by (idle m there same any (exits i begun e sent next)) = absurd (no_exit_at m (rw there at cancels) e)
         by (idle m there same any (late i begun is sent next)) = absurd (no_reply_at m (rw there at cancels) is)
@@ -502,6 +522,71 @@ all_steps can (refused fault) p q s s' xs off =
       steps_both can p off.next q s off.mid s' off.earlier (record { came = off.came; sent = full } ∷ []) off.steps (one_step can off.next q off.mid s' off.came full off.step),
     )
 all_steps can stop p q s s' xs steps = (xs, refl, steps)
+
+-- ---- `shutdown`
+
+module _ {S P : Type 0} (may : Stated S P) where
+  -- once it got its reply nothing is held
+  abbrev Emptied : Phase → QueuedServer S P → Type 0
+  Emptied p w = IsSome (shutdown_reply_of p) → (queues_of w.queues).held ≡ map.empty
+
+  emptied_after : (outcome : Result Data ErrorObject) (w : QueuedServer S P) → Emptied (phase_after outcome) w
+  emptied_after (Ok result) w = λ some. absurd (cc (some))
+  emptied_after (Err error) w = λ some. absurd (cc (some))
+
+  step_emptied : (p q : Phase) (w w' : QueuedServer S P) (came : Option Message) (output : List Message) → Emptied p w → Step (with_queues may) p w came output q w' → Emptied q w'
+  step_emptied p q w w' came output held step = by (row (with_queues may) p q w w' came output step)
+    where
+      by : StepCase (with_queues may) p w came output q w' → Emptied q w'
+      by (at_initialize i method params outcome begun is e init sent next) = rw next (emptied_after outcome w')
+      by (at_initialized m begun there e opened next) = rw next (λ some. absurd (cc (some)))
+      by (at_served m begun there e gives next) = rw next (λ some. absurd (cc (some)))
+      by (at_woken begun none gives next) = rw next (λ some. absurd (cc (some)))
+      by (at_shutdown i method params parting begun there e gives sent next) = λ some. (acts_at_shutdown may (seen w) i parting (seen w') gives).none
+      by (idle m there same any (early_request i method params reply begun is early sent next)) = rw next (λ some. absurd (cc (some)))
+      by (idle m there same any (early_note begun mute e sent next)) = rw next (λ some. absurd (cc (some)))
+      by (idle m there same any (unasked shown begun mute other sent next)) = rw next (λ some. absurd (cc (some)))
+      by (idle m there same any (uninvited shown begun e sent next)) = rw next (λ some. absurd (cc (some)))
+      by (idle m there same any (leaves begun e sent next)) = rw next (λ some. absurd (cc (some)))
+      by (idle m there same any (exits i begun e sent next)) = λ some. rw same ((rw begun at held) refl)
+      by (idle m there same any (late i begun is sent next)) = λ some. rw same ((rw begun at held) refl)
+      by (idle m there same any (stays i shown begun e sent next)) = λ some. rw same ((rw begun at held) refl)
+
+  steps_emptied : (xs : List Exchange) (p q : Phase) (w w' : QueuedServer S P) → Emptied p w → Steps (with_queues may) p w xs q w' → Emptied q w'
+  steps_emptied [] p q w w' held run = rw (run.0, run.1) held
+  steps_emptied (x ∷ xs) p q w w' held run =
+      steps_emptied xs run.0 q run.1 w' (step_emptied p run.0 w run.1 x.came x.sent held run.2) run.3
+
+  -- and the server stays as it is
+  stays_shut : (p : Phase) (w w' : QueuedServer S P) (stop : Stop) (answer : SessionAnswer) → IsSome (shutdown_reply_of p) → Stops (with_queues may) p w stop answer w' → w' ≡ w
+  stays_shut (asked i) w w' decided answer some stops = absurd stops
+  stays_shut (asked i) w w' stop answer some stops = stops.1
+  stays_shut (ended shutdown_reply by) w w' decided answer some stops = stops.1
+  stays_shut (ended shutdown_reply by) w w' stop answer some stops = absurd stops
+  stays_shut p w w' stop answer some stops = absurd (cc (some))
+
+  pub none_held : (stop : Stop) (shutdown_reply : Option Message) (answer : SessionAnswer) (w after w' : QueuedServer S P) (xs : List Exchange) (q : Phase)
+      → Reaches (with_queues may) stop starting w xs q after → shutdown_reply ≡ offered_reply_of stop q → Stops (with_queues may) q after stop answer w' → IsSome shutdown_reply
+      → (queues_of w'.queues).held ≡ map.empty
+  none_held (refused fault) shutdown_reply answer w after w' xs q reached is stops some = let never = (rw is at some) in absurd (cc (never))
+  none_held stop shutdown_reply answer w after w' xs q steps is stops some =
+      let due = (rw is at some) in
+      ap (λ (x : QueuedServer S P). (queues_of x.queues).held) (stays_shut q after w' stop answer due stops)
+      ∙ steps_emptied xs starting q w after (λ never. absurd (cc (never))) steps due
+
+-- nobody waits any more
+pub answered_in_full : (id : Id) (xs : List Exchange) (stop : Stop) (held : Pending (Unit {0})) (answer : SessionAnswer) → held ≡ map.empty → AnswersLast id xs stop held answer
+    → AnswersLastInFull id xs stop answer
+answered_in_full id xs stop held answer none answers before last since cut asks alone = elim (answers before last since cut asks alone) [
+  | inl one ↦ inl one
+  | inr rest ↦ inr (rest.0, elim rest.1 [ inl kept ↦ absurd (never kept) | inr ends ↦ ends ])
+]
+  where
+    never : held_under id held ≡ 1 → ⊥
+    never kept =
+        let free : held_under id held ≡ 0 = ap (held_under id) none ∙ ap (λ o. one_if (is_some o)) (get-empty id_cmp id) in
+        let wrong : 0 ≡ 1 = sym free ∙ kept in
+        cc (wrong)
 
 -- ---- an id that was used once
 

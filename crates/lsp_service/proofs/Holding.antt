@@ -1,7 +1,7 @@
 -- A session of a service that holds another is a session of that one.
 use Rattle.lsp_message.specs.Message.{Message}
 use Rattle.lsp_service.specs.QueuedServer.{held_as}
-use Rattle.lsp_session.proofs.Ran.{StepCase, row, at_initialize, at_initialized, at_served, at_woken, idle}
+use Rattle.lsp_session.proofs.Ran.{StepCase, row, at_initialize, at_initialized, at_served, at_woken, at_shutdown, idle}
 use Rattle.lsp_session.specs.Session.{Behavior, SessionAnswer, Exchange, Stop, decided, timed_out, refused, exhausted, Phase, starting, serving, asked, ended, Step, Steps, Reaches, Stops, SessionOut}
 use Rattle.std.proofs.Common.{refl, ap, inl, inr, List, [], ◌∷◌, ◌++◌, Option}
 
@@ -14,6 +14,7 @@ module _ {V W : Type 0} (part : W → V) (may : Behavior V) where
   step_case_as p p' s s' came sent (at_initialized m here there is given next) = rw (here, there, is) (given, next)
   step_case_as p p' s s' came sent (at_served m here there is given next) = rw (here, there, is) (given, next)
   step_case_as p p' s s' came sent (at_woken here none given next) = rw (here, none) (given, next)
+  step_case_as p p' s s' came sent (at_shutdown i method params parting here is asks given output next) = rw (here, is, asks) (parting, given, output, next)
   step_case_as p p' s s' came sent (idle m there same step row) = rw (there, ap part same) (step V may (part s) refl)
 
   steps_as : (p p' : Phase) (s s' : W) (xs : List Exchange) → Steps whole p s xs p' s' → Steps may p (part s) xs p' (part s')
@@ -39,6 +40,7 @@ module _ {V W : Type 0} (part : W → V) (may : Behavior V) where
         mid = part broken.mid;
         steps = steps_as p broken.next s broken.mid broken.earlier broken.steps;
         step = step_case_as broken.next p' broken.mid s' broken.came full (row whole broken.next p' broken.mid s' broken.came full broken.step);
+        matters = broken.matters;
       }
   to_as stop p p' s s' xs steps = steps_as p p' s s' xs steps
 
@@ -46,7 +48,6 @@ module _ {V W : Type 0} (part : W → V) (may : Behavior V) where
   left_as (ended shutdown_reply by) decided answer s s' stops = (stops.0, ap part stops.1)
   left_as (ended shutdown_reply by) stop answer s s' stops = absurd stops
   left_as p decided answer s s' stops = absurd stops
-  left_as (asked i) (refused fault) answer s s' stops = absurd stops
   left_as (asked i) stop answer s s' stops = (stops.0, ap part stops.1)
   left_as p timed_out answer s s' stops = absurd stops
   left_as serving exhausted answer s s' stops = stops

@@ -6,15 +6,15 @@ use Rattle.lsp_message.specs.Message.{Message, ErrorObject, request, notificatio
 use Rattle.lsp_message.specs.Methods.{is_initialize}
 use Rattle.lsp_queue.specs.Queue.{Pending}
 use Rattle.lsp_service.proofs.Acting.{acts_at}
-use Rattle.lsp_service.specs.Acts.{Act, asks, tells, Queues, cancelled_by, does, empty_queues}
+use Rattle.lsp_service.specs.Acts.{Act, asks, tells, Queues, cancelled_by, does, empty_queues, ends_all, released}
 use Rattle.lsp_service.specs.Law.{one_if, acts_of, all_sent, kept_under, was_given, is_reply_under, is_request_under, how_many, held_under, AnswersCancelled, AnswersLast, NeverMore, OnceOrEnded, WasToSend, Call, SendsActs, TakesCalls, TakesPart, GivesOwnPayloads, KeepsLaws}
 use Rattle.lsp_service.specs.QueuedServer.{with_queues, ServerSession, WorksSending}
 use Rattle.lsp_service.specs.Stated.{Stated, unwoken}
-use Rattle.lsp_service.specs.SentByActs.{all_sends, acts_done_at, cancelled_answer, queues_at}
+use Rattle.lsp_service.specs.SentByActs.{ActsAtShutdown, all_sends, acts_done_at, cancelled_answer, queues_at}
 use Rattle.lsp_service.specs.View.{seen}
 use Rattle.lsp_service.specs.declared.queued_server.QueuedServer.{QueuedServer}
 use Rattle.lsp_service.specs.declared.server.Server.{Ghosts}
-use Rattle.lsp_session.proofs.Ran.{Ran, StepCase, row, at_initialize, at_initialized, at_served, at_woken, idle, reaches_ran, no_one}
+use Rattle.lsp_session.proofs.Ran.{Ran, StepCase, row, at_initialize, at_initialized, at_served, at_woken, at_shutdown, idle, reaches_ran, no_one}
 use Rattle.lsp_session.proofs.Refused.{served_first}
 use Rattle.lsp_session.specs.Session.{Exchange, messages_of, sends_of, SessionAnswer, Stop, decided, exhausted, Phase, starting}
 use Rattle.lsp_session.specs.declared.loops.handler.SessionEnd.{SessionEnd}
@@ -22,7 +22,8 @@ use Rattle.lsp_session.specs.declared.loops.handler.SessionEnd.TheVariants.{Clos
 use Rattle.serde_json.specs.Data.{Data}
 use Rattle.std.proofs.Common.{◌≡◌, refl, sym, ◌∙◌, ap, subst, inl, inr, ℕ, ◌+◌, ◌≤◌, Bool, true, false, List, [], ◌∷◌, ◌++◌, append_assoc, arith, Option, Some, None}
 use Rattle.std.specs.Ordering.{eq_by_cmp}
-use Rattle.std.specs.Prelude.{Result, Ok, codes, pos, ◌||◌, if◌then◌else◌}
+use Rattle.std.specs.FinMap.{get-empty}
+use Rattle.std.specs.Prelude.{Result, Ok, codes, pos, is_some, ◌||◌, if◌then◌else◌}
 
 -- an id is itself
 same : (id : Id) → eq_by_cmp id_cmp id id ≡ true
@@ -100,6 +101,27 @@ leaves_cancelled id method given params cancel before later stop end cancels ans
     cancelling : Exchange
     cancelling = record { came = Some (notification given cancel); sent = [] }
 
+-- ---- `shutdown`
+
+-- A request came, it has no reply, and `shutdown` got its reply: the session left somebody waiting.
+pub leaves_waiting : {S P : Type 0} (may : Stated S P) (first last : S) (held : Pending (Unit {0})) (id : Id) (method : List ℕ) (params : Data) (sent : List Message) (before since : List Exchange)
+    (reply : Message) (end : SessionEnd) → how_many (is_request_under id) (messages_of since) ≡ 0 → how_many (is_reply_under id) (sends_of (asked id method params sent ∷ since)) ≡ 0
+    → KeepsLaws may first last held (before ++ asked id method params sent ∷ since) decided (Some reply) (Ok end) → ⊥
+leaves_waiting may first last held id method params sent before since reply end none silent laws =
+    drops_last id method params sent before since decided held end none silent
+    (ap (held_under id) (laws.none_held refl) ∙ ap (λ o. one_if (is_some o)) (get-empty id_cmp id))
+    (subst (λ l. AnswersLast id l decided held (Ok end)) laws.to_send (laws.once (λ e. cc (e)) id))
+
+-- The server states that it tells something last, and nothing is sent before the reply to `shutdown`.
+pub parts_silently : {S P : Type 0} (may : Stated S P) (old new : S × Queues P) (id : Id)
+    → ((old new : S) (acts : List (Act P)) → may.at_shutdown old acts new → (method : List ℕ) × (params : Data) × (more : List (Act P)) × (acts ≡ tells method params ∷ more))
+    → ActsAtShutdown may old id [] new → ⊥
+parts_silently may old new id tells_first at =
+    let first = tells_first old.0 at.did at.acts at.stated in
+    let e : [] ≡ old.1.sent ++ all_sends (released old.1 id) (tells first.0 first.1 ∷ (first.2 ++ ends_all at.ids)) =
+    at.sent ∙ ap (λ (acts : List (Act _)). old.1.sent ++ all_sends (released old.1 id) (acts ++ ends_all at.ids)) first.3 in
+    no_one old.1.sent _ (notification first.0 first.1) (sym e)
+
 -- ---- replies of the client
 
 module _ {P : Type 0} where
@@ -158,6 +180,7 @@ module _ {S P : Type 0} (may : Stated S P) where
         by (at_served m here there is gave next) = cc (there)
         by (at_woken here none gave next) =
             silent_wake (seen w) (seen run.5) (subst (λ (sent : List Message). WorksSending may (seen w) None sent (seen run.5)) (run.3 refl) gave)
+        by (at_shutdown i method params parting here there is gave output next) = cc (there)
         by (idle m there stays_so step idles) = cc (there)
     silent_among stop (x ∷ before) after p q w w' run = silent_among stop before after run.4 q run.5 w' run.8
 
@@ -207,7 +230,7 @@ module _ {S P : Type 0} (may : Stated S P) (first last : S) (held : Pending (Uni
   -- before `initialize` a request gets a result
   pub serves_first : (id : Id) (method : List ℕ) (params result : Data) → is_initialize (request id method params) ≡ false
       → KeepsLaws may first last held (asked id method params (response id (Ok result) ∷ []) ∷ more) stop shutdown_reply answer → ⊥
-  serves_first id method params result other laws = served_first stop shutdown_reply answer id method params result more other laws.order
+  serves_first id method params result other laws = served_first true true stop shutdown_reply answer id method params result more other laws.order
 
   -- a request gets its result, a second one under the same id gets nothing and is not held, and then `exit` comes
   pub drops_reused : (id : Id) (method : List ℕ) (params result given : Data) → held_under id held ≡ 0 → stop ≡ decided → answer ≡ Ok Closed

@@ -11,7 +11,7 @@ use Rattle.lsp_message.specs.IdLaws.{id_total, id_decides}
 use Rattle.lsp_message.specs.Message.{Message, ErrorObject, request, notification, response}
 use Rattle.lsp_queue.specs.Queue.{Asked, pending_of, count_of}
 use Rattle.lsp_session.specs.Session.{Exchange, came_of, sends_of}
-use Rattle.lsp_service.specs.Acts.{Act, tells, asks, cancelled_by, Queues, is_spent, sends_request, does, does_all, ids_after}
+use Rattle.lsp_service.specs.Acts.{Act, tells, asks, cancelled_by, ends_all, Queues, is_spent, sends_request, does, does_all, ids_after}
 use Rattle.lsp_service.specs.Law.{came_with, is_reply_under, Sent, Call, requests_in, request_of, ids_after_all, sent_by, all_sent, kept_under, acts_of, was_given, brings, GivesOwnPayloads, SendsActs, TakesCalls}
 use Rattle.lsp_service.specs.QueuedServer.{WorksSending}
 use Rattle.lsp_service.specs.View.{seen, queues_of}
@@ -47,6 +47,11 @@ module _ {P : Type 0} where
   sent-append count (x ∷ xs) ys =
       ap (λ l. sent_by count x ++ l) (sent-append (ids_after count x) xs ys)
       ∙ sym (append_assoc (sent_by count x) (all_sent (ids_after count x) xs) (all_sent (ids_after_all (ids_after count x) xs) ys))
+
+  -- the same of how many ids were given out
+  pub ids-append : (count : ℕ) (xs ys : List (Act P)) → ids_after_all count (xs ++ ys) ≡ ids_after_all (ids_after_all count xs) ys
+  ids-append count [] ys = refl
+  ids-append count (x ∷ xs) ys = ids-append (ids_after count x) xs ys
 
   -- what an act makes of requests is what it sends
   sent_one : (d : Queues P) (act : Act P) → requests_in (does d act).sent ≡ requests_in d.sent ++ map_list request_of (sent_by (count_of d.asked) act)
@@ -197,6 +202,15 @@ module _ {P : Type 0} where
   answered_none count (act ∷ acts) cancelled =
       let more = answered_none (ids_after count act) acts cancelled in (more.0, ap (λ l. sent_by count act ++ l) more.1)
 
+  -- nor are the answers at `shutdown`
+  ended_none : (count : ℕ) (ids : List Id) → ◌≡◌ {A = List (Sent P)} (all_sent count (ends_all ids)) []
+  ended_none count [] = refl
+  ended_none count (id ∷ ids) = ended_none count ids
+
+  pub parted_none : (count : ℕ) (acts : List (Act P)) (ids : List Id) → all_sent count (acts ++ ends_all ids) ≡ all_sent count acts
+  parted_none count acts ids =
+      sent-append count acts (ends_all ids) ∙ ap (λ l. all_sent count acts ++ l) (ended_none (ids_after_all count acts) ids) ∙ append-nil (all_sent count acts)
+
   answered_at : (count : ℕ) (m : Option Message) (acts : List (Act P))
       → (ids_after_all count (acts_done_at m acts) ≡ ids_after_all count acts) × (all_sent count (acts_done_at m acts) ≡ all_sent count acts)
   answered_at count (Some (notification method params)) acts = answered_none count acts (cancelled_by method params)
@@ -232,6 +246,7 @@ module _ {S P : Type 0} (may : Stated S P) where
     pub sent : requests_in (sends_of xs) ≡ map_list request_of (all_sent (count_of (queues_of w.queues).asked) (acts_of calls))
     pub fits : Fits (count_of (queues_of w.queues).asked) asked before calls
     pub acted : SendsActs may (seen w) calls xs (seen w')
+    pub counted : count_of (queues_of w'.queues).asked ≡ ids_after_all (count_of (queues_of w.queues).asked) (acts_of calls)
 
   pub call_all : (w w' : QueuedServer S P) (xs : List Exchange) (sent : List (Sent P)) (before : List (Call P)) → (queues_of w.queues).sent ≡ []
       → Agrees sent before (queues_of w.queues).asked → GivesAll w xs w' → Turned w w' xs sent before
@@ -242,6 +257,7 @@ module _ {S P : Type 0} (may : Stated S P) where
     sent = refl;
     fits = tt;
     acted = ap (λ (x : QueuedServer S P). seen x) all;
+    counted = ap (λ (x : QueuedServer S P). count_of (queues_of x.queues).asked) all;
   }
   call_all w w' (x ∷ xs) sent before silent agrees all =
       let mid = all.0 in
@@ -278,4 +294,5 @@ module _ {S P : Type 0} (may : Stated S P) where
           subst (λ k. Fits k (sent ++ all_sent n a.acts) (before ++ call ∷ []) rest.calls) count rest.fits,
         );
         acted = (seen mid, a, refl, rest.acted);
+        counted = rest.counted ∙ ap (λ k. ids_after_all k (acts_of rest.calls)) count ∙ sym (ids-append n a.acts (acts_of rest.calls));
       }

@@ -1,5 +1,5 @@
 -- A server takes part in its session, by its stated meaning, and the session keeps the laws.
-use Rattle.std.proofs.Common.{◌≡◌, refl, sym, ◌∙◌, ap, subst, inl, inr, Bool, true, false, List, [], ◌∷◌, ◌++◌, append-nil, Option, Some, None}
+use Rattle.std.proofs.Common.{◌≡◌, refl, sym, ◌∙◌, ap, subst, inl, inr, Bool, true, false, List, [], ◌∷◌, ◌++◌, append-nil, append_assoc, Option, Some, None}
 use Rattle.std.proofs.lemmas.List.Folds.{list_all-append}
 use Rattle.std.specs.Bool.{MatchBool}
 use Rattle.std.specs.List.{list_all}
@@ -8,23 +8,24 @@ use Rattle.std.specs.Prelude.{Result, Ok, Err, IsSomeAnd, map as map_list}
 use Rattle.std.proofs.lemmas.List.{map-append}
 use Rattle.lsp_queue.specs.Queue.{count_of}
 use Rattle.lsp_message.specs.Id.{Id}
-use Rattle.lsp_message.specs.Message.{Message, ErrorObject, request, response}
+use Rattle.lsp_message.specs.Message.{Message, ErrorObject, request, notification, response}
 use Rattle.lsp_message.specs.Methods.{is_initialize, is_initialized, is_exit}
-use Rattle.lsp_session.proofs.Ran.{sends_both, early_request, early_note, unasked as unasked_for, uninvited, shuts, leaves as goes, exits, late, stays, StepCase, at_initialize, at_initialized, at_served, at_woken, idle, row}
+use Rattle.lsp_session.proofs.Ran.{sends_both, early_request, early_note, unasked as unasked_for, uninvited, leaves as goes, exits, late, stays, StepCase, at_initialize, at_initialized, at_served, at_woken, at_shutdown, idle, row}
 use Rattle.lsp_session.specs.ProtocolError.{expected_initialize, expected_initialized, unexpected_in_shutdown}
 use Rattle.lsp_session.specs.Replies.{null_reply, IsEarlyReply}
 use Rattle.lsp_session.specs.Session.{Exchange, came_of, sends_of, SessionAnswer, Stop, Phase, starting, replied as in_reply, serving, asked, ended, phase_after, is_reply, is_served, Fails, Leaves, Step, Steps, SessionOut}
 use Rattle.lsp_session.specs.SessionLaws.{is_refusal}
 use Rattle.lsp_session.specs.declared.loops.handler.SessionEnd.TheVariants.{Closed, ShutDown}
-use Rattle.lsp_service.specs.Acts.{Queues, TakesBack, cleared, does_all, empty_queues, unsent}
-use Rattle.lsp_service.specs.Law.{requests_in, request_of, ids_after_all, all_sent, acts_of, is_call, IsUnserved, SendsActs, TakesCalls, TakesPart, GivesPayloads, GoesOn, Initializes, KeepsLaws, LawfulSession}
+use Rattle.lsp_service.specs.Acts.{Act, Queues, TakesBack, cleared, does_all, empty_queues, ends_all, released, unsent}
+use Rattle.lsp_service.specs.Law.{requests_in, request_of, ids_after_all, all_sent, acts_of, is_call, IsUnserved, PartsFirst, SendsActs, TakesCalls, TakesPart, GivesPayloads, GoesOn, Initializes, KeepsLaws, LawfulSession}
 use Rattle.lsp_service.specs.QueuedServer.{with_queues, woken_with_queues, held_by, OpensSending, ServerSession, WorksSending}
 use Rattle.lsp_service.specs.declared.queued_server.QueuedServer.{QueuedServer}
 use Rattle.lsp_service.specs.declared.queued_server.WokenQueuedServer.{WokenQueuedServer}
-use Rattle.lsp_service.proofs.Acting.{sent_all as acts_sent}
+use Rattle.lsp_service.specs.SentByActs.{ActsAtShutdown}
+use Rattle.lsp_service.proofs.Acting.{acts_at_shutdown, sent_at_shutdown, sent_all as acts_sent}
 use Rattle.lsp_service.proofs.Holding.{session_held}
-use Rattle.lsp_service.proofs.Counting.{Fresh, kept_to_last, never_more, answered_last, answers_cancelled, all_steps}
-use Rattle.lsp_service.proofs.Returning.{requests-append, ids_all, sent-append, sent_all, Agrees, agrees_start, agrees_acts, Fits, own_payloads, GivesAll, call_all}
+use Rattle.lsp_service.proofs.Counting.{Fresh, kept_to_last, never_more, answered_last, answers_cancelled, all_steps, none_held}
+use Rattle.lsp_service.proofs.Returning.{requests-append, ids_all, sent-append, sent_all, parted_none, Agrees, agrees_start, agrees_acts, Fits, own_payloads, GivesAll, call_all}
 use Rattle.lsp_service.specs.View.{queues_of, seen}
 use Rattle.lsp_service.specs.Stated.{Stated}
 use Rattle.lsp_session.proofs.Ordering.{keeps_order}
@@ -66,15 +67,20 @@ module _ {S P : Type 0} (may : Stated S P) where
   record Served (w w' : QueuedServer S P) (xs : List Exchange) : Type 0 where
     served : List Exchange
     rest : List Exchange
-    given : GivesAll may w served w'
+    mid : QueuedServer S P
+    given : GivesAll may w served mid
     all_served : list_all is_call (came_of served) ≡ true
     unserved : IsUnserved (came_of rest)
     cut : xs ≡ served ++ rest
-    silent : requests_in (sends_of rest) ≡ []
+    parting : List (Act P)
+    parted : PartsFirst may (seen mid) rest parting (seen w')
+    last : requests_in (sends_of rest) ≡ map_list request_of (all_sent (count_of (queues_of mid.queues).asked) parting)
 
   -- `shutdown` or `exit` comes, or nothing
-  abbrev serve_left : (w w' : QueuedServer S P) (xs : List Exchange) → IsUnserved (came_of xs) → (requests_in (sends_of xs) ≡ []) × (w' ≡ w) → Served w w' xs
-  serve_left w w' xs unserved (silent, same) = record { served = []; rest = xs; given = same; all_served = refl; unserved = unserved; cut = refl; silent = silent }
+  serve_left : (w w' : QueuedServer S P) (xs : List Exchange) (parting : List (Act P)) → IsUnserved (came_of xs) → PartsFirst may (seen w) xs parting (seen w')
+      → requests_in (sends_of xs) ≡ map_list request_of (all_sent (count_of (queues_of w.queues).asked) parting) → Served w w' xs
+  serve_left w w' xs parting unserved parted last =
+      record { served = []; rest = xs; mid = w; given = refl; all_served = refl; unserved = unserved; cut = refl; parting = parting; parted = parted; last = last }
 
   -- one more call comes first
   serve_more : (w mid w' : QueuedServer S P) (x : Exchange) (xs : List Exchange) → is_call x.came ≡ true
@@ -82,40 +88,55 @@ module _ {S P : Type 0} (may : Stated S P) where
   serve_more w mid w' x xs call gives s = record {
     served = x ∷ s.served;
     rest = s.rest;
+    mid = s.mid;
     given = (mid, gives, s.given);
     all_served = rw call s.all_served;
     unserved = s.unserved;
     cut = ap (λ (l : List Exchange). x ∷ l) s.cut;
-    silent = s.silent;
+    parting = s.parting;
+    parted = s.parted;
+    last = s.last;
   }
 
-  left_silent : (w w' : QueuedServer S P) (q next : Phase) (m : Message) (output : List Message) (xs : List Exchange) → Leaves m output next
-      → Runs_from next w xs q w' → (requests_in (output ++ sends_of xs) ≡ []) × (w' ≡ w)
-  left_silent w w' q next (request i method params) output xs leaves run =
-      let rest = quiet xs i q w w' (rw leaves.1 at run) in
-      (rw (leaves.0, rest.0) refl, rest.1)
-  left_silent w w' q next m output xs leaves run =
-      let rest = over xs None (Ok Closed) q w w' (rw leaves.1 at run) in
-      (rw (leaves.0, rest.0) refl, rest.1)
+  -- the requests that are sent at `shutdown`
+  parting_asks : (w mid : QueuedServer S P) (i : Id) (parting : List Message) (a : ActsAtShutdown may (seen w) i parting (seen mid)) → (queues_of w.queues).sent ≡ []
+      → requests_in parting ≡ map_list request_of (all_sent (count_of (queues_of w.queues).asked) a.acts)
+  parting_asks w mid i parting a silent =
+      let d = queues_of w.queues in
+      ap requests_in (sent_at_shutdown may (seen w) i parting (seen mid) a) ∙ sent_all (released d i) (a.acts ++ ends_all a.ids)
+      ∙ (λ j. requests_in (silent j) ++ map_list request_of (parted_none (count_of d.asked) a.acts a.ids j))
 
-  serve_all : (xs : List Exchange) (q : Phase) (w w' : QueuedServer S P) → Runs_from serving w xs q w' → Served w w' xs
-  serve_all [] q w w' run = serve_left w w' [] tt (refl, run.1)
-  serve_all (x ∷ xs) q w w' run = by (λ rest. serve_all xs q run.1 w' rest) x.came refl run.2
+  -- a message that is not served comes
+  leave : (w mid w' : QueuedServer S P) (q next : Phase) (x : Exchange) (xs : List Exchange) (m : Message) → (queues_of w.queues).sent ≡ [] → x.came ≡ Some m → is_served m ≡ false
+      → Leaves (with_queues may) w m x.sent next mid → Runs_from next mid xs q w' → Served w w' (x ∷ xs)
+  leave w mid w' q next x xs (request i method params) silent there other leaves run =
+      let a = acts_at_shutdown may (seen w) i leaves.0 (seen mid) leaves.1 in
+      let rest = quiet xs i q mid w' (rw leaves.3 at run) in
+      let asks : requests_in (x.sent ++ sends_of xs) ≡ requests_in leaves.0 =
+      rw rest.0 (ap requests_in (append-nil x.sent ∙ leaves.2) ∙ requests-append leaves.0 (null_reply i ∷ []) ∙ append-nil (requests_in leaves.0)) in
+      serve_left w w' (x ∷ xs) a.acts (ap is_call there ∙ other) (rw (there, rest.1) (leaves.0, a, refl, leaves.2)) (asks ∙ parting_asks w mid i leaves.0 a silent)
+  leave w mid w' q next x xs (notification method params) silent there other leaves run =
+      let rest = over xs None (Ok Closed) q mid w' (rw leaves.1 at run) in
+      serve_left w w' (x ∷ xs) [] (ap is_call there ∙ other) (rw there (refl, ap (λ (v : QueuedServer S P). seen v) (rest.1 ∙ leaves.2))) (rw (leaves.0, rest.0) refl)
+  leave w mid w' q next x xs (response i outcome) silent there other leaves run = absurd (cc (other))
+
+  serve_all : (xs : List Exchange) (q : Phase) (w w' : QueuedServer S P) → (queues_of w.queues).sent ≡ [] → Runs_from serving w xs q w' → Served w w' xs
+  serve_all [] q w w' silent run = serve_left w w' [] [] tt (refl, ap (λ (v : QueuedServer S P). seen v) run.1) refl
+  serve_all (x ∷ xs) q w w' silent run = by (λ quiet rest. serve_all xs q run.1 w' quiet rest) x.came refl run.2
     where
-      call : (Runs_from serving run.1 xs q w' → Served run.1 w' xs) → is_call x.came ≡ true
-          → WorksSending may (seen w) x.came x.sent (seen run.1) × (run.0 ≡ serving) → Served w w' (x ∷ xs)
-      call later is step = serve_more w run.1 w' x xs is step.0 (later (rw step.1 at run.3))
+      Rest : Type 0
+      Rest = (queues_of run.1.queues).sent ≡ [] → Runs_from serving run.1 xs q w' → Served run.1 w' xs
 
-      at : (Runs_from serving run.1 xs q w' → Served run.1 w' xs) → (m : Message) → x.came ≡ Some m → (b : Bool) → is_served m ≡ b
-          → MatchBool b ((with_queues may).outputs w m x.sent run.1 × (run.0 ≡ serving)) (Leaves m x.sent run.0 × (run.1 ≡ w))
+      call : Rest → is_call x.came ≡ true → WorksSending may (seen w) x.came x.sent (seen run.1) × (run.0 ≡ serving) → Served w w' (x ∷ xs)
+      call later is step = serve_more w run.1 w' x xs is step.0 (later (ap (λ (v : S × Queues P). v.1.sent) step.0.3) (rw step.1 at run.3))
+
+      at : Rest → (m : Message) → x.came ≡ Some m → (b : Bool) → is_served m ≡ b
+          → MatchBool b ((with_queues may).outputs w m x.sent run.1 × (run.0 ≡ serving)) (Leaves (with_queues may) w m x.sent run.0 run.1)
           → Served w w' (x ∷ xs)
       at later m there true e step = call later (rw (there, e) refl) (rw there step)
-      at later m there false e step =
-          let left = left_silent run.1 w' q run.0 m x.sent xs step.0 run.3 in
-          serve_left w w' (x ∷ xs) (rw (there, e) refl) (left.0, left.1 ∙ step.1)
+      at later m there false e step = leave w run.1 w' q run.0 x xs m silent there e step run.3
 
-      by : (Runs_from serving run.1 xs q w' → Served run.1 w' xs) → (came : Option Message) → x.came ≡ came → Step (with_queues may) serving w came x.sent run.0 run.1
-          → Served w w' (x ∷ xs)
+      by : Rest → (came : Option Message) → x.came ≡ came → Step (with_queues may) serving w came x.sent run.0 run.1 → Served w w' (x ∷ xs)
       by later None none step = call later (rw none refl) (rw none step)
       by later (Some m) there step = at later m there (is_served m) refl step
 
@@ -132,14 +153,20 @@ module _ {S P : Type 0} (may : Stated S P) where
       let count : count_of (queues_of mid.queues).asked ≡ ids_after_all 0 begun = ap count_of asked ∙ ids_all empty_queues begun in
       let first : requests_in x.sent ≡ map_list request_of (all_sent 0 begun) =
       ap requests_in opened.2 ∙ ap (λ (x : Queues P). requests_in x.sent) opened.1.4 ∙ sent_all empty_queues begun in
-      let t = call_all may mid w' s.served (all_sent 0 begun) [] (ap (λ (x : S × Queues P). x.1.sent) opened.3)
+      let t = call_all may mid s.mid s.served (all_sent 0 begun) [] (ap (λ (x : S × Queues P). x.1.sent) opened.3)
       (subst (Agrees (all_sent 0 begun) []) (sym asked) (agrees_acts [] [] empty_queues begun agrees_start)) s.given in
-      let later : map_list request_of (all_sent (ids_after_all 0 begun) (acts_of t.calls)) ≡ requests_in (sends_of s.served) =
-      sym (t.sent ∙ ap (λ k. map_list request_of (all_sent k (acts_of t.calls))) count) in
-      let sends : requests_in (x.sent ++ sends_of xs) ≡ requests_in x.sent ++ requests_in (sends_of s.served) =
+      let n = ids_after_all 0 begun in
+      let done = acts_of t.calls in
+      let later : map_list request_of (all_sent n done) ≡ requests_in (sends_of s.served) = sym (t.sent ∙ ap (λ k. map_list request_of (all_sent k done)) count) in
+      let counted : count_of (queues_of s.mid.queues).asked ≡ ids_after_all n done = t.counted ∙ ap (λ k. ids_after_all k done) count in
+      let last : map_list request_of (all_sent (ids_after_all n done) s.parting) ≡ requests_in (sends_of s.rest) =
+      sym (s.last ∙ ap (λ k. map_list request_of (all_sent k s.parting)) counted) in
+      let sends : requests_in (x.sent ++ sends_of xs) ≡ requests_in x.sent ++ (requests_in (sends_of s.served) ++ requests_in (sends_of s.rest)) =
       requests-append x.sent (sends_of xs)
       ∙ ap (λ l. requests_in x.sent ++ l) (ap (λ l. requests_in (sends_of l)) s.cut ∙ ap requests_in (sends_both s.served s.rest)
-      ∙ requests-append (sends_of s.served) (sends_of s.rest) ∙ ap (λ l. requests_in (sends_of s.served) ++ l) s.silent ∙ append-nil (requests_in (sends_of s.served))) in
+      ∙ requests-append (sends_of s.served) (sends_of s.rest)) in
+      let asks : map_list request_of (all_sent n (done ++ s.parting)) ≡ map_list request_of (all_sent n done) ++ map_list request_of (all_sent (ids_after_all n done) s.parting) =
+      ap (λ l. map_list request_of l) (sent-append n done s.parting) ∙ map-append request_of (all_sent n done) (all_sent (ids_after_all n done) s.parting) in
       let start : seen mid ≡ (mid.server, cleared (does_all empty_queues begun)) =
       ap (λ (d : Queues P). (mid.server, d)) (ap (λ (x : S × Queues P). x.1) opened.3 ∙ ap (λ (d : Queues P). cleared d) opened.1.4) in
       record {
@@ -155,13 +182,18 @@ module _ {S P : Type 0} (may : Stated S P) where
         first = mid.server;
         began = opened.1.2;
         took_back = subst (λ (v : S). TakesBack may.takes_back opened.1.1 (unsent 0 begun) v) (sym (ap (λ (x : S × Queues P). x.0) opened.3)) opened.1.3;
-        took_calls = subst (λ k. TakesCalls may k mid.server t.calls w'.server) count t.took;
+        called = s.mid.server;
+        took_calls = subst (λ k. TakesCalls may k mid.server t.calls s.mid.server) count t.took;
         opened = opened.2 ∙ ap (λ (d : Queues P). d.sent) opened.1.4 ∙ acts_sent empty_queues begun;
-        queues = queues_of w'.queues;
-        acted = subst (λ (a : S × Queues P). SendsActs may a t.calls s.served (seen w')) start t.acted;
-        sent = ap (λ l. map_list request_of l) (sent-append 0 begun (acts_of t.calls))
-            ∙ map-append request_of (all_sent 0 begun) (all_sent (ids_after_all 0 begun) (acts_of t.calls))
-            ∙ (λ i. sym first i ++ later i) ∙ sym sends;
+        queues = queues_of s.mid.queues;
+        acted = subst (λ (a : S × Queues P). SendsActs may a t.calls s.served (seen s.mid)) start t.acted;
+        parting = s.parting;
+        left = queues_of w'.queues;
+        parted = s.parted;
+        sent = ap (λ l. map_list request_of (all_sent 0 l)) (append_assoc begun done s.parting)
+            ∙ ap (λ l. map_list request_of l) (sent-append 0 begun (done ++ s.parting))
+            ∙ map-append request_of (all_sent 0 begun) (all_sent n (done ++ s.parting))
+            ∙ (λ i. sym first i ++ (asks ∙ (λ j. later j ++ last j)) i) ∙ sym sends;
         payloads = own_payloads begun t.calls (subst (λ k. Fits k (all_sent 0 begun) [] t.calls) count t.fits);
       }
 
@@ -179,7 +211,7 @@ module _ {S P : Type 0} (may : Stated S P) where
       at : (m : Message) → x.came ≡ Some m → (b : Bool) → is_initialized m ≡ b
           → MatchBool b ((with_queues may).at_initialized w x.sent run.1 × (run.0 ≡ serving)) (Fails expected_initialized in_reply x.sent run.0 × (run.1 ≡ w))
           → GoesOn may w.server w'.server (x ∷ xs)
-      at m there true e step = goes_on m there true e (takes_part w run.1 w' x xs fresh step.0 (serve_all xs q run.1 w' (rw step.1 at run.3)))
+      at m there true e step = goes_on m there true e (takes_part w run.1 w' x xs fresh step.0 (serve_all xs q run.1 w' (ap (λ (v : S × Queues P). v.1.sent) step.0.3) (rw step.1 at run.3)))
       at m there false e step =
           let rest = over xs None (Err (expected_initialized step.0.0)) q run.1 w' (rw step.0.2 at run.3) in
           goes_on m there false e (rw (step.0.1, rest.0) refl, ap (λ (x : QueuedServer S P). x.server) (rest.1 ∙ step.1))
@@ -271,6 +303,7 @@ module _ {S P : Type 0} (may : Stated S P) where
       by later (at_initialized m first there e opened next) = absurd (cc (first))
       by later (at_served m first there e gives next) = absurd (cc (first))
       by later (at_woken first none woken next) = absurd (cc (first))
+      by later (at_shutdown i method params parting first there e gives sent next) = absurd (cc (first))
       by later (idle m there same any (early_request i method params reply first is replies sent next)) =
           more (rw (sent, replies.is) refl) (later (rw same fresh) (rw next at run.3))
       by later (idle m there same any (early_note first mute e sent next)) = more (rw sent refl) (later (rw same fresh) (rw next at run.3))
@@ -278,7 +311,6 @@ module _ {S P : Type 0} (may : Stated S P) where
           let rest = over xs None (Err (expected_initialize shown)) q run.1 w' (rw next at run.3) in
           inl (rw (sent, rest.0) refl, (run.1.server, begun, rw rest.0 (ap (λ (x : QueuedServer S P). x.server) rest.1)))
       by later (idle m there same any (uninvited shown first e sent next)) = absurd (cc (first))
-      by later (idle m there same any (shuts i method params first is e sent next)) = absurd (cc (first))
       by later (idle m there same any (goes first e sent next)) = absurd (cc (first))
       by later (idle m there same any (exits i first e sent next)) = absurd (cc (first))
       by later (idle m there same any (late i first is sent next)) = absurd (cc (first))
@@ -313,6 +345,7 @@ module _ {S P : Type 0} (may : Stated S P) where
           to_send = all.1;
           once = λ enough id. answered_last may id stop answer session.old out.after session.new all.0 out.last all.2 out.stopped fresh enough;
           cancelled = λ id. answers_cancelled may id stop answer session.old out.after session.new all.0 out.last all.2 out.stopped fresh;
+          none_held = none_held may stop shutdown_reply answer session.old out.after session.new xs out.last out.reached out.shutdown_reply_is out.stopped;
           after = out.after.server;
           payloads = subst (λ (s : S). GivesPayloads may s out.after.server all.0) (ap (λ (x : S × Queues P). x.0) session.from_first)
               (payloads_from may all.0 out.last session.old out.after fresh all.2);

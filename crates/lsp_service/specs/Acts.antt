@@ -4,7 +4,7 @@ use Rattle.serde_json.specs.Data.{Data, object, member, no_members}
 use Rattle.serde_json.specs.Data as tree
 use Rattle.serde_json.specs.Find.{of_integer}
 use Rattle.std.specs.FinMap as map
-use Rattle.std.specs.Prelude.{◌≡◌, ◌+◌, ◌==◌, ℕ, ℤ, pos, Bool, List, [], ◌∷◌, ◌++◌, fold, Option, Some, None, Result, Err, if◌then◌else◌, codes}
+use Rattle.std.specs.Prelude.{◌≡◌, ◌+◌, ◌==◌, ℕ, ℤ, pos, Bool, List, [], ◌∷◌, ◌++◌, map as map_list, fold, Option, Some, None, Result, Err, if◌then◌else◌, codes}
 use Rattle.std.specs.Str.{bytes_eq}
 use Rattle.lsp_message.specs.ErrorCode.{number_of}
 use Rattle.lsp_message.specs.Id.{Id, number}
@@ -46,6 +46,14 @@ abbrev pub canceled : ErrorObject
 canceled = record {
   code = number_of RequestCanceled;
   message = codes "canceled by client";
+  details = None;
+}
+
+-- the outcome of a request that was still held when `shutdown` came
+abbrev pub ended_by_shutdown : ErrorObject
+ended_by_shutdown = record {
+  code = number_of RequestCanceled;
+  message = codes "canceled by shutdown";
   details = None;
 }
 
@@ -128,6 +136,20 @@ module _ {P : Type 0} where
   abbrev pub answers_cancelled : Queues P → Option Id → Queues P
   answers_cancelled d None = d
   answers_cancelled d (Some id) = does d (replies id (Err canceled))
+
+  -- `shutdown` came under this id. It gets its own reply, so a request that is held under the same id gets no other.
+  abbrev pub released : Queues P → Id → Queues P
+  released d id = record { held = map.remove d.held id; asked = d.asked; sent = d.sent }
+
+  -- the answers to the requests under these ids, where they are held: `shutdown` ended them
+  abbrev pub ends_all : List Id → List (Act P)
+  ends_all ids = map_list (λ (id : Id). replies id (Err ended_by_shutdown)) ids
+
+  -- Each request that is held is answered so, in any order, and none is held any more.
+  pub record AnswersHeld (old new : Queues P) : Type 0 where
+    pub ids : List Id
+    pub answered : new ≡ does_all old (ends_all ids)
+    pub none : new.held ≡ map.empty
 
   -- all was sent
   abbrev pub cleared : Queues P → Queues P

@@ -3,7 +3,7 @@
 use Rattle.serde_json.specs.Data.{Data}
 use Rattle.std.specs.FinMap as map
 use Rattle.std.specs.Ordering.{eq_by_cmp}
-use Rattle.std.specs.Prelude.{◌≡◌, ◌≢◌, ◌≤◌, ◌⊎◌, ◌+◌, ◌||◌, ◌&&◌, ℕ, pos, Bool, true, false, List, [], ◌∷◌, ◌++◌, map as map_list, fold, Option, Some, None, is_some, IsSomeAnd, Result, Ok, Err, IsErrAnd, if◌then◌else◌}
+use Rattle.std.specs.Prelude.{◌≡◌, ◌≢◌, ◌≤◌, ◌⊎◌, ◌+◌, ◌||◌, ◌&&◌, ℕ, pos, Bool, true, false, List, [], ◌∷◌, ◌++◌, map as map_list, fold, Option, Some, None, is_some, IsSome, IsSomeAnd, Result, Ok, Err, IsErrAnd, if◌then◌else◌}
 use Rattle.std.specs.Bool.{MatchBool}
 use Rattle.std.specs.List.{list_all}
 use Rattle.lsp_message.specs.Id.{Id, id_cmp, number}
@@ -12,11 +12,12 @@ use Rattle.lsp_message.specs.Methods.{is_initialize}
 use Rattle.lsp_queue.specs.Queue.{Pending}
 use Rattle.lsp_session.specs.Finish.{is_initialized}
 use Rattle.lsp_session.specs.ProtocolError.{ShowsUnallowed, is_disconnected}
+use Rattle.lsp_session.specs.Replies.{null_reply}
 use Rattle.lsp_session.specs.Session.{Exchange, came_of, messages_of, sends_of, SessionAnswer, SessionPart, Stop, decided, refused, exhausted, is_served}
 use Rattle.lsp_session.specs.SessionLaws.{EndsWithResult, KeepsOrder, AllRefused}
 use Rattle.lsp_service.specs.Acts.{Act, Queues, asks, cancelled_by, cleared, does_all, empty_queues, is_spent, ids_after, unsent, TakesBack}
 use Rattle.lsp_service.specs.QueuedServer.{ServerSession, held_by}
-use Rattle.lsp_service.specs.SentByActs.{ActsAt, all_sends}
+use Rattle.lsp_service.specs.SentByActs.{ActsAt, ActsAtShutdown, all_sends}
 pub use Rattle.lsp_service.specs.SentByActs.{Handed}
 use Rattle.lsp_service.specs.Stated.{Stated}
 
@@ -79,6 +80,14 @@ SinceLast id P exchanges =
 abbrev pub AnswersLast : Id → List Exchange → Stop → Pending (Unit {0}) → SessionAnswer → Type 0
 AnswersLast id exchanges stop held answer =
     SinceLast id (λ since. OnceOrEnded id since stop held answer) exchanges
+
+-- The last request under this id has exactly one reply. Or it has none, and the session ended at it, since the lifecycle does not allow it.
+abbrev pub AnswersLastInFull : Id → List Exchange → Stop → SessionAnswer → Type 0
+AnswersLastInFull id exchanges stop answer =
+    SinceLast id (λ since.
+    (how_many (is_reply_under id) (sends_of since) ≡ 1)
+    ⊎ ((how_many (is_reply_under id) (sends_of since) ≡ 0) × EndsAtRequest id since stop answer))
+    exchanges
 
 -- the message cancels the request with this id (LSP 3.17, "Cancellation Support")
 abbrev pub Cancels : Id → Option Message → Type 0
@@ -226,9 +235,22 @@ module _ {S P : Type 0} (may : Stated S P) where
       × SendsActs mid calls exchanges new
   SendsActs old calls exchanges new = ⊥
 
+  -- At a message that is not served: at `shutdown` the server does these last acts, and what they send, and the answers to what is still held, is
+  -- all that is sent before the reply. At `exit` it does nothing.
+  abbrev pub PartsAt : S × Queues P → Option Message → List Message → List (Act P) → S × Queues P → Type 0
+  PartsAt old (Some (request id method params)) output acts new =
+      (sent : List Message) × (at : ActsAtShutdown may old id sent new) × (acts ≡ at.acts)
+      × (output ≡ sent ++ null_reply id ∷ [])
+  PartsAt old came output acts new = (acts ≡ []) × (new ≡ old)
+
+  -- the same of the first of these exchanges, if there is one
+  abbrev pub PartsFirst : S × Queues P → List Exchange → List (Act P) → S × Queues P → Type 0
+  PartsFirst old [] acts new = (acts ≡ []) × (new ≡ old)
+  PartsFirst old (x ∷ rest) acts new = PartsAt old x.came x.sent acts new
+
   -- The server's part of a session from `initialized` on, from its state at the result to its last: it did this, then took these calls
-  -- at what came up to `shutdown` or `exit`, by its stated meaning. What its acts send is all that is sent, each in its place. These are
-  -- the requests that it sent.
+  -- at what came up to `shutdown` or `exit`, and did its last acts at `shutdown`, by its stated meaning. What its acts send is all that is sent,
+  -- each in its place. These are the requests that it sent.
   pub record TakesPart (start last : S) (opening : Exchange) (later : List Exchange) : Type 0 where
     pub begun : List (Act P)
     pub calls : List (Call P)
@@ -242,12 +264,16 @@ module _ {S P : Type 0} (may : Stated S P) where
     pub first : S
     pub began : may.at_initialized start begun did
     pub took_back : TakesBack may.takes_back did (unsent 0 begun) first
-    pub took_calls : TakesCalls (ids_after_all 0 begun) first calls last
+    pub called : S
+    pub took_calls : TakesCalls (ids_after_all 0 begun) first calls called
     pub opened : opening.sent ≡ all_sends empty_queues begun
     pub queues : Queues P
     pub acted : SendsActs (first, cleared (does_all empty_queues begun)) calls at_calls
-        (last, queues)
-    pub sent : map_list request_of (all_sent 0 (begun ++ acts_of calls))
+        (called, queues)
+    pub parting : List (Act P)
+    pub left : Queues P
+    pub parted : PartsFirst (called, queues) rest parting (last, left)
+    pub sent : map_list request_of (all_sent 0 (begun ++ acts_of calls ++ parting))
         ≡ requests_in (sends_of (opening ∷ later))
     pub payloads : GivesOwnPayloads begun calls
 
@@ -292,13 +318,15 @@ module _ {S P : Type 0} (may : Stated S P) where
     -- under no id are there ever more replies than requests that came before: no reply goes to anything else, and none comes twice
     pub never_more : (id : Id) → NeverMore id exchanges
     -- before `initialized` nothing is sent but one reply for each request, and nothing follows the reply to `shutdown`
-    pub order : KeepsOrder exchanges stop shutdown_reply answer
+    pub order : KeepsOrder true true exchanges stop shutdown_reply answer
     -- these exchanges with all that was to be sent at them, of which the rest is said
     pub all : List Exchange
     pub to_send : WasToSend stop exchanges all
-    -- The last request under an id has one reply, or it is held or ended the session; it has one when it was cancelled.
+    -- The last request under an id has one reply, or it is held or ended the session; it has one when it was cancelled. Once `shutdown` got
+    -- its reply none is held.
     pub once : stop ≢ exhausted → (id : Id) → AnswersLast id all stop held answer
     pub cancelled : (id : Id) → AnswersCancelled id all stop answer
+    pub none_held : IsSome shutdown_reply → held ≡ map.empty
     -- Each reply of the client comes to the server with the payload of its own request, once, and each act is sent in its place, from the
     -- server's first state to the one after the last exchange. That is its last state, unless an allocation failed at the message that
     -- came next.

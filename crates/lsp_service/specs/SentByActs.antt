@@ -4,7 +4,7 @@ use Rattle.std.specs.Prelude.{◌≡◌, pos, List, [], ◌∷◌, ◌++◌, Opt
 use Rattle.lsp_message.specs.Id.{Id, number}
 use Rattle.lsp_message.specs.Message.{Message, request, notification, response}
 use Rattle.lsp_queue.specs.Queue.{pending_of, count_of}
-use Rattle.lsp_service.specs.Acts.{Act, tells, asks, replies, cancels, Queues, is_spent, does, does_all, unsent, holds, given, canceled, cancelled_by, cancel_method, cancel_params, cleared, TakesBack}
+use Rattle.lsp_service.specs.Acts.{Act, tells, asks, replies, cancels, Queues, is_spent, does, does_all, unsent, holds, given, released, canceled, ends_all, cancelled_by, cancel_method, cancel_params, cleared, TakesBack}
 use Rattle.lsp_service.specs.Stated.{Stated}
 
 module _ {P : Type 0} where
@@ -71,3 +71,18 @@ module _ {S P : Type 0} (may : Stated S P) where
     pub sent : output ≡ old.1.sent
         ++ all_sends (queues_at old.1 came payload) (acts_done_at came acts)
     pub queues : new.1 ≡ cleared (does_all (queues_at old.1 came payload) (acts_done_at came acts))
+
+  -- At `shutdown`, which came under this id, the server, which stated what it may do, did this last, and then the requests under these ids are
+  -- answered. What these acts send is all that is sent before the reply. These are the queues afterwards, in which nothing is held, and the
+  -- server, which took back what found no id.
+  pub record ActsAtShutdown (old : S × Queues P) (id : Id) (output : List Message) (new : S
+      × Queues P) : Type 0 where
+    pub acts : List (Act P)
+    pub did : S
+    pub stated : may.at_shutdown old.0 acts did
+    pub back : TakesBack may.takes_back did (unsent (count_of old.1.asked) acts) new.0
+    pub ids : List Id
+    pub sent : output
+        ≡ old.1.sent ++ all_sends (released old.1 id) (acts ++ ends_all ids)
+    pub queues : new.1 ≡ cleared (does_all (released old.1 id) (acts ++ ends_all ids))
+    pub none : new.1.held ≡ map.empty

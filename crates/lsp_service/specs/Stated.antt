@@ -14,6 +14,7 @@ pub record Stated (S P : Type 0) : Type 1 where
   pub notified : S → List ℕ → Data → List (Act P) → S → Type 0
   pub replied : S → P → Result Data ErrorObject → List (Act P) → S → Type 0
   pub wakes : S → List (Act P) → S → Type 0
+  pub at_shutdown : S → List (Act P) → S → Type 0
   pub takes_back : S → P → S → Type 0
 
 module _ {S P : Type 0} where
@@ -26,6 +27,7 @@ module _ {S P : Type 0} where
     notified = may.notified;
     replied = may.replied;
     wakes = wakes;
+    at_shutdown = may.at_shutdown;
     takes_back = may.takes_back;
   }
 

@@ -1,4 +1,5 @@
 //! What a session of a server does, in its user's words.
+ghost use Rattle.std.specs.FinMap as map;
 ghost use Rattle.std.specs.Prelude.{◌≡◌, ℕ, List, Option, Result};
 ghost use Rattle.lsp_message.specs.Id.{Id};
 ghost use Rattle.lsp_message.specs.Message.{Message};
@@ -13,7 +14,7 @@ ghost use Rattle.lsp_session.specs.declared.loops.handler.SessionEnd.{SessionEnd
 ghost use Rattle.lsp_session.specs.declared.loops.stream_session.SessionFault.{SessionFault as FaultOfSession};
 ghost use Rattle.lsp_session.specs.declared.loops.stream_transport.StreamTransport.{StreamTransport as TransportOf};
 ghost use Rattle.lsp_service.specs.Acts.{Queues, empty_queues};
-ghost use Rattle.lsp_service.specs.Law.{is_request_under, how_many, AnswersLast, IsGone, IsOwedWhatIsHeld, IsWhole, KeepsLaws, LawfulSession, NeverMore, OnceOrEnded, WasToSend};
+ghost use Rattle.lsp_service.specs.Law.{is_request_under, how_many, AnswersLast, AnswersLastInFull, IsGone, IsOwedWhatIsHeld, IsWhole, KeepsLaws, LawfulSession, NeverMore, OnceOrEnded, WasToSend};
 ghost use Rattle.lsp_service.specs.SentByActs.{ActsAt};
 ghost use Rattle.lsp_service.specs.Stated.{unwoken, with_wakes};
 ghost use Rattle.lsp_service.specs.QueuedServer.{with_queues, woken_with_queues, ServerSession, WorksSending, held_by};
@@ -33,7 +34,7 @@ use std::io::{BufRead, Write};
 /// anything else, and none comes twice. Since the last request under an id came, it got exactly one reply. Or it got none: it is still
 /// held, or the session ended at it, since the lifecycle does not allow it, and the fault shows it. A request that was cancelled has its
 /// reply when the exchange of its cancellation is over. Up to `initialized` nothing is sent but one reply for each request. Nothing follows
-/// the reply to `shutdown`. If the outbox refused a message, what was to follow it for the same message or wake is lost too; if an allocation
+/// the reply to `shutdown`, and once that was sent no request is held (`shutdown_leaves_nobody_waiting`). If the outbox refused a message, what was to follow it for the same message or wake is lost too; if an allocation
 /// failed, a request may be left without a reply. The rest holds there too.
 ///
 /// Each act is sent in its place: what the server stated of a message, of a wake and of `initialized` is what it did, and what those acts
@@ -189,6 +190,15 @@ pub fn lost_client_is_owed_what_is_held()
     ensures { (id : Id) (all : List Exchange) (stop : Stop) (held : Pending (Unit {0}))
         (answer : SessionAnswer) → IsGone answer → AnswersLast id all stop held answer
         → IsOwedWhatIsHeld id all held }
+{}
+
+/// Once `shutdown` got its reply, the last request under each id has exactly one reply, before that of `shutdown`. Only one at which the
+/// session ended, since the lifecycle does not allow it, has none. A fact of each session that keeps the laws, since nothing is held then
+/// (`none_held`), unless memory ran out.
+pub fn shutdown_leaves_nobody_waiting()
+    ensures { (id : Id) (all : List Exchange) (stop : Stop) (held : Pending (Unit {0}))
+        (answer : SessionAnswer) → held ≡ map.empty → AnswersLast id all stop held answer
+        → AnswersLastInFull id all stop answer }
 {}
 
 /// A request whose id was used once has exactly one reply. Or it has none: it is still held, or the session ended at it, since the lifecycle

@@ -1,11 +1,13 @@
 // A server beside its queues: what it does at a message, and the queues of requests that have no reply yet.
 ghost use Rattle.serde_json.specs.View.{view};
 ghost use Rattle.std.specs.Prelude.{◌≡◌, map, List, [], string_bytes, true, IfOk, IsOk, Err, Some, None};
+ghost use Rattle.lsp_message.specs.ErrorCode.{number_of};
 ghost use Rattle.lsp_message.specs.Message.{notification};
 ghost use Rattle.lsp_message.specs.View.{message_view, request_view, notification_view, response_view, outcome_view};
+ghost use Rattle.lsp_message.specs.declared.msg.code.ErrorCode.TheVariants.{RequestCanceled};
 ghost use Rattle.lsp_queue.specs.Queue.{count_of};
-ghost use Rattle.lsp_service.specs.Acts.{tells, asks, replies, cancels, does, does_all, empty_queues, is_spent, unsent, unsent_by, TakesBack, holds, given, with_message, answers_cancelled, canceled, cancel_method, cleared, cancelled_by, cancel_params as cancel_params_spec, Acts};
-ghost use Rattle.lsp_service.specs.QueuedServer.{with_queues, woken_with_queues, Works};
+ghost use Rattle.lsp_service.specs.Acts.{tells, asks, replies, cancels, does, does_all, empty_queues, is_spent, unsent, unsent_by, TakesBack, holds, given, with_message, answers_cancelled, cancel_method, cleared, cancelled_by, cancel_params as cancel_params_spec, Acts, AnswersHeld};
+ghost use Rattle.lsp_service.specs.QueuedServer.{with_queues, woken_with_queues, Works, Parts};
 ghost use Rattle.lsp_service.specs.Stated.{unwoken, with_wakes};
 ghost use Rattle.lsp_service.specs.View.{act_view, queues_of, listed, seen};
 
@@ -108,8 +110,20 @@ impl<P: Drop> Queues<P> {
         let Some(id) = cancelled else {
             return Ok(());
         };
-        let outcome = canceled_outcome(self.alloc)?;
+        let outcome = canceled_outcome(self.alloc, "canceled by client")?;
         self.reply(id, outcome)
+    }
+
+    /// Answers each request that is held: `shutdown` ended it.
+    fn answer_held(&mut self) -> Result<(), AllocError>
+        ensures { IfOk result (λ _. AnswersHeld (queues_of self.old) (queues_of self.new)) }
+    {
+        let ids = self.requests.incoming.ids()?;
+        for id in ids {
+            let outcome = canceled_outcome(self.alloc, "canceled by shutdown")?;
+            self.reply(id, outcome)?;
+        }
+        Ok(())
     }
 
     fn send(&mut self, message: Message) -> Result<(), AllocError>
@@ -166,17 +180,16 @@ fn cancellation(alloc: Global, id: i32) -> Result<Notification, AllocError>
     Ok(Notification { method, params })
 }
 
-/// The outcome of a request that its client cancelled.
-fn canceled_outcome(alloc: Global) -> Result<Result<Value, ResponseError>, AllocError>
-    ensures { IfOk result (λ outcome. outcome_view outcome ≡ Err canceled) }
+/// The outcome of a request that was cancelled, with this text.
+fn canceled_outcome(
+    alloc: Global,
+    message: &str,
+) -> Result<Result<Value, ResponseError>, AllocError>
+    ensures { IfOk result (λ outcome. outcome_view outcome
+        ≡ Err (record { code = number_of RequestCanceled; message = message.now; details = None })) }
 {
-    let code = ErrorCode::RequestCanceled.number();
-    let message = String::from_str(alloc, "canceled by client")?;
-    Ok(Err(ResponseError {
-        code,
-        message,
-        data: None,
-    }))
+    let error = ResponseError::new(alloc, ErrorCode::RequestCanceled, message)?;
+    Ok(Err(error))
 }
 
 fn cancel_params(alloc: Global, id: i32) -> Result<Value, AllocError>
@@ -216,7 +229,7 @@ impl<S: Server> QueuedServer<S, S::Payload> {
         }
     }
 
-    /// The server, without its queues. What it still held gets no reply.
+    /// The server, without its queues. What it still held, where no `shutdown` came, gets no reply.
     pub fn into_server(self) -> S
         ensures { result ≡ self.server }
     {
@@ -261,6 +274,17 @@ impl<S: Server> QueuedServer<S, S::Payload> {
             Some(payload) => self.server.unsent(payload),
             None => Ok(()),
         }
+    }
+
+    /// Does the last acts of the server, and answers what it leaves. `shutdown` came under this id.
+    fn on_shutdown(&mut self, id: &RequestId) -> Result<(), AllocError>
+        ensures { IfOk result (λ _.
+            Parts (unwoken S.Server) (seen self.old) id.now (seen self.new)) }
+    {
+        self.queues.requests.incoming.complete(id);
+        let acts = self.server.shutdown(self.queues.alloc)?;
+        self.perform_all(acts)?;
+        self.queues.answer_held()
     }
 
     fn on_request(&mut self, request: Request) -> Result<(), AllocError>
@@ -331,6 +355,11 @@ impl<S: Server> Service for QueuedServer<S, S::Payload> {
         Ok(Output::Several(self.queues.take_sent()))
     }
 
+    fn shutdown(&mut self, id: &RequestId) -> Result<Output, AllocError> {
+        self.on_shutdown(id)?;
+        Ok(Output::Several(self.queues.take_sent()))
+    }
+
     /// A reply to a request of the server's own may cross the `shutdown` of its client.
     fn passes_late(&self) -> bool {
         true
@@ -353,7 +382,7 @@ impl<S: WokenServer> WokenQueuedServer<S, S::Payload> {
         }
     }
 
-    /// The server, without its queues. What it still held gets no reply.
+    /// The server, without its queues. What it still held, where no `shutdown` came, gets no reply.
     pub fn into_server(self) -> S
         ensures { result ≡ self.queued.server }
     {
@@ -396,6 +425,10 @@ impl<S: WokenServer> Service for WokenQueuedServer<S, S::Payload> {
     fn woken(&mut self) -> Result<Output, AllocError> {
         self.on_wake()?;
         Ok(Output::Several(self.queued.queues.take_sent()))
+    }
+
+    fn shutdown(&mut self, id: &RequestId) -> Result<Output, AllocError> {
+        self.queued.shutdown(id)
     }
 
     fn passes_late(&self) -> bool {

@@ -53,6 +53,9 @@ pub trait Server {
     ghost replied: { Self → Self.Payload → Result Data ErrorObject → List (PlainAct Self.Payload)
         → Self → Type 0 } = { λ _ _ _ _ _. ⊤ };
 
+    /// At `shutdown` it may do this last, and change so.
+    ghost at_shutdown: { Self → List (PlainAct Self.Payload) → Self → Type 0 } = { λ _ _ _. ⊤ };
+
     /// It may take this back, and change so.
     ghost takes_back: { Self → Self.Payload → Self → Type 0 } = { λ _ _ _. ⊤ };
 
@@ -92,6 +95,13 @@ pub trait Server {
     ) -> Result<Vec<Act<Self::Payload>>, AllocError>
         ensures { IfOk result (λ acts.
             replied self.old «payload» (outcome_view outcome) (map act_view acts.items) self.new) };
+
+    /// What it does last: `shutdown` came (LSP 3.17, "Shutdown Request"). After these acts each request that it still holds gets the error
+    /// -32800, `canceled by shutdown`, and then `shutdown` its null. Nothing comes to it after that, so a request that it sends now gets no
+    /// reply. A server with nothing to do gives an empty vector.
+    fn shutdown(&mut self, alloc: Global) -> Result<Vec<Act<Self::Payload>>, AllocError>
+        ensures { IfOk result (λ acts.
+            at_shutdown self.old (map act_view acts.items) self.new) };
 
     /// Takes back what an `Act::Ask` was to keep, since no id was left for the request, and it was not sent. It comes only after
     /// 2147483648 requests of the session; all else goes on.

@@ -14,7 +14,8 @@ use std::io::{BufRead, Write};
 
 /// Runs a session of a server that speaks, from a reader's bytes to a writer's (LSP 3.17, "Base Protocol" and "Server lifecycle"),
 /// and gives the server back with the answer. The server is given the messages from `initialized` to `shutdown`, and what it does at each is
-/// written before the next is read. A response that comes after `shutdown` is passed over: the client's answer may cross it. This contract speaks of readers whose bytes are known, as a slice's. `session_with_over` is the same session
+/// written before the next is read. At `shutdown` it does its last acts, and each request that it still holds gets the error -32800, before
+/// the reply to `shutdown`. A response that comes after that is passed over: the client's answer may cross it. This contract speaks of readers whose bytes are known, as a slice's. `session_with_over` is the same session
 /// over a transport, with a contract for every reader and writer.
 ///
 /// The lifecycle, the faults, the limits, and what is left in the reader are those of `session_of_service`. So is what comes of a content

@@ -62,13 +62,15 @@ module _ {L : Type 0} (receives listens : Receives L) (sends : Sends L) (account
   shutdown_reply_turned phase shutdown_reply stop last old new ends =
       let first = waited (message ends.ask) old ends.met ends.waited.0 in
       let outcome = ends.offered.outcome in
-      let events = behind ends.late ends.event in (
-        first.0 ++ sending shutdown_reply outcome ∷ map gave events,
+      let events = behind ends.late ends.event in
+      let replied = sending shutdown_reply outcome ∷ map gave events in (
+        first.0 ++ (map took ends.parting ++ replied),
         record {
           ask = ends.ask;
           asks = ends.asks;
           waits = first.0;
           awaited = first.1;
+          parting = ends.parting;
           outcome = outcome;
           late = ends.late;
           responses = ends.responses;
@@ -78,9 +80,10 @@ module _ {L : Type 0} (receives listens : Receives L) (sends : Sends L) (account
           stops = ends.stops;
           is = ends.is;
         },
-        grew_both old ends.met new first.0 (sending shutdown_reply outcome ∷ map gave events) first.2
-            (grew_both ends.met ends.mid new (sending shutdown_reply outcome ∷ []) (map gave events)
-            (keeps.offering ends.met shutdown_reply outcome ends.mid ends.offered.sent) (gave_all events ends.mid new ends.received)),
+        grew_both old ends.met new first.0 (map took ends.parting ++ replied) first.2
+            (grew_both ends.met ends.parted new (map took ends.parting) replied (took_all ends.parting ends.met ends.parted ends.taken)
+            (grew_both ends.parted ends.mid new (sending shutdown_reply outcome ∷ []) (map gave events)
+            (keeps.offering ends.parted shutdown_reply outcome ends.mid ends.offered.sent) (gave_all events ends.mid new ends.received))),
       )
 
   -- a message is refused

@@ -167,26 +167,31 @@ module _ {S : Type 0} (may : Behavior S) where
 
     module _ (acts : List Act) (xs : List Exchange) (stop : Stop) (shutdown_reply : Option Message) (answer : SessionAnswer) (t : ActsInOrder acts xs stop shutdown_reply) where
       -- the reply to `shutdown` was sent before what comes last was awaited
-      shutdown_reply_on : (n ask : Message) (late : List Message) (event : Event) (stop : Stop) (later : List Exchange) (outcome : Result (Unit {0}) SendFault) (p q : Phase) (s s' s'' : S)
-          → StopsAfterShutdown event stop later → Steps may starting start (t.whole ++ record { came = Some ask; sent = n ∷ [] } ∷ []) p s
+      shutdown_reply_on : (n ask : Message) (parting late : List Message) (event : Event) (stop : Stop) (later : List Exchange) (outcome : Result (Unit {0}) SendFault) (p q : Phase) (s s' s'' : S)
+          → StopsAfterShutdown event stop later → Steps may starting start (t.whole ++ record { came = Some ask; sent = parting ++ n ∷ [] } ∷ []) p s
           → Steps may p s (map passed_over late ++ later) q s' → Stops may q s' stop answer s''
-          → NeverBothWait goes_on (messages_of t.whole ++ ask ∷ []) (sends_of t.whole) (sending n outcome ∷ map gave (behind late event))
-      shutdown_reply_on n ask late event stop later (Err fault) p q s s' s'' after done steps stops = tt
-      shutdown_reply_on n ask late event stop later (Ok u) p q s s' s'' after done steps stops =
-          rw (messages_both t.whole (record { came = Some ask; sent = n ∷ [] } ∷ []), sends_both t.whole (record { came = Some ask; sent = n ∷ [] } ∷ [])) at
-          (late_awaited late event stop (t.whole ++ record { came = Some ask; sent = n ∷ [] } ∷ []) later p q s s' s'' answer after done steps stops)
+          → NeverBothWait goes_on (messages_of t.whole ++ ask ∷ []) (sends_of t.whole ++ parting) (sending n outcome ∷ map gave (behind late event))
+      shutdown_reply_on n ask parting late event stop later (Err fault) p q s s' s'' after done steps stops = tt
+      shutdown_reply_on n ask parting late event stop later (Ok u) p q s s' s'' after done steps stops =
+          let x : Exchange = record { came = Some ask; sent = parting ++ n ∷ [] } in
+          let sent : sends_of (t.whole ++ x ∷ []) ≡ (sends_of t.whole ++ parting) ++ n ∷ [] =
+          sends_both t.whole (x ∷ []) ∙ ap (λ (ms : List Message). sends_of t.whole ++ ms) (append-nil (parting ++ n ∷ [])) ∙ sym (append_assoc (sends_of t.whole) parting (n ∷ [])) in
+          rw (messages_both t.whole (x ∷ []), sent) at (late_awaited late event stop (t.whole ++ x ∷ []) later p q s s' s'' answer after done steps stops)
 
       shutdown_reply_acts : (n : Message) (stop : Stop) (last : List Exchange) (q : Phase) (s' s'' : S) → Steps may starting start (t.whole ++ last) q s' → Stops may q s' stop answer s''
           → ShutdownReplyInOrder n stop last t.end → Never [] (t.exchanged ++ t.end)
       shutdown_reply_acts n stop last q s' s'' steps stops ends =
           let cut = steps_split starting q start s' t.whole last steps in
           let made = subst (λ (ys : List Exchange). Steps may cut.0 cut.1 ys q s') ends.is cut.3 in
-          let so_far = steps_both may starting cut.0 made.0 start cut.1 made.1 t.whole (record { came = Some ends.ask; sent = n ∷ [] } ∷ []) cut.2
-          (one_step may cut.0 made.0 cut.1 made.1 (Some ends.ask) (n ∷ []) made.2) in
+          let output = ends.parting ++ n ∷ [] in
+          let so_far = steps_both may starting cut.0 made.0 start cut.1 made.1 t.whole (record { came = Some ends.ask; sent = output } ∷ []) cut.2
+          (one_step may cut.0 made.0 cut.1 made.1 (Some ends.ask) output made.2) in
+          let replied = sending n ends.outcome ∷ map gave (behind ends.late ends.event) in
           first_acts t.whole cut.0 cut.1 t.exchanged t.end cut.2 t.in_order
-          (rw ends.are (awaited_on goes_on (messages_of t.whole) (sends_of t.whole) (message ends.ask) ends.waits (sending n ends.outcome ∷ map gave (behind ends.late ends.event)) ends.awaited
-          (due t.whole cut.0 cut.1 cut.2 (step_awaits cut.0 made.0 cut.1 made.1 (Some ends.ask) (n ∷ []) made.2))
-          (shutdown_reply_on n ends.ask ends.late ends.event stop ends.later ends.outcome made.0 q made.1 s' s'' ends.stops so_far made.3 stops)))
+          (rw ends.are (awaited_on goes_on (messages_of t.whole) (sends_of t.whole) (message ends.ask) ends.waits (map took ends.parting ++ replied) ends.awaited
+          (due t.whole cut.0 cut.1 cut.2 (step_awaits cut.0 made.0 cut.1 made.1 (Some ends.ask) output made.2))
+          (took_on goes_on (messages_of t.whole ++ ends.ask ∷ []) (sends_of t.whole) ends.parting replied
+          (shutdown_reply_on n ends.ask ends.parting ends.late ends.event stop ends.later ends.outcome made.0 q made.1 s' s'' ends.stops so_far made.3 stops))))
 
       -- a message was refused
       broken_acts : (fault : SendFault) (last : List Exchange) (q : Phase) (s' : S) → CutsOff may starting start (t.whole ++ last) q s' → BreaksActs last t.end → Never [] (t.exchanged ++ t.end)

@@ -2,7 +2,7 @@
 use Rattle.lsp_message.specs.Id.{Id}
 use Rattle.lsp_message.specs.Message.{Message, ErrorObject}
 use Rattle.lsp_message.specs.declared.frame.limits.Limits.{Limits}
-use Rattle.lsp_session.proofs.Ran.{StepCase, row, at_initialize, at_initialized, at_served, at_woken, idle, Idle, early_request, early_note, unasked, uninvited, shuts, leaves, exits, late, stays}
+use Rattle.lsp_session.proofs.Ran.{StepCase, row, at_initialize, at_initialized, at_served, at_woken, at_shutdown, idle, Idle, early_request, early_note, unasked, uninvited, leaves, exits, late, stays}
 use Rattle.lsp_session.specs.Boxes.{Sends, Receives}
 use Rattle.lsp_session.specs.Event.{Event}
 use Rattle.lsp_session.specs.HandlerService.{KeepsHandler, lent_handler}
@@ -38,7 +38,6 @@ module _ {H : Type 0} (answers : H → Id → List ℕ → Data → Result Data 
   has_idle p p' s s' m sent has same (early_note here mute early output next) = rw (next, same) (rw here at has)
   has_idle p p' s s' m sent has same (unasked shown here mute other output next) = rw next tt
   has_idle p p' s s' m sent has same (uninvited shown here other output next) = rw next tt
-  has_idle p p' s s' m sent has same (shuts i method params here is asks output next) = rw next tt
   has_idle p p' s s' m sent has same (leaves here is output next) = rw next tt
   has_idle p p' s s' m sent has same (exits i here is output next) = rw next tt
   has_idle p p' s s' m sent has same (late i here is output next) = rw next tt
@@ -53,6 +52,8 @@ module _ {H : Type 0} (answers : H → Id → List ℕ → Data → Result Data 
   step_case_as p p' s s' came sent has (at_initialized m here there is given next) = (rw (here, there, is) ((given.0, given.1.0), next), rw next tt, given.1.1)
   step_case_as p p' s s' came sent has (at_served m here there is given next) = (rw (here, there, is) (given.0, next), rw next tt, given.1)
   step_case_as p p' s s' came sent has (at_woken here none given next) = (rw (here, none) ((given.0, given.1.0), next), rw next tt, given.1.1)
+  step_case_as p p' s s' came sent has (at_shutdown i method params parting here is asks given output next) =
+      (rw (here, is, asks) (parting, (given.0, given.1.0), output, next), rw next tt, given.1.1)
   step_case_as p p' s s' came sent has (idle m there same step row) = (
     rw (there, ap (λ (x : HandlerService H). x.handler.now) same) (step H plain s.handler.now refl),
     has_idle p p' s s' m sent has same row,
@@ -88,6 +89,7 @@ module _ {H : Type 0} (answers : H → Id → List ℕ → Data → Result Data 
           mid = broken.mid.handler.now;
           steps = before.0;
           step = one.0;
+          matters = broken.matters;
         },
         one.2 ∙ before.2,
       )
@@ -108,7 +110,6 @@ module _ {H : Type 0} (answers : H → Id → List ℕ → Data → Result Data 
     left_as (ended shutdown_reply by) decided answer after name stops = (stops.0, same after name stops.1)
     left_as (ended shutdown_reply by) stop answer after name stops = absurd stops
     left_as p decided answer after name stops = absurd stops
-    left_as (asked i) (refused fault) answer after name stops = absurd stops
     left_as (asked i) stop answer after name stops = (stops.0, same after name stops.1)
     left_as p timed_out answer after name stops = absurd stops
     left_as serving exhausted answer after name stops = stops

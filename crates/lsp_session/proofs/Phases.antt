@@ -17,10 +17,10 @@ use Rattle.std.specs.Str.{bytes_eq}
 fails_closed : {A : Type 0} (fault : List ℕ → ProtocolFault) (p q : Phase) (sent : List Message) → IsOpen q → Fails fault p sent q → A
 fails_closed fault p q sent is_open fails = let never : ⊥ = rw fails.2 at is_open in absurd never
 
-leaves_closed : {A : Type 0} (m : Message) (q : Phase) (sent : List Message) → IsOpen q → Leaves m sent q → A
-leaves_closed (request i method params) q sent is_open leaves = let never : ⊥ = rw leaves.1 at is_open in absurd never
-leaves_closed (notification method params) q sent is_open leaves = let never : ⊥ = rw leaves.1 at is_open in absurd never
-leaves_closed (response i outcome) q sent is_open leaves = let never : ⊥ = rw leaves.1 at is_open in absurd never
+leaves_closed : {A S : Type 0} (may : Behavior S) (s s' : S) (m : Message) (q : Phase) (sent : List Message) → IsOpen q → Leaves may s m sent q s' → A
+leaves_closed may s s' (request i method params) q sent is_open leaves = let never : ⊥ = rw leaves.3 at is_open in absurd never
+leaves_closed may s s' (notification method params) q sent is_open leaves = let never : ⊥ = rw leaves.1 at is_open in absurd never
+leaves_closed may s s' (response i outcome) q sent is_open leaves = let never : ⊥ = rw leaves.1 at is_open in absurd never
 
 by_outcome : (i : _) (outcome : Result Data ErrorObject) → phase_after outcome ≡ (if true && is_result (response i outcome) then replied else starting)
 by_outcome i (Ok result) = refl
@@ -55,9 +55,9 @@ module _ {S : Type 0} (may : Behavior S) where
   phase_follows serving q s s' None sent is_open step = step.1
   phase_follows serving q s s' (Some m) sent is_open step = by_kind (is_served m) step
     where
-      by_kind : (b : Bool) → MatchBool b (may.outputs s m sent s' × (q ≡ serving)) (Leaves m sent q × (s' ≡ s)) → q ≡ serving
+      by_kind : (b : Bool) → MatchBool b (may.outputs s m sent s' × (q ≡ serving)) (Leaves may s m sent q s') → q ≡ serving
       by_kind true step = step.1
-      by_kind false step = leaves_closed m q sent is_open step.0
+      by_kind false step = leaves_closed may s s' m q sent is_open step
   phase_follows (asked i) q s s' None sent is_open step = absurd step
   phase_follows (asked i) q s s' (Some m) sent is_open step = by_name (is_exit m) (may.passes_late && is_reply m) step.0
     where

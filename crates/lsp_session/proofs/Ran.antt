@@ -1,7 +1,7 @@
 -- Exchanges of a session, one after another: by the rows of the table of steps, the last of which may be cut off, and what they say of its answer.
 use Rattle.lsp_message.specs.Message.{Message, ErrorObject, request, notification, response}
 use Rattle.lsp_session.specs.ProtocolError.{disconnected, shutdown_disconnected, fault_of_refusal, expected_initialize, expected_initialized, unexpected_in_shutdown}
-use Rattle.lsp_session.specs.Session.{Behavior, Exchange, came_of, messages_of, SessionAnswer, Stop, decided, no_more, refused, Phase, starting, replied, serving, asked, ended, Reaches, Stops, SessionFrom, sends_of, shutdown_reply_of, phase_after, Step, Steps, is_reply, is_served, Fails, Leaves, is_shutdown}
+use Rattle.lsp_session.specs.Session.{Behavior, Exchange, came_of, messages_of, SessionAnswer, Stop, decided, no_more, refused, Phase, starting, replied, serving, asked, ended, Reaches, Stops, SessionFrom, sends_of, shutdown_reply_of, offered_reply_of, phase_after, Step, Steps, is_reply, is_served, Fails, Leaves, is_shutdown}
 use Rattle.lsp_session.specs.SessionRun.{all_of}
 use Rattle.lsp_session.specs.declared.lifecycle.SendFault.{SendFault}
 use Rattle.lsp_session.specs.declared.loops.handler.SessionEnd.TheVariants.{Closed, ShutDown}
@@ -44,6 +44,11 @@ all_after before output (Some shutdown_reply) = append_assoc before output (shut
 abbrev pub IsWhole : Stop → Type 0
 IsWhole (refused fault) = ⊥
 IsWhole stop = Unit {0}
+
+-- then the reply to `shutdown` was offered where one was due
+pub offered_whole : (stop : Stop) (p : Phase) → IsWhole stop → offered_reply_of stop p ≡ shutdown_reply_of p
+offered_whole (refused fault) p whole = absurd whole
+offered_whole stop p whole = refl
 
 -- neither `shutdown` came, nor a message that decided
 abbrev pub IsOpen : Phase → Type 0
@@ -102,6 +107,7 @@ module _ {S : Type 0} (may : Behavior S) where
     mid = second.mid;
     steps = steps_both p p' second.next s s' second.mid xs second.earlier first second.steps;
     step = second.step;
+    matters = second.matters;
   }
   reaches_both stop p p' p'' s s' s'' xs ys first second = steps_both p p' p'' s s' s'' xs ys first second
 
@@ -128,8 +134,6 @@ pub data Idle (p : Phase) (m : Message) (sent : List Message) (q : Phase) : Type
   early_note : p ≡ starting → IsNoRequest m → is_early m ≡ true → sent ≡ [] → q ≡ starting → Idle p m sent q
   unasked : (shown : List ℕ) → p ≡ starting → IsNoRequest m → is_early m ≡ false → sent ≡ [] → q ≡ ended None (Err (expected_initialize shown)) → Idle p m sent q
   uninvited : (shown : List ℕ) → p ≡ replied → is_initialized m ≡ false → sent ≡ [] → q ≡ ended None (Err (expected_initialized shown)) → Idle p m sent q
-  shuts : (i : Id) (method : List ℕ) (params : Data) → p ≡ serving → m ≡ request i method params → is_shutdown (request i method params) ≡ true
-      → sent ≡ null_reply i ∷ [] → q ≡ asked i → Idle p m sent q
   leaves : p ≡ serving → is_exit m ≡ true → sent ≡ [] → q ≡ ended None (Ok Closed) → Idle p m sent q
   exits : (i : Id) → p ≡ asked i → is_exit m ≡ true → sent ≡ [] → q ≡ ended (Some (null_reply i)) (Ok ShutDown) → Idle p m sent q
   late : (i : Id) → p ≡ asked i → is_reply m ≡ true → sent ≡ [] → q ≡ asked i → Idle p m sent q
@@ -143,24 +147,35 @@ pub data StepCase {S : Type 0} (may : Behavior S) (p : Phase) (s : S) (came : Op
   at_initialized : (m : Message) → p ≡ replied → came ≡ Some m → is_initialized m ≡ true → may.at_initialized s sent s' → q ≡ serving → StepCase may p s came sent q s'
   at_served : (m : Message) → p ≡ serving → came ≡ Some m → is_served m ≡ true → may.outputs s m sent s' → q ≡ serving → StepCase may p s came sent q s'
   at_woken : p ≡ serving → came ≡ None → may.wakes s sent s' → q ≡ serving → StepCase may p s came sent q s'
+  at_shutdown : (i : Id) (method : List ℕ) (params : Data) (parting : List Message) → p ≡ serving → came ≡ Some (request i method params)
+      → is_shutdown (request i method params) ≡ true → may.at_shutdown s i parting s' → sent ≡ parting ++ null_reply i ∷ [] → q ≡ asked i → StepCase may p s came sent q s'
   -- of whatever service it is a step that passes over the same responses
   idle : (m : Message) → came ≡ Some m → s' ≡ s
       → ((T : Type 0) (can : Behavior T) (t : T) → can.passes_late ≡ may.passes_late → Step can p t (Some m) sent q t) → Idle p m sent q
       → StepCase may p s came sent q s'
 
-left : (m : Message) (sent : List Message) (q : Phase) → is_served m ≡ false → Leaves m sent q → Idle serving m sent q
-left (request i method params) sent q other step = at (is_shutdown (request i method params)) refl other
+-- the last message that is served
+step_left : {S : Type 0} (may : Behavior S) (s s' : S) (m : Message) (sent : List Message) (q : Phase) → is_served m ≡ false → Leaves may s m sent q s'
+    → Step may serving s (Some m) sent q s'
+step_left may s s' m sent q other gone = rw other gone
+
+left : {S : Type 0} (may : Behavior S) (s s' : S) (m : Message) (sent : List Message) (q : Phase) → is_served m ≡ false → Leaves may s m sent q s'
+    → StepCase may serving s (Some m) sent q s'
+left may s s' (request i method params) sent q other step = at (is_shutdown (request i method params)) refl other
   where
-    at : (b : Bool) → is_shutdown (request i method params) ≡ b → is_served (request i method params) ≡ false → Idle serving (request i method params) sent q
-    at true e other = shuts i method params refl refl e step.0 step.1
+    at : (b : Bool) → is_shutdown (request i method params) ≡ b → is_served (request i method params) ≡ false
+        → StepCase may serving s (Some (request i method params)) sent q s'
+    at true e other = at_shutdown i method params step.0 refl refl e step.1 step.2 step.3
     at false e other = absurd (true≢false (rw e at other))
-left (notification method params) sent q other step = at (is_exit (notification method params)) refl other
+left may s s' (notification method params) sent q other step = at (is_exit (notification method params)) refl other
   where
     at : (b : Bool) → is_exit (notification method params) ≡ b → is_served (notification method params) ≡ false
-        → Idle serving (notification method params) sent q
-    at true e other = leaves refl e step.0 step.1
+        → StepCase may serving s (Some (notification method params)) sent q s'
+    at true e other =
+        idle (notification method params) refl step.2 (λ T can t same. step_left can t t (notification method params) sent q other (step.0, step.1, refl))
+        (leaves refl e step.0 step.1)
     at false e other = absurd (true≢false (rw e at other))
-left (response i outcome) sent q other step = absurd (true≢false other)
+left may s s' (response i outcome) sent q other step = absurd (true≢false other)
 
 module _ {S : Type 0} (may : Behavior S) where
   -- each step is a row
@@ -190,9 +205,9 @@ module _ {S : Type 0} (may : Behavior S) where
       at false e step = idle m refl step.1 (λ T can t same. rw e (step.0, refl)) (uninvited step.0.0 refl e step.0.1 step.0.2)
   row serving q s s' (Some m) sent step = at (is_served m) refl step
     where
-      at : (b : Bool) → is_served m ≡ b → MatchBool b (may.outputs s m sent s' × (q ≡ serving)) (Leaves m sent q × (s' ≡ s)) → StepCase may serving s (Some m) sent q s'
+      at : (b : Bool) → is_served m ≡ b → MatchBool b (may.outputs s m sent s' × (q ≡ serving)) (Leaves may s m sent q s') → StepCase may serving s (Some m) sent q s'
       at true e step = at_served m refl refl e step.0 step.1
-      at false e step = idle m refl step.1 (λ T can t same. rw e (step.0, refl)) (left m sent q e step.0)
+      at false e step = left may s s' m sent q e step
   row serving q s s' None sent step = at_woken refl refl step.0 step.1
   row (asked i) q s s' (Some m) sent step = idle m refl step.1 (λ T can t same. rw same (step.0, refl)) (at (is_exit m) refl (may.passes_late && is_reply m) refl step.0)
     where
@@ -373,7 +388,6 @@ module _ {S : Type 0} (may : Behavior S) (stop : Stop) where
   known_idle p q x m full there (early_note at mute early sent next) = rw next (passed x m there (early_no_exit m mute early))
   known_idle p q x m full there (unasked shown at mute other sent next) = rw next tt
   known_idle p q x m full there (uninvited shown at other sent next) = rw next tt
-  known_idle p q x m full there (shuts i method params at is asks sent next) = rw next (passed x m there (rw is refl))
   known_idle p q x m full there (leaves at is sent next) = rw next tt
   known_idle p q x m full there (exits i at is sent next) = rw next tt
   known_idle p q x m full there (late i at is sent next) = rw next (passed x m there (reply_no_exit m is))
@@ -385,6 +399,7 @@ module _ {S : Type 0} (may : Behavior S) (stop : Stop) where
   known_case p q s s' x full (at_initialized m at there is given next) = rw next (passed x m there (initialized_is_no_exit m is))
   known_case p q s s' x full (at_served m at there is given next) = rw next (passed x m there (served_is_no_exit m is))
   known_case p q s s' x full (at_woken at none given next) = rw (next, none) refl
+  known_case p q s s' x full (at_shutdown i method params parting at is asks given sent next) = rw next (passed x (request i method params) is refl)
   known_case p q s s' x full (idle m there same step row) = known_idle p q x m full there row
 
   known : (p q : Phase) (s s' : S) (xs : List Exchange) → ended_by p ≡ None → Reaches may stop p s xs q s' → Known q xs

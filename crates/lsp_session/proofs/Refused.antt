@@ -4,7 +4,7 @@ use Rattle.lsp_message.specs.Id.{Id}
 use Rattle.lsp_message.specs.Message.{Message, ErrorObject, request, notification, response}
 use Rattle.lsp_message.specs.Methods.{is_initialize, is_exit}
 use Rattle.lsp_message.specs.declared.msg.code.ErrorCode.TheVariants.{ServerNotInitialized}
-use Rattle.lsp_session.specs.ProtocolError.{expected_initialized}
+use Rattle.lsp_session.specs.ProtocolError.{expected_initialized, fault_of_refusal}
 use Rattle.lsp_session.specs.Replies.{null_reply}
 use Rattle.lsp_session.specs.Session.{Exchange, messages_of, sends_of, SessionAnswer, Stop, decided, no_more, timed_out, refused as cut_off, exhausted, Phase, starting, replied as awaiting, serving, asked as shut, is_reply, is_served}
 use Rattle.lsp_session.specs.SessionBytes.{ReadsMessage, Ends, Wrote, GetsAllButLast}
@@ -14,7 +14,7 @@ use Rattle.lsp_message.specs.Written.{GetsFrames}
 use Rattle.lsp_message.specs.declared.frame.limits.Limits.{Limits}
 use Rattle.lsp_session.specs.SessionLaws.{IsInvited, IsUnopened, AfterShutdown, EndsWithShutdown, HasNoShutdown, KeepsOrder, IsOpened, IsUnstarted, StopsAt, comes_early, AllEarly, IsRefusedEarly, is_refusal, AllRefused}
 use Rattle.serde_json.specs.Data.{Data, null as null_data}
-use Rattle.std.proofs.Common.{◌≡◌, refl, sym, ◌∙◌, ap, subst, inl, inr, ◌⊎◌, ℕ, true, false, List, [], ◌∷◌, ◌++◌, Option, Some, None}
+use Rattle.std.proofs.Common.{◌≡◌, refl, sym, ◌∙◌, ap, subst, inl, inr, ◌⊎◌, ℕ, Bool, true, false, List, [], ◌∷◌, ◌++◌, Option, Some, None}
 use Rattle.std.proofs.lemmas.List.Folds.{list_all-append}
 use Rattle.std.specs.List.{FoldsTo, list_all}
 use Rattle.std.specs.Prelude.{Ok, Err, IsSomeAnd, codes, is_some, ◌&&◌}
@@ -97,10 +97,10 @@ mixed x xs served all =
     let e = (rw served at both) in
     cc (e)
 
-module _ (stop : Stop) (shutdown_reply : Option Message) (answer : SessionAnswer) where
+module _ (passes_late speaks_last : Bool) (stop : Stop) (shutdown_reply : Option Message) (answer : SessionAnswer) where
   -- what is sent after the result of `initialize`
   abbrev Later : List Exchange → Type 0
-  Later more = (IsInvited more × (HasNoShutdown more stop shutdown_reply answer ⊎ EndsWithShutdown more stop shutdown_reply answer)) ⊎ (IsUnopened more stop answer × (shutdown_reply ≡ None))
+  Later more = (IsInvited more × (HasNoShutdown passes_late speaks_last more stop shutdown_reply answer ⊎ EndsWithShutdown passes_late speaks_last more stop shutdown_reply answer)) ⊎ (IsUnopened more stop answer × (shutdown_reply ≡ None))
 
   -- If more than errors is sent for the first message, it is `initialize`.
   record Starts (x : Exchange) (more : List Exchange) : Type 0 where
@@ -111,7 +111,7 @@ module _ (stop : Stop) (shutdown_reply : Option Message) (answer : SessionAnswer
     came : x.came ≡ Some (request id method params)
     later : Later more
 
-  starts : (x : Exchange) (more : List Exchange) → list_all is_refusal x.sent ≡ false → KeepsOrder (x ∷ more) stop shutdown_reply answer → Starts x more
+  starts : (x : Exchange) (more : List Exchange) → list_all is_refusal x.sent ≡ false → KeepsOrder passes_late speaks_last (x ∷ more) stop shutdown_reply answer → Starts x more
   starts x more served order = at order.early order.rest order.cut order.opened
     where
       last : (e : Exchange) (early rest before : List Exchange) (i : Id) (method : List ℕ) (params result : Data) → x ≡ e → more ≡ early ++ rest
@@ -132,7 +132,7 @@ module _ (stop : Stop) (shutdown_reply : Option Message) (answer : SessionAnswer
           let is : e ≡ b = cc (cut) in
           absurd (mixed b before (ap (λ (y : Exchange). list_all is_refusal y.sent) (sym (same ∙ is)) ∙ served) refused)
 
-      at : (early rest : List Exchange) → x ∷ more ≡ early ++ rest → IsOpened early rest stop shutdown_reply answer ⊎ (AllRefused early × AllEarly early × IsUnstarted rest stop answer × (shutdown_reply ≡ None)) → Starts x more
+      at : (early rest : List Exchange) → x ∷ more ≡ early ++ rest → IsOpened passes_late speaks_last early rest stop shutdown_reply answer ⊎ (AllRefused early × AllEarly early × IsUnstarted rest stop answer × (shutdown_reply ≡ None)) → Starts x more
       at [] rest cut (inl opened) = absurd (never_last opened.ends.before _ opened.ends.cut)
       at [] rest cut (inr unopened) =
           let unstarted : IsUnstarted (x ∷ more) stop answer = subst (λ (xs : List Exchange). IsUnstarted xs stop answer) (sym cut) unopened.2 in
@@ -149,7 +149,7 @@ module _ (stop : Stop) (shutdown_reply : Option Message) (answer : SessionAnswer
 
   -- a request but `initialize` gets a result first: a hover, or the reply to `shutdown`
   pub served_first : (i : Id) (method : List ℕ) (params result : Data) (more : List Exchange) → is_initialize (request i method params) ≡ false
-      → KeepsOrder (granted i method params result ∷ more) stop shutdown_reply answer → ⊥
+      → KeepsOrder passes_late speaks_last (granted i method params result ∷ more) stop shutdown_reply answer → ⊥
   served_first i method params result more other order =
       let begins = starts (granted i method params result) more refl order in
       let same : request i method params ≡ request begins.id begins.method begins.params = cc (begins.came) in
@@ -158,19 +158,22 @@ module _ (stop : Stop) (shutdown_reply : Option Message) (answer : SessionAnswer
 
   -- Between the result of `initialize` and `initialized` a request is answered: a hover, or a second `initialize`.
   pub served_uninvited : (i j : Id) (params result given : Data) (method : List ℕ) (reply : Message) (others : List Message) (more : List Exchange)
-      → KeepsOrder (begun i params result ∷ record { came = Some (request j method given); sent = reply ∷ others } ∷ more) stop shutdown_reply answer → ⊥
+      → KeepsOrder passes_late speaks_last (begun i params result ∷ record { came = Some (request j method given); sent = reply ∷ others } ∷ more) stop shutdown_reply answer → ⊥
   served_uninvited i j params result given method reply others more order = at (starts (begun i params result) _ refl order).later
     where
       at : Later (record { came = Some (request j method given); sent = reply ∷ others } ∷ more) → ⊥
       at (inl invites) = let e : false ≡ true = invites.0 in cc (e)
       at (inr unopened) = let e : reply ∷ others ≡ [] = unopened.0.2 in cc (e)
 
-  -- what a `shutdown` that comes first after `initialized` gets, and what follows
-  shuts : (k : Id) (given asked : Data) (opening output : List Message) (more : List Exchange) → Later (invited given opening ∷ shutting k asked output ∷ more)
-      → (output ≡ null_reply k ∷ []) × AfterShutdown k more stop answer
+  -- What a `shutdown` that comes first after `initialized` gets, and what follows. Or a message was refused there, and it is the last.
+  abbrev Shuts : Id → List Message → List Exchange → Type 0
+  Shuts k output more = ((parting : List Message) × (output ≡ parting ++ null_reply k ∷ []) × (speaks_last ≡ false → parting ≡ []) × AfterShutdown passes_late speaks_last k more stop answer)
+      ⊎ ((more ≡ []) × (speaks_last ≡ true) × (shutdown_reply ≡ None) × (fault : SendFault) × (answer ≡ Err (fault_of_refusal fault)))
+
+  shuts : (k : Id) (given asked : Data) (opening output : List Message) (more : List Exchange) → Later (invited given opening ∷ shutting k asked output ∷ more) → Shuts k output more
   shuts k given asked opening output more (inr unopened) = let e : shutting k asked output ∷ more ≡ [] = unopened.0.0 in absurd (cc (e))
   shuts k given asked opening output more (inl (invites, inl (inl all, rest))) = let e : false ≡ true = all.0 in absurd (cc (e))
-  shuts k given asked opening output more (inl (invites, inl (inr left, rest))) = absurd (at left.before left.last left.cut left.none_before left.leaves)
+  shuts k given asked opening output more (inl (invites, inl (inr (inl left), rest))) = absurd (at left.before left.last left.cut left.none_before left.leaves)
     where
       at : (before : List Exchange) (last : Message) → invited given opening ∷ shutting k asked output ∷ more ≡ before ++ record { came = Some last; sent = [] } ∷ []
           → list_all is_served (messages_of before) ≡ true → is_exit last ≡ true → ⊥
@@ -186,50 +189,80 @@ module _ (stop : Stop) (shutdown_reply : Option Message) (answer : SessionAnswer
           let second : b ≡ shutting k asked output = cc (cut) in
           let e : false ≡ true = (rw (first, second) at passed) in
           cc (e)
-  shuts k given asked opening output more (inl (invites, inr last)) = at last.before last.id last.method last.params last.after last.cut last.none_before last.after_shutdown
+  shuts k given asked opening output more (inl (invites, inl (inr (inr broken), none))) = inr (at broken.before broken.cut broken.none_before, broken.speaks, none, broken.fault, broken.fails)
+    where
+      at : (before : List Exchange) → invited given opening ∷ shutting k asked output ∷ more ≡ before ++ record { came = Some broken.last; sent = broken.sent } ∷ []
+          → list_all is_served (messages_of before) ≡ true → more ≡ []
+      at [] cut passed = let e : shutting k asked output ∷ more ≡ [] = cc (cut) in absurd (cc (e))
+      at (a ∷ []) cut passed = cc (cut)
+      at (a ∷ b ∷ before) cut passed =
+          let first : a ≡ invited given opening = cc (cut) in
+          let second : b ≡ shutting k asked output = cc (cut) in
+          let e : false ≡ true = (rw (first, second) at passed) in
+          absurd (cc (e))
+  shuts k given asked opening output more (inl (invites, inr last)) = inl (at last.before last.id last.method last.params last.after last.cut last.none_before last.after_shutdown)
     where
       at : (before : List Exchange) (id : Id) (method : List ℕ) (params : Data) (after : List Exchange)
-          → invited given opening ∷ shutting k asked output ∷ more ≡ before ++ record { came = Some (request id method params); sent = null_reply id ∷ [] } ∷ after
-          → list_all is_served (messages_of before) ≡ true → AfterShutdown id after stop answer → (output ≡ null_reply k ∷ []) × AfterShutdown k more stop answer
+          → invited given opening ∷ shutting k asked output ∷ more ≡ before ++ record { came = Some (request id method params); sent = last.parting ++ null_reply id ∷ [] } ∷ after
+          → list_all is_served (messages_of before) ≡ true → AfterShutdown passes_late speaks_last id after stop answer
+          → (parting : List Message) × (output ≡ parting ++ null_reply k ∷ []) × (speaks_last ≡ false → parting ≡ []) × AfterShutdown passes_late speaks_last k more stop answer
       at [] id method params after cut passed follows =
-          let first : invited given opening ≡ record { came = Some (request id method params); sent = null_reply id ∷ [] } = cc (cut) in
+          let first : invited given opening ≡ record { came = Some (request id method params); sent = last.parting ++ null_reply id ∷ [] } = cc (cut) in
           let came : Some (notification (codes "initialized") given) ≡ Some (request id method params) = ap (λ (x : Exchange). x.came) first in
           absurd (cc (came))
       at (a ∷ []) id method params after cut passed follows =
-          let second : shutting k asked output ≡ record { came = Some (request id method params); sent = null_reply id ∷ [] } = cc (cut) in
+          let second : shutting k asked output ≡ record { came = Some (request id method params); sent = last.parting ++ null_reply id ∷ [] } = cc (cut) in
           let tail : more ≡ after = cc (cut) in
           let came : Some (request k (codes "shutdown") asked) ≡ Some (request id method params) = ap (λ (x : Exchange). x.came) second in
           let named : k ≡ id = cc (came) in
-          (rw named (ap (λ (x : Exchange). x.sent) second), rw (named, tail) follows)
+          (last.parting, rw named (ap (λ (x : Exchange). x.sent) second), last.silent, rw (named, tail) follows)
       at (a ∷ b ∷ before) id method params after cut passed follows =
           let first : a ≡ invited given opening = cc (cut) in
           let second : b ≡ shutting k asked output = cc (cut) in
           let e : false ≡ true = (rw (first, second) at passed) in
           absurd (cc (e))
 
-  -- the first `shutdown` gets something else than null: an error, or nothing
-  pub shut_otherwise : (i k : Id) (params result given asked : Data) (opening output : List Message) (more : List Exchange) → (output ≡ null_reply k ∷ [] → ⊥)
-      → KeepsOrder (begun i params result ∷ invited given opening ∷ shutting k asked output ∷ more) stop shutdown_reply answer → ⊥
-  shut_otherwise i k params result given asked opening output more other order =
-      other (shuts k given asked opening output more (starts (begun i params result) _ refl order).later).0
+  -- if something came after it, no message was refused
+  shuts_on : (k : Id) (output : List Message) (y : Exchange) (more : List Exchange) → Shuts k output (y ∷ more) → AfterShutdown passes_late speaks_last k (y ∷ more) stop answer
+  shuts_on k output y more (inl gone) = gone.3
+  shuts_on k output y more (inr broken) = absurd (cc (broken.0))
+
+  -- The first `shutdown` does not get null last: an error, or nothing, or a message comes after it.
+  pub shut_otherwise : (i k : Id) (params result given asked : Data) (opening output : List Message) (more : List Exchange) (reply : Message) → shutdown_reply ≡ Some reply
+      → ((parting : List Message) → output ≡ parting ++ null_reply k ∷ [] → ⊥)
+      → KeepsOrder passes_late speaks_last (begun i params result ∷ invited given opening ∷ shutting k asked output ∷ more) stop shutdown_reply answer → ⊥
+  shut_otherwise i k params result given asked opening output more reply replied other order = at (shuts k given asked opening output more (starts (begun i params result) _ refl order).later)
+    where
+      at : Shuts k output more → ⊥
+      at (inl gone) = other gone.0 gone.1
+      at (inr broken) = cc (sym replied ∙ broken.2)
+
+  -- Of a service that is silent there the first `shutdown` gets something else than null: an error, nothing, or two messages.
+  pub handler_shut_otherwise : (i k : Id) (params result given asked : Data) (opening output : List Message) (more : List Exchange) → speaks_last ≡ false → (output ≡ null_reply k ∷ [] → ⊥)
+      → KeepsOrder passes_late speaks_last (begun i params result ∷ invited given opening ∷ shutting k asked output ∷ more) stop shutdown_reply answer → ⊥
+  handler_shut_otherwise i k params result given asked opening output more silent other order = at (shuts k given asked opening output more (starts (begun i params result) _ refl order).later)
+    where
+      at : Shuts k output more → ⊥
+      at (inl gone) = other (gone.1 ∙ ap (λ (ms : List Message). ms ++ null_reply k ∷ []) (gone.2 silent))
+      at (inr broken) = cc (sym silent ∙ broken.1)
 
   -- After the reply to `shutdown` a message is sent: a result, a second reply to `shutdown`, or a whole second session.
   pub speaks_after_shutdown : (i k : Id) (params result given asked : Data) (opening output : List Message) (arrived : Option Message) (sent : Message)
       (others : List Message) (more : List Exchange)
-      → KeepsOrder (begun i params result ∷ invited given opening ∷ shutting k asked output ∷ record { came = arrived; sent = sent ∷ others } ∷ more) stop shutdown_reply answer
+      → KeepsOrder passes_late speaks_last (begun i params result ∷ invited given opening ∷ shutting k asked output ∷ record { came = arrived; sent = sent ∷ others } ∷ more) stop shutdown_reply answer
       → ⊥
   speaks_after_shutdown i k params result given asked opening output arrived sent others more order =
-      let follows = (shuts k given asked opening output _ (starts (begun i params result) _ refl order).later).1 in
+      let follows = shuts_on k output _ more (shuts k given asked opening output _ (starts (begun i params result) _ refl order).later) in
       let e : sent ∷ others ≡ [] = follows.0 in
       cc (e)
 
-  -- After the reply to `shutdown` a message that is no response is passed over.
+  -- After the reply to `shutdown` a message is passed over that is no response, or a response where none is passed over.
   pub passes_over_after_shutdown : (i k : Id) (params result given asked : Data) (opening output : List Message) (m : Message) (y : Exchange) (more : List Exchange)
-      → is_reply m ≡ false
-      → KeepsOrder (begun i params result ∷ invited given opening ∷ shutting k asked output ∷ record { came = Some m; sent = [] } ∷ y ∷ more) stop shutdown_reply answer
+      → (passes_late && is_reply m) ≡ false
+      → KeepsOrder passes_late speaks_last (begun i params result ∷ invited given opening ∷ shutting k asked output ∷ record { came = Some m; sent = [] } ∷ y ∷ more) stop shutdown_reply answer
       → ⊥
   passes_over_after_shutdown i k params result given asked opening output m y more other order =
-      let follows = (shuts k given asked opening output _ (starts (begun i params result) _ refl order).later).1 in
+      let follows = shuts_on k output _ (y ∷ more) (shuts k given asked opening output _ (starts (begun i params result) _ refl order).later) in
       elim follows.1 [
         | inl passed ↦ (let e : true ≡ false = sym passed.0 ∙ other in cc (e))
         | inr last ↦ (let e : y ∷ more ≡ [] = last.0 in cc (e))
@@ -237,32 +270,32 @@ module _ (stop : Stop) (shutdown_reply : Option Message) (answer : SessionAnswer
 
   -- a message comes after `exit`
   pub goes_on_after_exit : (i : Id) (params result given asked : Data) (opening output : List Message) (x : Exchange) (more : List Exchange)
-      → KeepsOrder (begun i params result ∷ invited given opening ∷ leaving asked output ∷ x ∷ more) stop shutdown_reply answer
+      → KeepsOrder passes_late speaks_last (begun i params result ∷ invited given opening ∷ leaving asked output ∷ x ∷ more) stop shutdown_reply answer
       → ⊥
   goes_on_after_exit i params result given asked opening output x more order = at (starts (begun i params result) _ refl order).later
     where
-      left : (before : List Exchange) (last : Message) → invited given opening ∷ leaving asked output ∷ x ∷ more ≡ before ++ record { came = Some last; sent = [] } ∷ []
+      left : (before : List Exchange) (last : Message) (sent : List Message) → invited given opening ∷ leaving asked output ∷ x ∷ more ≡ before ++ record { came = Some last; sent = sent } ∷ []
           → list_all is_served (messages_of before) ≡ true → ⊥
-      left [] last cut passed = let e : leaving asked output ∷ x ∷ more ≡ [] = cc (cut) in cc (e)
-      left (a ∷ []) last cut passed = let e : x ∷ more ≡ [] = cc (cut) in cc (e)
-      left (a ∷ b ∷ before) last cut passed =
+      left [] last sent cut passed = let e : leaving asked output ∷ x ∷ more ≡ [] = cc (cut) in cc (e)
+      left (a ∷ []) last sent cut passed = let e : x ∷ more ≡ [] = cc (cut) in cc (e)
+      left (a ∷ b ∷ before) last sent cut passed =
           let first : a ≡ invited given opening = cc (cut) in
           let second : b ≡ leaving asked output = cc (cut) in
           let e : false ≡ true = (rw (first, second) at passed) in
           cc (e)
 
-      after_reply : (before : List Exchange) (id : Id) (method : List ℕ) (params : Data) (after : List Exchange)
-          → invited given opening ∷ leaving asked output ∷ x ∷ more ≡ before ++ record { came = Some (request id method params); sent = null_reply id ∷ [] } ∷ after
+      after_reply : (before : List Exchange) (id : Id) (method : List ℕ) (params : Data) (sent : List Message) (after : List Exchange)
+          → invited given opening ∷ leaving asked output ∷ x ∷ more ≡ before ++ record { came = Some (request id method params); sent = sent } ∷ after
           → list_all is_served (messages_of before) ≡ true → ⊥
-      after_reply [] id method params after cut passed =
-          let first : invited given opening ≡ record { came = Some (request id method params); sent = null_reply id ∷ [] } = cc (cut) in
+      after_reply [] id method params sent after cut passed =
+          let first : invited given opening ≡ record { came = Some (request id method params); sent = sent } = cc (cut) in
           let came : Some (notification (codes "initialized") given) ≡ Some (request id method params) = ap (λ (y : Exchange). y.came) first in
           cc (came)
-      after_reply (a ∷ []) id method params after cut passed =
-          let second : leaving asked output ≡ record { came = Some (request id method params); sent = null_reply id ∷ [] } = cc (cut) in
+      after_reply (a ∷ []) id method params sent after cut passed =
+          let second : leaving asked output ≡ record { came = Some (request id method params); sent = sent } = cc (cut) in
           let came : Some (notification (codes "exit") asked) ≡ Some (request id method params) = ap (λ (y : Exchange). y.came) second in
           cc (came)
-      after_reply (a ∷ b ∷ before) id method params after cut passed =
+      after_reply (a ∷ b ∷ before) id method params sent after cut passed =
           let first : a ≡ invited given opening = cc (cut) in
           let second : b ≡ leaving asked output = cc (cut) in
           let e : false ≡ true = (rw (first, second) at passed) in
@@ -270,22 +303,26 @@ module _ (stop : Stop) (shutdown_reply : Option Message) (answer : SessionAnswer
 
       at : Later (invited given opening ∷ leaving asked output ∷ x ∷ more) → ⊥
       at (inl (invites, inl (inl all, rest))) = let e : false ≡ true = all.0 in cc (e)
-      at (inl (invites, inl (inr last, rest))) = left last.before last.last last.cut last.none_before
-      at (inl (invites, inr last)) = after_reply last.before last.id last.method last.params last.after last.cut last.none_before
+      at (inl (invites, inl (inr (inl last), rest))) = left last.before last.last [] last.cut last.none_before
+      at (inl (invites, inl (inr (inr broken), rest))) = left broken.before broken.last broken.sent broken.cut broken.none_before
+      at (inl (invites, inr last)) = after_reply last.before last.id last.method last.params _ last.after last.cut last.none_before
       at (inr unopened) = let e : leaving asked output ∷ x ∷ more ≡ [] = unopened.0.0 in cc (e)
 
   -- after the reply to `shutdown` the session is shut down without an `exit`
   pub shut_down_without_exit : (i k : Id) (params result given asked : Data) (opening output : List Message) → answer ≡ Ok ShutDown
-      → KeepsOrder (begun i params result ∷ invited given opening ∷ shutting k asked output ∷ []) stop shutdown_reply answer → ⊥
+      → KeepsOrder passes_late speaks_last (begun i params result ∷ invited given opening ∷ shutting k asked output ∷ []) stop shutdown_reply answer → ⊥
   shut_down_without_exit i k params result given asked opening output is order =
-      let follows = (shuts k given asked opening output [] (starts (begun i params result) _ refl order).later).1 in
-      waits_for_exit k stop (subst (λ (a : SessionAnswer). StopsAt (shut k) stop a) is follows)
+      at (shuts k given asked opening output [] (starts (begun i params result) _ refl order).later)
+    where
+      at : Shuts k output [] → ⊥
+      at (inl gone) = waits_for_exit k stop (subst (λ (a : SessionAnswer). StopsAt (shut k) stop a) is gone.3)
+      at (inr broken) = let e = sym is ∙ broken.4 in cc (e)
 
   -- what holds of the first message: it may come before `initialize` got its result, or it decided
   abbrev Begins : Exchange → List Exchange → Type 0
   Begins x more = IsSomeAnd x.came (λ m. comes_early m ≡ true) ⊎ IsUnstarted (x ∷ more) stop answer
 
-  begins : (x : Exchange) (more : List Exchange) → KeepsOrder (x ∷ more) stop shutdown_reply answer → Begins x more
+  begins : (x : Exchange) (more : List Exchange) → KeepsOrder passes_late speaks_last (x ∷ more) stop shutdown_reply answer → Begins x more
   begins x more order = at order.early order.rest order.cut order.opened
     where
       early_one : (e : Exchange) (early before : List Exchange) (i : Id) (method : List ℕ) (params result : Data) → x ≡ e
@@ -298,7 +335,7 @@ module _ (stop : Stop) (shutdown_reply : Option Message) (answer : SessionAnswer
           subst (λ (y : Exchange). IsSomeAnd y.came (λ m. comes_early m ≡ true)) (sym (same ∙ is)) came.0
 
       at : (early rest : List Exchange) → x ∷ more ≡ early ++ rest
-          → IsOpened early rest stop shutdown_reply answer ⊎ (AllRefused early × AllEarly early × IsUnstarted rest stop answer × (shutdown_reply ≡ None)) → Begins x more
+          → IsOpened passes_late speaks_last early rest stop shutdown_reply answer ⊎ (AllRefused early × AllEarly early × IsUnstarted rest stop answer × (shutdown_reply ≡ None)) → Begins x more
       at [] rest cut (inl opened) = absurd (never_last opened.ends.before _ opened.ends.cut)
       at [] rest cut (inr unopened) = inr (subst (λ (xs : List Exchange). IsUnstarted xs stop answer) (sym cut) unopened.2)
       at (e ∷ early) rest cut (inl opened) =
@@ -311,7 +348,7 @@ module _ (stop : Stop) (shutdown_reply : Option Message) (answer : SessionAnswer
 
   -- a message comes after an `exit` or a response that came first
   pub goes_on_after_early : (m : Message) (output : List Message) (x : Exchange) (more : List Exchange) → comes_early m ≡ false
-      → KeepsOrder (record { came = Some m; sent = output } ∷ x ∷ more) stop shutdown_reply answer → ⊥
+      → KeepsOrder passes_late speaks_last (record { came = Some m; sent = output } ∷ x ∷ more) stop shutdown_reply answer → ⊥
   goes_on_after_early m output x more late order = at (begins (record { came = Some m; sent = output }) (x ∷ more) order)
     where
       at : Begins (record { came = Some m; sent = output }) (x ∷ more) → ⊥
@@ -321,7 +358,7 @@ module _ (stop : Stop) (shutdown_reply : Option Message) (answer : SessionAnswer
   -- a request that comes before `initialize` gets an error with another code than -32002
   pub refused_otherwise : (i : Id) (method : List ℕ) (params : Data) (error : ErrorObject) (more : List Exchange) → is_initialize (request i method params) ≡ false
       → (error.code ≡ number_of ServerNotInitialized → ⊥)
-      → KeepsOrder (turned i method params error ∷ more) stop shutdown_reply answer → ⊥
+      → KeepsOrder passes_late speaks_last (turned i method params error ∷ more) stop shutdown_reply answer → ⊥
   refused_otherwise i method params error more other wrong order = at order.early order.rest order.cut order.opened
     where
       coded : (e : Exchange) → turned i method params error ≡ e → IsRefusedEarly e.came e.sent → ⊥
@@ -338,7 +375,7 @@ module _ (stop : Stop) (shutdown_reply : Option Message) (answer : SessionAnswer
           coded b (same ∙ is) came.1
 
       at : (early rest : List Exchange) → turned i method params error ∷ more ≡ early ++ rest
-          → IsOpened early rest stop shutdown_reply answer ⊎ (AllRefused early × AllEarly early × IsUnstarted rest stop answer × (shutdown_reply ≡ None)) → ⊥
+          → IsOpened passes_late speaks_last early rest stop shutdown_reply answer ⊎ (AllRefused early × AllEarly early × IsUnstarted rest stop answer × (shutdown_reply ≡ None)) → ⊥
       at [] rest cut (inl opened) = never_last opened.ends.before _ opened.ends.cut
       at [] rest cut (inr unopened) =
           let unstarted : IsUnstarted (turned i method params error ∷ more) stop answer = subst (λ (xs : List Exchange). IsUnstarted xs stop answer) (sym cut) unopened.2 in
@@ -353,7 +390,7 @@ module _ (stop : Stop) (shutdown_reply : Option Message) (answer : SessionAnswer
           coded e same unopened.1.1
 
   -- a wake comes first
-  pub woken_first : (output : List Message) (more : List Exchange) → KeepsOrder (record { came = None; sent = output } ∷ more) stop shutdown_reply answer → ⊥
+  pub woken_first : (output : List Message) (more : List Exchange) → KeepsOrder passes_late speaks_last (record { came = None; sent = output } ∷ more) stop shutdown_reply answer → ⊥
   woken_first output more order = at (begins (record { came = None; sent = output }) more order)
     where
       at : Begins (record { came = None; sent = output }) more → ⊥
@@ -361,25 +398,25 @@ module _ (stop : Stop) (shutdown_reply : Option Message) (answer : SessionAnswer
       at (inr unstarted) = unstarted.1
 
   -- what holds if no message came
-  unstarted_at : KeepsOrder [] stop shutdown_reply answer → StopsAt starting stop answer
+  unstarted_at : KeepsOrder passes_late speaks_last [] stop shutdown_reply answer → StopsAt starting stop answer
   unstarted_at order = at order.early order.rest order.cut order.opened
     where
       at : (early rest : List Exchange) → [] ≡ early ++ rest
-          → IsOpened early rest stop shutdown_reply answer ⊎ (AllRefused early × AllEarly early × IsUnstarted rest stop answer × (shutdown_reply ≡ None)) → StopsAt starting stop answer
+          → IsOpened passes_late speaks_last early rest stop shutdown_reply answer ⊎ (AllRefused early × AllEarly early × IsUnstarted rest stop answer × (shutdown_reply ≡ None)) → StopsAt starting stop answer
       at [] rest cut (inl opened) = absurd (never_last opened.ends.before _ opened.ends.cut)
       at [] rest cut (inr unopened) = subst (λ (xs : List Exchange). IsUnstarted xs stop answer) (sym cut) unopened.2
       at (e ∷ early) rest cut opened = absurd (cc (cut))
 
   -- no message came, and one decided
-  pub decides_unasked : stop ≡ decided → KeepsOrder [] stop shutdown_reply answer → ⊥
+  pub decides_unasked : stop ≡ decided → KeepsOrder passes_late speaks_last [] stop shutdown_reply answer → ⊥
   decides_unasked is order = subst (λ (s : Stop). StopsAt starting s answer) is (unstarted_at order)
 
   -- no message came, and the session ended well
-  pub ends_unopened : (end : SessionEnd) → answer ≡ Ok end → KeepsOrder [] stop shutdown_reply answer → ⊥
+  pub ends_unopened : (end : SessionEnd) → answer ≡ Ok end → KeepsOrder passes_late speaks_last [] stop shutdown_reply answer → ⊥
   ends_unopened end is order = none_ends_well starting stop end (inl refl) (subst (λ (a : SessionAnswer). StopsAt starting stop a) is (unstarted_at order))
 
   -- `initialize` came alone, and the session ended well
-  pub ends_uninvited : (i : Id) (params result : Data) (end : SessionEnd) → answer ≡ Ok end → KeepsOrder (begun i params result ∷ []) stop shutdown_reply answer → ⊥
+  pub ends_uninvited : (i : Id) (params result : Data) (end : SessionEnd) → answer ≡ Ok end → KeepsOrder passes_late speaks_last (begun i params result ∷ []) stop shutdown_reply answer → ⊥
   ends_uninvited i params result end is order = at (starts (begun i params result) [] refl order).later
     where
       at : Later [] → ⊥
@@ -387,7 +424,7 @@ module _ (stop : Stop) (shutdown_reply : Option Message) (answer : SessionAnswer
       at (inr unopened) = none_ends_well awaiting stop end (inr refl) (subst (λ (a : SessionAnswer). StopsAt awaiting stop a) is unopened.0)
 
   -- the session is shut down, and no reply to `shutdown` was sent: no `shutdown` came
-  pub shut_down_unasked : (xs : List Exchange) → shutdown_reply ≡ None → answer ≡ Ok ShutDown → KeepsOrder xs stop shutdown_reply answer → ⊥
+  pub shut_down_unasked : (xs : List Exchange) → shutdown_reply ≡ None → answer ≡ Ok ShutDown → KeepsOrder passes_late speaks_last xs stop shutdown_reply answer → ⊥
   shut_down_unasked xs none is order = at order.rest order.opened
     where
       unstarted : (rest : List Exchange) → IsUnstarted rest stop answer → ⊥
@@ -400,19 +437,25 @@ module _ (stop : Stop) (shutdown_reply : Option Message) (answer : SessionAnswer
 
       later : (rest : List Exchange) → Later rest → ⊥
       later rest (inl (invites, inl (inl all, other))) = serves_on stop answer [] (inl is) all.1
-      later rest (inl (invites, inl (inr left, other))) = let e = sym is ∙ left.closes in cc (e)
+      later rest (inl (invites, inl (inr (inl left), other))) = let e = sym is ∙ left.closes in cc (e)
+      later rest (inl (invites, inl (inr (inr broken), other))) = let e = sym is ∙ broken.fails in cc (e)
       later rest (inl (invites, inr last)) = let e = sym none ∙ last.is_null_reply in cc (e)
       later rest (inr stops) = unopened rest stops.0
 
-      at : (rest : List Exchange) → IsOpened order.early rest stop shutdown_reply answer
+      at : (rest : List Exchange) → IsOpened passes_late speaks_last order.early rest stop shutdown_reply answer
           ⊎ (AllRefused order.early × AllEarly order.early × IsUnstarted rest stop answer × (shutdown_reply ≡ None)) → ⊥
       at rest (inl opened) = later rest opened.later
       at rest (inr stops) = unstarted rest stops.2
 
+-- a refusal shows no message
+refusal_shows : (fault : SendFault) (shown : List ℕ) → ◌≡◌ {A = SessionAnswer} (Err (expected_initialized shown)) (Err (fault_of_refusal fault)) → ⊥
+refusal_shows (Lost m) shown e = cc (e)
+refusal_shows (Memory m) shown e = cc (e)
+
 -- The answer is that the outbox refused a message, and the last exchange was offered none: a request was dropped.
-pub drops_request : (before : List Exchange) (came : Option Message) (fault : SendFault) (shutdown_reply : Option Message) (answer : SessionAnswer)
-    → KeepsOrder (before ++ record { came = came; sent = [] } ∷ []) (cut_off fault) shutdown_reply answer → ⊥
-drops_request before came fault shutdown_reply answer order =
+pub drops_request : (passes_late speaks_last : Bool) (before : List Exchange) (came : Option Message) (fault : SendFault) (shutdown_reply : Option Message) (answer : SessionAnswer)
+    → KeepsOrder passes_late speaks_last (before ++ record { came = came; sent = [] } ∷ []) (cut_off fault) shutdown_reply answer → ⊥
+drops_request passes_late speaks_last before came fault shutdown_reply answer order =
     let off = order.offered in
     offered_one before off.0 off.2 off.1 off.3 off.4
   where
@@ -430,29 +473,30 @@ drops_request before came fault shutdown_reply answer order =
         offered_one xs ys part arrived not_sent rest
 
 -- After a whole handshake a request that the lifecycle allows gets no reply, and the answer is that it came in the place of `initialized`.
-pub refuses_allowed : (i k : Id) (params result given asked : Data) (method : List ℕ) (opening : List Message) (stop : Stop) (shutdown_reply : Option Message) (shown : List ℕ)
+pub refuses_allowed : (passes_late speaks_last : Bool) (i k : Id) (params result given asked : Data) (method : List ℕ) (opening : List Message) (stop : Stop) (shutdown_reply : Option Message) (shown : List ℕ)
     → shutdown_reply ≡ None
-    → KeepsOrder (begun i params result ∷ invited given opening ∷ record { came = Some (request k method asked); sent = [] } ∷ []) stop shutdown_reply (Err (expected_initialized shown)) → ⊥
-refuses_allowed i k params result given asked method opening stop shutdown_reply shown none order =
-    at (starts stop shutdown_reply (Err (expected_initialized shown)) (begun i params result) _ refl order).later
+    → KeepsOrder passes_late speaks_last (begun i params result ∷ invited given opening ∷ record { came = Some (request k method asked); sent = [] } ∷ []) stop shutdown_reply (Err (expected_initialized shown)) → ⊥
+refuses_allowed passes_late speaks_last i k params result given asked method opening stop shutdown_reply shown none order =
+    at (starts passes_late speaks_last stop shutdown_reply (Err (expected_initialized shown)) (begun i params result) _ refl order).later
   where
-    at : Later stop shutdown_reply (Err (expected_initialized shown)) (invited given opening ∷ record { came = Some (request k method asked); sent = [] } ∷ []) → ⊥
+    at : Later passes_late speaks_last stop shutdown_reply (Err (expected_initialized shown)) (invited given opening ∷ record { came = Some (request k method asked); sent = [] } ∷ []) → ⊥
     at (inl (invites, inl (inl all, rest))) = serves_on stop _ shown (inr refl) all.1
-    at (inl (invites, inl (inr left, rest))) = let e = left.closes in cc (e)
+    at (inl (invites, inl (inr (inl left), rest))) = let e = left.closes in cc (e)
+    at (inl (invites, inl (inr (inr broken), rest))) = refusal_shows broken.fault shown broken.fails
     at (inl (invites, inr last)) = let e = (sym none ∙ last.is_null_reply) in cc (e)
     at (inr unopened) = let e = unopened.0.0 in cc (e)
 
 -- no `initialize` comes; `shutdown` gets its reply, then a request gets a result and another `shutdown` another reply
-pub goes_on_after_shutdown : (i j k : Id) (asked given result : Data) (method : List ℕ) (stop : Stop) (sent : Option Message) (answer : SessionAnswer)
-    → KeepsOrder (shutting i asked (null_reply i ∷ []) ∷ granted j method given result ∷ shutting k asked (null_reply k ∷ []) ∷ []) stop sent answer → ⊥
-goes_on_after_shutdown i j k asked given result method stop sent answer order =
-    served_first stop sent answer i (codes "shutdown") asked null_data (granted j method given result ∷ shutting k asked (null_reply k ∷ []) ∷ []) refl order
+pub goes_on_after_shutdown : (passes_late speaks_last : Bool) (i j k : Id) (asked given result : Data) (method : List ℕ) (stop : Stop) (sent : Option Message) (answer : SessionAnswer)
+    → KeepsOrder passes_late speaks_last (shutting i asked (null_reply i ∷ []) ∷ granted j method given result ∷ shutting k asked (null_reply k ∷ []) ∷ []) stop sent answer → ⊥
+goes_on_after_shutdown passes_late speaks_last i j k asked given result method stop sent answer order =
+    served_first passes_late speaks_last stop sent answer i (codes "shutdown") asked null_data (granted j method given result ∷ shutting k asked (null_reply k ∷ []) ∷ []) refl order
 
 -- a whole session comes before the `initialize` of another
-pub second_session : (i j k : Id) (params result given asked : Data) (stop : Stop) (sent : Option Message) (answer : SessionAnswer) (more : List Exchange)
-    → KeepsOrder (begun i params result ∷ invited given [] ∷ shutting k asked (null_reply k ∷ []) ∷ begun j params result ∷ more) stop sent answer → ⊥
-second_session i j k params result given asked stop sent answer more order =
-    speaks_after_shutdown stop sent answer i k params result given asked [] (null_reply k ∷ []) _ (response j (Ok result)) [] more order
+pub second_session : (passes_late speaks_last : Bool) (i j k : Id) (params result given asked : Data) (stop : Stop) (sent : Option Message) (answer : SessionAnswer) (more : List Exchange)
+    → KeepsOrder passes_late speaks_last (begun i params result ∷ invited given [] ∷ shutting k asked (null_reply k ∷ []) ∷ begun j params result ∷ more) stop sent answer → ⊥
+second_session passes_late speaks_last i j k params result given asked stop sent answer more order =
+    speaks_after_shutdown passes_late speaks_last stop sent answer i k params result given asked [] (null_reply k ∷ []) _ (response j (Ok result)) [] more order
 
 -- The write of the last message failed, the session was decided, and something behind the message that decided was taken; the same
 -- if memory ran out.

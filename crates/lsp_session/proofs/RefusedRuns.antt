@@ -72,7 +72,8 @@ received_grows (e ∷ es) old new run = grows_by old run.0 new (gave e) run.1 (r
 end_grows : (listens : Receives (List Act)) (phase : Phase) (count : ℕ) (stop : Stop) (shutdown_reply : Option Message) (last : List Exchange) (old new : List Act) → EndsTalk Gives listens Gets phase count stop shutdown_reply last old new → Grows old new
 end_grows listens phase count stop (Some shutdown_reply) last old new end =
     grows_both old end.met new (waited_grows (message end.ask) old end.met end.waited.0)
-    (grows_by end.met end.mid new (got shutdown_reply end.offered.outcome) end.offered.sent (received_grows (behind end.late end.event) end.mid new end.received))
+    (grows_both end.met end.parted new (sent_grows end.parting end.met end.parted end.taken)
+    (grows_by end.parted end.mid new (got shutdown_reply end.offered.outcome) end.offered.sent (received_grows (behind end.late end.event) end.mid new end.received)))
 end_grows listens phase count (refused fault) None last old new end =
     grows_both old end.met new (waited_grows (event_of end.came) old end.met end.waited.0)
     (grows_both end.met end.mid new (sent_grows end.part end.met end.mid end.taken) (grows_by end.mid new new (got end.not_sent (Err fault)) end.refuses (grows_none new new refl)))
@@ -164,8 +165,14 @@ module _ {S : Type 0} (may : Behavior S) (p : Phase) (ask : Message)
         by_first [] last stop shutdown_reply prompt end reached = by_end stop shutdown_reply (rw (ap (λ (a : Phase × List Act). a.1) (sym prompt)) at end)
           where
             by_end : (stop : Stop) (shutdown_reply : Option Message) → EndsTalk Gives listens Gets talks.reached 0 stop shutdown_reply last [] twice → ⊥
-            by_end stop (Some shutdown_reply) end = sends_one (message end.ask) shutdown_reply end.offered.outcome end.met end.mid end.waited.0 end.offered.sent
-                (received_grows (behind end.late end.event) end.mid twice end.received)
+            by_end stop (Some shutdown_reply) end = by_part end.parting end.taken
+              where
+                by_part : (part : List Message) → FoldsTo (Takes Gets) end.met part end.parted → ⊥
+                by_part [] taken = sends_one (message end.ask) shutdown_reply end.offered.outcome end.met end.mid end.waited.0
+                    (end.offered.sent ∙ ap (λ (l : List Act). l ++ got shutdown_reply end.offered.outcome ∷ []) (sym taken)) (received_grows (behind end.late end.event) end.mid twice end.received)
+                by_part (m ∷ ms) taken = sends_one (message end.ask) m (Ok tt) end.met taken.0 end.waited.0 taken.1
+                    (grows_both taken.0 end.parted twice (sent_grows ms taken.0 end.parted taken.2)
+                    (grows_by end.parted end.mid twice (got shutdown_reply end.offered.outcome) end.offered.sent (received_grows (behind end.late end.event) end.mid twice end.received)))
             by_end (refused fault) None end = by_part end.part end.taken
               where
                 by_part : (part : List Message) → FoldsTo (Takes Gets) end.met part end.mid → ⊥
@@ -210,8 +217,8 @@ module _ {S : Type 0} (may : Behavior S) (s s' : S) (answer : SessionAnswer) (i 
     where
       speaks : (s s' : S) (sent : List Message) (next : Phase) → Step may serving s (Some (request i method params)) sent next s' → sent ≡ [] → ⊥
       speaks s s' sent next step none =
-          let left : Leaves (request i method params) sent next × (s' ≡ s) = rw asks at step in
-          one_sent (null_reply i) sent left.0.0 none
+          let left : Leaves may s (request i method params) sent next s' = rw asks at step in
+          no_more_of left.0 (null_reply i) (sym left.2 ∙ none)
 
   -- A service that says something for each request says nothing for one before something else is awaited.
   pub reply_held : is_served (request i method params) ≡ true

@@ -58,7 +58,7 @@ module _ (sends : Sends (List Event)) (m : Message) (later new : List Event) whe
           by_end : (phase : Phase) (mid : List Event) → phase ≡ serving → mid ≡ woken ∷ later → (stop : Stop) (shutdown_reply : Option Message)
               → EndsTalk Skips TakesNext sends phase (length talks.whole) stop shutdown_reply talks.last mid new → ⊥
           by_end phase mid at is stop (Some shutdown_reply) end =
-              no_wait (Some end.ask) end.met (first_came (record { came = Some end.ask; sent = shutdown_reply ∷ [] }) begins.0 (map passed_over end.late ++ end.later) begins.1 (sym end.is ∙ begins.2)) (rw (at, is) at end.waited)
+              no_wait (Some end.ask) end.met (first_came (record { came = Some end.ask; sent = end.parting ++ shutdown_reply ∷ [] }) begins.0 (map passed_over end.late ++ end.later) begins.1 (sym end.is ∙ begins.2)) (rw (at, is) at end.waited)
           by_end phase mid at is (refused fault) None end =
               no_wait end.came end.met (first_came (record { came = end.came; sent = end.part ++ end.not_sent ∷ [] }) begins.0 [] begins.1 (sym end.is ∙ begins.2)) (rw (at, is) at end.waited)
           by_end phase mid at is decided None end = none_first talks.last begins.0 begins.1 end.0 begins.2

@@ -36,7 +36,8 @@ module _ {L : Type 0} (receives listens : Receives L) (sends : Sends L) (Rel : L
   shutdown_turned : (phase : Phase) (shutdown_reply : Message) (stop : Stop) (last : List Exchange) (old new : L) → OffersShutdownReplyFirst receives listens sends phase shutdown_reply stop last old new → Rel old new
   shutdown_turned phase shutdown_reply stop last old new ends =
       then_ old ends.met new (waited (message ends.ask) old ends.met ends.waited.0)
-      (then_ ends.met ends.mid new (sending ends.met shutdown_reply ends.offered.outcome ends.mid ends.offered.sent) (gave_all (behind ends.late ends.event) ends.mid new ends.received))
+      (then_ ends.met ends.parted new (took_all ends.parting ends.met ends.parted ends.taken)
+      (then_ ends.parted ends.mid new (sending ends.parted shutdown_reply ends.offered.outcome ends.mid ends.offered.sent) (gave_all (behind ends.late ends.event) ends.mid new ends.received)))
 
   broken : (phase : Phase) (fault : SendFault) (last : List Exchange) (old new : L) → BreaksOff receives listens sends phase fault last old new → Rel old new
   broken phase fault last old new ends =

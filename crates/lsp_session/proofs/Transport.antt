@@ -4,12 +4,12 @@ use Rattle.lsp_message.specs.Messages.{is_exit}
 use Rattle.lsp_message.specs.Message.{Message, ErrorObject, request, notification, response}
 use Rattle.lsp_session.proofs.Late.{never_both, lets_over, late_messages, only_replies, late_steps}
 use Rattle.lsp_session.proofs.Phases.{phase_follows}
-use Rattle.lsp_session.proofs.Ran.{IsWhole, IsOpen, answer_at_end, of_open, steps_both, one_step, reaches_whole, from_after, open_after}
+use Rattle.lsp_session.proofs.Ran.{IsWhole, IsOpen, answer_at_end, offered_whole, of_open, steps_both, one_step, reaches_whole, from_after, open_after, no_one}
 use Rattle.lsp_session.proofs.Waiting.{FoldsTo-append, and-true}
 use Rattle.lsp_session.specs.Boxes.{Sends, Receives, Takes, Offers}
 use Rattle.lsp_session.specs.Event.{Event, message, timeout, closed, woken}
 use Rattle.lsp_session.specs.Finish.{FinishAnswer, IsUninvited, EventFinishes, is_initialized}
-use Rattle.lsp_session.specs.TransportParts.{FinishesOn, is_late, WaitsForExit, OffersShutdownReplyOn, ShutsDownOn}
+use Rattle.lsp_session.specs.TransportParts.{FinishesOn, is_late, WaitsForExit, PartsOn, OffersShutdownReplyOn, LeavesOn, ShutsDownOn}
 use Rattle.lsp_session.specs.Outputs.{RefusesOne}
 use Rattle.lsp_session.specs.Prompt.{event_of, passed_over, behind, StopsAfterShutdown, next_phase, WaitsIn, Meets, EndsTalk, Talks}
 use Rattle.lsp_session.specs.ProtocolError.{ProtocolFault, disconnected, out_of_memory}
@@ -29,7 +29,7 @@ use Rattle.serde_json.specs.Data.{Data}
 use Rattle.std.proofs.Common.{◌≡◌, refl, sym, ap, ◌∙◌, inl, inr, ◌⊎◌, ◌≤◌, ◌+◌, ◌-◌, ◌^◌, ℕ, Bool, true, false, not, ◌&&◌, List, [], ◌∷◌, ◌++◌, length, map, length-append, append_assoc, append-nil, arith, subst, Option, Some, None, codes}
 use Rattle.std.specs.Bool.{MatchBool}
 use Rattle.std.specs.List.{FoldsTo, AllZip, filter_map, list_all}
-use Rattle.std.specs.Prelude.{Result, Ok, Err, IsErrAnd}
+use Rattle.std.specs.Prelude.{Result, Ok, Err, MatchResult, IsErrAnd}
 use Rattle.std.specs.Str.{bytes_eq}
 
 module _ {L : Type 0} (receives listens : Receives L) (sends : Sends L) where
@@ -175,11 +175,12 @@ module _ {S L : Type 0} (may : Behavior S) (receives listens : Receives L) (send
     part = (record { last = ended None answer; after = s; reached = one_step may p (ended None answer) s s (Some m) [] step; shutdown_reply_is = refl; stopped = (refl, refl) }, is);
   }
 
-  -- one of the messages that are sent for it is refused
-  pub ends_refused : (p p' : Phase) (s s' : S) (old mid new : L) (m : Option Message) (sent : List Message) (fault : ProtocolFault) → IsOpen p'
-      → WaitsIn receives listens p old (event_of m) mid → Step may p s m sent p' s' → RefusesOne sends mid sent fault new
+  -- One of the messages that are sent for it is refused. It is not the reply to `shutdown`.
+  ends_refused_in : (p p' : Phase) (s s' : S) (old mid new : L) (m : Option Message) (sent : List Message) (fault : ProtocolFault)
+      → ((refusal : SendFault) → Stops may p' s' (refused refusal) (Err (fault_of_refusal refusal)) s')
+      → WaitsIn receives listens p old (event_of m) mid → Step may p s m sent p' s' → (lost : RefusesOne sends mid sent fault new) → (lost.more ≡ [] → shutdown_reply_of p' ≡ None)
       → Talks receives listens sends p (From (reason_of_fault fault) p s s') old (Err fault) new
-  ends_refused p p' s s' old mid new m sent fault is_open waits step lost = record {
+  ends_refused_in p p' s s' old mid new m sent fault stops waits step lost matters = record {
     whole = [];
     last = record { came = m; sent = lost.part ++ lost.unsent ∷ [] } ∷ [];
     stop = refused lost.refusal;
@@ -203,153 +204,209 @@ module _ {S L : Type 0} (may : Behavior S) (receives listens : Receives L) (send
           mid = s;
           steps = (refl, refl);
           step = rw lost.cut at step;
+          matters = matters;
         };
-        shutdown_reply_is = (of_open may p' s' is_open).0;
-        stopped = rw lost.is ((of_open may p' s' is_open).2 lost.refusal);
+        shutdown_reply_is = refl;
+        stopped = rw lost.is (stops lost.refusal);
       },
       ap reason_of_fault lost.is ∙ refusal_reason lost.refusal,
     );
   }
 
+  pub ends_refused : (p p' : Phase) (s s' : S) (old mid new : L) (m : Option Message) (sent : List Message) (fault : ProtocolFault) → IsOpen p'
+      → WaitsIn receives listens p old (event_of m) mid → Step may p s m sent p' s' → RefusesOne sends mid sent fault new
+      → Talks receives listens sends p (From (reason_of_fault fault) p s s') old (Err fault) new
+  ends_refused p p' s s' old mid new m sent fault is_open waits step lost =
+      ends_refused_in p p' s s' old mid new m sent fault (of_open may p' s' is_open).2 waits step lost (λ none. sym (of_open may p' s' is_open).0)
+
   -- ---- `shutdown`
 
-  module _ (s : S) (old met new : L) (id : Id) (method : List ℕ) (params : Data)
+  module _ (s s' : S) (old met new : L) (id : Id) (method : List ℕ) (params : Data)
       (waits : WaitsIn receives listens serving old (message (request id method params)) met) where
     abbrev ask : Message
     ask = request id method params
 
-    module _ (asks : bytes_eq method (codes "shutdown") ≡ true) (mid : L) (offers : Offers sends (null_reply id) met mid) where
-      -- what comes after the reply to `shutdown`
-      exit_run : (late : List Message) (event : Event) (answer : SessionAnswer) (later : List Exchange) (stop : Stop) (last : Phase) → list_all (lets_over may.passes_late) late ≡ true
-          → FoldsTo receives mid (behind late event) new → StopsAfterShutdown event stop later → IsWhole stop → Steps may (asked id) s later last s → shutdown_reply_of last ≡ Some (null_reply id)
-          → Stops may last s stop answer s → {reason : StopReason} → reason ≡ reason_of stop → Talks receives listens sends serving (From reason serving s s) old answer new
-      exit_run late event answer later stop last passed received after is_whole steps kept stops why = record {
-        whole = [];
-        last = record { came = Some ask; sent = null_reply id ∷ [] } ∷ (map passed_over late ++ later);
-        stop = stop;
-        shutdown_reply = Some (null_reply id);
-        reached = serving;
-        mid = old;
-        prompt = refl;
-        ends = record {
-          ask = ask;
-          asks = asks;
-          met = met;
-          waited = waits;
-          mid = mid;
-          offered = offers;
-          late = late;
-          responses = only_replies may.passes_late late passed;
-          event = event;
-          received = received;
-          later = later;
-          stops = after;
-          is = refl;
-        };
-        part = (
-          record {
-            last = last;
-            after = s;
-            reached = reaches_whole may stop serving last s s (record { came = Some ask; sent = null_reply id ∷ [] } ∷ (map passed_over late ++ later)) is_whole
-                (asked id, s, rw asks ((refl, refl), refl), late_steps may id s s late later last passed steps);
-            shutdown_reply_is = sym kept;
-            stopped = stops;
-          },
-          why,
-        );
-      }
+    -- what comes of it
+    abbrev Shut : ShutdownAnswer → Type 0
+    Shut answer = Talks receives listens sends serving (From (shut_reason answer) serving s s') old (shut_answer answer) new
 
-      exit_message : (late : List Message) (m : Message) (answer : ShutdownAnswer) (b : Bool) → list_all (lets_over may.passes_late) late ≡ true → FoldsTo receives mid (behind late (message m)) new
-          → is_exit m ≡ b → (may.passes_late && is_reply m) ≡ false → MatchBool b (answer ≡ Ok true) (IsErrAnd answer IsNoExit) → Talks receives listens sends serving (From (shut_reason answer) serving s s) old (shut_answer answer) new
-      exit_message late m answer true passed received e other decides =
-          exit_run late (message m) (shut_answer answer) (record { came = Some m; sent = [] } ∷ []) decided (ended (Some (null_reply id)) (Ok ShutDown)) passed received refl tt
-          (one_step may (asked id) (ended (Some (null_reply id)) (Ok ShutDown)) s s (Some m) [] (rw e (refl, refl), refl)) refl (ap shut_answer decides, refl) (ap shut_reason decides)
-      exit_message late m (Ok b) false passed received e other decides = absurd decides
-      exit_message late m (Err fault) false passed received e other decides = elim decides [
-        | inl shows ↦ exit_run late (message m) (Err fault) (record { came = Some m; sent = [] } ∷ []) decided (ended (Some (null_reply id)) (Err fault)) passed received refl tt
-            (one_step may (asked id) (ended (Some (null_reply id)) (Err fault)) s s (Some m) []
-            (rw (e, other) (shows.0, refl, ap (λ (x : ProtocolFault). ended (Some (null_reply id)) (Err x)) shows.1), refl)) refl (refl, refl) (ap reason_of_fault shows.1)
-        | inr memory ↦ exit_run late (message m) (Err fault) [] exhausted (asked id) passed received refl tt (refl, refl) refl (ap (λ (x : ProtocolFault). Err x) memory, refl) (ap reason_of_fault memory)
-      ]
+    module _ (asks : bytes_eq method (codes "shutdown") ≡ true) (parting : List Message) (gives : may.at_shutdown s id parting s') where
+      -- the service gave that, and then `exit` is awaited
+      step_shut : Step may serving s (Some ask) (parting ++ null_reply id ∷ []) (asked id) s'
+      step_shut = rw asks (parting, gives, refl, refl)
 
-      exit_event : (late : List Message) (event : Event) (answer : ShutdownAnswer) (b : Bool) → list_all (lets_over may.passes_late) late ≡ true → FoldsTo receives mid (behind late event) new
-          → (may.passes_late && is_late event) ≡ b → MatchBool b (answer ≡ Err out_of_memory) (EventShutsDown event answer)
-          → Talks receives listens sends serving (From (shut_reason answer) serving s s) old (shut_answer answer) new
-      exit_event late (message m) answer true passed received is decides =
-          exit_run late (message m) (shut_answer answer) [] exhausted (asked id) passed received refl tt (refl, refl) refl (ap shut_answer decides, refl) (ap shut_reason decides)
-      exit_event late (message m) answer false passed received is decides = exit_message late m answer (is_exit m) passed received refl is decides
-      exit_event late timeout answer true passed received is decides = absurd (never_both may.passes_late is)
-      exit_event late timeout answer false passed received is decides =
-          exit_run late timeout (shut_answer answer) [] timed_out (asked id) passed received refl tt (refl, refl) refl (ap shut_answer decides, refl) (ap shut_reason decides)
-      exit_event late closed answer true passed received is decides = absurd (never_both may.passes_late is)
-      exit_event late closed answer false passed received is decides =
-          exit_run late closed (shut_answer answer) [] no_more (asked id) passed received refl tt (refl, refl) refl (ap shut_answer decides, refl) (ap shut_reason decides)
-      exit_event late woken answer true passed received is decides = absurd (never_both may.passes_late is)
-      exit_event late woken answer false passed received is decides = absurd decides
+      module _ (parted : L) (taken : FoldsTo (Takes sends) met parting parted) (mid : L) (offers : Offers sends (null_reply id) parted mid) where
+        -- what comes after the reply to `shutdown`
+        exit_run : (late : List Message) (event : Event) (answer : SessionAnswer) (later : List Exchange) (stop : Stop) (last : Phase) → list_all (lets_over may.passes_late) late ≡ true
+            → FoldsTo receives mid (behind late event) new → StopsAfterShutdown event stop later → IsWhole stop → Steps may (asked id) s' later last s' → shutdown_reply_of last ≡ Some (null_reply id)
+            → Stops may last s' stop answer s' → {reason : StopReason} → reason ≡ reason_of stop → Talks receives listens sends serving (From reason serving s s') old answer new
+        exit_run late event answer later stop last passed received after is_whole steps kept stops why = record {
+          whole = [];
+          last = record { came = Some ask; sent = parting ++ null_reply id ∷ [] } ∷ (map passed_over late ++ later);
+          stop = stop;
+          shutdown_reply = Some (null_reply id);
+          reached = serving;
+          mid = old;
+          prompt = refl;
+          ends = record {
+            ask = ask;
+            asks = asks;
+            met = met;
+            waited = waits;
+            parting = parting;
+            parted = parted;
+            taken = taken;
+            mid = mid;
+            offered = offers;
+            late = late;
+            responses = only_replies may.passes_late late passed;
+            event = event;
+            received = received;
+            later = later;
+            stops = after;
+            is = refl;
+          };
+          part = (
+            record {
+              last = last;
+              after = s';
+              reached = reaches_whole may stop serving last s s' (record { came = Some ask; sent = parting ++ null_reply id ∷ [] } ∷ (map passed_over late ++ later)) is_whole
+                  (asked id, s', step_shut, late_steps may id s' s' late later last passed steps);
+              shutdown_reply_is = sym (offered_whole stop last is_whole ∙ kept);
+              stopped = stops;
+            },
+            why,
+          );
+        }
 
-      -- the wait for `exit`
-      exit_waited : (answer : ShutdownAnswer) → WaitsForExit receives may.passes_late mid answer new
-          → Talks receives listens sends serving (From (shut_reason answer) serving s s) old (shut_answer answer) new
-      exit_waited answer waited =
-          let late = late_messages may.passes_late waited.late waited.passed in
-          exit_event late.0 waited.event answer (may.passes_late && is_late waited.event) late.2
-          (subst (λ (es : List Event). FoldsTo receives mid (es ++ waited.event ∷ []) new) late.1 waited.received) refl waited.decides
+        exit_message : (late : List Message) (m : Message) (answer : ShutdownAnswer) (b : Bool) → list_all (lets_over may.passes_late) late ≡ true → FoldsTo receives mid (behind late (message m)) new
+            → is_exit m ≡ b → (may.passes_late && is_reply m) ≡ false → MatchBool b (answer ≡ Ok true) (IsErrAnd answer IsNoExit) → Shut answer
+        exit_message late m answer true passed received e other decides =
+            exit_run late (message m) (shut_answer answer) (record { came = Some m; sent = [] } ∷ []) decided (ended (Some (null_reply id)) (Ok ShutDown)) passed received refl tt
+            (one_step may (asked id) (ended (Some (null_reply id)) (Ok ShutDown)) s' s' (Some m) [] (rw e (refl, refl), refl)) refl (ap shut_answer decides, refl) (ap shut_reason decides)
+        exit_message late m (Ok b) false passed received e other decides = absurd decides
+        exit_message late m (Err fault) false passed received e other decides = elim decides [
+          | inl shows ↦ exit_run late (message m) (Err fault) (record { came = Some m; sent = [] } ∷ []) decided (ended (Some (null_reply id)) (Err fault)) passed received refl tt
+              (one_step may (asked id) (ended (Some (null_reply id)) (Err fault)) s' s' (Some m) []
+              (rw (e, other) (shows.0, refl, ap (λ (x : ProtocolFault). ended (Some (null_reply id)) (Err x)) shows.1), refl)) refl (refl, refl) (ap reason_of_fault shows.1)
+          | inr memory ↦ exit_run late (message m) (Err fault) [] exhausted (asked id) passed received refl tt (refl, refl) refl (ap (λ (x : ProtocolFault). Err x) memory, refl) (ap reason_of_fault memory)
+        ]
+
+        exit_event : (late : List Message) (event : Event) (answer : ShutdownAnswer) (b : Bool) → list_all (lets_over may.passes_late) late ≡ true → FoldsTo receives mid (behind late event) new
+            → (may.passes_late && is_late event) ≡ b → MatchBool b (answer ≡ Err out_of_memory) (EventShutsDown event answer) → Shut answer
+        exit_event late (message m) answer true passed received is decides =
+            exit_run late (message m) (shut_answer answer) [] exhausted (asked id) passed received refl tt (refl, refl) refl (ap shut_answer decides, refl) (ap shut_reason decides)
+        exit_event late (message m) answer false passed received is decides = exit_message late m answer (is_exit m) passed received refl is decides
+        exit_event late timeout answer true passed received is decides = absurd (never_both may.passes_late is)
+        exit_event late timeout answer false passed received is decides =
+            exit_run late timeout (shut_answer answer) [] timed_out (asked id) passed received refl tt (refl, refl) refl (ap shut_answer decides, refl) (ap shut_reason decides)
+        exit_event late closed answer true passed received is decides = absurd (never_both may.passes_late is)
+        exit_event late closed answer false passed received is decides =
+            exit_run late closed (shut_answer answer) [] no_more (asked id) passed received refl tt (refl, refl) refl (ap shut_answer decides, refl) (ap shut_reason decides)
+        exit_event late woken answer true passed received is decides = absurd (never_both may.passes_late is)
+        exit_event late woken answer false passed received is decides = absurd decides
+
+        -- the wait for `exit`
+        exit_waited : (answer : ShutdownAnswer) → WaitsForExit receives may.passes_late mid answer new → Shut answer
+        exit_waited answer waited =
+            let late = late_messages may.passes_late waited.late waited.passed in
+            exit_event late.0 waited.event answer (may.passes_late && is_late waited.event) late.2
+            (subst (λ (es : List Event). FoldsTo receives mid (es ++ waited.event ∷ []) new) late.1 waited.received) refl waited.decides
+
+      -- what the service gave is refused
+      parting_refused : (fault : ProtocolFault) → RefusesOne sends met parting fault new
+          → Talks receives listens sends serving (From (reason_of_fault fault) serving s s') old (Err fault) new
+      parting_refused fault lost =
+          ends_refused_in serving (asked id) s s' old met new (Some ask) (parting ++ null_reply id ∷ []) fault (λ refusal. (refl, refl)) waits step_shut
+          (record {
+            part = lost.part;
+            unsent = lost.unsent;
+            more = lost.more ++ null_reply id ∷ [];
+            cut = rw lost.cut (append_assoc lost.part (lost.unsent ∷ lost.more) (null_reply id ∷ []));
+            mid = lost.mid;
+            taken = lost.taken;
+            refusal = lost.refusal;
+            refuses = lost.refuses;
+            is = lost.is;
+          })
+          (λ none. absurd (no_one lost.more [] (null_reply id) none))
+
+    left_so : bytes_eq method (codes "shutdown") ≡ true → (answer : ShutdownAnswer) (sent : Result (Unit {0}) ProtocolFault) (mid : L) → PartsOn sends may id (met, s) sent (mid, s')
+        → MatchResult sent (λ done. OffersShutdownReplyOn receives sends may.passes_late id mid answer new) (λ fault. (answer ≡ Err fault) × (new ≡ mid)) → Shut answer
+    left_so asks answer (Ok done) mid (inl gives) reply = exit_waited asks gives.0 gives.1 mid gives.2 reply.mid reply.offered answer reply.awaited
+    left_so asks answer (Ok done) mid (inr memory) reply = absurd (cc (memory.0))
+    left_so asks answer (Err fault) mid (inl gives) failed =
+        rw failed.0 (parting_refused asks gives.0 gives.1 fault (rw failed.1 gives.2))
+    left_so asks answer (Err fault) mid (inr memory) failed =
+        let full : fault ≡ out_of_memory = cc (memory.0) in
+        let same : new ≡ met = failed.1 ∙ memory.1 in
+        rw (failed.0, full, same) (ends_exhausted serving s s' old met (Some ask) tt waits refl)
 
     ends_shut : (answer : ShutdownAnswer) (b : Bool) → bytes_eq method (codes "shutdown") ≡ b
         → (answer ≡ Ok false → ⊥)
-        → MatchBool b (OffersShutdownReplyOn receives sends may.passes_late id met answer new ⊎ ((answer ≡ Err out_of_memory) × (new ≡ met))) ((answer ≡ Ok false) × (new ≡ met))
-        → Talks receives listens sends serving (From (shut_reason answer) serving s s) old (shut_answer answer) new
+        → MatchBool b (LeavesOn receives sends may id (met, s) answer (new, s') ⊎ ((answer ≡ Err out_of_memory) × (◌≡◌ {A = L × S} (new, s') (met, s)))) ((answer ≡ Ok false) × (◌≡◌ {A = L × S} (new, s') (met, s)))
+        → Shut answer
     ends_shut answer true e other shuts = elim shuts [
-      | inl shutdown_reply ↦ exit_waited e shutdown_reply.mid shutdown_reply.offered answer shutdown_reply.awaited
-      | inr memory ↦ rw (memory.1, memory.0) (ends_exhausted serving s s old met (Some ask) tt waits refl)
+      | inl leaves ↦ left_so e answer leaves.sent leaves.mid leaves.parts leaves.next
+      | inr memory ↦ rw (ap (λ (x : L × S). x.0) memory.1, memory.0) (ends_exhausted serving s s' old met (Some ask) tt waits refl)
     ]
     ends_shut answer false e other shuts = absurd (other shuts.0)
 
+    never_false : (event : Event) → EventShutsDown event (Ok false) → ⊥
+    never_false (message m) decides = by_exit (is_exit m) decides
+      where
+        by_exit : (b : Bool) → MatchBool b (passed_on ≡ Ok true) (IsErrAnd passed_on IsNoExit) → ⊥
+        by_exit true decides = cc (decides)
+        by_exit false decides = decides
+    never_false timeout decides = let e : ◌≡◌ {A = ShutdownAnswer} (Ok false) (Err Rattle.lsp_session.specs.ProtocolError.shutdown_timeout) = decides in cc
+    never_false woken decides = decides
+    never_false closed decides = let e : ◌≡◌ {A = ShutdownAnswer} (Ok false) (Err Rattle.lsp_session.specs.ProtocolError.shutdown_disconnected) = decides in cc
+
+    never_waits : (event : Event) (b : Bool) → MatchBool b (passed_on ≡ Err out_of_memory) (EventShutsDown event passed_on) → ⊥
+    never_waits event true decides = cc (decides)
+    never_waits event false decides = never_false event decides
+
+    never_leaves : (sent : Result (Unit {0}) ProtocolFault) (mid : L)
+        → MatchResult sent (λ done. OffersShutdownReplyOn receives sends may.passes_late id mid passed_on new) (λ fault. (passed_on ≡ Err fault) × (new ≡ mid)) → ⊥
+    never_leaves (Ok done) mid reply = never_waits reply.awaited.event (may.passes_late && is_late reply.awaited.event) reply.awaited.decides
+    never_leaves (Err fault) mid failed = cc (failed.0)
+
     -- another request is left alone
     passes_other : (b : Bool) → bytes_eq method (codes "shutdown") ≡ b
-        → MatchBool b (OffersShutdownReplyOn receives sends may.passes_late id met (Ok false) new ⊎ (◌≡◌ {A = ShutdownAnswer} (Ok false) (Err out_of_memory) × (new ≡ met))) (◌≡◌ {A = ShutdownAnswer} (Ok false) (Ok false) × (new ≡ met))
-        → (bytes_eq method (codes "shutdown") ≡ false) × (new ≡ met)
+        → MatchBool b (LeavesOn receives sends may id (met, s) (Ok false) (new, s') ⊎ (◌≡◌ {A = ShutdownAnswer} (Ok false) (Err out_of_memory) × (◌≡◌ {A = L × S} (new, s') (met, s))))
+        (◌≡◌ {A = ShutdownAnswer} (Ok false) (Ok false) × (◌≡◌ {A = L × S} (new, s') (met, s)))
+        → (bytes_eq method (codes "shutdown") ≡ false) × (◌≡◌ {A = L × S} (new, s') (met, s))
     passes_other true e shuts = elim shuts [
-      | inl shutdown_reply ↦ absurd (never_waits shutdown_reply.awaited.event (may.passes_late && is_late shutdown_reply.awaited.event) shutdown_reply.awaited.decides)
+      | inl leaves ↦ absurd (never_leaves leaves.sent leaves.mid leaves.next)
       | inr memory ↦ absurd (cc (memory.0))
     ]
-      where
-        never_false : (event : Event) → EventShutsDown event (Ok false) → ⊥
-        never_false (message m) decides = by_exit (is_exit m) decides
-          where
-            by_exit : (b : Bool) → MatchBool b (passed_on ≡ Ok true) (IsErrAnd passed_on IsNoExit) → ⊥
-            by_exit true decides = cc (decides)
-            by_exit false decides = decides
-        never_false timeout decides = let e : ◌≡◌ {A = ShutdownAnswer} (Ok false) (Err Rattle.lsp_session.specs.ProtocolError.shutdown_timeout) = decides in cc
-        never_false woken decides = decides
-        never_false closed decides = let e : ◌≡◌ {A = ShutdownAnswer} (Ok false) (Err Rattle.lsp_session.specs.ProtocolError.shutdown_disconnected) = decides in cc
-
-        never_waits : (event : Event) (b : Bool) → MatchBool b (passed_on ≡ Err out_of_memory) (EventShutsDown event passed_on) → ⊥
-        never_waits event true decides = cc (decides)
-        never_waits event false decides = never_false event decides
     passes_other false e shuts = (e, shuts.1)
 
-    is_request_served : MatchBool (bytes_eq method (codes "shutdown")) (OffersShutdownReplyOn receives sends may.passes_late id met (Ok false) new ⊎ (◌≡◌ {A = ShutdownAnswer} (Ok false) (Err out_of_memory) × (new ≡ met))) (◌≡◌ {A = ShutdownAnswer} (Ok false) (Ok false) × (new ≡ met))
-        → (is_served ask ≡ true) × WaitsIn receives listens serving old (message ask) new
-    is_request_served shuts = let passed = passes_other (bytes_eq method (codes "shutdown")) refl shuts in (rw passed.0 refl, rw passed.1 waits)
+    is_request_served : MatchBool (bytes_eq method (codes "shutdown"))
+        (LeavesOn receives sends may id (met, s) (Ok false) (new, s') ⊎ (◌≡◌ {A = ShutdownAnswer} (Ok false) (Err out_of_memory) × (◌≡◌ {A = L × S} (new, s') (met, s))))
+        (◌≡◌ {A = ShutdownAnswer} (Ok false) (Ok false) × (◌≡◌ {A = L × S} (new, s') (met, s)))
+        → (is_served ask ≡ true) × WaitsIn receives listens serving old (message ask) new × (s' ≡ s)
+    is_request_served shuts =
+        let passed = passes_other (bytes_eq method (codes "shutdown")) refl shuts in
+        (rw passed.0 refl, rw (ap (λ (x : L × S). x.0) passed.1) waits, ap (λ (x : L × S). x.1) passed.1)
 
   -- the same of any message
-  module _ (s : S) (old met new : L) where
+  module _ (s s' : S) (old met new : L) where
     pub shuts_down : (m : Message) (answer : ShutdownAnswer) → (answer ≡ Ok false → ⊥) → WaitsIn receives listens serving old (message m) met
-        → ShutsDownOn receives sends may.passes_late m met answer new → Talks receives listens sends serving (From (shut_reason answer) serving s s) old (shut_answer answer) new
-    shuts_down (request id method params) answer other waits shuts = ends_shut s old met new id method params waits answer (bytes_eq method (codes "shutdown")) refl other shuts
+        → ShutsDownOn receives sends may m (met, s) answer (new, s') → Talks receives listens sends serving (From (shut_reason answer) serving s s') old (shut_answer answer) new
+    shuts_down (request id method params) answer other waits shuts = ends_shut s s' old met new id method params waits answer (bytes_eq method (codes "shutdown")) refl other shuts
     shuts_down m answer other waits shuts = absurd (other shuts.0)
 
     -- another message goes to the service
-    pub is_served_by : (m : Message) → is_exit m ≡ false → WaitsIn receives listens serving old (message m) met → ShutsDownOn receives sends may.passes_late m met (Ok false) new
-        → (is_served m ≡ true) × WaitsIn receives listens serving old (message m) new
-    is_served_by (request id method params) other waits shuts = is_request_served s old met new id method params waits shuts
-    is_served_by (notification method params) other waits shuts = (rw other refl, rw shuts.1 waits)
-    is_served_by (response id outcome) other waits shuts = (refl, rw shuts.1 waits)
+    pub is_served_by : (m : Message) → is_exit m ≡ false → WaitsIn receives listens serving old (message m) met → ShutsDownOn receives sends may m (met, s) (Ok false) (new, s')
+        → (is_served m ≡ true) × WaitsIn receives listens serving old (message m) new × (s' ≡ s)
+    is_served_by (request id method params) other waits shuts = is_request_served s s' old met new id method params waits shuts
+    is_served_by (notification method params) other waits shuts = (rw other refl, rw (ap (λ (x : L × S). x.0) shuts.1) waits, ap (λ (x : L × S). x.1) shuts.1)
+    is_served_by (response id outcome) other waits shuts = (refl, rw (ap (λ (x : L × S). x.0) shuts.1) waits, ap (λ (x : L × S). x.1) shuts.1)
 
   pub ends_at_exit : (s : S) (old new : L) (m : Message) → WaitsIn receives listens serving old (message m) new → is_exit m ≡ true
       → Talks receives listens sends serving (From Decided serving s s) old (Ok Closed) new
-  ends_at_exit s old new (notification method params) waits exits = ends_decided serving s old new (notification method params) (Ok Closed) waits (rw exits ((refl, refl), refl)) refl
+  ends_at_exit s old new (notification method params) waits exits = ends_decided serving s old new (notification method params) (Ok Closed) waits (rw exits (refl, refl, refl)) refl
   ends_at_exit s old new m waits exits = absurd (cc (exits))
 
 same_fault : {A : Type 0} (e f : ProtocolFault) → ◌≡◌ {A = Result A ProtocolFault} (Err e) (Err f) → e ≡ f

@@ -3,7 +3,7 @@ use Rattle.lsp_message.specs.Message.{Message}
 use Rattle.lsp_session.proofs.Late.{late_silent}
 use Rattle.lsp_session.proofs.Ran.{IsWhole, sends_both, came_both, all_after}
 use Rattle.lsp_session.proofs.Waiting.{FoldsTo-append, list_all-push}
-use Rattle.lsp_session.specs.Boxes.{Sends, Receives, Takes, WaitsFor, is_timeout}
+use Rattle.lsp_session.specs.Boxes.{Sends, Receives, Takes, Offers, WaitsFor, is_timeout}
 use Rattle.lsp_session.specs.Event.{Event, message, timeout, closed}
 use Rattle.lsp_session.specs.Prompt.{event_of, passed_over, behind, StopsAfterShutdown, Meets, BreaksOff, OffersShutdownReplyFirst, EndsTalk, Talks}
 use Rattle.lsp_session.specs.Session.{SessionAnswer, SessionPart, Exchange, came_of, sends_of, Stop, decided, no_more, timed_out, refused, exhausted, Phase}
@@ -89,6 +89,7 @@ awaits_after events0 events xs0 xs (Some shutdown_reply) stop awaited = record {
   event = awaited.event;
   are = rw (awaited.are, append_assoc) refl;
   before = xs0 ++ awaited.before;
+  parting = awaited.parting;
   later = awaited.later;
   stops = awaited.stops;
   exchanged = rw (awaited.exchanged, append_assoc) refl;
@@ -131,6 +132,12 @@ module _ {I O : Type 0} (receives : Receives I) (sends : Sends O) where
   gets_last : (old new : O) (shutdown_reply : Option Message) (stop : Stop) → IsWhole stop → OffersLast sends old shutdown_reply new → Gets sends old [] shutdown_reply stop new
   gets_last old new shutdown_reply (refused fault) whole offers = absurd whole
   gets_last old new shutdown_reply stop whole offers = (old, refl, offers)
+
+  -- it took that, and then it was offered the reply
+  gets_parting : (old mid new : O) (output : List Message) (shutdown_reply : Message) (stop : Stop) → IsWhole stop → FoldsTo (Takes sends) old output mid → Offers sends shutdown_reply mid new
+      → Gets sends old output (Some shutdown_reply) stop new
+  gets_parting old mid new output shutdown_reply (refused fault) whole taken offers = absurd whole
+  gets_parting old mid new output shutdown_reply stop whole taken offers = (mid, taken, offers)
 
   gets_all : (old new : O) (output : List Message) (stop : Stop) → IsWhole stop → FoldsTo (Takes sends) old output new → Gets sends old output None stop new
   gets_all old new output (refused fault) whole taken = absurd whole
@@ -207,7 +214,8 @@ module _ {I O : Type 0} (receives : Receives I) (sends : Sends O) where
         → OffersShutdownReplyFirst gives listens takes phase shutdown_reply stop last old new → Both P answer old new
     after_shutdown phase P answer stop shutdown_reply last old new part end =
         let waits = waits_in (message end.ask) old end.met end.waited.0 in
-        let offered = of_takes end.met shutdown_reply end.offered.outcome end.mid end.offered.sent in
+        let took = taken_in end.parting end.met end.parted end.taken in
+        let offered = of_takes end.parted shutdown_reply end.offered.outcome end.mid end.offered.sent in
         let last_events = behind end.late end.event in
         let received = events_in last_events end.mid new end.received in
         let first = waits.0.passed ++ message end.ask ∷ [] in
@@ -215,15 +223,15 @@ module _ {I O : Type 0} (receives : Receives I) (sends : Sends O) where
           record {
             events = first ++ last_events;
             received = FoldsTo-append receives first last_events (ends old).0 (ends end.met).0 (ends new).0 waits.0.received
-                (from_same receives (ends end.mid).0 (ends end.met).0 last_events (ends new).0 offered.1 received.0);
+                (from_same receives (ends end.mid).0 (ends end.met).0 last_events (ends new).0 (offered.1 ∙ took.1) received.0);
             exchanges = last;
             stop = stop;
             brought = rw end.is (brings_after first last_events (Some end.ask ∷ []) (came_of (map passed_over end.late ++ end.later)) stop
                 (messages_waited waits.0.passed (message end.ask) waits.0.only_timeouts) (open_waited waits.0.passed (message end.ask) refl waits.0.only_timeouts)
                 (late_brings end.late end.event end.later stop after.0));
-            output = [];
+            output = end.parting;
             shutdown_reply = Some shutdown_reply;
-            all = rw (end.is, late_silent end.late end.later after.2) refl;
+            all = rw (end.is, late_silent end.late end.later after.2, append-nil) refl;
             awaited = record {
               earlier = waits.0.passed;
               ask = end.ask;
@@ -233,14 +241,16 @@ module _ {I O : Type 0} (receives : Receives I) (sends : Sends O) where
               event = end.event;
               are = append_assoc waits.0.passed (message end.ask ∷ []) last_events;
               before = [];
+              parting = end.parting;
               later = end.later;
               stops = end.stops;
               exchanged = end.is;
             };
-            got = gets_last (ends old).1 (ends new).1 (Some shutdown_reply) stop after.1 (record { outcome = end.offered.outcome; sent = rw received.1 (rw waits.1 at offered.0) });
+            got = gets_parting (ends old).1 (ends end.parted).1 (ends new).1 end.parting shutdown_reply stop after.1 (rw waits.1 at took.0)
+                (record { outcome = end.offered.outcome; sent = rw received.1 offered.0 });
             part = part;
           },
-          received.2 ∙ offered.2 ∙ waits.2,
+          received.2 ∙ offered.2 ∙ took.2 ∙ waits.2,
         )
 
     -- nothing more is sent

@@ -58,22 +58,25 @@ pub record BreaksActs (last : List Exchange) (acts : List Act) : Type 0 where
   pub awaited : Awaited (event_of came) waits
   pub are : acts ≡ waits ++ (map took part ++ lost not_sent ∷ [])
 
--- `shutdown` came, then its reply was sent, whatever the transport answered, and only then something was awaited: responses that were
--- passed over, and one event, the last one.
+-- `shutdown` came. The transport took what the service gave then, and the reply was sent, whatever the transport answered, and only then
+-- something was awaited: responses that were passed over, and one event, the last one.
 pub record ShutdownReplyInOrder (shutdown_reply : Message) (stop : Stop) (last : List Exchange)
     (acts : List Act) : Type 0 where
   pub ask : Message
   pub asks : is_shutdown ask ≡ true
   pub waits : List Act
   pub awaited : Awaited (message ask) waits
+  pub parting : List Message
   pub outcome : Result (Unit {0}) SendFault
   pub late : List Message
   pub responses : list_all is_reply late ≡ true
   pub event : Event
-  pub are : acts ≡ waits ++ sending shutdown_reply outcome ∷ map gave (behind late event)
+  pub are : acts
+      ≡ waits ++ (map took parting ++ sending shutdown_reply outcome ∷ map gave (behind late event))
   pub later : List Exchange
   pub stops : StopsAfterShutdown event stop later
-  pub is : last ≡ record { came = Some ask; sent = shutdown_reply ∷ [] } ∷ (map passed_over late ++ later)
+  pub is : last
+      ≡ record { came = Some ask; sent = parting ++ shutdown_reply ∷ [] } ∷ (map passed_over late ++ later)
 
 -- The acts at the end of a session after so many whole exchanges, and its last exchanges. If a message decided, nothing else was
 -- awaited. If no more came, that was the event, or 2^64 - 1 exchanges were all. If an allocation failed, one more message or wake came.

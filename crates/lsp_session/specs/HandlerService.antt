@@ -24,6 +24,7 @@ module _ {H : Type 0} where
     outputs = λ old m sent new. Handles answers notes old.handler.now m sent new.handler.now
         × (new.handler.ghost_name ≡ old.handler.ghost_name);
     wakes = λ old sent new. (sent ≡ []) × KeepsHandler old new;
+    at_shutdown = λ old id sent new. (sent ≡ []) × KeepsHandler old new;
     after_memory_fault = KeepsHandler;
     passes_late = false;
   }

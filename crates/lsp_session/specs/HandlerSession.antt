@@ -20,7 +20,7 @@ module _ {H : Type 0} (answers : H → Id → List ℕ → Data → Result Data 
       × (replies ≡ [])
   Handles old (response i outcome) replies new = (new ≡ old) × (replies ≡ [])
 
-  -- `initialize` is answered with the capabilities, and nothing is sent at `initialized` or at a wake. These leave the handler alone.
+  -- `initialize` is answered with the capabilities, and nothing is sent at `initialized`, at a wake, or at `shutdown` but its reply. These leave the handler alone.
   -- After `shutdown` nothing is passed over: it asks nothing, so no response is owed to it.
   abbrev pub of_handler : Data → Behavior H
   of_handler capabilities = record {
@@ -29,6 +29,7 @@ module _ {H : Type 0} (answers : H → Id → List ℕ → Data → Result Data 
     at_initialized = λ old sent new. (sent ≡ []) × (new ≡ old);
     outputs = Handles;
     wakes = λ old sent new. (sent ≡ []) × (new ≡ old);
+    at_shutdown = λ old id sent new. (sent ≡ []) × (new ≡ old);
     after_memory_fault = λ old new. new ≡ old;
     passes_late = false;
   }

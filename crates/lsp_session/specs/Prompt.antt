@@ -81,23 +81,27 @@ module _ {L : Type 0} (receives listens : Receives L) where
       pub taken : FoldsTo (Takes sends) met part mid
       pub refuses : sends mid not_sent (Err fault) new
 
-    -- `shutdown` comes, then its reply is sent, whatever the transport answers, and only then something is received: responses that are
-    -- passed over, and one event, the last one.
+    -- `shutdown` comes. What the service gives then is taken, and the reply is sent, whatever the transport answers, and only then something
+    -- is received: responses that are passed over, and one event, the last one.
     pub record OffersShutdownReplyFirst (phase : Phase) (shutdown_reply : Message) (stop : Stop)
         (last : List Exchange) (old new : L) : Type 0 where
       pub ask : Message
       pub asks : is_shutdown ask ≡ true
       pub met : L
       pub waited : WaitsIn phase old (message ask) met
+      pub parting : List Message
+      pub parted : L
+      pub taken : FoldsTo (Takes sends) met parting parted
       pub mid : L
-      pub offered : Offers sends shutdown_reply met mid
+      pub offered : Offers sends shutdown_reply parted mid
       pub late : List Message
       pub responses : list_all is_reply late ≡ true
       pub event : Event
       pub received : FoldsTo receives mid (behind late event) new
       pub later : List Exchange
       pub stops : StopsAfterShutdown event stop later
-      pub is : last ≡ record { came = Some ask; sent = shutdown_reply ∷ [] } ∷ (map passed_over late ++ later)
+      pub is : last
+          ≡ record { came = Some ask; sent = parting ++ shutdown_reply ∷ [] } ∷ (map passed_over late ++ later)
 
     -- How a session ends in this phase, after so many whole exchanges, and the exchanges of that end. If a message decided, nothing
     -- else is awaited. If no more comes, that is the event, or 2^64 - 1 exchanges were all. If an allocation fails, one more

@@ -23,6 +23,8 @@ pub record Behavior (S : Type 0) : Type 1 where
   pub outputs : S → Message → List Message → S → Type 0
   -- woken, since something that it waits for is ready, it may give these, in order, and change so
   pub wakes : S → List Message → S → Type 0
+  -- at `shutdown`, which came under this id, it may give these before the reply, in order, and change so
+  pub at_shutdown : S → Id → List Message → S → Type 0
   -- what it may be if an allocation failed in `initialize` or at `initialized`
   pub after_memory_fault : S → S → Type 0
   -- whether a response that comes after `shutdown` is passed over
@@ -83,7 +85,7 @@ pub data Phase : Type 0 where
   replied : Phase
   -- `initialized` came
   serving : Phase
-  -- `shutdown` came under this id and got its reply, and `exit` is awaited
+  -- `shutdown` came under this id and got its reply, and `exit` is awaited; or the outbox refused a message before that reply
   asked : Id → Phase
   -- A message decided, and this is the answer. Before it `shutdown` had got this reply, or had not come.
   ended : Option Message → SessionAnswer → Phase
@@ -93,6 +95,11 @@ abbrev pub shutdown_reply_of : Phase → Option Message
 shutdown_reply_of (asked i) = Some (null_reply i)
 shutdown_reply_of (ended shutdown_reply answer) = shutdown_reply
 shutdown_reply_of phase = None
+
+-- The reply to `shutdown` that was offered at a stop in this phase: none if the outbox refused a message.
+abbrev pub offered_reply_of : Stop → Phase → Option Message
+offered_reply_of (refused fault) phase = None
+offered_reply_of stop phase = shutdown_reply_of phase
 
 -- where a session stands after `initialize` got this outcome: after an error the client may send it again
 abbrev pub phase_after : Result Data ErrorObject → Phase
@@ -104,12 +111,13 @@ abbrev pub Fails : (List ℕ → ProtocolFault) → Phase → List Message → P
 Fails fault phase sent next = (shown : List ℕ) × (sent ≡ [])
     × (next ≡ ended (shutdown_reply_of phase) (Err (fault shown)))
 
--- `shutdown` is answered with null, and `exit` closes the session
-abbrev pub Leaves : Message → List Message → Phase → Type 0
-Leaves (request i method params) sent next = (sent ≡ null_reply i ∷ []) × (next ≡ asked i)
-Leaves m sent next = (sent ≡ []) × (next ≡ ended None (Ok Closed))
-
 module _ {S : Type 0} (may : Behavior S) where
+  -- `shutdown` is answered with null, after what the service gives then; and `exit` closes the session
+  abbrev pub Leaves : S → Message → List Message → Phase → S → Type 0
+  Leaves s (request i method params) sent next s' = (parting : List Message)
+      × may.at_shutdown s i parting s' × (sent ≡ parting ++ null_reply i ∷ []) × (next ≡ asked i)
+  Leaves s m sent next s' = (sent ≡ []) × (next ≡ ended None (Ok Closed)) × (s' ≡ s)
+
   -- In this phase this message comes; this is sent for it; this is the next phase, and the service then. Before `initialize`
   -- each other request is answered with an error, and a notification but `exit` is dropped. With no message the service is woken:
   -- from `initialized` up to `shutdown`, and nowhere else. After `shutdown` a response is passed over, if the service says so.
@@ -127,8 +135,8 @@ module _ {S : Type 0} (may : Behavior S) where
       MatchBool (is_initialized m) (may.at_initialized s sent s'
       × (next ≡ serving)) (Fails expected_initialized replied sent next × (s' ≡ s))
   Step serving s (Some m) sent next s' =
-      MatchBool (is_served m) (may.outputs s m sent s' × (next ≡ serving)) (Leaves m sent next
-      × (s' ≡ s))
+      MatchBool (is_served m) (may.outputs s m sent s' × (next ≡ serving))
+      (Leaves s m sent next s')
   Step serving s None sent next s' = may.wakes s sent s' × (next ≡ serving)
   Step (asked i) s (Some m) sent next s' =
       MatchBool (is_exit m) ((sent ≡ []) × (next ≡ ended (Some (null_reply i)) (Ok ShutDown)))
@@ -142,7 +150,8 @@ module _ {S : Type 0} (may : Behavior S) where
   Steps phase s (x ∷ xs) phase' s' = (next : Phase) × (mid : S)
       × Step phase s x.came x.sent next mid × Steps next mid xs phase' s'
 
-  -- The outbox refused what was offered last, and what was to follow it for the same message was not offered.
+  -- The outbox refused what was offered last, and what was to follow it for the same message was not offered. If nothing was to follow,
+  -- it was not the reply to `shutdown`: that one may get lost.
   pub record CutsOff (phase : Phase) (s : S) (exchanges : List Exchange) (phase' : Phase)
       (s' : S) : Type 0 where
     pub earlier : List Exchange
@@ -155,6 +164,7 @@ module _ {S : Type 0} (may : Behavior S) where
     pub mid : S
     pub steps : Steps phase s earlier next mid
     pub step : Step next mid came (part ++ not_sent ∷ more) phase' s'
+    pub matters : more ≡ [] → shutdown_reply_of phase' ≡ None
 
   abbrev pub Reaches : Stop → Phase → S → List Exchange → Phase → S → Type 0
   Reaches (refused fault) phase s exchanges phase' s' = CutsOff phase s exchanges phase' s'
@@ -172,7 +182,6 @@ module _ {S : Type 0} (may : Behavior S) where
   Stops (asked i) s no_more answer s' = (answer ≡ Err shutdown_disconnected) × (s' ≡ s)
   Stops (asked i) s timed_out answer s' = (answer ≡ Err shutdown_timeout) × (s' ≡ s)
   Stops phase s timed_out answer s' = ⊥
-  Stops (asked i) s (refused fault) answer s' = ⊥
   Stops phase s (refused fault) answer s' = (answer ≡ Err (fault_of_refusal fault)) × (s' ≡ s)
   Stops (asked i) s exhausted answer s' = (answer ≡ Err out_of_memory) × (s' ≡ s)
   Stops serving s exhausted answer s' = answer ≡ Err out_of_memory
@@ -185,7 +194,7 @@ module _ {S : Type 0} (may : Behavior S) where
     pub last : Phase
     pub after : S
     pub reached : Reaches stop phase s exchanges last after
-    pub shutdown_reply_is : shutdown_reply ≡ shutdown_reply_of last
+    pub shutdown_reply_is : shutdown_reply ≡ offered_reply_of stop last
     pub stopped : Stops last after stop answer s'
 
   -- a whole session

@@ -2,7 +2,7 @@
 use Rattle.serde_json.specs.Data.{Data}
 use Rattle.std.specs.Bool.{MatchBool}
 use Rattle.std.specs.List.{list_all}
-use Rattle.std.specs.Prelude.{◌≡◌, ◌⊎◌, ℕ, Bool, true, false, not, List, [], ◌∷◌, ◌++◌, Option, Some, None, IsSomeAnd, Ok, Err, IsErrAnd}
+use Rattle.std.specs.Prelude.{◌≡◌, ◌⊎◌, ℕ, Bool, true, false, not, List, [], ◌∷◌, ◌++◌, ◌&&◌, Option, Some, None, IsSomeAnd, Ok, Err, IsErrAnd}
 use Rattle.lsp_message.specs.ErrorCode.{number_of}
 use Rattle.lsp_message.specs.Id.{Id}
 use Rattle.lsp_message.specs.Message.{Message, request, notification, response}
@@ -12,6 +12,7 @@ use Rattle.lsp_session.specs.Answered.{AllReplied}
 use Rattle.lsp_session.specs.ProtocolError.{ProtocolFault, Shows, disconnected, expected_initialize, expected_initialized, unexpected_in_shutdown, shutdown_timeout, shutdown_disconnected, out_of_memory, fault_of_refusal}
 use Rattle.lsp_session.specs.Replies.{null_reply}
 use Rattle.lsp_session.specs.Session.{Exchange, messages_of, sends_of, SessionAnswer, SessionPart, Stop, decided, no_more, timed_out, refused, exhausted, Phase, starting, replied as awaiting, serving, asked, ended, is_served}
+use Rattle.lsp_session.specs.declared.lifecycle.SendFault.{SendFault}
 use Rattle.lsp_session.specs.declared.loops.handler.SessionEnd.TheVariants.{Closed, ShutDown}
 pub use Rattle.lsp_session.specs.Session.{is_reply}
 
@@ -114,32 +115,6 @@ DecidesExit came rest stop answer = (rest ≡ []) × (stop ≡ decided)
     MatchBool (is_exit m) (answer ≡ Ok ShutDown)
     (IsErrAnd answer (Shows unexpected_in_shutdown)))
 
--- After the reply to `shutdown`, which went out under this id, nothing is sent. Responses come that are passed over; then no message comes, or one
--- that decides.
-abbrev pub AfterShutdown : Id → List Exchange → Stop → SessionAnswer → Type 0
-AfterShutdown id [] stop answer = StopsAt (asked id) stop answer
-AfterShutdown id (x ∷ rest) stop answer = (x.sent ≡ [])
-    × ((IsSomeAnd x.came (λ m. is_reply m ≡ true) × AfterShutdown id rest stop answer)
-    ⊎ DecidesExit x.came rest stop answer)
-
--- the first `shutdown` gets null, under its id, and that is the last message that is sent; no `exit` comes before it
-pub record EndsWithShutdown (exchanges : List Exchange) (stop : Stop)
-    (shutdown_reply : Option Message) (answer : SessionAnswer) : Type 0 where
-  pub before : List Exchange
-  pub id : Id
-  pub method : List ℕ
-  pub params : Data
-  pub after : List Exchange
-  pub cut : exchanges ≡ before ++ record {
-    came = Some (request id method params);
-    sent =
-        null_reply id ∷ [];
-  } ∷ after
-  pub none_before : list_all is_served (messages_of before) ≡ true
-  pub asks : is_shutdown (request id method params) ≡ true
-  pub is_null_reply : shutdown_reply ≡ Some (null_reply id)
-  pub after_shutdown : AfterShutdown id after stop answer
-
 -- `exit` is the last of these messages, and the first one: it decided, and nothing is sent for it
 pub record EndsWithExit (exchanges : List Exchange) (stop : Stop) (answer : SessionAnswer) :
     Type 0 where
@@ -151,24 +126,6 @@ pub record EndsWithExit (exchanges : List Exchange) (stop : Stop) (answer : Sess
   pub decides : stop ≡ decided
   pub closes : answer ≡ Ok Closed
 
--- No `shutdown` comes, no reply to `shutdown` is sent, and no message comes after `exit`. Where none comes the session stopped as it does while it serves.
-abbrev pub HasNoShutdown : List Exchange → Stop → Option Message → SessionAnswer → Type 0
-HasNoShutdown exchanges stop shutdown_reply answer =
-    (((list_all is_served (messages_of exchanges) ≡ true) × StopsAt serving stop answer)
-    ⊎ EndsWithExit exchanges stop answer) × (shutdown_reply ≡ None)
-
--- `initialize` got its result, and errors alone came before it. Then `initialized` comes, and from there on `shutdown` gets the reply
--- that is the last message sent. If `initialized` does not come, nothing more is sent.
-pub record IsOpened (early rest : List Exchange) (stop : Stop) (shutdown_reply : Option Message)
-    (answer : SessionAnswer) : Type 0 where
-  pub ends : EndsWithResult early
-  pub refused : AllRefused ends.before
-  pub came : AllEarly ends.before
-  pub later : (IsInvited rest
-      × (HasNoShutdown rest stop shutdown_reply answer
-      ⊎ EndsWithShutdown rest stop shutdown_reply answer))
-      ⊎ (IsUnopened rest stop answer × (shutdown_reply ≡ None))
-
 -- If the outbox refused a message, the last exchange was offered one: that is the last of its messages.
 abbrev pub WasOffered : Stop → List Exchange → Type 0
 WasOffered (refused fault) exchanges =
@@ -177,18 +134,83 @@ WasOffered (refused fault) exchanges =
     × (exchanges ≡ earlier ++ record { came = came; sent = part ++ not_sent ∷ [] } ∷ [])
 WasOffered stop exchanges = Unit {0}
 
--- Up to and with `initialize` each request gets one reply, and nothing else is sent: errors, and last its result. The errors of other
--- requests have the code -32002. Neither `exit` nor a response comes before that result, unless it is the last message and decides. Each
--- end has the answer of its phase. If a message was refused, one was offered.
-pub record KeepsOrder (exchanges : List Exchange) (stop : Stop) (shutdown_reply : Option Message)
-    (answer : SessionAnswer) : Type 0 where
-  pub early : List Exchange
-  pub rest : List Exchange
-  pub cut : exchanges ≡ early ++ rest
-  pub replied : AllReplied early
-  pub opened : IsOpened early rest stop shutdown_reply answer
-      ⊎ (AllRefused early × AllEarly early × IsUnstarted rest stop answer × (shutdown_reply ≡ None))
-  pub offered : WasOffered stop exchanges
+-- Of a session that passes over responses after `shutdown`, or not, and whose service may speak before the reply to it, or not.
+module _ (passes_late speaks_last : Bool) where
+  -- After the reply to `shutdown`, which went out under this id, nothing is sent. Responses come that are passed over, if any are; then no message
+  -- comes, or one that decides.
+  abbrev pub AfterShutdown : Id → List Exchange → Stop → SessionAnswer → Type 0
+  AfterShutdown id [] stop answer = StopsAt (asked id) stop answer
+  AfterShutdown id (x ∷ rest) stop answer = (x.sent ≡ [])
+      × ((IsSomeAnd x.came (λ m. (passes_late && is_reply m) ≡ true) × AfterShutdown id rest stop answer)
+      ⊎ DecidesExit x.came rest stop answer)
+
+  -- The first `shutdown` gets null, under its id, and that is the last message that is sent. What is sent for it before is the service's. No `exit`
+  -- comes before it.
+  pub record EndsWithShutdown (exchanges : List Exchange) (stop : Stop)
+      (shutdown_reply : Option Message) (answer : SessionAnswer) : Type 0 where
+    pub before : List Exchange
+    pub id : Id
+    pub method : List ℕ
+    pub params : Data
+    pub parting : List Message
+    pub after : List Exchange
+    pub cut : exchanges ≡ before ++ record {
+      came = Some (request id method params);
+      sent =
+          parting ++ null_reply id ∷ [];
+    } ∷ after
+    pub none_before : list_all is_served (messages_of before) ≡ true
+    pub asks : is_shutdown (request id method params) ≡ true
+    pub silent : speaks_last ≡ false → parting ≡ []
+    pub is_null_reply : shutdown_reply ≡ Some (null_reply id)
+    pub after_shutdown : AfterShutdown id after stop answer
+
+  -- The first `shutdown` is the last of these messages, and no `exit` comes before it: the outbox refused a message that the service gave for it.
+  pub record BreaksAtShutdown (exchanges : List Exchange) (stop : Stop) (answer : SessionAnswer) :
+      Type 0 where
+    pub before : List Exchange
+    pub last : Message
+    pub sent : List Message
+    pub cut : exchanges ≡ before ++ record { came = Some last; sent = sent } ∷ []
+    pub none_before : list_all is_served (messages_of before) ≡ true
+    pub asks : is_shutdown last ≡ true
+    pub speaks : speaks_last ≡ true
+    pub fault : SendFault
+    pub refuses : stop ≡ refused fault
+    pub fails : answer ≡ Err (fault_of_refusal fault)
+
+  -- No reply to `shutdown` is sent. No `shutdown` comes, and no message after `exit`, and where no `exit` comes the session stopped as it does
+  -- while it serves. Or it stopped at the first `shutdown`.
+  abbrev pub HasNoShutdown : List Exchange → Stop → Option Message → SessionAnswer → Type 0
+  HasNoShutdown exchanges stop shutdown_reply answer =
+      (((list_all is_served (messages_of exchanges) ≡ true) × StopsAt serving stop answer)
+      ⊎ (EndsWithExit exchanges stop answer ⊎ BreaksAtShutdown exchanges stop answer))
+      × (shutdown_reply ≡ None)
+
+  -- `initialize` got its result, and errors alone came before it. Then `initialized` comes, and from there on `shutdown` gets the reply
+  -- that is the last message sent. If `initialized` does not come, nothing more is sent.
+  pub record IsOpened (early rest : List Exchange) (stop : Stop) (shutdown_reply : Option Message)
+      (answer : SessionAnswer) : Type 0 where
+    pub ends : EndsWithResult early
+    pub refused : AllRefused ends.before
+    pub came : AllEarly ends.before
+    pub later : (IsInvited rest
+        × (HasNoShutdown rest stop shutdown_reply answer
+        ⊎ EndsWithShutdown rest stop shutdown_reply answer))
+        ⊎ (IsUnopened rest stop answer × (shutdown_reply ≡ None))
+
+  -- Up to and with `initialize` each request gets one reply, and nothing else is sent: errors, and last its result. The errors of other
+  -- requests have the code -32002. Neither `exit` nor a response comes before that result, unless it is the last message and decides. Each
+  -- end has the answer of its phase. If a message was refused, one was offered.
+  pub record KeepsOrder (exchanges : List Exchange) (stop : Stop) (shutdown_reply : Option Message)
+      (answer : SessionAnswer) : Type 0 where
+    pub early : List Exchange
+    pub rest : List Exchange
+    pub cut : exchanges ≡ early ++ rest
+    pub replied : AllReplied early
+    pub opened : IsOpened early rest stop shutdown_reply answer
+        ⊎ (AllRefused early × AllEarly early × IsUnstarted rest stop answer × (shutdown_reply ≡ None))
+    pub offered : WasOffered stop exchanges
 
 -- `initialize` came and then `initialized`, and these messages, which were sent, hold all that was sent up to the result of `initialize`.
 abbrev pub OpenedBy : List Exchange → List Message → Type 0

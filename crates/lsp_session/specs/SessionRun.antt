@@ -49,10 +49,12 @@ pub record AwaitsLast (events : List Event) (shutdown_reply : Message) (stop : S
   pub event : Event
   pub are : events ≡ earlier ++ message ask ∷ behind late event
   pub before : List Exchange
+  pub parting : List Message
   pub later : List Exchange
   pub stops : StopsAfterShutdown event stop later
   pub exchanged : exchanges
-      ≡ before ++ record { came = Some ask; sent = shutdown_reply ∷ [] } ∷ (map passed_over late ++ later)
+      ≡ before ++ record { came = Some ask; sent = parting ++ shutdown_reply ∷ [] }
+      ∷ (map passed_over late ++ later)
 
 -- what was awaited after the message `shutdown`, which is answered with null
 abbrev pub AwaitsExit : List Event → Option Message → Stop → List Exchange → Type 0

@@ -1,16 +1,17 @@
 -- What the parts of a session over one value do. For private clauses.
 use Rattle.std.specs.Bool.{MatchBool}
 use Rattle.std.specs.List.{FoldsTo, list_all}
-use Rattle.std.specs.Prelude.{◌≡◌, ◌⊎◌, ◌&&◌, Bool, true, false, List, [], ◌∷◌, ◌++◌, Ok, Err, codes}
+use Rattle.std.specs.Prelude.{◌≡◌, ◌⊎◌, ◌&&◌, Bool, true, false, List, [], ◌∷◌, ◌++◌, Result, Ok, Err, MatchResult, codes}
 use Rattle.std.specs.Str.{bytes_eq}
 use Rattle.lsp_message.specs.Id.{Id}
 use Rattle.lsp_message.specs.Message.{Message, request}
 use Rattle.lsp_session.specs.Boxes.{Sends, Receives, Offers, Takes, WaitsFor}
 use Rattle.lsp_session.specs.Event.{Event, message}
 use Rattle.lsp_session.specs.Finish.{FinishAnswer, EventFinishes}
-use Rattle.lsp_session.specs.ProtocolError.{out_of_memory, fault_of_refusal}
+use Rattle.lsp_session.specs.Outputs.{SendsAll}
+use Rattle.lsp_session.specs.ProtocolError.{ProtocolFault, out_of_memory, fault_of_refusal}
 use Rattle.lsp_session.specs.Replies.{null_reply}
-use Rattle.lsp_session.specs.Session.{is_reply}
+use Rattle.lsp_session.specs.Session.{Behavior, is_reply}
 use Rattle.lsp_session.specs.Shutdown.{ShutdownAnswer, EventShutsDown}
 use Rattle.lsp_session.specs.declared.lifecycle.SendFault.{SendFault}
 
@@ -34,6 +35,13 @@ pub record WaitsForExit {L : Type 0} (receives : Receives L) (passes_late : Bool
   pub received : FoldsTo receives old (late ++ event ∷ []) new
   pub decides : DecidesWait passes_late event answer
 
+-- what the service gives at `shutdown`, which came under this id, is sent
+abbrev pub PartsOn : {O S : Type 0} → Sends O → Behavior S → Id → O × S → Result (Unit {0}) ProtocolFault → O × S → Type 0
+PartsOn sends may id old result new =
+    ((parting : List Message) × may.at_shutdown old.1 id parting new.1
+    × SendsAll sends old.0 parting result new.0)
+    ⊎ ((result ≡ Err out_of_memory) × (new.0 ≡ old.0))
+
 module _ {L : Type 0} (receives : Receives L) (sends : Sends L) where
   -- The result is taken, and then one event is awaited; or it is refused, and nothing is.
   abbrev pub FinishesOn : Message → L → FinishAnswer → L → Type 0
@@ -50,10 +58,19 @@ module _ {L : Type 0} (receives : Receives L) (sends : Sends L) where
     pub offered : Offers sends (null_reply id) old mid
     pub awaited : WaitsForExit receives passes_late mid answer new
 
-  -- Another message than `shutdown` touches nothing. Nor does one whose id finds no memory to be copied.
-  abbrev pub ShutsDownOn : Bool → Message → L → ShutdownAnswer → L → Type 0
-  ShutsDownOn passes_late (request i method params) old answer new =
-      MatchBool (bytes_eq method (codes "shutdown"))
-      (OffersShutdownReplyOn passes_late i old answer new ⊎ ((answer ≡ Err out_of_memory) × (new ≡ old)))
-      ((answer ≡ Ok false) × (new ≡ old))
-  ShutsDownOn passes_late m old answer new = (answer ≡ Ok false) × (new ≡ old)
+  module _ {S : Type 0} (may : Behavior S) where
+    -- What the service gives is sent, up to a message that is refused. Then the reply is offered, and `exit` is awaited.
+    pub record LeavesOn (id : Id) (old : L × S) (answer : ShutdownAnswer) (new : L × S) : Type 0 where
+      pub sent : Result (Unit {0}) ProtocolFault
+      pub mid : L
+      pub parts : PartsOn sends may id old sent (mid, new.1)
+      pub next : MatchResult sent (λ _. OffersShutdownReplyOn may.passes_late id mid answer new.0)
+          (λ fault. (answer ≡ Err fault) × (new.0 ≡ mid))
+
+    -- Another message than `shutdown` touches nothing. Nor does one whose id finds no memory to be copied.
+    abbrev pub ShutsDownOn : Message → L × S → ShutdownAnswer → L × S → Type 0
+    ShutsDownOn (request i method params) old answer new =
+        MatchBool (bytes_eq method (codes "shutdown"))
+        (LeavesOn i old answer new ⊎ ((answer ≡ Err out_of_memory) × (new ≡ old)))
+        ((answer ≡ Ok false) × (new ≡ old))
+    ShutsDownOn m old answer new = (answer ≡ Ok false) × (new ≡ old)

@@ -1,7 +1,7 @@
 //! What a session in threads keeps, as implications.
 ghost use Rattle.serde_json.specs.Data.{Data};
 ghost use Rattle.serde_json.specs.View.{view};
-ghost use Rattle.std.specs.Prelude.{Bool, ℕ, List, Option, Result};
+ghost use Rattle.std.specs.Prelude.{Bool, true, false, ℕ, List, Option, Result};
 ghost use Rattle.lsp_session.specs.Answered.{AnswersRequests};
 ghost use Rattle.lsp_session.specs.HandlerSession.{of_handler};
 ghost use Rattle.lsp_session.specs.Session.{SessionOut};
@@ -26,7 +26,7 @@ pub fn threads_answer_requests<H: Handler>()
         answer
         → ThreadsGiveOver wakeable limit
         (Both (SessionOut (of_handler H.answers H.notes capabilities) old new)
-        (Both AnswersRequests KeepsOrder)) text before after answer }
+        (Both AnswersRequests (KeepsOrder false false))) text before after answer }
 {}
 
 /// A session in threads keeps the order of the lifecycle, as `session_keeps_order` says it of one on one thread (LSP 3.17, "Server
@@ -35,8 +35,9 @@ pub fn threads_keep_order<S: Service>()
     ensures { (wakeable : Bool) (limit : Limits) (old new : S) (text : List ℕ)
         (before after : Option (List ℕ)) (answer : Result EndOfSession FaultOfSession)
         → ThreadsGiveOver wakeable limit (SessionOut S.behavior old new) text before after answer
-        → ThreadsGiveOver wakeable limit (Both (SessionOut S.behavior old new) KeepsOrder) text
-        before after answer }
+        → ThreadsGiveOver wakeable limit
+        (Both (SessionOut S.behavior old new) (KeepsOrder S.behavior.passes_late true)) text before
+        after answer }
 {}
 
 /// With a listener that passes over nothing, such as `EndSession`, a session of `run_threads_of_service_over` is one in which each frame is a
@@ -56,7 +57,8 @@ pub fn threads_that_ask_keep_order<S: Service, L: Listener>()
         (before after : Option (List ℕ)) (answer : Result EndOfSession FaultOfSession)
         → ThreadsTellOver wakeable L.hears limit (SessionOut S.behavior old new) text first last
         before after answer
-        → ThreadsTellOver wakeable L.hears limit (Both (SessionOut S.behavior old new) KeepsOrder)
+        → ThreadsTellOver wakeable L.hears limit
+        (Both (SessionOut S.behavior old new) (KeepsOrder S.behavior.passes_late true))
         text first last before after answer }
 {}
 
@@ -70,6 +72,6 @@ pub fn threads_that_ask_answer_requests<H: Handler, L: Listener>()
         answer
         → ThreadsTellOver wakeable L.hears limit
         (Both (SessionOut (of_handler H.answers H.notes (view old.capabilities.now)) old.handler.now
-        new.handler.now) (Both AnswersRequests KeepsOrder))
+        new.handler.now) (Both AnswersRequests (KeepsOrder false false)))
         text first last before after answer }
 {}

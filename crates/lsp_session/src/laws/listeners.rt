@@ -1,6 +1,6 @@
 //! What a session says of its client's requests if it asks a listener at content parts that are no messages, and of its handler.
 ghost use Rattle.serde_json.specs.View.{view};
-ghost use Rattle.std.specs.Prelude.{ℕ, List, Option, Result};
+ghost use Rattle.std.specs.Prelude.{true, false, ℕ, List, Option, Result};
 ghost use Rattle.lsp_message.specs.Message.{Message};
 ghost use Rattle.lsp_message.specs.declared.frame.limits.Limits.{Limits};
 ghost use Rattle.lsp_session.specs.Answered.{AnswersRequests};
@@ -33,7 +33,8 @@ pub fn session_that_asks_keeps_order<S: Service, L: Listener>()
         (before after : Option (List ℕ)) (answer : Result EndOfSession FaultOfSession)
         → GivesAndTells L.hears limit (SessionOut S.behavior old new) text left first last before
         after answer
-        → GivesAndTells L.hears limit (Both (SessionOut S.behavior old new) KeepsOrder) text left
+        → GivesAndTells L.hears limit
+        (Both (SessionOut S.behavior old new) (KeepsOrder S.behavior.passes_late true)) text left
         first last before after answer }
 {}
 
@@ -53,6 +54,6 @@ pub fn handler_service_runs_its_handler<H: Handler, L: Listener>()
         left first last before after answer
         → GivesAndTells L.hears limit
         (Both (SessionOut (of_handler H.answers H.notes (view old.capabilities.now)) old.handler.now
-        new.handler.now) (Both AnswersRequests KeepsOrder))
+        new.handler.now) (Both AnswersRequests (KeepsOrder false false)))
         text left first last before after answer }
 {}

@@ -1,6 +1,6 @@
 //! What a session does with the requests of its client.
 ghost use Rattle.serde_json.specs.Data.{Data};
-ghost use Rattle.std.specs.Prelude.{◌≡◌, true, false, ℕ, List, ◌∷◌, ◌++◌, Option, None, Result, Err};
+ghost use Rattle.std.specs.Prelude.{◌≡◌, Bool, true, false, ℕ, List, ◌∷◌, ◌++◌, Option, None, Result, Err};
 ghost use Rattle.lsp_message.specs.Message.{Message};
 ghost use Rattle.lsp_message.specs.declared.frame.limits.Limits.{Limits};
 ghost use Rattle.lsp_session.specs.Answered.{AllReplied, AnswersRequests};
@@ -30,21 +30,21 @@ pub fn session_answers_requests<I: Inbox, O: Outbox, H: Handler>()
         (stop : Stop) (shutdown_reply : Option Message) (answer : SessionAnswer)
         → SessionOut (of_handler H.answers H.notes capabilities) old new exchanges stop
         shutdown_reply answer
-        → Both AnswersRequests KeepsOrder exchanges stop shutdown_reply answer }
+        → Both AnswersRequests (KeepsOrder false false) exchanges stop shutdown_reply answer }
     ensures boxes { (capabilities : Data) (old new : H) (before after : I
         × O) (answer : SessionAnswer)
         → Runs I.receives O.sends (SessionOut (of_handler H.answers H.notes capabilities) old new)
         before answer after
         → Runs I.receives O.sends
         (Both (SessionOut (of_handler H.answers H.notes capabilities) old new)
-        (Both AnswersRequests KeepsOrder)) before answer after }
+        (Both AnswersRequests (KeepsOrder false false))) before answer after }
     ensures bytes { (limit : Limits) (capabilities : Data) (old new : H) (text : List ℕ)
         (left before after : Option (List ℕ)) (answer : Result EndOfSession FaultOfSession)
         → Gives limit (SessionOut (of_handler H.answers H.notes capabilities) old new) text left
         before after answer
         → Gives limit
         (Both (SessionOut (of_handler H.answers H.notes capabilities) old new)
-        (Both AnswersRequests KeepsOrder)) text left before after answer }
+        (Both AnswersRequests (KeepsOrder false false))) text left before after answer }
 {}
 
 /// The reason why a session stopped may be left out, so the laws of sessions hold of each that `serve_service` or
@@ -83,16 +83,17 @@ pub fn nothing_follows_a_refusal<S: Service>()
 /// Whatever is no reply is sent after the client sent `initialize` and then `initialized`, and after the result of
 /// `initialize` (LSP 3.17, "Server lifecycle"): a fact of each session that keeps its order.
 pub fn only_replies_come_first()
-    ensures { (exchanges : List Exchange) (stop : Stop) (shutdown_reply : Option Message)
-        (answer : SessionAnswer) (before more : List Message) (sent : Message)
-        → KeepsOrder exchanges stop shutdown_reply answer
+    ensures { (passes_late speaks_last : Bool) (exchanges : List Exchange) (stop : Stop)
+        (shutdown_reply : Option Message) (answer : SessionAnswer) (before more : List Message)
+        (sent : Message)
+        → KeepsOrder passes_late speaks_last exchanges stop shutdown_reply answer
         → sends_of exchanges ≡ before ++ sent ∷ more → is_reply sent ≡ false
         → OpenedBy exchanges before }
 {}
 
 /// A session keeps the order of the lifecycle (LSP 3.17, "Server lifecycle"), whatever its service gives: up to and with `initialize`
 /// each request gets one reply, errors first and last the result of `initialize`, and nothing else is sent before `initialized` comes;
-/// then the first `shutdown` gets null, which is the last message that is sent. If no `initialize` gets a result, nothing but
+/// then the first `shutdown` gets null, which is the last message that is sent, after what the service gives for it. If no `initialize` gets a result, nothing but
 /// errors is sent. No message comes after an `exit`, nor after a response that comes before `initialize`. The answer is that of the
 /// phase in which the session stopped: it is shut down only by an `exit` after the reply to `shutdown`. It stopped at a message that the
 /// outbox refused only if it offered one for what came last. A fact of each session that was run, over its exchanges, over boxes, and
@@ -101,14 +102,15 @@ pub fn session_keeps_order<I: Inbox, O: Outbox, S: Service>()
     ensures exchanges { (old new : S) (exchanges : List Exchange) (stop : Stop)
         (shutdown_reply : Option Message) (answer : SessionAnswer)
         → SessionOut S.behavior old new exchanges stop shutdown_reply answer
-        → KeepsOrder exchanges stop shutdown_reply answer }
+        → KeepsOrder S.behavior.passes_late true exchanges stop shutdown_reply answer }
     ensures boxes { (old new : S) (before after : I × O) (answer : SessionAnswer)
         → Runs I.receives O.sends (SessionOut S.behavior old new) before answer after
-        → Runs I.receives O.sends (Both (SessionOut S.behavior old new) KeepsOrder) before answer
-        after }
+        → Runs I.receives O.sends
+        (Both (SessionOut S.behavior old new) (KeepsOrder S.behavior.passes_late true)) before
+        answer after }
     ensures bytes { (limit : Limits) (old new : S) (text : List ℕ) (left before after : Option (List ℕ))
         (answer : Result EndOfSession FaultOfSession)
         → Gives limit (SessionOut S.behavior old new) text left before after answer
-        → Gives limit (Both (SessionOut S.behavior old new) KeepsOrder) text left before after
-        answer }
+        → Gives limit (Both (SessionOut S.behavior old new) (KeepsOrder S.behavior.passes_late true))
+        text left before after answer }
 {}

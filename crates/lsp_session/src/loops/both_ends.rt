@@ -64,9 +64,10 @@ impl<'a, I: Inbox, O: Outbox> Outbox for BothEnds<'a, I, O> {
 /// up to `shutdown`. What it gives is sent in order, and before the next message is awaited. Of two values no contract can say that, and
 /// this one doesn't; `serve_transport`, which this calls with both as one, has it in its own. Nor does this one say that the session waits
 /// for wakes (`WakingInbox::listens`), so one that passes over each of them would meet it too. That is in the contract of `serve_transport` as well.
-/// `shutdown` is answered with null, and nothing follows it; `exit` then gives `ShutDown`. `Closed` comes if, from `initialized` on,
-/// `exit` comes without a `shutdown` or no more messages come. What comes at the wrong time is in the table of `lifecycle`, but that after
-/// `shutdown` responses are passed over where the service says so (`Service::passes_late`).
+/// `shutdown` is answered with null, after what the service gives for it (`Service::shutdown`), and nothing follows it; `exit` then gives
+/// `ShutDown`. `Closed` comes if, from `initialized` on, `exit` comes without a `shutdown` or no more messages come. What comes at the wrong
+/// time is in the table of `lifecycle`, but that after `shutdown` responses are passed over where the service says so
+/// (`Service::passes_late`).
 ///
 /// An outbox that is closed to a message ends the session with `disconnected channel`, and a failed allocation with
 /// `out of memory`; what was to follow for that message is not sent. That this reply could not be sent is ignored. After

@@ -4,7 +4,7 @@ ghost use Rattle.lsp_session.specs.HandlerService.{lent_handler};
 
 use crate::loops::handler::{Handler, initialize_result};
 use crate::loops::service::{Output, Service};
-use lsp_message::{Message, Notification, Request, Response, ResponseError};
+use lsp_message::{Message, Notification, Request, RequestId, Response, ResponseError};
 use serde_json::Value;
 use std::alloc::{AllocError, Global};
 use std::mem;
@@ -59,6 +59,10 @@ impl<'a, H: Handler> Service for HandlerService<'a, H> {
     }
 
     fn woken(&mut self) -> Result<Output, AllocError> {
+        Ok(Output::Nothing)
+    }
+
+    fn shutdown(&mut self, _id: &RequestId) -> Result<Output, AllocError> {
         Ok(Output::Nothing)
     }
 

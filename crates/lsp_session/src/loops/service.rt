@@ -4,7 +4,7 @@ ghost use Rattle.std.specs.Prelude.{◌≡◌, IfOk, OnErr};
 ghost use Rattle.lsp_message.specs.View.{request_view, notification_view, response_view, outcome_view};
 ghost use Rattle.lsp_session.specs.OutputView.{output_view};
 
-use lsp_message::{Message, Notification, Request, Response, ResponseError};
+use lsp_message::{Message, Notification, Request, RequestId, Response, ResponseError};
 use serde_json::Value;
 use std::alloc::AllocError;
 
@@ -60,6 +60,12 @@ pub trait Service {
     /// `shutdown`, and nowhere else. A service that waits for nothing gives `Output::Nothing`.
     fn woken(&mut self) -> Result<Output, AllocError>
         ensures { IfOk result (λ output. behavior.wakes self.old (output_view output) self.new) };
+
+    /// What comes of `shutdown`, which came under this id (LSP 3.17, "Shutdown Request"): all messages that the session is to send before
+    /// the reply, in order. The session sends the reply itself. It comes once, and only `passes_late` is called after it.
+    fn shutdown(&mut self, id: &RequestId) -> Result<Output, AllocError>
+        ensures { IfOk result (λ output.
+            behavior.at_shutdown self.old id.now (output_view output) self.new) };
 
     /// Whether a response that comes after `shutdown` is passed over, and `exit` is awaited on. A service that sends requests says yes,
     /// since an answer may cross the `shutdown` of its client; LSP 3.17 ("Shutdown Request") forbids only requests and notifications there.

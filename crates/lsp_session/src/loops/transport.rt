@@ -4,7 +4,7 @@ ghost use Rattle.std.specs.Prelude.{◌≡◌, ◌&&◌, map, Err, IfOk};
 ghost use Rattle.lsp_message.specs.Message.{response};
 ghost use Rattle.lsp_message.specs.View.{message_view, error_view};
 ghost use Rattle.lsp_session.specs.Event.{arrival_view, event_view};
-ghost use Rattle.lsp_session.specs.TransportParts.{FinishesOn, ShutsDownOn, WaitsForExit, is_late};
+ghost use Rattle.lsp_session.specs.TransportParts.{FinishesOn, PartsOn, ShutsDownOn, WaitsForExit, is_late};
 ghost use Rattle.lsp_session.specs.OutputView.{output_view};
 ghost use Rattle.lsp_session.specs.Outputs.{SendsAll};
 ghost use Rattle.lsp_session.specs.Prompt.{Talks, WaitsIn};
@@ -32,9 +32,10 @@ use std::alloc::{AllocError, Global};
 /// goes on as before `initialize`: a client may send it again (LSP 3.17, "Initialize Request", `retry`). When `initialized`
 /// came, what the service gives for it is sent. From then on each message goes to the service, a reply too, and each wake of the inbox,
 /// up to `shutdown`. What it gives is sent in order.
-/// `shutdown` is answered with null, and nothing follows it; `exit` then gives `ShutDown`. `Closed` comes if, from `initialized` on,
-/// `exit` comes without a `shutdown` or no more messages come. What comes at the wrong time is in the table of `lifecycle`, but that after
-/// `shutdown` responses are passed over where the service says so (`Service::passes_late`).
+/// `shutdown` is answered with null, after what the service gives for it (`Service::shutdown`), and nothing follows it; `exit` then gives
+/// `ShutDown`. `Closed` comes if, from `initialized` on, `exit` comes without a `shutdown` or no more messages come. What comes at the wrong
+/// time is in the table of `lifecycle`, but that after `shutdown` responses are passed over where the service says so
+/// (`Service::passes_late`).
 ///
 /// A transport that is closed to a message ends the session with `disconnected channel`, and a failed allocation with
 /// `out of memory`; what was to follow for that message is not sent. That this reply could not be sent is ignored. After
@@ -165,14 +166,14 @@ fn finish_transport<L: Inbox + Outbox>(
     }
 }
 
-/// Answers `shutdown` with null, and then waits for `exit`. Any other message is left alone.
+/// Answers `shutdown` with null, after what the service gives for it, and then waits for `exit`. Any other message is left alone.
 fn shut_transport<L: Inbox + Outbox, S: Service>(
     alloc: Global,
     transport: &mut L,
-    service: &S,
+    service: &mut S,
     message: &Message,
 ) -> Result<bool, ProtocolError>
-    ensures { ShutsDownOn L.receives L.sends S.behavior.passes_late (message_view message.now) transport.old result transport.new }
+    ensures { ShutsDownOn L.receives L.sends S.behavior (message_view message.now) (transport.old, service.old) result (transport.new, service.new) }
 {
     let Message::Request(request) = message else {
         return Ok(false);
@@ -183,8 +184,21 @@ fn shut_transport<L: Inbox + Outbox, S: Service>(
     let Ok(id) = request.id.clone() else {
         return Err(ProtocolError::out_of_memory());
     };
+    part_transport(transport, service, &id)?;
     offer(transport, ok_reply(id, Value::Null));
     await_exit(alloc, transport, service.passes_late())
+}
+
+/// Sends what the service gives at `shutdown`, which came under this id.
+fn part_transport<O: Outbox, S: Service>(
+    transport: &mut O,
+    service: &mut S,
+    id: &RequestId,
+) -> Result<(), ProtocolError>
+    ensures { PartsOn O.sends S.behavior id.now (transport.old, service.old) result (transport.new, service.new) }
+{
+    let output = service.shutdown(id)?;
+    send_output(transport, output)
 }
 
 /// Waits up to 30 seconds for `exit`. If responses are passed over, each one begins the wait anew; 2^64 - 1 of them end it as if memory

@@ -1,4 +1,4 @@
-use Rattle.std.proofs.Common.{refl}
+use Rattle.std.proofs.Common.{refl, false}
 use Rattle.serde_json.specs.View.{view}
 use Rattle.lsp_session.proofs.Lending.{session_as, over_as}
 use Rattle.lsp_session.proofs.Ordering.{answers_in_order}
@@ -19,7 +19,7 @@ returns-clause-bytes g c = λ limit old new text left first last before after an
     let capabilities = view old.capabilities.now in
     let P = SessionOut (lent_handler g.H.Handler.answers g.H.Handler.notes) old new in
     let Q = SessionOut (of_handler g.H.Handler.answers g.H.Handler.notes capabilities) old.handler.now new.handler.now in
-    over_as P (Both Q (Both AnswersRequests KeepsOrder)) (λ xs stop shutdown_reply answer out.
+    over_as P (Both Q (Both AnswersRequests (KeepsOrder false false))) (λ xs stop shutdown_reply answer out.
     let as_handler = session_as g.H.Handler.answers g.H.Handler.notes capabilities old new new.handler.now (λ names. refl)
     old.handler.now refl refl xs stop shutdown_reply answer out in
     (as_handler, answers_in_order g.H.Handler.answers g.H.Handler.notes capabilities old.handler.now new.handler.now xs stop shutdown_reply answer as_handler))

@@ -20,19 +20,19 @@ returns-then-is_exit g c =
 
 pub returns-in-Err : goal.returns-in-Err
 returns-in-Err g c = goes_run g.S.Service.behavior g.L.Inbox.receives g.L.WakingInbox.listens g.L.Outbox.sends _ _ _ _ _ _ _ _ _ _ c.loop-exchange.invariant
-    (shuts_down g.S.Service.behavior g.L.Inbox.receives g.L.WakingInbox.listens g.L.Outbox.sends _ _ _ _ (message_view c.in-Message.message) (Err _)
+    (shuts_down g.S.Service.behavior g.L.Inbox.receives g.L.WakingInbox.listens g.L.Outbox.sends _ _ _ _ _ (message_view c.in-Message.message) (Err _)
     (λ e. cc (e)) c.in-Message.ensures c.in-Err.ensures)
 
 pub returns-in-Ok-true : goal.returns-in-Ok-true
 returns-in-Ok-true g c = rw c.shut_down.ensures (goes_run g.S.Service.behavior g.L.Inbox.receives g.L.WakingInbox.listens g.L.Outbox.sends _ _ _ _ _ _ _ _ _ _ c.loop-exchange.invariant
-    (shuts_down g.S.Service.behavior g.L.Inbox.receives g.L.WakingInbox.listens g.L.Outbox.sends _ _ _ _ (message_view c.in-Message.message) (Ok true)
+    (shuts_down g.S.Service.behavior g.L.Inbox.receives g.L.WakingInbox.listens g.L.Outbox.sends _ _ _ _ _ (message_view c.in-Message.message) (Ok true)
     (λ e. cc (e)) c.in-Message.ensures (rw c.in-Ok-true.field-0-test at c.in-Ok-true.ensures)))
 
 pub returns-in_err-output : goal.returns-in_err-output
 returns-in_err-output g c =
     let p = err_from_is_err_and c.from_residual-in_err-output.result c.from_residual-in_err-output.ensures.1 in
     let other : is_exit (message_view c.in-Message.message) ≡ false = search rules in
-    let served = is_served_by g.S.Service.behavior g.L.Inbox.receives g.L.WakingInbox.listens g.L.Outbox.sends c.loop-exchange.service _ _ _ (message_view c.in-Message.message) other
+    let served = is_served_by g.S.Service.behavior g.L.Inbox.receives g.L.WakingInbox.listens g.L.Outbox.sends c.loop-exchange.service _ _ _ _ (message_view c.in-Message.message) other
     c.in-Message.ensures (rw c.in-Ok-false.field-0-test at c.in-Ok-false.ensures) in
     rw (p.1, p.2) (goes_run g.S.Service.behavior g.L.Inbox.receives g.L.WakingInbox.listens g.L.Outbox.sends _ _ _ _ _ _ _ _ _ _ c.loop-exchange.invariant (ends_exhausted g.S.Service.behavior g.L.Inbox.receives g.L.WakingInbox.listens g.L.Outbox.sends serving _ _ _ _ (Some _) tt served.1 refl))
 
@@ -40,18 +40,18 @@ pub returns-in_err-send_output : goal.returns-in_err-send_output
 returns-in_err-send_output g c =
     let p = err_from_is_err_and c.from_residual-in_err-send_output.result c.from_residual-in_err-send_output.ensures.1 in
     let other : is_exit (message_view c.in-Message.message) ≡ false = search rules in
-    let served = is_served_by g.S.Service.behavior g.L.Inbox.receives g.L.WakingInbox.listens g.L.Outbox.sends c.loop-exchange.service _ _ _ (message_view c.in-Message.message) other
+    let served = is_served_by g.S.Service.behavior g.L.Inbox.receives g.L.WakingInbox.listens g.L.Outbox.sends c.loop-exchange.service _ _ _ _ (message_view c.in-Message.message) other
     c.in-Message.ensures (rw c.in-Ok-false.field-0-test at c.in-Ok-false.ensures) in
     rw (p.1, p.2) (goes_run g.S.Service.behavior g.L.Inbox.receives g.L.WakingInbox.listens g.L.Outbox.sends _ _ _ _ _ _ _ _ _ _ c.loop-exchange.invariant
-    (ends_refused g.S.Service.behavior g.L.Inbox.receives g.L.WakingInbox.listens g.L.Outbox.sends serving serving _ _ _ _ _ (Some (message_view c.in-Message.message)) _ _ tt served.1 (rw served.0 (c.in_ok-output.ensures, refl)) c.in_err-send_output.ensures))
+    (ends_refused g.S.Service.behavior g.L.Inbox.receives g.L.WakingInbox.listens g.L.Outbox.sends serving serving _ _ _ _ _ (Some (message_view c.in-Message.message)) _ _ tt served.1 (rw served.0 (rw served.2 at c.in_ok-output.ensures, refl)) c.in_err-send_output.ensures))
 
 pub loop-exchange-preserved : goal.loop-exchange-preserved
 loop-exchange-preserved g c =
     let other : is_exit (message_view c.in-Message.message) ≡ false = search rules in
-    let served = is_served_by g.S.Service.behavior g.L.Inbox.receives g.L.WakingInbox.listens g.L.Outbox.sends c.loop-exchange.service _ _ _ (message_view c.in-Message.message) other
+    let served = is_served_by g.S.Service.behavior g.L.Inbox.receives g.L.WakingInbox.listens g.L.Outbox.sends c.loop-exchange.service _ _ _ _ (message_view c.in-Message.message) other
     c.in-Message.ensures (rw c.in-Ok-false.field-0-test at c.in-Ok-false.ensures) in
     goes_both g.S.Service.behavior g.L.Inbox.receives g.L.WakingInbox.listens g.L.Outbox.sends c.loop-exchange._exchange 1 serving serving serving _ _ _ _ _ _ c.loop-exchange.invariant
-    (goes_step g.S.Service.behavior g.L.Inbox.receives g.L.WakingInbox.listens g.L.Outbox.sends serving serving _ _ _ _ _ (Some (message_view c.in-Message.message)) _ tt served.1 (rw served.0 (c.in_ok-output.ensures, refl)) c.in_ok-send_output.ensures)
+    (goes_step g.S.Service.behavior g.L.Inbox.receives g.L.WakingInbox.listens g.L.Outbox.sends serving serving _ _ _ _ _ (Some (message_view c.in-Message.message)) _ tt served.1 (rw served.0 (rw served.2 at c.in_ok-output.ensures, refl)) c.in_ok-send_output.ensures)
 
 pub returns-in_err-output-in-Woken : goal.returns-in_err-output-in-Woken
 returns-in_err-output-in-Woken g c =
