@@ -10,7 +10,7 @@ use Rattle.lsp_message.specs.IdLaws.{id_decides}
 use Rattle.lsp_message.specs.Message.{Message, ErrorObject, request, notification, response}
 use Rattle.lsp_message.specs.Methods.{is_initialized}
 use Rattle.lsp_queue.specs.Queue.{count_of, pending_of}
-use Rattle.lsp_session.proofs.Ran.{Ran, reaches_ran, Idle, early_request, early_note, unasked, uninvited, shuts, leaves, exits, late, stays, StepCase, at_initialize, at_initialized, at_served, at_woken, idle, row, part_none}
+use Rattle.lsp_session.proofs.Ran.{Ran, reaches_ran, Idle, early_request, early_note, unasked, uninvited, leaves, exits, late, stays, StepCase, at_initialize, at_initialized, at_served, at_woken, at_shutdown, idle, row, part_none}
 use Rattle.lsp_session.specs.Session.{Exchange, SessionAnswer, Stop, Phase, starting, replied as in_reply, serving, phase_after, Step}
 use Rattle.lsp_service.proofs.Acting.{acts_at}
 use Rattle.lsp_service.proofs.Counting.{how_many-append, Fresh}
@@ -587,7 +587,6 @@ module _ (T : Type 0) {S J K P : Type 0} (plain : Plain S P) (may : WithJobs S J
   idly earlier p q w x m full ready (early_note begun mute early sent next) = rw next (rw begun at ready)
   idly earlier p q w x m full ready (unasked shown begun mute other sent next) = rw next tt
   idly earlier p q w x m full ready (uninvited shown begun other sent next) = rw next tt
-  idly earlier p q w x m full ready (shuts i method params begun is e sent next) = rw next tt
   idly earlier p q w x m full ready (leaves begun e sent next) = rw next tt
   idly earlier p q w x m full ready (exits i begun e sent next) = rw next tt
   idly earlier p q w x m full ready (late i begun is sent next) = rw next tt
@@ -608,6 +607,7 @@ module _ (T : Type 0) {S J K P : Type 0} (plain : Plain S P) (may : WithJobs S J
           rw next (called earlier w w' x full more part (rw begun at ready) (subst (λ (l : Option Message). WorksSending W (queues.seen w) l full (queues.seen w')) (sym there) gives))
       by (at_woken begun none gives next) =
           rw next (called earlier w w' x full more part (rw begun at ready) (subst (λ (l : Option Message). WorksSending W (queues.seen w) l full (queues.seen w')) (sym none) gives))
+      by (at_shutdown i method params parting begun there e gives sent next) = ((λ none. absurd (cc (there, none))), rw next tt)
       by (idle m there same any is) = (
         (λ none. absurd (cc (there, none))),
         subst (λ (v : Working). Ready (earlier ++ x ∷ []) q v) (sym same) (idly earlier p q w x m full ready is),

@@ -1,4 +1,5 @@
 mod Answering
+mod Forgetting
 pub mod JobSenderSend
 mod JobSessions
 mod Tables

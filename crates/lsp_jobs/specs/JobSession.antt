@@ -28,6 +28,7 @@ module _ (T : Type 0) {S J K P : Type 0} (plain : Plain S P) (may : WithJobs S J
         replied = λ old asked outcome acts new.
             w.replied (seen old) asked outcome acts (seen new);
         wakes = λ old acts new. w.wakes (seen old) acts (seen new);
+        at_shutdown = λ old acts new. w.at_shutdown (seen old) acts (seen new);
         takes_back = λ old asked new. w.takes_back (seen old) asked (seen new);
       }
 

@@ -8,7 +8,7 @@ use Rattle.lsp_service.specs.Stated.{Stated}
 use Rattle.lsp_service.specs.declared.server.Server.{Ghosts as Plain}
 use Rattle.lsp_jobs.specs.Asking.{ByServers, WhoseAsked}
 use Rattle.lsp_jobs.specs.Ends.{Outcome, End, came_to, no_room, reply_of}
-use Rattle.lsp_jobs.specs.PendingJobs.{PendingJobs, ComesTo, without, with_job}
+use Rattle.lsp_jobs.specs.PendingJobs.{PendingJobs, ComesTo, no_jobs, without, with_job}
 use Rattle.lsp_jobs.specs.declared.asking.Asked.{Asked}
 use Rattle.lsp_jobs.specs.declared.asking.Asked.TheVariants.{ByJob}
 use Rattle.lsp_jobs.specs.declared.job.Job.{Ghosts as OfJob}
@@ -124,7 +124,8 @@ module _ {S J K P : Type 0} (may : WithJobs S J K P) where
         ⊎ (Reports old all new
         ⊎ (Asks old all new ⊎ ByServers (λ acts. Finishes old acts new) all))
 
-    -- What a server with its jobs may do. A reply to a request of a job is not told to the server.
+    -- What a server with its jobs may do. A reply to a request of a job is not told to the server. At `shutdown` no job is started, and no
+    -- request waits for one any more.
     abbrev pub with_jobs : Plain S P → Stated (S × PendingJobs (J × K)) (Asked P)
     with_jobs plain = record {
       initializes = λ old params outcome new. plain.initializes old.0 params outcome new.0
@@ -142,6 +143,8 @@ module _ {S J K P : Type 0} (may : WithJobs S J K P) where
           all)
           ((all ≡ []) × (new ≡ old));
       wakes = Wakes;
+      at_shutdown = λ old all new.
+          ByServers (λ acts. plain.at_shutdown old.0 acts new.0) all × (new.1 ≡ no_jobs);
       takes_back = λ old asked new. WhoseAsked asked
           (λ payload. plain.takes_back old.0 payload new.0 × (new.1 ≡ old.1))
           (new ≡ old);

@@ -80,7 +80,7 @@ pub trait JobServer<J: Job>: Server {
     }
 
     /// The jobs that it starts at any other time: for a notification, or for a request that it keeps. It is asked after each call in
-    /// which the server did something, but for a `finished` with `JobEnd::Refused`. A job's outcome is the reply to the request with
+    /// which the server did something, but for a `finished` with `JobEnd::Refused`, and for `shutdown`: all jobs are forgotten there. A job's outcome is the reply to the request with
     /// its id, which came now or earlier and has no reply yet. If there is no such request nothing is sent: so a job for a
     /// notification takes an id that no client uses. A job that is started under the id of another takes its place.
     fn take_jobs(&mut self, alloc: Global) -> Result<Vec<NewJob<J, Self::Key>>, AllocError>

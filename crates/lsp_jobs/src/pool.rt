@@ -243,6 +243,17 @@ impl<T: Wait + Drop, J: Job, K: Drop> JobPool<T, J, K> {
         }
     }
 
+    /// No request needs an outcome any more, since its client shuts the session down: `forget`, of each. An `Err` is a failed allocation.
+    pub fn forget_all(&mut self) -> Result<(), AllocError>
+        ensures { OnOk result (pending_jobs self.new ≡ no_jobs) }
+    {
+        let ids = self.table.ids()?;
+        for id in ids {
+            self.forget(&id);
+        }
+        Ok(())
+    }
+
     /// The client replied to a request of a job: hands the reply to the job that waits under this number. If it waits no more, the reply is
     /// dropped.
     pub fn reply(&self, number: u64, outcome: Result<Value, ResponseError>) {

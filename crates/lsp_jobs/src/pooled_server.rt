@@ -279,6 +279,8 @@ where
 
     ghost replied = { (seen_with_jobs T S.Server S.JobServer.own J.Job).replied };
 
+    ghost at_shutdown = { (seen_with_jobs T S.Server S.JobServer.own J.Job).at_shutdown };
+
     ghost takes_back = { (seen_with_jobs T S.Server S.JobServer.own J.Job).takes_back };
 
     fn initialize(&mut self, params: Value) -> Result<Result<Value, ResponseError>, AllocError> {
@@ -326,6 +328,12 @@ where
                 Ok(Vec::new(self.alloc))
             }
         }
+    }
+
+    fn shutdown(&mut self, alloc: Global) -> Result<Vec<Act<Asked<S::Payload>>>, AllocError> {
+        self.pool.forget_all()?;
+        let acts = self.server.shutdown(alloc)?;
+        acts_by_server(self.alloc, acts)
     }
 
     fn unsent(&mut self, payload: Asked<S::Payload>) -> Result<(), AllocError> {

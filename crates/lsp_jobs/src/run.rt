@@ -33,7 +33,8 @@ const ROOM: usize = 256;
 /// - A job that finds no room is dropped, and its request gets the error -32803, `too many requests are waiting`.
 /// - If an allocation fails in a job, its request gets the error -32603, `out of memory`, and all else goes on. Only if memory for that
 ///   text is missing too, the session ends.
-/// - Reports and outcomes are sent up to `shutdown`. What a job says later is dropped.
+/// - Reports and outcomes are sent up to `shutdown`. There all jobs are cancelled: what they say later is dropped, and their requests get the
+///   error -32800, `canceled by shutdown`, before the reply to `shutdown`.
 /// - At a content part that is no message (see `lsp_session::is_of_body`) the listener `bad_bodies` is asked, at once and on your thread,
 ///   from `initialized` up to `shutdown`. If it reads on, nothing is answered, the server is not told, and the next frame follows. Where
 ///   it ends the session, and before and after in any case, such a part is `SessionFault::Read`.

@@ -1,9 +1,11 @@
 // The requests that wait for their jobs, and the end of the channel at which what jobs say is taken.
 ghost use Rattle.std.specs.FinMap as map;
+ghost use Rattle.std.specs.List.{list_any};
 ghost use Rattle.std.specs.Option.{is_some};
 ghost use Rattle.std.specs.Prelude.{◌≡◌, Some, length, IfOk, IfSome, IsTrue, OnErr, OnOk};
 ghost use Rattle.crossbeam_channel.specs.Claims.{IsSeatAt, view as knows};
 ghost use Rattle.crossbeam_channel.specs.Ends.{receives_on, sends_on};
+ghost use Rattle.lsp_message.specs.Id.{Id, same_id};
 ghost use Rattle.lsp_jobs.specs.Outcomes.{KnowsAll, IsSaidBy, all_jobs};
 ghost use Rattle.lsp_jobs.specs.PendingJobs.{no_jobs, without, with_job};
 ghost use Rattle.lsp_jobs.specs.Waiting.{HaveTickets, MaySay, pending_of};
@@ -108,6 +110,14 @@ impl<J: Job, K: Drop> JobTable<J, K> {
         ensures { result ≡ is_some (pending_of self.now.jobs id.now) }
     {
         self.jobs.data(id).is_some()
+    }
+
+    /// The ids of all requests that wait. The error means that an allocation failed.
+    pub fn ids(&self) -> Result<Vec<RequestId>, AllocError>
+        ensures { IfOk result (λ ids. (id : Id)
+            → list_any (same_id id) ids.items ≡ is_some (pending_of self.now.jobs id)) }
+    {
+        self.jobs.ids()
     }
 
     /// The request waits no more.
