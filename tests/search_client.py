@@ -2,7 +2,8 @@
 """A client of `example_search jobs` over a socket, which searches texts while it asks for something else.
 
 A hover is answered while a search runs, the search tells how far it is and is answered once, and a cancelled one has the error
--32800 or its outcome, and nothing else (LSP 3.17, "Cancellation Support", "Work Done Progress").
+-32800 or its outcome, and nothing else (LSP 3.17, "Cancellation Support", "Work Done Progress"). So has one that runs at `shutdown`,
+before that has its reply.
 
 Then it opens a document twice, as an editor does whose mode is called again, and has changes refused: the server's text is the client's
 or none, it tells why, and each way back brings the text back. It ends in status 1 at the first difference.
@@ -95,6 +96,25 @@ def is_cancelled(client):
     (reply,) = client.read_to_all([search])
     if "error" in reply:
         expect("the error of a cancelled search", reply["error"]["code"], -32800)
+        return True
+    expect("how many headings it found", len(reply["result"]), DOCUMENTS * HEADINGS)
+    return False
+
+
+def runs_at_shutdown(program):
+    """A session that is shut down while it searches: whether the search ran then. Its reply comes before that of `shutdown`."""
+    with TcpServer(program, "jobs") as server:
+        client = Client(server)
+        begin(client)
+        search = client.asks("workspace/symbol", {"query": "one"})
+        server.send_bytes(frame(SHUTDOWN))
+        reply = json.loads(server.receive())
+        expect("the id of the first reply", reply["id"], search)
+        expect("the reply behind it", server.receive(), SHUTDOWN_REPLY)
+        server.send_bytes(frame(EXIT))
+        expect("after the last reply", server.socket.recv(1), b"")
+    if "error" in reply:
+        expect("the error of the search", reply["error"], {"code": -32800, "message": "canceled by shutdown"})
         return True
     expect("how many headings it found", len(reply["result"]), DOCUMENTS * HEADINGS)
     return False
@@ -266,6 +286,7 @@ def comes_true(what, tries):
 
 
 def check_all(program):
+    comes_true("a search runs at shutdown, and has its reply", lambda: runs_at_shutdown(program))
     with TcpServer(program, "jobs") as server:
         client = Client(server)
         begin(client)

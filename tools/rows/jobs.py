@@ -6,7 +6,7 @@ library of this repository."""
 import json
 import random
 
-from rules import AT_END, AT_WRONG_TIME, CANCELED, GREATEST, OF_BODY, Talker, beginning, debug_message, frame, is_id, is_note, is_request, limit_in, ordered, read, shown
+from rules import AT_END, AT_WRONG_TIME, CANCELED, ENDED, GREATEST, OF_BODY, Talker, beginning, debug_message, frame, in_order, is_id, is_note, is_request, limit_in, ordered, read, shown
 
 # The tokens that the params of a job in a pool by hand have.
 TOKENS = {"workDoneToken": "w", "partialResultToken": 7}
@@ -319,6 +319,7 @@ class JobSession:
         elif self.state == "open" and is_note(came, "exit"):
             self.end = "closed"
         elif self.state == "open" and is_request(came, "shutdown"):
+            self.part(came["id"])
             self.send({"id": came["id"], "result": None})
             self.state = "ending"
         elif self.state == "ending" and is_note(came, "exit"):
@@ -331,6 +332,16 @@ class JobSession:
         else:
             self.end = AT_WRONG_TIME[self.state] + beginning(debug_message(came))
         return None
+
+    def part(self, name):
+        """All jobs are forgotten. The server does its last acts, and each request that has no reply yet gets its error."""
+        for it in list(self.pool.table):
+            self.pool.forget(it)
+        self.pending.discard(name)
+        self.act(self.server.bye())
+        for it in in_order(self.pending):
+            self.send({"id": it, "error": ENDED})
+        self.pending = set()
 
     def work(self, came):
         cancels = is_note(came, "$/cancelRequest") and came["params"]["id"]

@@ -359,6 +359,19 @@ class Echo:
     def woken(self):
         return []
 
+    def parts(self, name):
+        """What it sends before the reply to a `shutdown` with this id."""
+        return []
+
+
+# The error for a request that a server still holds when `shutdown` comes: RequestCancelled (LSP 3.17, "Implementation Considerations").
+ENDED = {"code": -32800, "message": "canceled by shutdown"}
+
+
+def in_order(names):
+    """Ids, numbers before texts. Which of several requests gets its error first no standard says."""
+    return sorted(names, key=lambda it: (isinstance(it, str), it))
+
 
 def typed(came):
     """What comes of a message whose params are a place in a document (LSP 3.17, "TextDocumentPositionParams"). Params that lack a key
@@ -431,6 +444,15 @@ class Talker:
     def woken(self):
         return [{"method": "demo/woken"}, *self.released()]
 
+    def bye(self):
+        """Its last acts."""
+        return [{"method": "demo/bye"}] if self.held else []
+
+    def parts(self, name):
+        """Its last acts, and the error for each request that has no reply yet."""
+        waiting = {*self.held, *(it["id"] for it in self.asked if isinstance(it, dict))} - {name}
+        return [*self.bye(), *({"id": it, "error": ENDED} for it in in_order(waiting))]
+
     def replied(self, came):
         """A reply counts once, and only to a request that was sent."""
         if came["id"] not in range(len(self.asked)) or self.asked[came["id"]] is None:
@@ -493,6 +515,9 @@ class Session:
             return "closed"
         if is_request(came, "shutdown"):
             self.state = "ending"
+            end = self.sends(self.server.parts(came["id"]))
+            if end:
+                return end
             # That the reply could not be sent is passed over.
             self.sends([{"id": came["id"], "result": None}])
             return None

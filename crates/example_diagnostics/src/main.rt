@@ -128,6 +128,10 @@ impl Server for Checker {
         Ok(acts)
     }
 
+    fn shutdown(&mut self, alloc: Global) -> Result<Vec<Act<Asked>>, AllocError> {
+        Ok(Vec::new(alloc))
+    }
+
     fn unsent(&mut self, _asked: Asked) -> Result<(), AllocError> {
         self.is_asking = false;
         Ok(())

@@ -96,6 +96,10 @@ impl Server for Sums {
         marked.and(Ok(acts))
     }
 
+    fn shutdown(&mut self, alloc: Global) -> Result<Vec<Act<()>>, AllocError> {
+        Ok(Vec::new(alloc))
+    }
+
     fn unsent(&mut self, _asked: ()) -> Result<(), AllocError> {
         Ok(())
     }

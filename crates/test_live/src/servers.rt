@@ -313,6 +313,13 @@ impl Server for Talker {
         }
     }
 
+    fn shutdown(&mut self, alloc: Global) -> Result<Acts, AllocError> {
+        if self.held.is_empty() {
+            return Ok(Vec::new(alloc));
+        }
+        self.tell("demo/bye", Value::Null)
+    }
+
     fn unsent(&mut self, asked: Asked) -> Result<(), AllocError> {
         drop(asked);
         Ok(())

@@ -211,6 +211,13 @@ impl Server for Talker {
         }
     }
 
+    fn shutdown(&mut self, alloc: Global) -> Result<Acts, AllocError> {
+        if self.held.is_empty() {
+            return Ok(Vec::new(alloc));
+        }
+        listed(alloc, Act::tell(alloc, "demo/bye", &()))
+    }
+
     fn unsent(&mut self, asked: Asked) -> Result<(), AllocError> {
         drop(asked);
         Ok(())
