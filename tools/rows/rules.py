@@ -397,6 +397,9 @@ def typed(came):
         return [{"id": id, "result": document["uri"]}]
     if came["method"] == "typed/show":
         return [{"method": "window/showMessage", "params": {"message": "here", "type": 3}}, {"id": id, "result": None}]
+    if came["method"] == "typed/marks":
+        marks = {"diagnostics": [at], "uri": document["uri"], "version": 7} if at["line"] else {"diagnostics": [], "uri": document["uri"]}
+        return [{"method": "textDocument/publishDiagnostics", "params": marks}, {"id": id, "result": None}]
     if at["line"] == 0:
         return [{"id": id, "error": {"code": -32803, "message": "no line above"}}]
     return [{"id": id, "result": {**at, "line": at["line"] - 1}}]

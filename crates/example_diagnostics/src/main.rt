@@ -21,8 +21,8 @@ use lsp_server::{
 use lsp_text::{Text, TextDocument};
 use lsp_types::{
     ConfigurationParams, Diagnostic, DiagnosticSeverity, Hover, InitializeParams, InitializeResult,
-    Location, MarkupKind, MessageType, Position, PublishDiagnosticsParams, Range,
-    ServerCapabilities, TextDocumentPositionParams, methods,
+    Location, MarkupKind, MessageType, Position, Range, ServerCapabilities,
+    TextDocumentPositionParams, methods,
 };
 use serde_json::Value;
 use std::alloc::{AllocError, Global};
@@ -250,13 +250,6 @@ impl Checker {
         Act::answer(self.alloc, request, |params| self.hover(&params))
     }
 
-    /// The notification that shows these marks.
-    fn publish(&self, params: PublishDiagnosticsParams) -> Result<Act<Asked>, AllocError> {
-        let told = Act::tell(self.alloc, methods::PUBLISH_DIAGNOSTICS, &params);
-        drop(params);
-        told
-    }
-
     /// Tells the client which lines of a document are too long: none, if it is closed or its text is lost.
     fn mark(
         &self,
@@ -264,15 +257,14 @@ impl Checker {
         uri: &str,
         document: Option<&TextDocument>,
     ) -> Result<(), AllocError> {
-        let params = PublishDiagnosticsParams {
-            uri: String::from_str(self.alloc, uri)?,
-            version: document.and_then(|document| document.version()),
-            diagnostics: match document {
-                Some(document) => long_lines(self.alloc, document.text(), self.longest)?,
-                None => Vec::new(self.alloc),
-            },
+        let version = document.and_then(|document| document.version());
+        let found = match document {
+            Some(document) => long_lines(self.alloc, document.text(), self.longest)?,
+            None => Vec::new(self.alloc),
         };
-        acts.push(self.publish(params)?)?;
+        let marks = Act::publish(self.alloc, uri, version, found.as_slice());
+        drop(found);
+        acts.push(marks?)?;
         Ok(())
     }
 

@@ -7,6 +7,8 @@ use std::alloc::{AllocError, AllocFailed, Global};
 /// - `typed/uri` gives the document.
 /// - `typed/above` gives the position above, and the error -32803 if there is none.
 /// - `typed/show` shows a text, and gives null.
+/// - `typed/marks` publishes the position as what is wrong with the document, at version 7, and gives null. In the first line nothing
+///   is wrong, at no version.
 pub fn asked<P: Drop>(alloc: Global, request: Request) -> Result<Vec<Act<P>>, AllocError> {
     match request.method.as_str() {
         "typed/uri" => Act::answer(alloc, request, |place: TextDocumentPositionParams| {
@@ -19,6 +21,7 @@ pub fn asked<P: Drop>(alloc: Global, request: Request) -> Result<Vec<Act<P>>, Al
             drop(place);
             shown(alloc, id)
         }),
+        "typed/marks" => Act::of_request(alloc, request, |id, place| marked(alloc, id, place)),
         _ => listed(alloc, Act::method_not_found(alloc, taken_id(request))),
     }
 }
@@ -105,6 +108,22 @@ pub fn refused<T: Drop, E: Drop>(made: Result<E, AllocError>) -> Result<Result<T
 fn shown<P: Drop>(alloc: Global, id: RequestId) -> Result<Vec<Act<P>>, AllocError> {
     let shown = Act::show(alloc, MessageType::INFO, "here");
     both(alloc, shown, Act::reply(alloc, id, &()))
+}
+
+fn marked<P: Drop>(
+    alloc: Global,
+    id: RequestId,
+    place: TextDocumentPositionParams,
+) -> Result<Vec<Act<P>>, AllocError> {
+    let found = [place.position];
+    let line = place.position.line;
+    let uri = place.text_document.uri.as_str();
+    let marked = match line {
+        0 => Act::publish(alloc, uri, None, found.get(1..).unwrap_or(&[])),
+        _ => Act::publish(alloc, uri, Some(7), &found),
+    };
+    drop(place);
+    both(alloc, marked, Act::reply(alloc, id, &()))
 }
 
 fn told<P: Drop>(alloc: Global, at: Position) -> Result<Vec<Act<P>>, AllocError> {
