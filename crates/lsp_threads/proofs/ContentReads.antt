@@ -1,5 +1,5 @@
 -- What a thread that reads handed on: the content parts of the text, one after another.
-use Rattle.std.proofs.Common.{◌≡◌, ℕ, true, false, List, [], ◌∷◌, ◌++◌, ap, sym, refl, subst, ◌∙◌, append-nil, append_assoc, inr, Option, Some, None, IfSome, IsSomeAnd, Result, Ok, Err, map, Vec, Global}
+use Rattle.std.proofs.Common.{◌≡◌, ℕ, true, false, List, [], ◌∷◌, ◌++◌, ap, sym, refl, subst, ◌∙◌, append-nil, append_assoc, Option, Some, None, IfSome, IsSomeAnd, Result, Ok, Err, map, Vec, Global}
 use Rattle.std.proofs.lemmas.Fn.{FoldsTo-push}
 use Rattle.std.proofs.lemmas.List.{map-append}
 use Rattle.std.specs.Io.KnownBytes.{Keeps}
@@ -60,7 +60,7 @@ module _ (limit : Limits) where
   reads_then : (contents more : List (List ℕ)) (text at : List ℕ) (end : ReadEnd) → FoldsTo (BeginsWithContent limit) text contents at → ReadsContents limit at end more
       → ReadsContents limit text end (contents ++ more)
   reads_then [] more text at end run reads = subst (λ t. ReadsContents limit t end more) (sym run) reads
-  reads_then (content ∷ contents) more text at end run reads = (run.0, run.1, inr (reads_then contents more run.0 at end run.2 reads))
+  reads_then (content ∷ contents) more text at end run reads = (run.0, run.1, reads_then contents more run.0 at end run.2 reads)
 
   reads_stop : (contents : List (List ℕ)) (text at : List ℕ) (end : ReadEnd) → FoldsTo (BeginsWithContent limit) text contents at → StopsAt limit at end
       → ReadsContents limit text end contents

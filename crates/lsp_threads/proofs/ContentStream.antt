@@ -1,5 +1,5 @@
 -- What an inbox over content parts gave: it is what an inbox over the text itself gives.
-use Rattle.std.proofs.Common.{arith, ◌≡◌, ◌≤◌, ◌||◌, List, [], ◌∷◌, ◌++◌, ◌∙◌, ℕ, ap, sym, refl, append_assoc, append-nil, inl, inr, Option, Some, None, is_some, Result, Ok, Err, subst, Bool, true, false, true≢false}
+use Rattle.std.proofs.Common.{arith, ◌≡◌, ◌≤◌, ◌||◌, List, [], ◌∷◌, ◌++◌, ◌∙◌, ℕ, ap, sym, refl, append_assoc, append-nil, inl, inr, Option, Some, None, is_some, Ok, Err, subst, Bool, true, false}
 use Rattle.std.proofs.lemmas.List.{append_cancel_left}
 use Rattle.std.specs.Bool.{MatchBool}
 use Rattle.std.specs.Io.KnownBytes.{Keeps}
@@ -217,13 +217,7 @@ module _ (limit : Limits) where
         let next = comes events old run.0 contents (content ∷ run.0.0.waiting) gives.0.1.0 run.2 to_come in
         let reads' : ReadsContents limit at read (content ∷ run.0.0.waiting ++ contents_of next.0) = subst (ReadsContents limit at read) next.2 reads in
         after_message m events old.1 run.0 at content reads'.0 gives.0.1.1 reads'.1 gives.0.2.0 gives.1 run.2 (is_exit m) refl gives.0.2
-        (λ goes over' ended'. elim reads'.2 [
-          | inl last ↦ absurd (true≢false (sym last.2.2 ∙ ap is_exit (same_message (sym last.2.1 ∙ gives.0.2.0)) ∙ goes))
-          | inr more ↦ goes_on events run.0 reads'.0 (run.0.0.waiting ++ contents_of next.0) over' (next.0, next.1, refl) more run.2
-        ])
-      where
-        same_message : {x y : Message} → ◌≡◌ {A = Result Message ReadFault} (Ok x) (Ok y) → x ≡ y
-        same_message e = cc (e)
+        (λ goes over' ended'. goes_on events run.0 reads'.0 (run.0.0.waiting ++ contents_of next.0) over' (next.0, next.1, refl) reads'.2 run.2)
     goes_on (closed ∷ events) old at contents over to_come reads run = pick (rw over at run.1.2)
       where
         bad : run.0.1 ≡ old.1 → (content : List ℕ) → Collects old.0.taken old.0.waiting run.0.0.taken (content ∷ run.0.0.waiting) → has_end run.0.0.taken ≡ false
@@ -258,17 +252,10 @@ module _ (limit : Limits) where
               let content = passes.0 in
               let next = comes events old run.0 contents (content ∷ run.0.0.waiting) passes.2.0 run.2 to_come in
               let reads' : ReadsContents limit at read (content ∷ run.0.0.waiting ++ contents_of next.0) = subst (ReadsContents limit at read) next.2 reads in
-              elim reads'.2 [
-                | inl last ↦ absurd (no_message (sym last.2.1 ∙ passes.6))
-                | inr more ↦
-                    let later = goes_on events run.0 reads'.0 (run.0.0.waiting ++ contents_of next.0) (rw (passes.2.1, passes.3) refl) (next.0, next.1, refl) more run.2 in
-                    let read_so = passes_read passes.1 at content reads'.0 passes.5 reads'.1 passes.6 in
-                    (later.0, ((going reads'.0 run.0.1, inr (passes.1, passes.5, read_so, passes.7, refl, refl), later.1.0), later.1.1, later.1.2))
-              ]
+              let later = goes_on events run.0 reads'.0 (run.0.0.waiting ++ contents_of next.0) (rw (passes.2.1, passes.3) refl) (next.0, next.1, refl) reads'.2 run.2 in
+              let read_so = passes_read passes.1 at content reads'.0 passes.5 reads'.1 passes.6 in
+              (later.0, ((going reads'.0 run.0.1, inr (passes.1, passes.5, read_so, passes.7, refl, refl), later.1.0), later.1.1, later.1.2))
         ]
-      where
-        no_message : {m : Message} {fault : ReadFault} → ◌≡◌ {A = Result Message ReadFault} (Ok m) (Err fault) → ⊥
-        no_message e = cc (e)
     goes_on (event ∷ events) old at contents over to_come reads run = let gives = rw over at run.1.2 in absurd gives
 
   -- what is taken to the end begins with what the inbox took

@@ -52,10 +52,6 @@ parts_of parcels = parts_after [] parcels
 
 -- ---- the thread that reads
 
--- the content part is the message `exit`
-abbrev pub IsExit : List ℕ → Type 0
-IsExit content = (m : Message) × (body_means content ≡ Ok m) × (is_exit m ≡ true)
-
 -- the parts of a frame have at most so many bytes
 module _ (limit : Limits) where
   -- Reading may stop so at this text: at its end, or at a frame that can't be read. At a content part that was read to its end and is no
@@ -76,13 +72,11 @@ module _ (limit : Limits) where
   BeginsWithContent text content rest =
       content_within limit text ≡ record { outcome = Ok (Some content); rest = rest }
 
-  -- The text begins with frames of these content parts, messages or not, and reading stopped so after them: by `Exit` only if the last
-  -- one is `exit`.
+  -- the text begins with frames of these content parts, messages or not, and reading stopped so after them
   abbrev pub ReadsContents : List ℕ → ReadEnd → List (List ℕ) → Type 0
   ReadsContents text end [] = StopsAt text end
   ReadsContents text end (content ∷ more) =
-      (rest : List ℕ) × BeginsWithContent text content rest
-      × (((more ≡ []) × (end ≡ Exit) × IsExit content) ⊎ ReadsContents rest end more)
+      (rest : List ℕ) × BeginsWithContent text content rest × ReadsContents rest end more
 
   -- For private clauses: what was sent on a relay is the content parts of the text, up to where reading stopped so, and then End. No
   -- waker was made.
