@@ -42,6 +42,7 @@ where
     let answer = hold_session(rt, &connection);
     // The threads end once the connection is dropped.
     drop(connection);
+    let threads = threads.flush(rt);
     if answer.is_err() {
         drop(threads);
         return answer;

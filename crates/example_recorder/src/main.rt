@@ -74,6 +74,7 @@ where
 {
     let (connection, threads) = Connection::connect(rt, server)?;
     let compared = compare(rt, recording, connection, &mut io::writer(rt));
+    let threads = threads.flush(rt);
     if compared.is_err() {
         drop(threads);
         return compared;

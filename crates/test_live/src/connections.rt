@@ -364,7 +364,7 @@ where
     let said = match Connection::connect(rt, address?) {
         Ok((connection, threads)) => {
             drop(connection);
-            drop(threads);
+            drop(threads.flush(rt));
             String::from_str(alloc, "a connection")
         }
         Err(fault) => format!(in alloc; "{fault:?}, {fault}"),
