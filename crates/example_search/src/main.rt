@@ -40,16 +40,14 @@ fn main(rt: HostRuntime) -> Result<()> {
             serve_clients(&rt, rest, ClientOptions::new(), |client| {
                 let mut passed_over = PassedOver::new(alloc)?;
                 let sums = Sums::new(alloc, passed_over.share()?);
-                let (reader, writer) = (client.reader, client.writer);
-                end_of(serve_in_threads(&rt, alloc, reader, writer, sums, &mut passed_over))
+                end_of(serve_in_threads(&rt, alloc, client, sums, &mut passed_over))
             })
         }
         [word, rest @ ..] if word.as_str() == "jobs" => {
             serve_clients(&rt, rest, ClientOptions::new(), |client| {
                 let mut passed_over = PassedOver::new(alloc)?;
                 let sums = Sums::new(alloc, passed_over.share()?);
-                let (reader, writer) = (client.reader, client.writer);
-                end_of(serve_with_jobs(&rt, alloc, reader, writer, sums, &mut passed_over))
+                end_of(serve_with_jobs(&rt, alloc, client, sums, &mut passed_over))
             })
         }
         words => serve_clients(&rt, words, ClientOptions::new(), |mut client| {

@@ -1,6 +1,5 @@
 // A session of the server: on one thread, with a thread that reads and one that writes, and with threads that search.
 ghost use Rattle.std.specs.Prelude.{true, [], Some, IfOk, IfSome};
-ghost use Rattle.lsp_message.specs.Frame.{no_limit};
 ghost use Rattle.lsp_session.specs.StreamTransports.{IsUnused, Serves};
 ghost use Rattle.lsp_threads.specs.Passing.{GivenTo, OfTaken, TakenFrom, noted};
 ghost use Rattle.lsp_threads.specs.Threads.{ThreadsTell, ThreadsTellOver};
@@ -14,8 +13,8 @@ use lsp_jobs::laws::session_with_jobs_keeps_laws;
 use lsp_jobs::{Job, JobServer, PoolSize, run_jobs};
 use lsp_server::laws::server_keeps_laws;
 use lsp_server::{
-    Listener, PassedOver, Server, SessionEnd, SessionFault, StartFault, StreamTransport,
-    ThreadOptions, Threaded, run_threads_with, session_with_over,
+    ClientStreams, Listener, PassedOver, Server, SessionEnd, SessionFault, StartFault,
+    StreamTransport, ThreadOptions, Threaded, run_threads_with, session_with_over,
 };
 use std::alloc::Global;
 use std::io::{BufRead, Write};
@@ -47,8 +46,7 @@ pub fn serve<R: BufRead, W: Write>(
 pub fn serve_in_threads<T, R, W>(
     rt: &T,
     alloc: Global,
-    reader: R,
-    writer: W,
+    client: ClientStreams<R, W>,
     sums: Sums,
     passed_over: &mut PassedOver,
 ) -> (Sums, Result<Threaded<W>, StartFault>)
@@ -57,13 +55,15 @@ where
     R: BufRead + Drop + Send + 'static,
     W: Write + Drop + Send + 'static,
     ensures told { IfOk result.1 (λ done. OfTaken done.taken.parts (λ text.
-        ThreadsTell ⟦<PassedOver as Listener>⟧.hears no_limit (AnswersOnce (unwoken ⟦<Sums as Server>⟧) sums result.0)
+        ThreadsTell ⟦<PassedOver as Listener>⟧.hears client.limits (AnswersOnce (unwoken ⟦<Sums as Server>⟧) sums result.0)
         text passed_over.old passed_over.new (Some []) (noted done.given) done.answer)) }
-    ensures passed { IfOk result.1 (λ done. TakenFrom (R.remaining reader) done.taken.parts
-        × GivenTo (W.contents writer) done.given.parts (W.contents done.writer)) }
+    ensures passed { IfOk result.1 (λ done. TakenFrom (R.remaining client.reader) done.taken.parts
+        × GivenTo (W.contents client.writer) done.given.parts (W.contents done.writer)) }
 {
     server_keeps_laws::<Sums>();
-    let options = ThreadOptions::new();
+    let mut options = ThreadOptions::new();
+    options.limits = client.limits;
+    let (reader, writer) = (client.reader, client.writer);
     run_threads_with(rt, alloc, reader, writer, sums, passed_over, options)
 }
 
@@ -78,8 +78,7 @@ const SIZE: PoolSize = PoolSize {
 pub fn serve_with_jobs<T, R, W>(
     rt: &T,
     alloc: Global,
-    reader: R,
-    writer: W,
+    client: ClientStreams<R, W>,
     sums: Sums,
     passed_over: &mut PassedOver,
 ) -> (Sums, Result<Threaded<W>, StartFault>)
@@ -88,17 +87,19 @@ where
     R: BufRead + Drop + Send + 'static,
     W: Write + Drop + Send + 'static,
     ensures told { IfOk result.1 (λ done. OfTaken done.taken.parts (λ text.
-        ThreadsTellOver true ⟦<PassedOver as Listener>⟧.hears no_limit (LawfulJobSession T ⟦<Sums as Server>⟧
+        ThreadsTellOver true ⟦<PassedOver as Listener>⟧.hears client.limits (LawfulJobSession T ⟦<Sums as Server>⟧
         (record {
           gives = ⟦<Sums as JobServer<Search>>⟧.gives;
           starts = ⟦<Sums as JobServer<Search>>⟧.starts;
           finishes = ⟦<Sums as JobServer<Search>>⟧.finishes;
         }) ⟦<Search as Job>⟧ sums result.0)
         text passed_over.old passed_over.new (Some []) (noted done.given) done.answer)) }
-    ensures passed { IfOk result.1 (λ done. TakenFrom (R.remaining reader) done.taken.parts
-        × GivenTo (W.contents writer) done.given.parts (W.contents done.writer)) }
+    ensures passed { IfOk result.1 (λ done. TakenFrom (R.remaining client.reader) done.taken.parts
+        × GivenTo (W.contents client.writer) done.given.parts (W.contents done.writer)) }
 {
     session_with_jobs_keeps_laws::<T, Sums, Search>();
-    let options = ThreadOptions::new();
+    let mut options = ThreadOptions::new();
+    options.limits = client.limits;
+    let (reader, writer) = (client.reader, client.writer);
     run_jobs(rt, alloc, reader, writer, SIZE, sums, passed_over, options)
 }

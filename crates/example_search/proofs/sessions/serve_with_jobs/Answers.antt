@@ -1,5 +1,4 @@
 use Rattle.std.proofs.Common.{true}
-use Rattle.lsp_message.specs.Frame.{no_limit}
 use Rattle.lsp_threads.proofs.Sessions.{taken_told_as}
 use Rattle.lsp_threads.specs.Passing.{noted}
 use Rattle.lsp_threads.specs.declared.run.Threaded.{Threaded}
@@ -7,6 +6,6 @@ use Rattle.example_search.proofs.sessions.serve_with_jobs.Goals as goal
 
 pub returns-clause-told : goal.returns-clause-told
 returns-clause-told g c =
-    taken_told_as true _ no_limit _ _ _ _ (c.session_with_jobs_keeps_laws.ensures.exchanges _ _)
+    taken_told_as true _ c.args.client.limits _ _ _ _ (c.session_with_jobs_keeps_laws.ensures.exchanges _ _)
     (λ (done : Threaded _). done.taken.parts) (λ (done : Threaded _). noted done.given) (λ (done : Threaded _). done.answer) _
-    (rw c.new-options.ensures.limits at c.run_jobs.ensures.told)
+    c.run_jobs.ensures.told
