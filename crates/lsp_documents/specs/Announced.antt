@@ -1,11 +1,17 @@
 -- What a server announces of documents (LSP 3.17, "ServerCapabilities", "TextDocumentSyncOptions" and "SaveOptions").
-use Rattle.std.specs.Prelude.{◌≡◌, Bool, true, Some, None, option_map, unwrap_or, codes, string_bytes}
+use Rattle.std.specs.Prelude.{◌≡◌, Bool, true, false, Some, None, option_map, unwrap_or, codes, string_bytes}
 use Rattle.serde_json.specs.Data.{Data, Members, boolean, number, unsigned, string, object, member, no_members, put}
 use Rattle.serde_json.specs.Find.{as_object}
 use Rattle.lsp_text.specs.Characters.{encoding_name}
 use Rattle.lsp_types.specs.declared.capabilities.ServerCapabilities.{ServerCapabilities}
 use Rattle.lsp_types.specs.declared.capabilities.TextDocumentSyncOptions.{TextDocumentSyncOptions}
+use Rattle.lsp_text.specs.declared.line_ends.LineEnds.TheVariants.{LineFeed}
 use Rattle.lsp_documents.specs.declared.agreed.Agreed.{Agreed}
+use Rattle.lsp_documents.specs.declared.options.DocumentOptions.{DocumentOptions}
+
+-- how a client is read of which the author says nothing: lines end as editors count them, and late changes are not made
+abbrev pub usual : DocumentOptions
+usual = record { line_ends = LineFeed; makes_late = false }
 
 -- what the client is to tell of: opening and closing, the parts that changed (2), and saving, with the text or not
 abbrev pub sync_of : Bool → Data

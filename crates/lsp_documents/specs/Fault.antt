@@ -1,7 +1,7 @@
 -- What a fault and a remark print, and what a notification prints that was made, or not.
 use Rattle.std.specs.Prelude.{ℕ, List, ◌++◌, Option, Some, None, option_map, codes}
 use Rattle.lsp_documents.specs.declared.fault.DocumentFault.{DocumentFault}
-use Rattle.lsp_documents.specs.declared.fault.DocumentFault.TheVariants.{Params, NotOpen, OutOfStep, Memory}
+use Rattle.lsp_documents.specs.declared.fault.DocumentFault.TheVariants.{Params, NotOpen, OutOfStep, OutOfOrder, Memory}
 use Rattle.lsp_documents.specs.declared.fault.Made.{Made}
 use Rattle.lsp_documents.specs.declared.fault.NotMade.{NotMade}
 use Rattle.lsp_documents.specs.declared.fault.Remark.{Remark}
@@ -11,6 +11,7 @@ abbrev pub fault_text : DocumentFault → Option (List ℕ)
 fault_text Params = Some (codes "params of another shape")
 fault_text NotOpen = Some (codes "the document is not open")
 fault_text OutOfStep = Some (codes "the document is out of step")
+fault_text OutOfOrder = Some (codes "changes came out of order")
 fault_text Memory = Some (codes "out of memory")
 
 abbrev pub remark_text : Remark → Option (List ℕ)

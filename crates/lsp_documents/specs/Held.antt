@@ -4,6 +4,7 @@ use Rattle.std.specs.List.{list_any}
 use Rattle.std.specs.BTreeMap.{get_by_text, values}
 use Rattle.lsp_documents.specs.declared.documents.TextDocuments.{TextDocuments}
 use Rattle.lsp_text.specs.Documents.{Document}
+use Rattle.lsp_text.specs.Lines.{LinedText}
 use Rattle.lsp_documents.specs.Known.{known_in, texts_in}
 use Rattle.lsp_documents.specs.Notices.{Documents, shown, is_known}
 
@@ -15,7 +16,7 @@ abbrev pub known_of : TextDocuments → List (List ℕ × Document)
 known_of t = known_in t.documents.entries
 
 -- the same with the texts alone
-abbrev pub texts_of : TextDocuments → List (List ℕ × List ℕ)
+abbrev pub texts_of : TextDocuments → List (List ℕ × LinedText)
 texts_of t = texts_in (known_of t)
 
 -- whether the text of a document is known

@@ -5,6 +5,7 @@ use Rattle.std.specs.List.{All, filter_map}
 use Rattle.std.specs.declared.alloc.Global.{Global}
 use Rattle.std.specs.declared.string.String.{String}
 use Rattle.lsp_text.specs.Documents.{Document}
+use Rattle.lsp_text.specs.Lines.{LinedText}
 use Rattle.lsp_types.specs.FileUris.{Names}
 use Rattle.lsp_documents.specs.Notices.{shown, document}
 use Rattle.lsp_documents.specs.declared.kept.Open.{Open}
@@ -19,7 +20,7 @@ abbrev pub known_in : List (String Global × Open) → List (List ℕ × Documen
 known_in entries = filter_map known_at entries
 
 -- the URIs and the texts of documents
-abbrev pub texts_in : List (List ℕ × Document) → List (List ℕ × List ℕ)
+abbrev pub texts_in : List (List ℕ × Document) → List (List ℕ × LinedText)
 texts_in known = map (λ k. (k.0, k.1.text)) known
 
 -- no URI of these documents names the path
@@ -36,7 +37,7 @@ pub record IsFirstOf (path : List ℕ) (known : List (List ℕ × Document))
   pub is_first : NoneNames path before
 
 -- the URIs and the texts of copies
-abbrev pub copied : List OpenText → List (List ℕ × List ℕ)
+abbrev pub copied : List OpenText → List (List ℕ × LinedText)
 copied copies = map (λ copy. (string_bytes copy.uri, arc_value copy.text)) copies
 
 -- the same with the languages and the versions

@@ -1,4 +1,5 @@
 pub mod Params
+pub mod Remains
 pub mod Notices
 pub mod Fault
 pub mod Held

@@ -1,22 +1,34 @@
 -- The documents that a client has opened, after any list of its notifications (LSP 3.17, "Text Document Synchronization"): the
 -- client's own, and those that a server keeps, which may have missed some of what the client did.
-use Rattle.std.specs.Prelude.{◌≡◌, ◌⊎◌, ℕ, ℤ, int_le, Bool, true, false, not, ◌&&◌, if◌then◌else◌, is_none, is_some, option_map, option_and_then, List, [], ◌∷◌, ◌++◌, Option, Some, None, IsSomeAnd}
+use Rattle.std.specs.Prelude.{◌≡◌, ◌⊎◌, ℕ, ℤ, int_le, int_lt, Bool, true, false, not, ◌&&◌, if◌then◌else◌, is_none, is_some, option_map, option_and_then, List, [], ◌∷◌, ◌++◌, Option, Some, None, IsSomeAnd}
 use Rattle.std.specs.List.{list_any}
 use Rattle.std.specs.Str.{bytes_eq}
 use Rattle.lsp_text.specs.Documents.{Document, Change}
 use Rattle.lsp_text.specs.Edits.{edited_by, past_by}
+use Rattle.lsp_text.specs.Lines.{LinedText, lined}
 use Rattle.lsp_text.specs.declared.position.PositionEncoding.{PositionEncoding}
 use Rattle.lsp_documents.specs.declared.fault.DocumentFault.{DocumentFault}
-use Rattle.lsp_documents.specs.declared.fault.DocumentFault.TheVariants.{Params, NotOpen, OutOfStep, Memory}
+use Rattle.lsp_documents.specs.declared.fault.DocumentFault.TheVariants.{Params, NotOpen, OutOfStep, OutOfOrder, Memory}
 use Rattle.lsp_documents.specs.declared.fault.Remark.{Remark}
 use Rattle.lsp_documents.specs.declared.fault.Remark.TheVariants.{OpenAlready, VersionNotHigher, PastEnd, SavedTextDiffers, WasNotOpen}
 use Rattle.lsp_documents.specs.declared.agreed.Agreed.{Agreed}
 use Rattle.lsp_documents.specs.declared.kept.Open.{Open}
 use Rattle.lsp_documents.specs.declared.kept.Open.TheVariants.{Known, Lost}
+use Rattle.lsp_documents.specs.Remains.{remains}
 
--- what a notification says of a document. The version is none if the client gives none. One that it was saved may have the text
+-- a document as a client has it. The language and the text are the bytes of their UTF-8, and the version is none if the client gives none
+pub record Item : Type 0 where
+  pub language_id : List ℕ
+  pub version : Option ℤ
+  pub text : List ℕ
+
+abbrev pub text_item : List ℕ → Option ℤ → List ℕ → Item
+text_item language_id version text =
+    record { language_id = language_id; version = version; text = text }
+
+-- what a notification says of a document. One that it was saved may have the text
 pub data NoticeKind : Type 0 where
-  opened : Document → NoticeKind
+  opened : Item → NoticeKind
   changed : Option ℤ → List Change → NoticeKind
   saved : Option (List ℕ) → NoticeKind
   closed : NoticeKind
@@ -26,13 +38,9 @@ pub record Notice : Type 0 where
   pub uri : List ℕ
   pub kind : NoticeKind
 
-abbrev pub document : List ℕ → Option ℤ → List ℕ → Document
-document language_id version text =
-    record { language_id = language_id; version = version; text = text }
-
 abbrev pub opens : List ℕ → List ℕ → Option ℤ → List ℕ → Notice
 opens uri language_id version text =
-    record { uri = uri; kind = opened (document language_id version text) }
+    record { uri = uri; kind = opened (text_item language_id version text) }
 
 abbrev pub edits : List ℕ → Option ℤ → List Change → Notice
 edits uri version list = record { uri = uri; kind = changed version list }
@@ -49,82 +57,97 @@ closes uri = record { uri = uri; kind = closed }
 abbrev pub has_whole : List Change → Bool
 has_whole list = list_any (λ c. is_none c.range) list
 
-abbrev pub changed_to : PositionEncoding → Document → Option ℤ → List Change → Document
-changed_to e d version list = document d.language_id version (edited_by e d.text list)
+-- a text whose lines end as was agreed on
+abbrev pub text_by : Agreed → List ℕ → LinedText
+text_by a text = lined a.options.line_ends text
+
+-- what changes make of a client's text
+abbrev pub edited_text : Agreed → List ℕ → List Change → List ℕ
+edited_text a text list = (edited_by a.encoding (text_by a text) list).bytes
 
 -- the client's document of a URI after what it tells of it. One that tells a whole text has it, whether it opened it or not
-abbrev pub told : PositionEncoding → Option Document → NoticeKind → Option Document
-told e before (opened d) = Some d
-told e None (changed version list) =
-    if has_whole list then Some (document [] version (edited_by e [] list)) else None
-told e (Some d) (changed version list) = Some (changed_to e d version list)
-told e before (saved text) = before
-told e before closed = None
+abbrev pub told : Agreed → Option Item → NoticeKind → Option Item
+told a before (opened c) = Some c
+told a None (changed version list) =
+    if has_whole list then Some (text_item [] version (edited_text a [] list)) else None
+told a (Some c) (changed version list) =
+    Some (text_item c.language_id version (edited_text a c.text list))
+told a before (saved text) = before
+told a before closed = None
 
-abbrev pub told_all : PositionEncoding → Option Document → List NoticeKind → Option Document
-told_all e before [] = before
-told_all e before (kind ∷ kinds) = told_all e (told e before kind) kinds
+abbrev pub told_all : Agreed → Option Item → List NoticeKind → Option Item
+told_all a before [] = before
+told_all a before (kind ∷ kinds) = told_all a (told a before kind) kinds
 
 -- the text that comes with a save is the client's own, if the client was asked for it. Else it may be any
-abbrev pub SavesOwn : Agreed → Option Document → NoticeKind → Type 0
-SavesOwn a client (opened d) = Unit {0}
+abbrev pub SavesOwn : Agreed → Option Item → NoticeKind → Type 0
+SavesOwn a client (opened c) = Unit {0}
 SavesOwn a client (changed version list) = Unit {0}
 SavesOwn a client (saved None) = Unit {0}
 SavesOwn a client (saved (Some text)) =
-    a.include_text ≡ true → IsSomeAnd client (λ d. d.text ≡ text)
+    a.include_text ≡ true → IsSomeAnd client (λ c. c.text ≡ text)
 SavesOwn a client closed = Unit {0}
 
-abbrev pub SavesItsText : Agreed → Option Document → List NoticeKind → Type 0
+abbrev pub SavesItsText : Agreed → Option Item → List NoticeKind → Type 0
 SavesItsText a client [] = Unit {0}
 SavesItsText a client (kind ∷ kinds) = SavesOwn a client kind
-    × SavesItsText a (told a.encoding client kind) kinds
+    × SavesItsText a (told a client kind) kinds
 
 -- ---- what a server keeps of it
+
+abbrev pub document : List ℕ → Option ℤ → LinedText → Document
+document language_id version text =
+    record { language_id = language_id; version = version; text = text }
+
+-- a client's document, as it is kept
+abbrev pub kept_by : Agreed → Item → Document
+kept_by a c = document c.language_id c.version (text_by a c.text)
 
 -- the document that a server may look at: none if its text is lost
 abbrev pub shown : Open → Option Document
 shown (Known d) = Some d
-shown (Lost language_id) = None
+shown (Lost r) = None
 
 abbrev pub language_of : Open → List ℕ
 language_of (Known d) = d.language_id
-language_of (Lost language_id) = language_id
+language_of (Lost r) = r.language_id
 
 abbrev pub version_of : Open → Option ℤ
 version_of (Known d) = d.version
-version_of (Lost language_id) = None
+version_of (Lost r) = r.version
 
--- its text is lost: the language is left
+-- its text is lost: the language is left, and this version. One that is lost already stays as it is
+abbrev pub lost_at : Option ℤ → Open → Open
+lost_at version (Known d) = Lost (remains d.language_id version)
+lost_at version (Lost r) = Lost r
+
+-- the same where anything may have been missed: versions begin anew
 abbrev pub lost : Open → Open
-lost o = Lost (language_of o)
+lost o = lost_at None o
+
+-- the same where changes came out of order: versions go on
+abbrev pub doubted : Open → Open
+doubted o = lost_at (version_of o) o
+
+abbrev pub changed_to : PositionEncoding → Document → Option ℤ → List Change → Document
+changed_to e d version list = document d.language_id version (edited_by e d.text list)
+
+-- a document that begins with changes, of which one is of the whole text
+abbrev pub begun_by : Agreed → List ℕ → Option ℤ → List Change → Document
+begun_by a language_id version list =
+    document language_id version (edited_by a.encoding (text_by a []) list)
 
 -- what changes make of it. If its text is lost, they need a whole text among them
-abbrev pub changed_in : PositionEncoding → Open → Option ℤ → List Change → Open
-changed_in e (Known d) version list = Known (changed_to e d version list)
-changed_in e (Lost language_id) version list =
-    if has_whole list then Known (document language_id version (edited_by e [] list))
-    else Lost language_id
+abbrev pub changed_in : Agreed → Open → Option ℤ → List Change → Open
+changed_in a (Known d) version list = Known (changed_to a.encoding d version list)
+changed_in a (Lost r) version list =
+    if has_whole list then Known (begun_by a r.language_id version list) else Lost r
 
 -- what a text makes of it that was asked for and comes with a save: it is taken only if the text is lost. Which version it is nobody
 -- says
-abbrev pub saved_in : Open → List ℕ → Open
-saved_in (Known d) text = Known d
-saved_in (Lost language_id) text = Known (document language_id None text)
-
--- why changes cannot be made
-abbrev pub change_fault : Option Open → Bool → Option DocumentFault
-change_fault None whole = if whole then None else Some NotOpen
-change_fault (Some (Known d)) whole = None
-change_fault (Some (Lost language_id)) whole = if whole then None else Some OutOfStep
-
--- why a notice of this kind cannot be made if that is kept of the URI
-abbrev pub fault_of : Option Open → NoticeKind → Option DocumentFault
-fault_of before (opened d) = None
-fault_of before (changed version list) = change_fault before (has_whole list)
-fault_of None (saved text) = Some NotOpen
-fault_of (Some o) (saved text) = None
-fault_of None closed = Some NotOpen
-fault_of (Some o) closed = None
+abbrev pub saved_in : Agreed → Open → List ℕ → Open
+saved_in a (Known d) text = Known d
+saved_in a (Lost r) text = Known (document r.language_id None (text_by a text))
 
 -- whether a version is the one before, or below it
 abbrev pub is_not_higher : Option ℤ → Option ℤ → Bool
@@ -132,10 +155,53 @@ is_not_higher None before = false
 is_not_higher (Some version) None = false
 is_not_higher (Some version) (Some before) = int_le version before
 
+-- whether a version is below the one before
+abbrev pub is_lower : Option ℤ → Option ℤ → Bool
+is_lower None before = false
+is_lower (Some version) None = false
+is_lower (Some version) (Some before) = int_lt version before
+
+-- whether changes come late: behind a higher version, unless the author chose to make them all the same
+abbrev pub is_late : Agreed → Option ℤ → Option ℤ → Bool
+is_late a version before = not a.options.makes_late && is_lower version before
+
+-- the same, and what late changes make of it: its text is lost, since it lacked them as those behind them were made
+abbrev pub changed_or_late : Agreed → Open → Option ℤ → List Change → Open
+changed_or_late a o version list =
+    if is_late a version (version_of o) then doubted o else changed_in a o version list
+
+-- why changes cannot be made in a document, where a whole text is among them or not
+abbrev pub step_fault : Open → Bool → Option DocumentFault
+step_fault (Known d) whole = None
+step_fault (Lost r) whole = if whole then None else Some OutOfStep
+
+-- the same, if there is one, and it does not have a higher version already
+abbrev pub change_fault : Agreed → Option Open → Option ℤ → Bool → Option DocumentFault
+change_fault a None version whole = if whole then None else Some NotOpen
+change_fault a (Some o) version whole =
+    if is_late a version (version_of o) then Some OutOfOrder else step_fault o whole
+
+-- what a refusal of changes leaves: late ones leave the text lost
+abbrev pub left_by : DocumentFault → Option Open → Option Open
+left_by Params before = before
+left_by NotOpen before = before
+left_by OutOfStep before = before
+left_by OutOfOrder before = option_map doubted before
+left_by Memory before = before
+
+-- why a notice of this kind cannot be made if that is kept of the URI
+abbrev pub fault_of : Agreed → Option Open → NoticeKind → Option DocumentFault
+fault_of a before (opened c) = None
+fault_of a before (changed version list) = change_fault a before version (has_whole list)
+fault_of a None (saved text) = Some NotOpen
+fault_of a (Some o) (saved text) = None
+fault_of a None closed = Some NotOpen
+fault_of a (Some o) closed = None
+
 -- whether a position of the changes lies past its line's end, or past the place behind the last line, in the text that is known
 abbrev pub is_past : PositionEncoding → Open → List Change → Bool
 is_past e (Known d) list = past_by e d.text list
-is_past e (Lost language_id) list = false
+is_past e (Lost r) list = false
 
 -- what is said of changes that were made: first that the client's text has to be another one
 abbrev pub change_remark : Bool → Bool → Option Remark
@@ -144,33 +210,32 @@ change_remark past not_higher =
 
 -- what is said of a text that was asked for and came with a save
 abbrev pub save_remark : Open → List ℕ → Option Remark
-save_remark (Known d) text = if bytes_eq d.text text then None else Some SavedTextDiffers
-save_remark (Lost language_id) text = None
+save_remark (Known d) text = if bytes_eq d.text.bytes text then None else Some SavedTextDiffers
+save_remark (Lost r) text = None
 
 -- what LSP 3.17 forbids the client, though it can be made, or what shows that its text is another one than the text that is kept
 abbrev pub remark_of : Agreed → Option Open → NoticeKind → Option Remark
-remark_of a None (opened d) = None
+remark_of a None (opened c) = None
 remark_of a None (changed version list) = Some WasNotOpen
 remark_of a None (saved text) = None
 remark_of a None closed = None
-remark_of a (Some o) (opened d) = Some OpenAlready
+remark_of a (Some o) (opened c) = Some OpenAlready
 remark_of a (Some o) (changed version list) =
     change_remark (is_past a.encoding o list) (is_not_higher version (version_of o))
 remark_of a (Some o) (saved None) = None
 remark_of a (Some o) (saved (Some text)) = if a.include_text then save_remark o text else None
 remark_of a (Some o) closed = None
 
--- what is kept of the URI after a notice of this kind that was made: as it was where something is wrong, and if a text came with a
--- save that was not asked for
+-- what is kept of the URI after a notice of this kind: as it was where something is wrong, but for late changes, and if a text came
+-- with a save that was not asked for
 abbrev pub after : Agreed → Option Open → NoticeKind → Option Open
-after a before (opened d) = Some (Known d)
+after a before (opened c) = Some (Known (kept_by a c))
 after a None (changed version list) =
-    if has_whole list then Some (Known (document [] version (edited_by a.encoding [] list)))
-    else None
-after a (Some o) (changed version list) = Some (changed_in a.encoding o version list)
+    if has_whole list then Some (Known (begun_by a [] version list)) else None
+after a (Some o) (changed version list) = Some (changed_or_late a o version list)
 after a before (saved None) = before
 after a before (saved (Some text)) =
-    if a.include_text then option_map (λ o. saved_in o text) before else before
+    if a.include_text then option_map (λ o. saved_in a o text) before else before
 after a before closed = None
 
 -- what is kept if what the client told was missed: never a text that the client may have left behind
@@ -183,12 +248,12 @@ has_changes (c ∷ cs) = true
 
 -- whether memory is needed to make a notice in which nothing is wrong
 abbrev pub needs_memory : Agreed → Option Open → NoticeKind → Bool
-needs_memory a before (opened d) = true
+needs_memory a before (opened c) = true
 needs_memory a before (changed version list) = has_changes list
 needs_memory a before (saved None) = false
 needs_memory a None (saved (Some text)) = false
 needs_memory a (Some (Known d)) (saved (Some text)) = false
-needs_memory a (Some (Lost language_id)) (saved (Some text)) = a.include_text
+needs_memory a (Some (Lost r)) (saved (Some text)) = a.include_text
 needs_memory a before closed = false
 
 -- ---- notifications, as a server met them
@@ -222,18 +287,29 @@ abbrev pub kinds_of : List ℕ → List Sent → List NoticeKind
 kinds_of uri [] = []
 kinds_of uri (s ∷ ss) = kinds_in uri (notices_of s) ++ kinds_of uri ss
 
-abbrev pub closes_it : NoticeKind → Bool
-closes_it (opened d) = false
-closes_it (changed version list) = false
-closes_it (saved text) = false
-closes_it closed = true
+-- whether a document of this version stays open and in order
+abbrev pub goes_on : Agreed → Option ℤ → NoticeKind → Bool
+goes_on a before (opened c) = true
+goes_on a before (changed version list) = not (is_late a version before)
+goes_on a before (saved text) = true
+goes_on a before closed = false
 
--- whether all that was told of a URI was made, and none of it closed the document
-abbrev pub is_current : List ℕ → List Sent → Bool
-is_current uri [] = true
-is_current uri (made n ∷ ss) = not (bytes_eq uri n.uri && closes_it n.kind) && is_current uri ss
-is_current uri (unmade n ∷ ss) = not (bytes_eq uri n.uri) && is_current uri ss
-is_current uri (unread notices ∷ ss) = false
+-- and its version then
+abbrev pub version_after : Option ℤ → NoticeKind → Option ℤ
+version_after before (opened c) = c.version
+version_after before (changed version list) = version
+version_after before (saved text) = before
+version_after before closed = before
+
+-- whether all that was told of a URI was made, none of it late, and none of it closed the document, which had this version before
+abbrev pub is_current : Agreed → List ℕ → Option ℤ → List Sent → Bool
+is_current a uri before [] = true
+is_current a uri before (made n ∷ ss) =
+    if bytes_eq uri n.uri
+    then goes_on a before n.kind && is_current a uri (version_after before n.kind) ss
+    else is_current a uri before ss
+is_current a uri before (unmade n ∷ ss) = not (bytes_eq uri n.uri) && is_current a uri before ss
+is_current a uri before (unread notices ∷ ss) = false
 
 -- ---- what a server holds
 
@@ -254,7 +330,7 @@ pub record Puts (before : Documents) (uri : List ℕ) (kept : Option Open)
   pub own : now.held uri ≡ kept
   pub others : (q : List ℕ) → bytes_eq q uri ≡ false → now.held q ≡ before.held q
 
--- a notification was made
+-- a notification made of its document what it makes
 abbrev pub Makes : Documents → Notice → Documents → Type 0
 Makes before n now = Puts before n.uri (after before.agreed (before.held n.uri) n.kind) now
 
@@ -283,20 +359,20 @@ IsVersion client None = Unit {0}
 IsVersion client (Some version) = client ≡ Some version
 
 -- a document that may be looked at has the client's text, and its version or none
-abbrev pub IsClients : Option Document → Option Document → Type 0
-IsClients client None = Unit {0}
-IsClients client (Some d) =
-    IsSomeAnd client (λ c. (d.text ≡ c.text) × IsVersion c.version d.version)
+abbrev pub IsClients : Agreed → Option Item → Option Document → Type 0
+IsClients a client None = Unit {0}
+IsClients a client (Some d) =
+    IsSomeAnd client (λ c. (d.text ≡ text_by a c.text) × IsVersion c.version d.version)
 
-abbrev pub Agrees : Option Document → Option Open → Type 0
-Agrees client kept = IsClients client (option_and_then shown kept)
+abbrev pub Agrees : Agreed → Option Item → Option Open → Type 0
+Agrees a client kept = IsClients a client (option_and_then shown kept)
 
 -- ---- what a call says
 
 -- nothing was wrong with it, and it was made, with this remark
 pub record Took (before : Documents) (n : Notice) (remark : Option Remark)
     (now : Documents) : Type 0 where
-  pub right : fault_of (before.held n.uri) n.kind ≡ None
+  pub right : fault_of before.agreed (before.held n.uri) n.kind ≡ None
   pub remarks : remark ≡ remark_of before.agreed (before.held n.uri) n.kind
   pub makes : Makes before n now
 
@@ -304,14 +380,14 @@ pub record Took (before : Documents) (n : Notice) (remark : Option Remark)
 pub record Starved (before : Documents) (n : Notice) (fault : DocumentFault)
     (now : Documents) : Type 0 where
   pub why : fault ≡ Memory
-  pub right : fault_of (before.held n.uri) n.kind ≡ None
+  pub right : fault_of before.agreed (before.held n.uri) n.kind ≡ None
   pub needed : needs_memory before.agreed (before.held n.uri) n.kind ≡ true
   pub misses : Misses before n.uri now
 
--- a call refused a notification, by name and with nothing changed, or missed it for want of memory
+-- a call refused a notification by name, which changes nothing but for late changes, or missed it for want of memory
 abbrev pub Refused : Documents → Notice → DocumentFault → Documents → Type 0
 Refused before n fault now =
-    ((fault_of (before.held n.uri) n.kind ≡ Some fault) × Keeps before now)
+    ((fault_of before.agreed (before.held n.uri) n.kind ≡ Some fault) × Makes before n now)
     ⊎ Starved before n fault now
 
 -- the same if the params may be of another shape: then what they tell of the URI that they name is missed; if they name none

@@ -5,12 +5,12 @@ use Rattle.std.specs.Str.{bytes_eq}
 use Rattle.serde_json.specs.Data.{Data, null, Items, no_items, item}
 use Rattle.serde_json.specs.Find.{get, as_str, as_number, as_u64, as_i64, as_array}
 use Rattle.lsp_message.specs.Meaning.{as_i32}
-use Rattle.lsp_text.specs.Documents.{Document, Change}
+use Rattle.lsp_text.specs.Documents.{Change}
 use Rattle.lsp_text.specs.declared.position.Position.{Position}
 use Rattle.lsp_text.specs.declared.position.Range.{Range}
 use Rattle.lsp_text.specs.declared.position.PositionEncoding.{PositionEncoding}
 use Rattle.lsp_text.specs.declared.position.PositionEncoding.TheVariants.{Utf8, Utf16, Utf32}
-use Rattle.lsp_documents.specs.Notices.{Notice, document, opens, edits, saves, closes}
+use Rattle.lsp_documents.specs.Notices.{Notice, Item, text_item, opens, edits, saves, closes}
 
 -- ---- members
 
@@ -80,12 +80,12 @@ abbrev pub uri_in : Data → Option (List ℕ)
 uri_in params = option_and_then (text_in (codes "uri")) (document_in params)
 
 -- the document that `textDocument/didOpen` tells of. A language that is no text is the empty one
-abbrev pub item_in : Data → Option Document
+abbrev pub item_in : Data → Option Item
 item_in d =
-    option_map (document (unwrap_or (text_in (codes "languageId") d) []) (version_in d))
+    option_map (text_item (unwrap_or (text_in (codes "languageId") d) []) (version_in d))
     (text_in (codes "text") d)
 
-abbrev pub opened_in : Data → Option Document
+abbrev pub opened_in : Data → Option Item
 opened_in params = option_and_then item_in (document_in params)
 
 abbrev pub did_open_in : Data → Option Notice

@@ -2,9 +2,10 @@
 ghost use Rattle.std.specs.Prelude.{◌≡◌, IfOk, OnOk, false};
 ghost use Rattle.serde_json.specs.View.{view, members_view};
 ghost use Rattle.lsp_text.specs.declared.position.PositionEncoding.TheVariants.{Utf16};
-ghost use Rattle.lsp_documents.specs.Announced.{announced as with_announced, announced_members, sync_of, options_of, IsAnnounced};
+ghost use Rattle.lsp_documents.specs.Announced.{announced as with_announced, announced_members, usual, sync_of, options_of, IsAnnounced};
 ghost use Rattle.lsp_documents.specs.Params.{agreed_in, agreed_by};
 
+use crate::options::DocumentOptions;
 use crate::params::{encoding_for, position_encoding};
 use lsp_text::PositionEncoding;
 use lsp_types::{SaveOptions, ServerCapabilities, TextDocumentSyncKind, TextDocumentSyncOptions};
@@ -13,6 +14,7 @@ use std::alloc::{AllocError, Global};
 use std::mem;
 
 /// What a server and its client agreed on for documents: in which units characters are counted, and whether a save comes with the text.
+/// Of the rest the author says how it is read: `with_options`.
 ///
 /// Only a call that announces it gives another encoding than UTF-16, or asks for texts. So no server counts in units of which its
 /// client does not know.
@@ -20,16 +22,22 @@ use std::mem;
 pub struct Agreed {
     encoding: PositionEncoding,
     include_text: bool,
+    options: DocumentOptions,
 }
 
 impl Agreed {
     /// What holds if nothing is announced: UTF-16, and no text is asked for (LSP 3.17, "PositionEncodingKind", "SaveOptions").
     pub fn unannounced() -> Agreed
-        ensures { result ≡ record { encoding = Utf16; include_text = false } }
+        ensures { result ≡ record {
+          encoding = Utf16;
+          include_text = false;
+          options = usual;
+        } }
     {
         Agreed {
             encoding: PositionEncoding::Utf16,
             include_text: false,
+            options: DocumentOptions::new(),
         }
     }
 
@@ -46,6 +54,7 @@ impl Agreed {
         ensures agreed { IfOk result (λ agreed. agreed ≡ record {
           encoding = agreed_in (view params.now);
           include_text = include_text;
+          options = usual;
         }) }
         ensures announced { IfOk result (λ agreed.
             view capabilities.new ≡ with_announced agreed (view capabilities.old)) }
@@ -53,6 +62,7 @@ impl Agreed {
         let agreed = Agreed {
             encoding: position_encoding(params),
             include_text,
+            options: DocumentOptions::new(),
         };
         if !capabilities.is_object() {
             drop(mem::replace(capabilities, Value::Object(Map::new(alloc))));
@@ -100,21 +110,38 @@ impl Agreed {
         ensures agreed { IfOk result (λ both. both.0 ≡ record {
           encoding = agreed_by (view client.now);
           include_text = include_text;
+          options = usual;
         }) }
         ensures announced { IfOk result (λ both. IsAnnounced both.0 both.1) }
     {
-        let encoding = encoding_for(client);
         let agreed = Agreed {
-            encoding,
+            encoding: encoding_for(client),
             include_text,
+            options: DocumentOptions::new(),
         };
-        match ServerCapabilities::of_documents(alloc, encoding) {
-            Ok(mut capabilities) => {
-                capabilities.text_document_sync = Some(sync_options(include_text));
-                Ok((agreed, capabilities))
-            }
-            Err(error) => Err(error),
-        }
+        let name = String::from_str(alloc, agreed.encoding.name())?;
+        let mut capabilities = ServerCapabilities::default();
+        capabilities.position_encoding = Some(name);
+        capabilities.text_document_sync = Some(sync_options(include_text));
+        Ok((agreed, capabilities))
+    }
+
+    /// The same, read in another way.
+    pub fn with_options(self, options: DocumentOptions) -> Agreed
+        ensures { result ≡ record {
+          encoding = self.encoding;
+          include_text = self.include_text;
+          options = options;
+        } }
+    {
+        Agreed { options, ..self }
+    }
+
+    /// How what the client tells is read.
+    pub fn options(self) -> DocumentOptions
+        ensures { result ≡ self.options }
+    {
+        self.options
     }
 
     /// The encoding that was agreed on.

@@ -5,12 +5,11 @@ ghost use Rattle.std.specs.Str.{bytes_eq};
 ghost use Rattle.std.specs.String.Boundary.{IsSplitPoint};
 ghost use Rattle.serde_json.specs.View.{view};
 ghost use Rattle.lsp_text.specs.Columns.{offset_of, IsPlace};
-ghost use Rattle.lsp_text.specs.Edits.{edited_by};
 ghost use Rattle.lsp_documents.specs.Heard.{Answers};
 ghost use Rattle.lsp_documents.specs.Held.{documents_of, known_of, texts_of, has_known, loses};
 ghost use Rattle.lsp_documents.specs.Known.{copied, copied_whole, NoneNames, IsFirstOf};
 ghost use Rattle.lsp_documents.specs.Methods.{method_named};
-ghost use Rattle.lsp_documents.specs.Notices.{document, opens, edits, closes, saves, shown, lost, missed, is_not_higher as is_below, is_past, change_remark as remark_of_change, save_remark as remark_of_save, version_of as kept_version, changed_in, saved_in, change_fault, has_whole as has_whole_text, has_changes, is_known, MissesAll, Took, Refused, Failed, FailedSave};
+ghost use Rattle.lsp_documents.specs.Notices.{document, text_item, text_by, begun_by, opens, edits, closes, saves, shown, lost, lost_at, missed, left_by, is_not_higher as is_below, is_late as late, is_past, change_remark as remark_of_change, save_remark as remark_of_save, version_of as kept_version, changed_or_late, saved_in, step_fault as fault_in, change_fault, has_whole as has_whole_text, has_changes, is_known, MissesAll, Took, Refused, Failed, FailedSave};
 ghost use Rattle.lsp_documents.specs.declared.kept.Open.TheVariants.{Known};
 ghost use Rattle.lsp_documents.specs.declared.fault.DocumentFault.TheVariants.{Params};
 ghost use Rattle.lsp_documents.specs.Params.{uri_in, did_open_in, did_change_in, did_save_in, did_close_in};
@@ -134,7 +133,7 @@ impl TextDocuments {
             ≡ option_and_then shown ((documents_of self.now).held uri.now) }
         ensures offset { IfSome result (λ found. found.1
             ≡ offset_of self.now.agreed.encoding found.0.now.text position.line position.character) }
-        ensures boundary { IfSome result (λ found. IsSplitPoint found.0.now.text found.1) }
+        ensures boundary { IfSome result (λ found. IsSplitPoint found.0.now.text.bytes found.1) }
     {
         let document = self.get(uri)?;
         Some((
@@ -148,10 +147,10 @@ impl TextDocuments {
     pub fn range_of(&self, text: &Text, part: ops::Range<usize>) -> Range
         ensures start { result.start ≡ position_of self.now.agreed.encoding text.now part.start }
         ensures end { result.end ≡ position_of self.now.agreed.encoding text.now part.end }
-        ensures start_again { IsPlace text.now part.start → length text.now < 2 ^ 30
+        ensures start_again { IsPlace text.now part.start → length text.now.bytes < 2 ^ 30
             → offset_of self.now.agreed.encoding text.now result.start.line result.start.character
             ≡ part.start }
-        ensures end_again { IsPlace text.now part.end → length text.now < 2 ^ 30
+        ensures end_again { IsPlace text.now part.end → length text.now.bytes < 2 ^ 30
             → offset_of self.now.agreed.encoding text.now result.end.line result.end.character
             ≡ part.end }
     {
@@ -225,14 +224,20 @@ impl TextDocuments {
         text: &str,
     ) -> Result<(), AllocError>
         ensures own { OnOk result ((documents_of self.new).held uri.now
-            ≡ Some (Known (document language_id.now version text.now))) }
+            ≡ Some (Known (document language_id.now version (text_by self.old.agreed text.now)))) }
         ensures others { OnOk result ((q : List ℕ) → bytes_eq q uri.now ≡ false
             → (documents_of self.new).held q ≡ (documents_of self.old).held q) }
         ensures err { OnErr result ((q : List ℕ)
             → (documents_of self.new).held q ≡ (documents_of self.old).held q) }
         ensures agreed { self.new.agreed ≡ self.old.agreed }
     {
-        let document = TextDocument::new(self.alloc, language_id, version, text)?;
+        let document = TextDocument::new(
+            self.alloc,
+            language_id,
+            version,
+            text,
+            self.agreed.options().line_ends,
+        )?;
         self.put(uri, document)
     }
 
@@ -244,16 +249,14 @@ impl TextDocuments {
         changes: &[ContentChange],
     ) -> Result<(), AllocError>
         ensures own { OnOk result ((documents_of self.new).held uri.now
-            ≡ Some (Known (document [] version
-            (edited_by self.old.agreed.encoding [] changes.now)))) }
+            ≡ Some (Known (begun_by self.old.agreed [] version changes.now))) }
         ensures others { OnOk result ((q : List ℕ) → bytes_eq q uri.now ≡ false
             → (documents_of self.new).held q ≡ (documents_of self.old).held q) }
         ensures err { OnErr result ((q : List ℕ)
             → (documents_of self.new).held q ≡ (documents_of self.old).held q) }
         ensures agreed { self.new.agreed ≡ self.old.agreed }
     {
-        let mut document = TextDocument::new(self.alloc, "", None, "")?;
-        document.change_in_place(self.alloc, version, self.agreed.encoding(), changes)?;
+        let document = begun(self.alloc, self.agreed, "", version, changes)?;
         self.put(uri, document)
     }
 
@@ -271,15 +274,34 @@ impl TextDocuments {
         Ok(())
     }
 
-    /// Why changes of a document can't be made, where a whole text is among them or not.
-    fn refusal(&self, uri: &str, whole: bool) -> Option<DocumentFault>
-        ensures { result ≡ change_fault ((documents_of self.now).held uri.now) whole }
+    /// Why changes to a version of a document can't be made, where a whole text is among them or not.
+    fn refusal(&self, uri: &str, version: Option<i32>, whole: bool) -> Option<DocumentFault>
+        ensures { result
+            ≡ change_fault self.now.agreed ((documents_of self.now).held uri.now) version whole }
     {
         match self.documents.get(uri) {
-            _ if whole => None,
+            Some(open) if is_late(self.agreed, version, open.version()) => {
+                Some(DocumentFault::OutOfOrder)
+            }
+            Some(open) => step_fault(open, whole),
+            None if whole => None,
             None => Some(DocumentFault::NotOpen),
-            Some(Open::Known(_)) => None,
-            Some(Open::Lost(_)) => Some(DocumentFault::OutOfStep),
+        }
+    }
+
+    /// Leaves what a refusal of changes leaves: those that come late leave the text lost.
+    fn refuse(&mut self, uri: &str, fault: DocumentFault)
+        ensures own { (documents_of self.new).held uri.now
+            ≡ left_by fault ((documents_of self.old).held uri.now) }
+        ensures others { (q : List ℕ) → bytes_eq q uri.now ≡ false
+            → (documents_of self.new).held q ≡ (documents_of self.old).held q }
+        ensures agreed { self.new.agreed ≡ self.old.agreed }
+    {
+        if let DocumentFault::OutOfOrder = fault
+            && let Some(open) = self.documents.get_mut(uri)
+        {
+            let version = open.version();
+            lose_text(self.alloc, open, version);
         }
     }
 
@@ -287,7 +309,9 @@ impl TextDocuments {
     /// lies past its line's end, or past the place behind the last line, the remark is `PastEnd`; else, if the version is the
     /// document's or a lower one, it is `VersionNotHigher`. Without a document of the URI a change of the whole text opens one, with
     /// the remark `WasNotOpen`. If no change is of the whole text, the fault is `NotOpen` without a document, and `OutOfStep` if its
-    /// text is lost: nothing is changed then. If memory runs out, the text is lost. Without a change no memory is needed.
+    /// text is lost: nothing is changed then. If the version is lower than the document's the fault is `OutOfOrder`, and the text is
+    /// lost, unless the author chose to make late changes (`DocumentOptions`). If memory runs out, the text is lost. Without a
+    /// change no memory is needed.
     pub fn change(
         &mut self,
         uri: &str,
@@ -301,7 +325,8 @@ impl TextDocuments {
             Refused (documents_of self.old) (edits uri.now version changes.now) fault
             (documents_of self.new)) }
     {
-        if let Some(fault) = self.refusal(uri, has_whole(changes)) {
+        if let Some(fault) = self.refusal(uri, version, has_whole(changes)) {
+            self.refuse(uri, fault);
             return Err(fault);
         }
         if !self.documents.contains_key(uri) {
@@ -313,12 +338,12 @@ impl TextDocuments {
         Ok(change_remark(past, not_higher))
     }
 
-    /// The version of a document whose text is known, if it has one.
+    /// The version that is kept of a document, if there is one.
     fn version_of(&self, uri: &str) -> Option<i32>
         ensures { result
             ≡ option_and_then kept_version ((documents_of self.now).held uri.now) }
     {
-        self.get(uri)?.version()
+        self.documents.get(uri)?.version()
     }
 
     /// Makes changes in the document of a URI, if there is one: in the text that is known, or from the whole text on that is among
@@ -329,12 +354,12 @@ impl TextDocuments {
         version: Option<i32>,
         changes: &[ContentChange],
     ) -> Result<bool, AllocError>
-        requires { change_fault ((documents_of self.old).held uri.now) (has_whole_text changes.now)
-            ≡ None }
+        requires { change_fault self.old.agreed ((documents_of self.old).held uri.now) version
+            (has_whole_text changes.now) ≡ None }
         ensures past { IfOk result (λ past. IfSome ((documents_of self.old).held uri.now) (λ o.
             past ≡ is_past self.old.agreed.encoding o changes.now)) }
         ensures own { OnOk result ((documents_of self.new).held uri.now
-            ≡ option_map (λ o. changed_in self.old.agreed.encoding o version changes.now)
+            ≡ option_map (λ o. changed_or_late self.old.agreed o version changes.now)
             ((documents_of self.old).held uri.now)) }
         ensures err { OnErr result ((documents_of self.new).held uri.now
             ≡ missed ((documents_of self.old).held uri.now)) }
@@ -344,7 +369,7 @@ impl TextDocuments {
         ensures agreed { self.new.agreed ≡ self.old.agreed }
     {
         match self.documents.get_mut(uri) {
-            Some(open) => change_open(self.alloc, open, version, self.agreed.encoding(), changes),
+            Some(open) => change_open(self.alloc, open, version, self.agreed, changes),
             None => Ok(false),
         }
     }
@@ -359,7 +384,7 @@ impl TextDocuments {
         ensures agreed { self.new.agreed ≡ self.old.agreed }
     {
         if let Some(open) = self.documents.get_mut(uri) {
-            lose_text(self.alloc, open);
+            lose_text(self.alloc, open, None);
         }
     }
 
@@ -373,7 +398,7 @@ impl TextDocuments {
     {
         let alloc = self.alloc;
         self.documents.retain(|_, open| {
-            lose_text(alloc, open);
+            lose_text(alloc, open, None);
             true
         });
     }
@@ -407,7 +432,8 @@ impl TextDocuments {
     /// Puts a text into the document of a URI, if there is one whose text is lost.
     fn renew(&mut self, uri: &str, text: &str) -> Result<(), AllocError>
         ensures own { OnOk result ((documents_of self.new).held uri.now
-            ≡ option_map (λ o. saved_in o text.now) ((documents_of self.old).held uri.now)) }
+            ≡ option_map (λ o. saved_in self.old.agreed o text.now)
+            ((documents_of self.old).held uri.now)) }
         ensures err { OnErr result ((documents_of self.new).held uri.now
             ≡ (documents_of self.old).held uri.now) }
         ensures lost { OnErr result (option_and_then shown ((documents_of self.old).held uri.now)
@@ -417,7 +443,7 @@ impl TextDocuments {
         ensures agreed { self.new.agreed ≡ self.old.agreed }
     {
         if let Some(open) = self.documents.get_mut(uri) {
-            renew_open(self.alloc, open, text)?;
+            renew_open(self.alloc, self.agreed, open, text)?;
         }
         Ok(())
     }
@@ -528,7 +554,8 @@ impl TextDocuments {
         let Some(whole) = params::whole_in(params) else {
             return Err(self.missed(uri, known, DocumentFault::Params));
         };
-        if let Some(fault) = self.refusal(uri, whole) {
+        if let Some(fault) = self.refusal(uri, version, whole) {
+            self.refuse(uri, fault);
             return Err(self.unmade(uri, known, fault));
         }
         match params::content_changes(self.alloc, params) {
@@ -626,15 +653,32 @@ impl TextDocuments {
     }
 }
 
-/// Makes the text of a document unknown.
-fn lose_text(alloc: Global, kept: &mut Open)
-    ensures { kept.new ≡ lost kept.old }
+/// Makes the text of a document unknown, if it is not yet, and keeps this version.
+fn lose_text(alloc: Global, kept: &mut Open, version: Option<i32>)
+    ensures { kept.new ≡ lost_at version kept.old }
 {
     let gone = LostDocument {
         language_id: String::new(alloc),
+        version: None,
     };
     let before = mem::replace(kept, Open::Lost(gone));
-    *kept = before.into_lost();
+    *kept = before.into_lost(version);
+}
+
+/// A document that begins with changes, of which one is of the whole text.
+fn begun(
+    alloc: Global,
+    agreed: Agreed,
+    language_id: &str,
+    version: Option<i32>,
+    changes: &[ContentChange],
+) -> Result<TextDocument, AllocError>
+    ensures { IfOk result (λ d. d ≡ begun_by agreed language_id.now version changes.now) }
+{
+    let ends = agreed.options().line_ends;
+    let mut document = TextDocument::new(alloc, language_id, None, "", ends)?;
+    document.change_in_place(alloc, version, agreed.encoding(), changes)?;
+    Ok(document)
 }
 
 /// Makes changes in what is kept of a document. If memory runs out, its text is lost. It gives whether a
@@ -643,27 +687,26 @@ fn change_open(
     alloc: Global,
     kept: &mut Open,
     version: Option<i32>,
-    encoding: PositionEncoding,
+    agreed: Agreed,
     changes: &[ContentChange],
 ) -> Result<bool, AllocError>
-    requires { change_fault (Some kept.old) (has_whole_text changes.now) ≡ None }
-    ensures past { IfOk result (λ past. past ≡ is_past encoding kept.old changes.now) }
-    ensures ok { OnOk result (kept.new ≡ changed_in encoding kept.old version changes.now) }
+    requires { change_fault agreed (Some kept.old) version (has_whole_text changes.now) ≡ None }
+    ensures past { IfOk result (λ past. past ≡ is_past agreed.encoding kept.old changes.now) }
+    ensures ok { OnOk result (kept.new ≡ changed_or_late agreed kept.old version changes.now) }
     ensures err { OnErr result (kept.new ≡ lost kept.old) }
     ensures needed { OnErr result (has_changes changes.now ≡ true) }
 {
     match kept {
         Open::Known(document) => {
+            let encoding = agreed.encoding();
             let changed = document.change_in_place(alloc, version, encoding, changes);
             if changed.is_err() {
-                lose_text(alloc, kept);
+                lose_text(alloc, kept, None);
             }
             changed
         }
         Open::Lost(document) => {
-            let language_id = document.language_id();
-            let mut known = TextDocument::new(alloc, language_id, None, "")?;
-            known.change_in_place(alloc, version, encoding, changes)?;
+            let known = begun(alloc, agreed, document.language_id(), version, changes)?;
             *kept = Open::Known(known);
             Ok(false)
         }
@@ -671,13 +714,14 @@ fn change_open(
 }
 
 /// Puts a text into what is kept of a document, if its own is lost. If memory runs out, nothing is changed.
-fn renew_open(alloc: Global, kept: &mut Open, text: &str) -> Result<(), AllocError>
-    ensures ok { OnOk result (kept.new ≡ saved_in kept.old text.now) }
+fn renew_open(alloc: Global, agreed: Agreed, kept: &mut Open, text: &str) -> Result<(), AllocError>
+    ensures ok { OnOk result (kept.new ≡ saved_in agreed kept.old text.now) }
     ensures err { OnErr result (kept.new ≡ kept.old) }
     ensures lost { OnErr result (shown kept.old ≡ None) }
 {
     if let Open::Lost(document) = kept {
-        let known = TextDocument::new(alloc, document.language_id(), None, text)?;
+        let ends = agreed.options().line_ends;
+        let known = TextDocument::new(alloc, document.language_id(), None, text, ends)?;
         *kept = Open::Known(known);
     }
     Ok(())
@@ -690,6 +734,26 @@ fn is_not_higher(version: Option<i32>, before: Option<i32>) -> bool
     match (version, before) {
         (Some(version), Some(before)) => version <= before,
         _ => false,
+    }
+}
+
+/// Whether changes to a version come late, behind this one.
+fn is_late(agreed: Agreed, version: Option<i32>, before: Option<i32>) -> bool
+    ensures { result ≡ late agreed version before }
+{
+    match (version, before) {
+        (Some(version), Some(before)) => !agreed.options().makes_late && version < before,
+        _ => false,
+    }
+}
+
+/// Why changes can't be made in a document, where a whole text is among them or not.
+fn step_fault(kept: &Open, whole: bool) -> Option<DocumentFault>
+    ensures { result ≡ fault_in kept.now whole }
+{
+    match kept {
+        Open::Lost(_) if !whole => Some(DocumentFault::OutOfStep),
+        _ => None,
     }
 }
 

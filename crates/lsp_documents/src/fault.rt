@@ -5,7 +5,8 @@ use std::fmt;
 
 /// Why a notification of a document was not made.
 ///
-/// It prints `params of another shape`, `the document is not open`, `the document is out of step` or `out of memory`.
+/// It prints `params of another shape`, `the document is not open`, `the document is out of step`, `changes came out of order` or
+/// `out of memory`.
 #[derive(Clone, Copy, Debug, PartialEq, Eq)]
 pub enum DocumentFault {
     /// The params lack a member that decides what comes of them, or it is of another type.
@@ -15,6 +16,13 @@ pub enum DocumentFault {
     /// The document's text is lost, since something that the client told of it was missed, and none of the changes is of the whole
     /// text.
     OutOfStep,
+    /// The changes come behind a higher version, so the text is lost: it lacked them when those behind them were made.
+    /// `DocumentOptions::makes_late` has them made.
+    ///
+    /// Helix 25 sends changes of a burst so, and goes on with ranges: its text comes back once it is saved, if the text is asked for
+    /// (`Agreed`), or opened anew. An editor that sends whole texts brings it back with the next one that is no older. Neovim 0.10,
+    /// Emacs 30 and the library of VS Code keep the order.
+    OutOfOrder,
     /// An allocation failed.
     Memory,
 }
@@ -29,6 +37,7 @@ impl fmt::Display for DocumentFault {
             DocumentFault::Params => write!(f, "params of another shape"),
             DocumentFault::NotOpen => write!(f, "the document is not open"),
             DocumentFault::OutOfStep => write!(f, "the document is out of step"),
+            DocumentFault::OutOfOrder => write!(f, "changes came out of order"),
             DocumentFault::Memory => write!(f, "out of memory"),
         }
     }
@@ -58,11 +67,11 @@ pub enum Remark {
     OpenAlready,
     /// The document was not open, and a change of the whole text opened it. Nobody said its language, which is the empty text.
     WasNotOpen,
-    /// The version is the document's, or a lower one.
+    /// The version is the document's, or a lower one if the author chose to make late changes.
     VersionNotHigher,
     /// A position of a change lies past its line's end, or past the place behind the last line, in the text that is kept. LSP 3.17
     /// takes it for that end (`Position`), but a client has no such place in a text that is the same and that it counts in the same
-    /// way. It may have missed an end of a line where LSP 3.17 has one, as at a carriage return alone, or count in another encoding.
+    /// way. It may end lines elsewhere, or count in another encoding.
     PastEnd,
     /// The text that came with a `didSave` differs from the one that is kept, which stays.
     SavedTextDiffers,

@@ -1,7 +1,7 @@
 // What a server keeps of a document that is open.
 ghost use Rattle.std.specs.Prelude.{◌≡◌};
 ghost use Rattle.std.specs.Option.{option_copied};
-ghost use Rattle.lsp_documents.specs.Notices.{shown, language_of, lost};
+ghost use Rattle.lsp_documents.specs.Notices.{shown, language_of, version_of, lost_at};
 
 use crate::lost::LostDocument;
 use lsp_text::TextDocument;
@@ -36,13 +36,24 @@ impl Open {
         }
     }
 
-    /// What is left of it if its text is lost.
-    pub(crate) fn into_lost(self) -> Open
-        ensures { result ≡ lost self }
+    /// The version of its text, or if that is lost the one below which nothing brings it back.
+    pub fn version(&self) -> Option<i32>
+        ensures { result ≡ version_of self.now }
+    {
+        match self {
+            Open::Known(document) => document.version(),
+            Open::Lost(document) => document.version(),
+        }
+    }
+
+    /// What is left of it if its text is lost, with this version. One that is lost already stays as it is.
+    pub(crate) fn into_lost(self, version: Option<i32>) -> Open
+        ensures { result ≡ lost_at version self }
     {
         match self {
             Open::Known(document) => Open::Lost(LostDocument {
                 language_id: document.into_language_id(),
+                version,
             }),
             Open::Lost(document) => Open::Lost(document),
         }

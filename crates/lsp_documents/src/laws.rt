@@ -1,33 +1,42 @@
 //! Laws of the documents that a client has opened. Each is the contract of a function, so the proofs of callers can use it.
-ghost use Rattle.std.specs.Prelude.{◌≡◌, ℕ, ℤ, List, ◌∷◌, Option, Some, None, true};
-ghost use Rattle.lsp_text.specs.Documents.{Document};
+ghost use Rattle.std.specs.Prelude.{◌≡◌, ℕ, ℤ, List, ◌∷◌, Option, Some, None, option_and_then, true};
+ghost use Rattle.lsp_text.specs.Documents.{Change};
 ghost use Rattle.lsp_documents.specs.declared.fault.DocumentFault.{DocumentFault};
+ghost use Rattle.lsp_documents.specs.declared.fault.DocumentFault.TheVariants.{OutOfOrder};
+ghost use Rattle.lsp_documents.specs.declared.kept.Open.{Open};
 ghost use Rattle.lsp_documents.specs.declared.kept.Open.TheVariants.{Known};
-ghost use Rattle.lsp_documents.specs.Notices.{Documents, Notice, Sent, made, opens, document, fault_of, Keeps, Makes, TakesAll, Agrees, SavesItsText, kept_after_all, kinds_of, told_all, is_current};
+ghost use Rattle.lsp_documents.specs.Notices.{Documents, Notice, Item, text_item, Sent, made, opens, edits, kept_by, shown, version_of, is_late, fault_of, Keeps, Makes, TakesAll, Agrees, SavesItsText, kept_after_all, kinds_of, told_all, is_current};
 
 /// A document that may be looked at is the client's: after any list of notifications, of which some were made, of some the URI
 /// alone was known, and of some nothing at all, each URI whose text is known has the text of the client's own document, and its
 /// version or none. A text that was asked for and comes with a save is taken for the client's. One that was not asked for may be any.
 ///
 /// What is kept is no more and no less than the notifications make of it, one after another (`kept`). A document that was opened,
-/// of which all was made since, is known, and is the client's in each part (`current`). A call that refuses by name has made the
-/// notification, as what is wrong changes nothing (`refused`).
+/// of which all was made since, and none of it late, is known, and is the client's in each part (`current`). Changes that come
+/// behind a higher version leave no text to look at, unless the author chose to make them (`late`). What is refused by name changes
+/// nothing else (`refused`).
 pub fn documents_are_the_clients()
     ensures each { (before : Documents) (client : List ℕ
-        → Option Document) (sent : List Sent) (now : Documents) → TakesAll before sent now
-        → (uri : List ℕ) → Agrees (client uri) (before.held uri)
+        → Option Item) (sent : List Sent) (now : Documents) → TakesAll before sent now
+        → (uri : List ℕ) → Agrees before.agreed (client uri) (before.held uri)
         → SavesItsText before.agreed (client uri) (kinds_of uri sent)
-        → Agrees (told_all before.agreed.encoding (client uri) (kinds_of uri sent)) (now.held uri) }
+        → Agrees before.agreed (told_all before.agreed (client uri) (kinds_of uri sent))
+        (now.held uri) }
     ensures kept { (before : Documents) (sent : List Sent) (now : Documents)
         → TakesAll before sent now → (uri : List ℕ)
         → now.held uri ≡ kept_after_all before.agreed uri (before.held uri) sent }
     ensures current { (before : Documents) (uri language_id : List ℕ) (version : Option ℤ)
         (text : List ℕ) (sent : List Sent) (now : Documents)
         → TakesAll before (made (opens uri language_id version text) ∷ sent) now
-        → is_current uri sent ≡ true → (d : Document)
-        × (told_all before.agreed.encoding (Some (document language_id version text)) (kinds_of uri sent)
-        ≡ Some d) × (now.held uri ≡ Some (Known d)) }
+        → is_current before.agreed uri version sent ≡ true → (c : Item)
+        × (told_all before.agreed (Some (text_item language_id version text)) (kinds_of uri sent)
+        ≡ Some c) × (now.held uri ≡ Some (Known (kept_by before.agreed c))) }
+    ensures late { (before : Documents) (uri : List ℕ) (version : Option ℤ)
+        (list : List Change) (o : Open) (now : Documents) → before.held uri ≡ Some o
+        → is_late before.agreed version (version_of o) ≡ true
+        → Makes before (edits uri version list) now
+        → option_and_then shown (now.held uri) ≡ None }
     ensures refused { (before : Documents) (n : Notice) (now : Documents) (fault : DocumentFault)
-        → fault_of (before.held n.uri) n.kind ≡ Some fault → Keeps before now
-        → Makes before n now }
+        → fault_of before.agreed (before.held n.uri) n.kind ≡ Some fault → (fault ≡ OutOfOrder → ⊥)
+        → Makes before n now → Keeps before now }
 {}

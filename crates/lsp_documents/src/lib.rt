@@ -9,6 +9,7 @@ mod known;
 pub mod laws;
 mod lost;
 mod method;
+mod options;
 mod params;
 
 pub use agreed::Agreed;
@@ -17,4 +18,5 @@ pub use fault::{DocumentFault, Made, NotMade, Remark};
 pub use kept::Open;
 pub use known::{KnownDocuments, OpenText};
 pub use lost::LostDocument;
+pub use options::DocumentOptions;
 pub use params::{position_encoding, position_in, range_in, uri_in};

@@ -1,26 +1,36 @@
 // What is left of a document whose text is lost.
-ghost use Rattle.std.specs.Prelude.{◌≡◌, ℕ, List};
+ghost use Rattle.std.specs.Prelude.{◌≡◌};
 ghost use Rattle.std.specs.String.{string_bytes};
+ghost use Rattle.lsp_documents.specs.Remains.{Remains, remains};
 
 use std::marker::Model;
 
-/// A document whose text is not known, since something that the client told of it was missed. Contracts see its language.
+/// A document whose text is not known, since something that the client told of it was missed or came out of order. Contracts see its
+/// language, and below which version nothing brings the text back.
 #[derive(Drop)]
 pub struct LostDocument {
     pub(crate) language_id: String,
+    pub(crate) version: Option<i32>,
 }
 
 impl Model for LostDocument {
-    ghost Value = { List ℕ };
+    ghost Value = { Remains };
 
-    ghost view = { λ d. string_bytes d.language_id };
+    ghost view = { λ d. remains (string_bytes d.language_id) d.version };
 }
 
 impl LostDocument {
     /// The language, as the client named it when it opened the document.
     pub fn language_id(&self) -> &str
-        ensures { result.now ≡ self.now }
+        ensures { result.now ≡ self.now.language_id }
     {
         self.language_id.as_str()
+    }
+
+    /// Its version, if changes came out of order. A whole text of a lower one does not bring the text back.
+    pub fn version(&self) -> Option<i32>
+        ensures { result ≡ self.now.version }
+    {
+        self.version
     }
 }

@@ -2,7 +2,7 @@
 ghost use Rattle.std.specs.Prelude.{◌≡◌, ℕ, List, Option, option_map, option_and_then, codes, IfOk, OnErr, IfSome, ◌<◌, length, true, string_bytes, is_none};
 ghost use Rattle.serde_json.specs.Find.{get, as_array};
 ghost use Rattle.serde_json.specs.View.{view, items_view};
-ghost use Rattle.lsp_text.specs.Documents.{Change, Document};
+ghost use Rattle.lsp_text.specs.Documents.{Change};
 ghost use Rattle.lsp_documents.specs.Notices.{has_whole, has_changes};
 ghost use Rattle.lsp_documents.specs.Params.{text_in as text_of, count_in as count_of, line_in as line_of, is_negative as is_below, version_in as version_from, position_in as position_of, range_in as range_of, given_range as range_given, change_in as change_of, changes_in as changes_of, document_in as document_of, uri_in as uri_of, opened_in, changes_given, encoding_named as named, first_named as first_of, offered_by as offers, agreed_by, agreed_in};
 

@@ -3,24 +3,25 @@ use Rattle.std.proofs.Common.{◌≡◌, ℕ, zero, suc, ◌+◌, ◌-◌, ◌<�
 use Rattle.std.proofs.lemmas.List.{get_or-take, set-append_right, length-map, get_or_default, get_or-drop, drop_more, get_or_append_left, get_or-append_right, take-append-drop, length-take-le, take_at, drop_at}
 use Rattle.std.proofs.lemmas.List.Edits.{map_over_more}
 use Rattle.std.proofs.lemmas.Bool.{cases_lt}
+use Rattle.lsp_text.specs.declared.line_ends.LineEnds.{LineEnds}
 use Rattle.lsp_text.specs.Lines.{ends_line, starts_in, line_starts}
 
 -- a step of a walk over the bytes
-pub starts_more : (at i : ℕ) (xs : List ℕ) (next : ℕ) → i < length xs → starts_in (at + i) (drop i xs) next ≡ cond (ends_line (get_or xs i 0) (get_or xs (i + 1) next)) ((at + i + 1) ∷ starts_in (at + (i + 1)) (drop (i + 1) xs) next) (starts_in (at + (i + 1)) (drop (i + 1) xs) next)
-starts_more at i xs next l =
+pub starts_more : (ends : LineEnds) (at i : ℕ) (xs : List ℕ) (next : ℕ) → i < length xs → starts_in ends (at + i) (drop i xs) next ≡ cond (ends_line ends (get_or xs i 0) (get_or xs (i + 1) next)) ((at + i + 1) ∷ starts_in ends (at + (i + 1)) (drop (i + 1) xs) next) (starts_in ends (at + (i + 1)) (drop (i + 1) xs) next)
+starts_more ends at i xs next l =
     let e : at + (i + 1) ≡ at + i + 1 = omega arith in
     let f : get_or (drop (i + 1) xs) 0 next ≡ get_or xs (i + 1) next = (let z : i + 1 + 0 ≡ i + 1 = omega arith in rw z at (get_or-drop (i + 1) xs 0 next)) in
     rw (e, drop_more xs i 0 l, f) refl
 
-pub push_more : (was now : List ℕ) (at i : ℕ) (xs : List ℕ) (next after : ℕ) (r : Bool) → i < length xs → after ≡ get_or xs (i + 1) next → r ≡ ends_line (get_or xs i 0) after → r ≡ true → now ≡ was ++ (at + i + 1) ∷ [] → now ++ starts_in (at + (i + 1)) (drop (i + 1) xs) next ≡ was ++ starts_in (at + i) (drop i xs) next
-push_more was now at i xs next after r l a e t n =
-    let f : ends_line (get_or xs i 0) (get_or xs (i + 1) next) ≡ true = rw (← a) (sym e ∙ t) in
-    rw (starts_more at i xs next l, f, n) (append_assoc was ((at + i + 1) ∷ []) _)
+pub push_more : (ends : LineEnds) (was now : List ℕ) (at i : ℕ) (xs : List ℕ) (next after : ℕ) (r : Bool) → i < length xs → after ≡ get_or xs (i + 1) next → r ≡ ends_line ends (get_or xs i 0) after → r ≡ true → now ≡ was ++ (at + i + 1) ∷ [] → now ++ starts_in ends (at + (i + 1)) (drop (i + 1) xs) next ≡ was ++ starts_in ends (at + i) (drop i xs) next
+push_more ends was now at i xs next after r l a e t n =
+    let f : ends_line ends (get_or xs i 0) (get_or xs (i + 1) next) ≡ true = rw (← a) (sym e ∙ t) in
+    rw (starts_more ends at i xs next l, f, n) (append_assoc was ((at + i + 1) ∷ []) _)
 
-pub skip_more : (was now : List ℕ) (at i : ℕ) (xs : List ℕ) (next after : ℕ) (r : Bool) → i < length xs → after ≡ get_or xs (i + 1) next → r ≡ ends_line (get_or xs i 0) after → r ≡ false → now ≡ was → now ++ starts_in (at + (i + 1)) (drop (i + 1) xs) next ≡ was ++ starts_in (at + i) (drop i xs) next
-skip_more was now at i xs next after r l a e t n =
-    let f : ends_line (get_or xs i 0) (get_or xs (i + 1) next) ≡ false = rw (← a) (sym e ∙ t) in
-    rw (starts_more at i xs next l, f, n) refl
+pub skip_more : (ends : LineEnds) (was now : List ℕ) (at i : ℕ) (xs : List ℕ) (next after : ℕ) (r : Bool) → i < length xs → after ≡ get_or xs (i + 1) next → r ≡ ends_line ends (get_or xs i 0) after → r ≡ false → now ≡ was → now ++ starts_in ends (at + (i + 1)) (drop (i + 1) xs) next ≡ was ++ starts_in ends (at + i) (drop i xs) next
+skip_more ends was now at i xs next after r l a e t n =
+    let f : ends_line ends (get_or xs i 0) (get_or xs (i + 1) next) ≡ false = rw (← a) (sym e ∙ t) in
+    rw (starts_more ends at i xs next l, f, n) refl
 
 first_of : (xs ys : List ℕ) (n : ℕ) → get_or (xs ++ ys) 0 n ≡ get_or xs 0 (get_or ys 0 n)
 first_of [] ys n = refl
@@ -31,11 +32,11 @@ cond-append true x xs ys = refl
 cond-append false x xs ys = refl
 
 -- the starts of two parts, one behind the other
-pub starts_in-append : (i : ℕ) (xs ys : List ℕ) (n : ℕ) → starts_in i (xs ++ ys) n ≡ starts_in i xs (get_or ys 0 n) ++ starts_in (i + length xs) ys n
-starts_in-append i [] ys n = let e : i + 0 ≡ i = omega arith in rw e refl
-starts_in-append i (x ∷ xs) ys n =
+pub starts_in-append : (ends : LineEnds) (i : ℕ) (xs ys : List ℕ) (n : ℕ) → starts_in ends i (xs ++ ys) n ≡ starts_in ends i xs (get_or ys 0 n) ++ starts_in ends (i + length xs) ys n
+starts_in-append ends i [] ys n = let e : i + 0 ≡ i = omega arith in rw e refl
+starts_in-append ends i (x ∷ xs) ys n =
     let e : i + suc (length xs) ≡ i + 1 + length xs = omega arith in
-    rw (e, first_of xs ys n, starts_in-append (i + 1) xs ys n) (cond-append (ends_line x (get_or xs 0 (get_or ys 0 n))) (i + 1) (starts_in (i + 1) xs (get_or ys 0 n)) (starts_in (i + 1 + length xs) ys n))
+    rw (e, first_of xs ys n, starts_in-append ends (i + 1) xs ys n) (cond-append (ends_line ends x (get_or xs 0 (get_or ys 0 n))) (i + 1) (starts_in ends (i + 1) xs (get_or ys 0 n)) (starts_in ends (i + 1 + length xs) ys n))
 
 -- each of the numbers lies above low, and is at most high
 abbrev pub Between : ℕ → ℕ → List ℕ → Type 0
@@ -50,11 +51,11 @@ between-cond low high s ss true l h b = between-cons low high s ss l h b
 between-cond low high s ss false l h b = b
 
 -- starts lie behind the place where the bytes begin, and at most at their end
-pub starts_in-between : (i : ℕ) (xs : List ℕ) (n : ℕ) → Between i (i + length xs) (starts_in i xs n)
-starts_in-between i [] n = λ k l. absurd (omega arith)
-starts_in-between i (x ∷ xs) n =
-    between-cond i (i + suc (length xs)) (i + 1) (starts_in (i + 1) xs n) (ends_line x (get_or xs 0 n)) (omega arith) (omega arith)
-    (λ k l. let b = starts_in-between (i + 1) xs n k l in (omega (arith, b.0), omega (arith, b.1)))
+pub starts_in-between : (ends : LineEnds) (i : ℕ) (xs : List ℕ) (n : ℕ) → Between i (i + length xs) (starts_in ends i xs n)
+starts_in-between ends i [] n = λ k l. absurd (omega arith)
+starts_in-between ends i (x ∷ xs) n =
+    between-cond i (i + suc (length xs)) (i + 1) (starts_in ends (i + 1) xs n) (ends_line ends x (get_or xs 0 n)) (omega arith) (omega arith)
+    (λ k l. let b = starts_in-between ends (i + 1) xs n k l in (omega (arith, b.0), omega (arith, b.1)))
 
 -- the numbers are in order
 abbrev pub InOrder : List ℕ → Type 0
@@ -70,31 +71,31 @@ order-cond : (s high : ℕ) (ss : List ℕ) (t : Bool) → Between s high ss →
 order-cond s high ss true b o = order-cons s high ss b o
 order-cond s high ss false b o = o
 
-starts_in-order : (i : ℕ) (xs : List ℕ) (n : ℕ) → InOrder (starts_in i xs n)
-starts_in-order i [] n = λ a b le l. absurd (omega arith)
-starts_in-order i (x ∷ xs) n =
-    order-cond (i + 1) (i + 1 + length xs) (starts_in (i + 1) xs n) (ends_line x (get_or xs 0 n)) (starts_in-between (i + 1) xs n) (starts_in-order (i + 1) xs n)
+starts_in-order : (ends : LineEnds) (i : ℕ) (xs : List ℕ) (n : ℕ) → InOrder (starts_in ends i xs n)
+starts_in-order ends i [] n = λ a b le l. absurd (omega arith)
+starts_in-order ends i (x ∷ xs) n =
+    order-cond (i + 1) (i + 1 + length xs) (starts_in ends (i + 1) xs n) (ends_line ends x (get_or xs 0 n)) (starts_in-between ends (i + 1) xs n) (starts_in-order ends (i + 1) xs n)
 
-pub line_starts-order : (xs : List ℕ) → InOrder (line_starts xs)
-line_starts-order xs = order-cons 0 (0 + length xs) (starts_in 0 xs 0) (starts_in-between 0 xs 0) (starts_in-order 0 xs 0)
+pub line_starts-order : (ends : LineEnds) (xs : List ℕ) → InOrder (line_starts ends xs)
+line_starts-order ends xs = order-cons 0 (0 + length xs) (starts_in ends 0 xs 0) (starts_in-between ends 0 xs 0) (starts_in-order ends 0 xs 0)
 
 cond-map : (f : ℕ → ℕ) (t : Bool) (a b : ℕ) (xs ys : List ℕ) → f a ≡ b → map f xs ≡ ys → map f (cond t (a ∷ xs) xs) ≡ cond t (b ∷ ys) ys
 cond-map f true a b xs ys e es = cc
 cond-map f false a b xs ys e es = es
 
-moved_by : (i j d : ℕ) (xs : List ℕ) (n : ℕ) → map (λ s. s - i + j) (starts_in (i + d) xs n) ≡ starts_in (j + d) xs n
-moved_by i j d [] n = refl
-moved_by i j d (x ∷ xs) n =
+moved_by : (ends : LineEnds) (i j d : ℕ) (xs : List ℕ) (n : ℕ) → map (λ s. s - i + j) (starts_in ends (i + d) xs n) ≡ starts_in ends (j + d) xs n
+moved_by ends i j d [] n = refl
+moved_by ends i j d (x ∷ xs) n =
     let e : i + d + 1 ≡ i + (d + 1) = omega arith in
     let f : j + d + 1 ≡ j + (d + 1) = omega arith in
-    rw (e, f) (cond-map (λ s. s - i + j) (ends_line x (get_or xs 0 n)) (i + (d + 1)) (j + (d + 1)) (starts_in (i + (d + 1)) xs n) (starts_in (j + (d + 1)) xs n) (omega arith) (moved_by i j (d + 1) xs n))
+    rw (e, f) (cond-map (λ s. s - i + j) (ends_line ends x (get_or xs 0 n)) (i + (d + 1)) (j + (d + 1)) (starts_in ends (i + (d + 1)) xs n) (starts_in ends (j + (d + 1)) xs n) (omega arith) (moved_by ends i j (d + 1) xs n))
 
 -- the same bytes at another place
-pub starts_in-moved : (i j : ℕ) (xs : List ℕ) (n : ℕ) → map (λ s. s - i + j) (starts_in i xs n) ≡ starts_in j xs n
-starts_in-moved i j xs n =
+pub starts_in-moved : (ends : LineEnds) (i j : ℕ) (xs : List ℕ) (n : ℕ) → map (λ s. s - i + j) (starts_in ends i xs n) ≡ starts_in ends j xs n
+starts_in-moved ends i j xs n =
     let e : i + 0 ≡ i = omega arith in
     let f : j + 0 ≡ j = omega arith in
-    rw (e, f) at (moved_by i j 0 xs n)
+    rw (e, f) at (moved_by ends i j 0 xs n)
 
 -- where a list of numbers in order is cut at a place
 pub cut_at : (place k : ℕ) (ls hs ss : List ℕ) → ss ≡ ls ++ hs → ((i : ℕ) → i < length ls → get_or ls i 0 ≤ place) → ((i : ℕ) → i < length hs → place < get_or hs i 0) →
@@ -122,41 +123,41 @@ up_to high ss b zero l = omega arith
 up_to high ss b (suc j) l = b j (omega arith)
 
 -- the starts up to a place of a text, and those behind it
-pub line_starts-cut : (i k : ℕ) (xs ss : List ℕ) → ss ≡ line_starts xs → i ≤ length xs →
+pub line_starts-cut : (ends : LineEnds) (i k : ℕ) (xs ss : List ℕ) → ss ≡ line_starts ends xs → i ≤ length xs →
     ((j : ℕ) → j < k → get_or ss j 0 ≤ i) → ((j : ℕ) → k ≤ j → j < length ss → i < get_or ss j 0) → k ≤ length ss →
-    (take k ss ≡ 0 ∷ starts_in 0 (take i xs) (get_or xs i 0)) × (drop k ss ≡ starts_in i (drop i xs) 0)
-line_starts-cut i k xs ss is l below above within =
-    let ls : List ℕ = 0 ∷ starts_in 0 (take i xs) (get_or xs i 0) in
-    let hs : List ℕ = starts_in i (drop i xs) 0 in
+    (take k ss ≡ 0 ∷ starts_in ends 0 (take i xs) (get_or xs i 0)) × (drop k ss ≡ starts_in ends i (drop i xs) 0)
+line_starts-cut ends i k xs ss is l below above within =
+    let ls : List ℕ = 0 ∷ starts_in ends 0 (take i xs) (get_or xs i 0) in
+    let hs : List ℕ = starts_in ends i (drop i xs) 0 in
     let t : take i xs ++ drop i xs ≡ xs = take-append-drop i xs in
     let n : length (take i xs) ≡ i = length-take-le i xs l in
     let n0 : 0 + length (take i xs) ≡ i = omega arith in
     let f : get_or (drop i xs) 0 0 ≡ get_or xs i 0 = first_of_drop i xs in
-    let a : starts_in 0 (take i xs ++ drop i xs) 0 ≡ starts_in 0 (take i xs) (get_or xs i 0) ++ hs =
-    rw (n0, f) at (starts_in-append 0 (take i xs) (drop i xs) 0) in
+    let a : starts_in ends 0 (take i xs ++ drop i xs) 0 ≡ starts_in ends 0 (take i xs) (get_or xs i 0) ++ hs =
+    rw (n0, f) at (starts_in-append ends 0 (take i xs) (drop i xs) 0) in
     let p : ss ≡ ls ++ hs = is ∙ ap (λ (ys : List ℕ). 0 ∷ ys) (rw t at a) in
-    let bl = starts_in-between 0 (take i xs) (get_or xs i 0) in
-    let bh = starts_in-between i (drop i xs) 0 in
-    let c : k ≡ length ls = cut_at i k ls hs ss p (up_to i (starts_in 0 (take i xs) (get_or xs i 0)) (λ j h. let b = bl j h in omega (arith, b.1)))
+    let bl = starts_in-between ends 0 (take i xs) (get_or xs i 0) in
+    let bh = starts_in-between ends i (drop i xs) 0 in
+    let c : k ≡ length ls = cut_at i k ls hs ss p (up_to i (starts_in ends 0 (take i xs) (get_or xs i 0)) (λ j h. let b = bl j h in omega (arith, b.1)))
     (λ j h. let b = bh j h in omega (arith, b.0)) below above within in
     (rw p (take_at ls hs k (sym c)), rw p (drop_at ls hs k (sym c)))
 
 -- the byte that follows the first p bytes is the same after the edit
-follows_same : (i p : ℕ) (xs : List ℕ) (f : ℕ) → i ≤ length xs → p ≡ i - 1 → starts_in 0 (take p xs) (get_or (take (i - p) (drop p xs)) 0 f) ≡ starts_in 0 (take p xs) (get_or xs p 0)
-follows_same i zero xs f l e = refl
-follows_same i (suc p) xs f l e =
+follows_same : (ends : LineEnds) (i p : ℕ) (xs : List ℕ) (f : ℕ) → i ≤ length xs → p ≡ i - 1 → starts_in ends 0 (take p xs) (get_or (take (i - p) (drop p xs)) 0 f) ≡ starts_in ends 0 (take p xs) (get_or xs p 0)
+follows_same ends i zero xs f l e = refl
+follows_same ends i (suc p) xs f l e =
     let z : suc p + 0 ≡ suc p = omega arith in
     let h : 0 < i - suc p = omega arith in
     let a : get_or (take (i - suc p) (drop (suc p) xs)) 0 f ≡ get_or (drop (suc p) xs) 0 f = get_or-take (i - suc p) (drop (suc p) xs) 0 f h in
     let b : get_or (drop (suc p) xs) 0 f ≡ get_or xs (suc p) f = (rw z at (get_or-drop (suc p) xs 0 f)) in
     let c : get_or xs (suc p) f ≡ get_or xs (suc p) 0 = get_or_default xs (suc p) f 0 (omega arith) in
-    ap (λ n. starts_in 0 (take (suc p) xs) n) (a ∙ b ∙ c)
+    ap (λ n. starts_in ends 0 (take (suc p) xs) n) (a ∙ b ∙ c)
 
 -- the starts of a text in which the bytes ys take the place of those from i to j
-pub line_starts-replaced : (i j p : ℕ) (xs ys kept tail : List ℕ) → i ≤ j → j ≤ length xs → p ≡ i - 1 →
-    kept ≡ 0 ∷ starts_in 0 (take p xs) (get_or xs p 0) → tail ≡ starts_in j (drop j xs) 0 →
-    ((kept ++ starts_in p (take (i - p) (drop p xs)) (get_or ys 0 (get_or xs j 0))) ++ starts_in i ys (get_or xs j 0)) ++ map (λ s. s - j + (i + length ys)) tail ≡ line_starts ((take i xs ++ ys) ++ drop j xs)
-line_starts-replaced i j p xs ys kept tail ij jl pi k t =
+pub line_starts-replaced : (ends : LineEnds) (i j p : ℕ) (xs ys kept tail : List ℕ) → i ≤ j → j ≤ length xs → p ≡ i - 1 →
+    kept ≡ 0 ∷ starts_in ends 0 (take p xs) (get_or xs p 0) → tail ≡ starts_in ends j (drop j xs) 0 →
+    ((kept ++ starts_in ends p (take (i - p) (drop p xs)) (get_or ys 0 (get_or xs j 0))) ++ starts_in ends i ys (get_or xs j 0)) ++ map (λ s. s - j + (i + length ys)) tail ≡ line_starts ends ((take i xs ++ ys) ++ drop j xs)
+line_starts-replaced ends i j p xs ys kept tail ij jl pi k t =
     let f2 : ℕ = get_or xs j 0 in
     let f1 : ℕ = get_or ys 0 f2 in
     let q : List ℕ = take (i - p) (drop p xs) in
@@ -166,30 +167,30 @@ line_starts-replaced i j p xs ys kept tail ij jl pi k t =
     let both : 0 + length (take i xs ++ ys) ≡ i + length ys = (let h = length-append (take i xs) ys in omega (arith, h)) in
     let first : get_or (drop j xs) 0 0 ≡ f2 = first_of_drop j xs in
     let cut : take i xs ≡ take p xs ++ q = (let e : p + (i - p) ≡ i = omega arith in rw e at (take-add p (i - p) xs)) in
-    let a : starts_in 0 ((take i xs ++ ys) ++ drop j xs) 0 ≡ starts_in 0 (take i xs ++ ys) f2 ++ starts_in (i + length ys) (drop j xs) 0 =
-    rw (both, first) at (starts_in-append 0 (take i xs ++ ys) (drop j xs) 0) in
-    let b : starts_in 0 (take i xs ++ ys) f2 ≡ starts_in 0 (take i xs) f1 ++ starts_in i ys f2 = rw ilen at (starts_in-append 0 (take i xs) ys f2) in
-    let c : starts_in 0 (take p xs ++ q) f1 ≡ starts_in 0 (take p xs) (get_or q 0 f1) ++ starts_in p q f1 = rw plen at (starts_in-append 0 (take p xs) q f1) in
-    let d : starts_in 0 (take p xs) (get_or q 0 f1) ≡ starts_in 0 (take p xs) (get_or xs p 0) = follows_same i p xs f1 (omega arith) pi in
-    let e : starts_in 0 (take i xs) f1 ≡ starts_in 0 (take p xs ++ q) f1 = ap (λ (zs : List ℕ). starts_in 0 zs f1) cut in
-    let m : map (λ s. s - j + (i + length ys)) tail ≡ starts_in (i + length ys) (drop j xs) 0 = ap (map (λ s. s - j + (i + length ys))) t ∙ starts_in-moved j (i + length ys) (drop j xs) 0 in
-    let s : starts_in 0 ((take i xs ++ ys) ++ drop j xs) 0 ≡ ((starts_in 0 (take p xs) (get_or xs p 0) ++ starts_in p q f1) ++ starts_in i ys f2) ++ starts_in (i + length ys) (drop j xs) 0 = cc in
+    let a : starts_in ends 0 ((take i xs ++ ys) ++ drop j xs) 0 ≡ starts_in ends 0 (take i xs ++ ys) f2 ++ starts_in ends (i + length ys) (drop j xs) 0 =
+    rw (both, first) at (starts_in-append ends 0 (take i xs ++ ys) (drop j xs) 0) in
+    let b : starts_in ends 0 (take i xs ++ ys) f2 ≡ starts_in ends 0 (take i xs) f1 ++ starts_in ends i ys f2 = rw ilen at (starts_in-append ends 0 (take i xs) ys f2) in
+    let c : starts_in ends 0 (take p xs ++ q) f1 ≡ starts_in ends 0 (take p xs) (get_or q 0 f1) ++ starts_in ends p q f1 = rw plen at (starts_in-append ends 0 (take p xs) q f1) in
+    let d : starts_in ends 0 (take p xs) (get_or q 0 f1) ≡ starts_in ends 0 (take p xs) (get_or xs p 0) = follows_same ends i p xs f1 (omega arith) pi in
+    let e : starts_in ends 0 (take i xs) f1 ≡ starts_in ends 0 (take p xs ++ q) f1 = ap (λ (zs : List ℕ). starts_in ends 0 zs f1) cut in
+    let m : map (λ s. s - j + (i + length ys)) tail ≡ starts_in ends (i + length ys) (drop j xs) 0 = ap (map (λ s. s - j + (i + length ys))) t ∙ starts_in-moved ends j (i + length ys) (drop j xs) 0 in
+    let s : starts_in ends 0 ((take i xs ++ ys) ++ drop j xs) 0 ≡ ((starts_in ends 0 (take p xs) (get_or xs p 0) ++ starts_in ends p q f1) ++ starts_in ends i ys f2) ++ starts_in ends (i + length ys) (drop j xs) 0 = cc in
     rw (m, k) (ap (λ (zs : List ℕ). 0 ∷ zs) (sym s))
 
 -- the moved starts fit if the edited text does
-pub moved_fit : (from to m : ℕ) (xs tail : List ℕ) → tail ≡ starts_in to (drop to xs) 0 → from ≤ to → to ≤ length xs → length xs + m < 2 ^ 64 →
+pub moved_fit : (ends : LineEnds) (from to m : ℕ) (xs tail : List ℕ) → tail ≡ starts_in ends to (drop to xs) 0 → from ≤ to → to ≤ length xs → length xs + m < 2 ^ 64 →
     (k : ℕ) → k < length tail → (to ≤ get_or tail k 0) × (get_or tail k 0 - to + (from + m) < 2 ^ 64)
-moved_fit from to m xs tail t ft tl fits k l =
-    let n : length (starts_in to (drop to xs) 0) ≡ length tail = ap length (sym t) in
-    let b = starts_in-between to (drop to xs) 0 k (omega arith) in
-    let e : get_or tail k 0 ≡ get_or (starts_in to (drop to xs) 0) k 0 = ap (λ (zs : List ℕ). get_or zs k 0) t in
+moved_fit ends from to m xs tail t ft tl fits k l =
+    let n : length (starts_in ends to (drop to xs) 0) ≡ length tail = ap length (sym t) in
+    let b = starts_in-between ends to (drop to xs) 0 k (omega arith) in
+    let e : get_or tail k 0 ≡ get_or (starts_in ends to (drop to xs) 0) k 0 = ap (λ (zs : List ℕ). get_or zs k 0) t in
     let d : length (drop to xs) ≡ length xs - to = length-drop to xs in
     (omega (arith, b.0), omega (arith, b.1))
 
 -- a line begins within the text
-pub line_starts-within : (xs : List ℕ) (k : ℕ) → k < length (line_starts xs) → get_or (line_starts xs) k 0 ≤ length xs
-line_starts-within xs zero l = omega arith
-line_starts-within xs (suc k) l = let b = starts_in-between 0 xs 0 k (omega arith) in omega (arith, b.1)
+pub line_starts-within : (ends : LineEnds) (xs : List ℕ) (k : ℕ) → k < length (line_starts ends xs) → get_or (line_starts ends xs) k 0 ≤ length xs
+line_starts-within ends xs zero l = omega arith
+line_starts-within ends xs (suc k) l = let b = starts_in-between ends 0 xs 0 k (omega arith) in omega (arith, b.1)
 
 -- one more of the numbers behind the first ones is changed in place
 pub move_more : (f : ℕ → ℕ) (old ys : List ℕ) (first i : ℕ) → first ≤ i → i < length old →
@@ -224,11 +225,11 @@ pub put-behind : (ks bs ts ps : List ℕ) (first : ℕ) → ps ≡ ks ++ (bs ++ 
 put-behind ks bs ts ps first e f = rw (e, f) (put-cut ks bs ts)
 
 -- those that are to be moved fit
-pub behind_fit : (first from to m : ℕ) (xs tail ps : List ℕ) → drop first ps ≡ tail → tail ≡ starts_in to (drop to xs) 0 → from ≤ to → to ≤ length xs → length xs + m < 2 ^ 64 →
+pub behind_fit : (ends : LineEnds) (first from to m : ℕ) (xs tail ps : List ℕ) → drop first ps ≡ tail → tail ≡ starts_in ends to (drop to xs) 0 → from ≤ to → to ≤ length xs → length xs + m < 2 ^ 64 →
     (k : ℕ) → first ≤ k → k < length ps → (to ≤ get_or ps k 0) × (get_or ps k 0 - to + (from + m) < 2 ^ 64)
-behind_fit first from to m xs tail ps d t ft tl fits k fk l =
+behind_fit ends first from to m xs tail ps d t ft tl fits k fk l =
     let n : length tail ≡ length ps - first = ap length (sym d) ∙ length-drop first ps in
     let z : first + (k - first) ≡ k = omega arith in
     let e : get_or tail (k - first) 0 ≡ get_or ps k 0 = ap (λ (zs : List ℕ). get_or zs (k - first) 0) (sym d) ∙ (rw z at (get_or-drop first ps (k - first) 0)) in
-    let f = moved_fit from to m xs tail t ft tl fits (k - first) (omega arith) in
+    let f = moved_fit ends from to m xs tail t ft tl fits (k - first) (omega arith) in
     (omega (arith, e, f.0), omega (arith, e, f.1))

@@ -2,9 +2,10 @@
 use Rattle.std.specs.Prelude.{ℕ, ◌+◌, ◌-◌, cond, ◌||◌, nat_lt, List, [], ◌∷◌, length, codes}
 use Rattle.std.specs.Char.{encode_utf8}
 use Rattle.std.specs.Char.Escape.{encode_utf16}
+use Rattle.lsp_text.specs.declared.line_ends.LineEnds.{LineEnds}
 use Rattle.lsp_text.specs.declared.position.PositionEncoding.{PositionEncoding}
 use Rattle.lsp_text.specs.declared.position.PositionEncoding.TheVariants.{Utf8, Utf16, Utf32}
-use Rattle.lsp_text.specs.Columns.{is_line_end}
+use Rattle.lsp_text.specs.Lines.{is_break}
 
 -- the name of an encoding in the protocol
 abbrev pub encoding_name : PositionEncoding → List ℕ
@@ -19,13 +20,13 @@ character_units Utf16 c = length (encode_utf16 c)
 character_units Utf32 c = 1
 
 -- the characters of the first line of a text that stand before n units
-abbrev pub characters_before : PositionEncoding → ℕ → List ℕ → List ℕ
-characters_before e n [] = []
-characters_before e n (c ∷ cs) =
-    cond (is_line_end c || nat_lt n (character_units e c)) []
-    (c ∷ characters_before e (n - character_units e c) cs)
+abbrev pub characters_before : LineEnds → PositionEncoding → ℕ → List ℕ → List ℕ
+characters_before ends e n [] = []
+characters_before ends e n (c ∷ cs) =
+    cond (is_break ends c || nat_lt n (character_units e c)) []
+    (c ∷ characters_before ends e (n - character_units e c) cs)
 
 -- how many units the first line of a text has
-abbrev pub line_units : PositionEncoding → List ℕ → ℕ
-line_units e [] = 0
-line_units e (c ∷ cs) = cond (is_line_end c) 0 (character_units e c + line_units e cs)
+abbrev pub line_units : LineEnds → PositionEncoding → List ℕ → ℕ
+line_units ends e [] = 0
+line_units ends e (c ∷ cs) = cond (is_break ends c) 0 (character_units e c + line_units ends e cs)

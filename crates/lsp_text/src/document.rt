@@ -4,8 +4,10 @@ ghost use Rattle.std.specs.Arc.{arc_value};
 ghost use Rattle.std.specs.String.{string_bytes};
 ghost use Rattle.lsp_text.specs.Documents.{Change, Document};
 ghost use Rattle.lsp_text.specs.Edits.{edited_by, past_by};
+ghost use Rattle.lsp_text.specs.Lines.{lined};
 
 use crate::json::{members_in, needed, put};
+use crate::line_ends::LineEnds;
 use crate::position::{PositionEncoding, Range};
 use crate::text::Text;
 use serde::{Described, Deserialize, Deserializer, Format, Serialize, Serializer};
@@ -74,17 +76,21 @@ impl Model for TextDocument {
 }
 
 impl TextDocument {
-    /// A document as a client opens it.
+    /// A document as a client opens it, and what ends its lines.
     pub fn new(
         alloc: Global,
         language_id: &str,
         version: Option<i32>,
         text: &str,
+        ends: LineEnds,
     ) -> Result<TextDocument, AllocError>
-        ensures { IfOk result (λ d.
-            d ≡ record { language_id = language_id.now; version = version; text = text.now }) }
+        ensures { IfOk result (λ d. d ≡ record {
+          language_id = language_id.now;
+          version = version;
+          text = lined ends text.now;
+        }) }
     {
-        let text = Arc::new(alloc, Text::new(alloc, text)?)?;
+        let text = Arc::new(alloc, Text::with_line_ends(alloc, text, ends)?)?;
         let language_id = String::from_str(alloc, language_id)?;
         Ok(TextDocument {
             language_id,

@@ -3,15 +3,16 @@ ghost use Rattle.std.specs.Prelude.{◌≡◌, ℕ, List, length};
 ghost use Rattle.std.specs.Str.{encode_utf8_all};
 ghost use Rattle.lsp_text.specs.Columns.{column_len, width};
 ghost use Rattle.lsp_text.specs.Characters.{characters_before, line_units};
+ghost use Rattle.lsp_text.specs.declared.line_ends.LineEnds.{LineEnds};
 ghost use Rattle.lsp_text.specs.declared.position.PositionEncoding.{PositionEncoding};
 
 /// Columns count the code units that write characters: in UTF-8 and UTF-16 those of `char::encode_utf8` and
 /// `char::encode_utf16`, in UTF-32 one for each. Before a number of units stand the bytes of the whole characters that take no
 /// more, and a line has the units of its characters.
 pub fn columns_count_characters()
-    ensures before { (e : PositionEncoding) (n : ℕ) (cs : List ℕ)
-        → column_len e n (encode_utf8_all cs)
-        ≡ length (encode_utf8_all (characters_before e n cs)) }
-    ensures line { (e : PositionEncoding) (cs : List ℕ)
-        → width e (encode_utf8_all cs) ≡ line_units e cs }
+    ensures before { (ends : LineEnds) (e : PositionEncoding) (n : ℕ) (cs : List ℕ)
+        → column_len ends e n (encode_utf8_all cs)
+        ≡ length (encode_utf8_all (characters_before ends e n cs)) }
+    ensures line { (ends : LineEnds) (e : PositionEncoding) (cs : List ℕ)
+        → width ends e (encode_utf8_all cs) ≡ line_units ends e cs }
 {}

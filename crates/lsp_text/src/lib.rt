@@ -7,10 +7,12 @@ mod columns;
 mod document;
 mod json;
 pub mod laws;
+mod line_ends;
 mod lines;
 mod position;
 mod text;
 
 pub use document::{ContentChange, TextDocument};
+pub use line_ends::LineEnds;
 pub use position::{Position, PositionEncoding, Range};
 pub use text::Text;

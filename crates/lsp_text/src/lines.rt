@@ -1,16 +1,17 @@
 // Where the lines of a text begin.
 ghost use Rattle.std.specs.Prelude.{◌≡◌, ℕ, ◌+◌, ◌-◌, ◌<◌, ◌≤◌, ◌^◌, ◌++◌, OnOk, OnErr, IfOk, length, map, take, drop, slice_index, slice_index_or};
 ghost use Rattle.std.specs.List.{replace_range, splice};
-ghost use Rattle.lsp_text.specs.Lines.{ends_line as is_ended, starts_in, line_starts};
+ghost use Rattle.lsp_text.specs.Lines.{ends_line as is_ended, starts_in, line_starts, lined};
 ghost use Rattle.lsp_text.specs.Columns.{line_of};
 
+use crate::line_ends::LineEnds;
 use std::alloc::{AllocError, Global};
 
 /// Whether a byte is the last one of what ends a line, if another one follows.
-fn ends_line(byte: u8, next: u8) -> bool
-    ensures { result ≡ is_ended byte next }
+fn ends_line(ends: LineEnds, byte: u8, next: u8) -> bool
+    ensures { result ≡ is_ended ends byte next }
 {
-    byte == b'\n' || byte == b'\r' && next != b'\n'
+    byte == b'\n' || ends.has(byte) && next != b'\n'
 }
 
 /// The byte at a place, or another one past the end.
@@ -22,17 +23,18 @@ pub fn byte_or(bytes: &[u8], i: usize, default: u8) -> u8
 
 /// Adds where lines begin behind the ends of lines in bytes that stand at a place of a text, before a byte.
 pub fn push_starts(
+    ends: LineEnds,
     starts: &mut Vec<usize>,
     at: usize,
     bytes: &[u8],
     next: u8,
 ) -> Result<(), AllocError>
     requires { at + length bytes.now < 2 ^ 64 }
-    ensures { OnOk result (starts.new.items ≡ starts.old.items ++ starts_in at bytes.now next) }
+    ensures { OnOk result (starts.new.items ≡ starts.old.items ++ starts_in ends at bytes.now next) }
 {
     for i in 0..bytes.len() {
         let byte = bytes[i];
-        if ends_line(byte, byte_or(bytes, i + 1, next)) {
+        if ends_line(ends, byte, byte_or(bytes, i + 1, next)) {
             starts.push(at + i + 1)?;
         }
     }
@@ -103,19 +105,19 @@ pub fn starts_to(starts: &[usize], place: usize) -> usize
 }
 
 /// Where a line begins.
-pub fn start_of(text: &[u8], starts: &[usize], line: usize) -> usize
-    requires index { starts.now ≡ line_starts text.now }
+pub fn start_of(ends: LineEnds, text: &[u8], starts: &[usize], line: usize) -> usize
+    requires index { starts.now ≡ line_starts ends text.now }
     requires within { line < length starts.now }
-    ensures value { result ≡ slice_index (line_starts text.now) line }
+    ensures value { result ≡ slice_index (line_starts ends text.now) line }
     ensures within { result ≤ length text.now }
 {
     starts[line]
 }
 
 /// The line that a place of a text is in: the last one that begins there or before.
-pub fn line_at(text: &[u8], starts: &[usize], place: usize) -> usize
-    requires index { starts.now ≡ line_starts text.now }
-    ensures value { result ≡ line_of text.now place }
+pub fn line_at(ends: LineEnds, text: &[u8], starts: &[usize], place: usize) -> usize
+    requires index { starts.now ≡ line_starts ends text.now }
+    ensures value { result ≡ line_of (lined ends text.now) place }
     ensures within { result < length starts.now }
     ensures begins { (k : ℕ) → k < result + 1 → slice_index starts.now k ≤ place }
     ensures last { (k : ℕ) → result + 1 ≤ k → k < length starts.now
@@ -126,13 +128,13 @@ pub fn line_at(text: &[u8], starts: &[usize], place: usize) -> usize
 }
 
 /// Where the lines of a text begin.
-pub fn starts_of(alloc: Global, text: &[u8]) -> Result<Vec<usize>, AllocError>
+pub fn starts_of(alloc: Global, ends: LineEnds, text: &[u8]) -> Result<Vec<usize>, AllocError>
     requires { length text.now < 2 ^ 64 }
-    ensures { IfOk result (λ v. v.items ≡ line_starts text.now) }
+    ensures { IfOk result (λ v. v.items ≡ line_starts ends text.now) }
 {
     let mut starts = Vec::new(alloc);
     starts.push(0)?;
-    push_starts(&mut starts, 0, text, 0)?;
+    push_starts(ends, &mut starts, 0, text, 0)?;
     Ok(starts)
 }
 
@@ -140,18 +142,19 @@ pub fn starts_of(alloc: Global, text: &[u8]) -> Result<Vec<usize>, AllocError>
 /// out, they stay as they were.
 pub fn replace_starts(
     alloc: Global,
+    ends: LineEnds,
     text: &[u8],
     starts: &mut Vec<usize>,
     from: usize,
     to: usize,
     new: &[u8],
 ) -> Result<(), AllocError>
-    requires index { starts.old.items ≡ line_starts text.now }
+    requires index { starts.old.items ≡ line_starts ends text.now }
     requires in_order { from ≤ to }
     requires within { to ≤ length text.now }
     requires fits { length text.now + length new.now < 2 ^ 64 }
     ensures ok { OnOk result
-        (starts.new.items ≡ line_starts (replace_range text.now from to new.now)) }
+        (starts.new.items ≡ line_starts ends (replace_range text.now from to new.now)) }
     ensures err { OnErr result (starts.new.items ≡ starts.old.items) }
 {
     // Whether a carriage return before the edit ends a line depends on what follows it.
@@ -161,12 +164,13 @@ pub fn replace_starts(
     let tail = starts_to(starts.as_slice(), to);
     let mut between = Vec::new(alloc);
     push_starts(
+        ends,
         &mut between,
         before,
         &text[before..from],
         byte_or(new, 0, next),
     )?;
-    push_starts(&mut between, from, new, next)?;
+    push_starts(ends, &mut between, from, new, next)?;
     let moved = kept + between.len();
     put_starts(starts, kept, tail, between)?;
     move_behind(starts, moved, to, from + new.len());

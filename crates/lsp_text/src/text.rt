@@ -3,12 +3,14 @@ ghost use Rattle.std.specs.Prelude.{◌≡◌, ℕ, List, length, map, drop, sli
 ghost use Rattle.std.specs.String.{string_bytes};
 ghost use Rattle.std.specs.String.Boundary.{IsSplitPoint};
 ghost use Rattle.std.specs.List.{replace_range};
-ghost use Rattle.lsp_text.specs.Lines.{line_starts};
+ghost use Rattle.lsp_text.specs.Lines.{lined, starts_of};
+ghost use Rattle.lsp_text.specs.declared.line_ends.LineEnds.TheVariants.{LineFeed};
 ghost use Rattle.lsp_text.specs.Columns.{offset_of, line_text, line_of, column_of, column_left, IsPlace};
 ghost use Rattle.lsp_text.specs.Edits.{edited, is_past_end, past_in};
 ghost use Rattle.lsp_text.specs.Places.{position_of, IsCounted};
 
 use crate::columns::{Reached, Width};
+use crate::line_ends::LineEnds;
 use crate::position::{Position, PositionEncoding, Range};
 use crate::{columns, lines};
 use std::alloc::{AllocError, Global};
@@ -34,19 +36,24 @@ impl Mark {
     };
 }
 
-/// A text with the places where its lines begin. Contracts see it as the bytes of its UTF-8.
+/// A text with the places where its lines begin. Contracts see the bytes of its UTF-8, and what ends its lines.
 #[derive(Drop)]
 pub struct Text {
+    ends: LineEnds,
     text: String,
     starts: Vec<usize>,
 }
 
 impl Model for Text {
-    ghost Value = { List ℕ };
+    ghost use Rattle.std.specs.Prelude.{◌≡◌};
+    ghost use Rattle.std.specs.String.{string_bytes};
+    ghost use Rattle.lsp_text.specs.Lines.{LinedText, lined, line_starts};
 
-    ghost view = { λ t. string_bytes t.text };
+    ghost Value = { LinedText };
 
-    ghost invariant = { λ t. t.starts.items ≡ line_starts (string_bytes t.text) };
+    ghost view = { λ t. lined t.ends (string_bytes t.text) };
+
+    ghost invariant = { λ t. t.starts.items ≡ line_starts t.ends (string_bytes t.text) };
 }
 
 impl Clone for Text {
@@ -55,46 +62,64 @@ impl Clone for Text {
     fn clone(&self) -> Result<Text, AllocError> {
         let text = self.text.clone()?;
         let starts = self.starts.clone()?;
-        Ok(Text { text, starts })
+        Ok(Text {
+            ends: self.ends,
+            text,
+            starts,
+        })
     }
 }
 
 impl Text {
-    /// A text that is a copy of another one.
+    /// A text that is a copy of another one. Its lines end as `LineEnds::LineFeed` says.
     pub fn new(alloc: Global, text: &str) -> Result<Text, AllocError>
-        ensures { IfOk result (λ t. t ≡ text.now) }
+        ensures { IfOk result (λ t. t ≡ lined LineFeed text.now) }
     {
-        let starts = lines::starts_of(alloc, text.as_bytes())?;
+        Text::with_line_ends(alloc, text, LineEnds::LineFeed)
+    }
+
+    /// A text that is a copy of another one, whose lines these end.
+    pub fn with_line_ends(alloc: Global, text: &str, ends: LineEnds) -> Result<Text, AllocError>
+        ensures { IfOk result (λ t. t ≡ lined ends text.now) }
+    {
+        let starts = lines::starts_of(alloc, ends, text.as_bytes())?;
         let text = String::from_str(alloc, text)?;
-        Ok(Text { text, starts })
+        Ok(Text { ends, text, starts })
+    }
+
+    /// What ends its lines.
+    pub fn line_ends(&self) -> LineEnds
+        ensures { result ≡ self.now.ends }
+    {
+        self.ends
     }
 
     /// The whole text.
     pub fn as_str(&self) -> &str
-        ensures { result.now ≡ self.now }
+        ensures { result.now ≡ self.now.bytes }
     {
         self.text.as_str()
     }
 
     /// How many lines the text has: one more than ends of lines.
     pub fn line_count(&self) -> usize
-        ensures { result ≡ length (line_starts self.now) }
+        ensures { result ≡ length (starts_of self.now) }
     {
         self.starts.len()
     }
 
-    /// A line without its end, which is `\n`, `\r\n` or `\r` (LSP 3.17, "Text Documents"). Lines count from 0, and the last one may be
-    /// empty. `None` means that the text has no such line.
+    /// A line without its end: `\n` or `\r\n`, or `\r` where that ends lines, too. Lines count from 0, and the last one may be empty. `None`
+    /// means that the text has no such line.
     pub fn line(&self, line: u32) -> Option<&str>
-        ensures { MatchOption result (length (line_starts self.now) ≤ line)
-            (λ found. (line < length (line_starts self.now))
+        ensures { MatchOption result (length (starts_of self.now) ≤ line)
+            (λ found. (line < length (starts_of self.now))
             × (found.now ≡ line_text self.now line)) }
     {
         if line as usize >= self.starts.len() {
             return None;
         }
         let start = self.offset_at(Position::new(line, 0), PositionEncoding::Utf8);
-        let end = columns::end_in(self.text.as_bytes(), start);
+        let end = columns::end_in(self.ends, self.text.as_bytes(), start);
         Some(&self.text.as_str()[start..end])
     }
 
@@ -102,7 +127,7 @@ impl Text {
     /// line's end is the line's end, and one within a character is that character's start.
     pub fn offset_at(&self, position: Position, encoding: PositionEncoding) -> usize
         ensures value { result ≡ offset_of encoding self.now position.line position.character }
-        ensures boundary { IsSplitPoint self.now result }
+        ensures boundary { IsSplitPoint self.now.bytes result }
     {
         self.reach(position, encoding).place
     }
@@ -111,18 +136,18 @@ impl Text {
     fn reach(&self, position: Position, encoding: PositionEncoding) -> Reached
         ensures value { result.place
             ≡ offset_of encoding self.now position.line position.character }
-        ensures left { position.line < length (line_starts self.now)
+        ensures left { position.line < length (starts_of self.now)
             → result.left
-            ≡ column_left encoding position.character
-            (drop (slice_index (line_starts self.now) position.line) self.now) }
+            ≡ column_left self.now.ends encoding position.character
+            (drop (slice_index (starts_of self.now) position.line) self.now.bytes) }
         ensures fewer { result.left ≤ position.character }
-        ensures boundary { IsSplitPoint self.now result.place }
+        ensures boundary { IsSplitPoint self.now.bytes result.place }
     {
         let line = position.line as usize;
         if line < self.starts.len() {
             let text = self.text.as_bytes();
-            let start = lines::start_of(text, self.starts.as_slice(), line);
-            columns::reach_in(encoding, position.character, text, start)
+            let start = lines::start_of(self.ends, text, self.starts.as_slice(), line);
+            columns::reach_in(self.ends, encoding, position.character, text, start)
         } else {
             Reached {
                 place: self.text.len(),
@@ -136,24 +161,24 @@ impl Text {
     fn end_of(&self, range: Range, encoding: PositionEncoding, start: Reached) -> Reached
         requires place { start.place
             ≡ offset_of encoding self.now range.start.line range.start.character }
-        requires left { range.start.line < length (line_starts self.now)
-            → start.left ≡ column_left encoding range.start.character
-            (drop (slice_index (line_starts self.now) range.start.line) self.now) }
+        requires left { range.start.line < length (starts_of self.now)
+            → start.left ≡ column_left self.now.ends encoding range.start.character
+            (drop (slice_index (starts_of self.now) range.start.line) self.now.bytes) }
         requires fewer { start.left ≤ range.start.character }
-        requires boundary { IsSplitPoint self.now start.place }
+        requires boundary { IsSplitPoint self.now.bytes start.place }
         ensures value { result.place
             ≡ offset_of encoding self.now range.end.line range.end.character }
-        ensures left { range.end.line < length (line_starts self.now)
-            → result.left ≡ column_left encoding range.end.character
-            (drop (slice_index (line_starts self.now) range.end.line) self.now) }
-        ensures boundary { IsSplitPoint self.now result.place }
+        ensures left { range.end.line < length (starts_of self.now)
+            → result.left ≡ column_left self.now.ends encoding range.end.character
+            (drop (slice_index (starts_of self.now) range.end.line) self.now.bytes) }
+        ensures boundary { IsSplitPoint self.now.bytes result.place }
     {
         let line = range.end.line as usize;
         let behind = range.start.character <= range.end.character;
         if line < self.starts.len() && range.start.line == range.end.line && behind {
             let more = range.end.character - range.start.character;
             let text = self.text.as_bytes();
-            columns::reach_in(encoding, start.left + more, text, start.place)
+            columns::reach_in(self.ends, encoding, start.left + more, text, start.place)
         } else {
             self.reach(range.end, encoding)
         }
@@ -163,14 +188,14 @@ impl Text {
     fn is_past(&self, position: Position, encoding: PositionEncoding, reached: Reached) -> bool
         requires place { reached.place
             ≡ offset_of encoding self.now position.line position.character }
-        requires left { position.line < length (line_starts self.now)
-            → reached.left ≡ column_left encoding position.character
-            (drop (slice_index (line_starts self.now) position.line) self.now) }
+        requires left { position.line < length (starts_of self.now)
+            → reached.left ≡ column_left self.now.ends encoding position.character
+            (drop (slice_index (starts_of self.now) position.line) self.now.bytes) }
         ensures { result ≡ is_past_end encoding self.now position }
     {
         let line = position.line as usize;
         if line < self.starts.len() {
-            columns::is_past(self.text.as_bytes(), reached)
+            columns::is_past(self.ends, self.text.as_bytes(), reached)
         } else {
             line > self.starts.len() || position.character > 0
         }
@@ -179,20 +204,20 @@ impl Text {
     /// The position of an offset, in bytes of UTF-8. An offset past the text's end is its end, one within the end of a line is
     /// that line's end, and one within a character counts that character. A number that does not fit is the greatest one.
     pub fn position_at(&self, offset: usize, encoding: PositionEncoding) -> Position
-        ensures line { result.line ≡ min (line_of self.now (min offset (length self.now)))
+        ensures line { result.line ≡ min (line_of self.now (min offset (length self.now.bytes)))
             0xFFFF_FFFF }
         ensures character { result.character
-            ≡ min (column_of encoding self.now (min offset (length self.now))) 0xFFFF_FFFF }
-        ensures inverse { IsPlace self.now offset → length self.now < 2 ^ 30
+            ≡ min (column_of encoding self.now (min offset (length self.now.bytes))) 0xFFFF_FFFF }
+        ensures inverse { IsPlace self.now offset → length self.now.bytes < 2 ^ 30
             → offset_of encoding self.now result.line result.character ≡ offset }
     {
         let text = self.text.as_bytes();
         let place = offset.min(text.len());
-        let line = lines::line_at(text, self.starts.as_slice(), place);
-        let start = lines::start_of(text, self.starts.as_slice(), line);
+        let line = lines::line_at(self.ends, text, self.starts.as_slice(), place);
+        let start = lines::start_of(self.ends, text, self.starts.as_slice(), line);
         Position {
             line: fitted(line),
-            character: columns::width_of(encoding, &text[start..place]).units,
+            character: columns::width_of(self.ends, encoding, &text[start..place]).units,
         }
     }
 
@@ -211,7 +236,12 @@ impl Text {
         let mut mark = Mark::START;
         for i in 0..offsets.len() {
             let place = offsets[i].min(self.text.len());
-            let line = lines::line_at(self.text.as_bytes(), self.starts.as_slice(), place);
+            let line = lines::line_at(
+                self.ends,
+                self.text.as_bytes(),
+                self.starts.as_slice(),
+                place,
+            );
             mark = self.mark_at(line, place, encoding, mark);
             positions.push(Position {
                 line: fitted(line),
@@ -223,22 +253,27 @@ impl Text {
 
     /// The units of a line up to a place, from another place on up to which they are counted, if it stands in this line before it.
     fn mark_at(&self, line: usize, place: usize, encoding: PositionEncoding, before: Mark) -> Mark
-        requires line { line < length (line_starts self.now) }
-        requires in_order { slice_index (line_starts self.now) line ≤ place }
-        requires within { place ≤ length self.now }
+        requires line { line < length (starts_of self.now) }
+        requires in_order { slice_index (starts_of self.now) line ≤ place }
+        requires within { place ≤ length self.now.bytes }
         requires before { IsCounted encoding self.now before.start before.place before.width.units
             before.width.ended }
-        ensures start { result.start ≡ slice_index (line_starts self.now) line }
+        ensures start { result.start ≡ slice_index (starts_of self.now) line }
         ensures place { result.place ≡ place }
         ensures counted { IsCounted encoding self.now result.start result.place result.width.units
             result.width.ended }
     {
         let text = self.text.as_bytes();
-        let start = lines::start_of(text, self.starts.as_slice(), line);
+        let start = lines::start_of(self.ends, text, self.starts.as_slice(), line);
         let width = if before.start == start && before.place <= place {
-            columns::width_on(encoding, before.width, &text[before.place..place])
+            columns::width_on(
+                self.ends,
+                encoding,
+                before.width,
+                &text[before.place..place],
+            )
         } else {
-            columns::width_of(encoding, &text[start..place])
+            columns::width_of(self.ends, encoding, &text[start..place])
         };
         Mark {
             start,
@@ -256,14 +291,16 @@ impl Text {
         new: &str,
     ) -> Result<(), AllocError>
         requires in_order { from ≤ to }
-        requires start { IsSplitPoint self.old from }
-        requires end { IsSplitPoint self.old to }
-        ensures ok { OnOk result (self.new ≡ replace_range self.old from to new.now) }
+        requires start { IsSplitPoint self.old.bytes from }
+        requires end { IsSplitPoint self.old.bytes to }
+        ensures ok { OnOk result (self.new
+            ≡ lined self.old.ends (replace_range self.old.bytes from to new.now)) }
         ensures err { OnErr result (self.new ≡ self.old) }
     {
         self.text.reserve(new.len())?;
         lines::replace_starts(
             alloc,
+            self.ends,
             self.text.as_bytes(),
             &mut self.starts,
             from,
@@ -299,7 +336,7 @@ impl Text {
                 Ok(past)
             }
             None => {
-                *self = Text::new(alloc, text)?;
+                *self = Text::with_line_ends(alloc, text, self.ends)?;
                 Ok(false)
             }
         }

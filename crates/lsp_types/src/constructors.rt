@@ -1,16 +1,13 @@
 // Values of types that are made of less than their fields.
 ghost use Rattle.std.specs.Prelude.{◌≡◌};
 
-use crate::capabilities::{
-    SaveOptions, ServerCapabilities, TextDocumentSyncKind, TextDocumentSyncOptions,
-};
+use crate::capabilities::ServerCapabilities;
 use crate::choices::MarkupKind;
 use crate::edits::{TextEdit, WorkspaceEdit};
 use crate::hovers::{Hover, MarkupContent};
 use crate::lifecycle::{InitializeResult, ServerInfo};
 use crate::window::MessageType;
 use crate::workspace::{ConfigurationItem, ConfigurationParams};
-use lsp_text::PositionEncoding;
 use std::alloc::{AllocError, Global};
 use std::collections::BTreeMap;
 
@@ -28,39 +25,6 @@ impl Hover {
             contents: MarkupContent { kind, value },
             range: None,
         }
-    }
-}
-
-impl ServerCapabilities {
-    ghost use Rattle.std.specs.Prelude.{◌≡◌, Some, None, true, option_map, IfOk, string_bytes};
-    ghost use Rattle.lsp_text.specs.Characters.{encoding_name};
-
-    /// A server that keeps its documents by `lsp_documents`, whose `Agreed::with_capabilities` calls this: the client counts characters as
-    /// was agreed on, and tells of opening, closing, the parts that changed, and saving, with the text. What else the server can do
-    /// goes into the other fields. `Err` means that an allocation failed.
-    pub fn of_documents(
-        alloc: Global,
-        encoding: PositionEncoding,
-    ) -> Result<ServerCapabilities, AllocError>
-        ensures encoding { IfOk result (λ can.
-            option_map string_bytes can.position_encoding ≡ Some (encoding_name encoding)) }
-        ensures sync { IfOk result (λ can. can.text_document_sync ≡ Some (record {
-          open_close = Some true;
-          change = Some (record { 0 = 2 });
-          will_save = None;
-          will_save_wait_until = None;
-          save = Some (record { include_text = Some true });
-        })) }
-    {
-        let name = String::from_str(alloc, encoding.name())?;
-        let mut sync = TextDocumentSyncOptions::new(TextDocumentSyncKind::INCREMENTAL);
-        sync.save = Some(SaveOptions {
-            include_text: Some(true),
-        });
-        let mut can = ServerCapabilities::default();
-        can.position_encoding = Some(name);
-        can.text_document_sync = Some(sync);
-        Ok(can)
     }
 }
 

@@ -1,4 +1,4 @@
-use Rattle.lsp_documents.proofs.NoticeLemmas.{all_agree, all_kept, opened_current, refused_makes}
+use Rattle.lsp_documents.proofs.NoticeLemmas.{all_agree, all_kept, opened_current, late_unshown, refused_keeps}
 use Rattle.lsp_documents.proofs.laws.documents_are_the_clients.Goals as goal
 
 pub returns-clause-each : goal.returns-clause-each
@@ -11,4 +11,7 @@ pub returns-clause-current : goal.returns-clause-current
 returns-clause-current c = opened_current
 
 pub returns-clause-refused : goal.returns-clause-refused
-returns-clause-refused c = refused_makes
+returns-clause-refused c = refused_keeps
+
+pub returns-clause-late : goal.returns-clause-late
+returns-clause-late c = late_unshown

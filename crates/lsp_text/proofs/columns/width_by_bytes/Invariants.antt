@@ -4,7 +4,7 @@ use Rattle.lsp_text.proofs.columns.width_by_bytes.Given as goal
 
 abbrev pub invariant-loop-i : goal.invariant-loop-i
 invariant-loop-i l = record {
-  counts : width l.encoding l.run ≡ l.units + width l.encoding (drop l.i l.run);
-  ends : has_end l.run ≡ has_end (drop l.i l.run);
+  counts : width l.ends l.encoding l.run ≡ l.units + width l.ends l.encoding (drop l.i l.run);
+  ends : has_end l.ends l.run ≡ has_end l.ends (drop l.i l.run);
   small : l.units ≤ 4 * l.i;
 }
