@@ -2,9 +2,10 @@
 use Rattle.serde_json.specs.Data.{Data, number, unsigned, string, object, member, no_members}
 use Rattle.std.specs.Prelude.{◌≡◌, ℕ, List, ◌++◌, codes}
 use Rattle.lsp_text.specs.Columns.{line_text}
+use Rattle.lsp_text.specs.Lines.{LinedText}
 
 -- this line of the text is a heading with this name
-abbrev pub IsHeading : List ℕ → ℕ → List ℕ → Type 0
+abbrev pub IsHeading : LinedText → ℕ → List ℕ → Type 0
 IsHeading text line name = line_text text line ≡ codes "# " ++ name
 
 -- a text has this word in it
@@ -29,7 +30,7 @@ symbol_at name uri line =
     (member (codes "location") location (member (codes "name") (string name) no_members)))
 
 -- a symbol that a search of a document may find: if a heading of its text stands that has the word
-abbrev pub IsFoundIn : (uri text word : List ℕ) → Data → Type 0
+abbrev pub IsFoundIn : (uri : List ℕ) (text : LinedText) (word : List ℕ) → Data → Type 0
 IsFoundIn uri text word symbol =
     (name : List ℕ) × (line : ℕ) × IsHeading text line name × HasWord word name
     × (symbol ≡ symbol_at name uri line)

@@ -39,6 +39,8 @@ pub struct Sums {
     documents: TextDocuments,
     /// Whether a body was passed over, which may have told of any text.
     passed_over: PassedOver,
+    /// What was last logged of a notification that was not made.
+    complaint: String,
     /// The requests that are answered when nothing is wrong with a text.
     waiting: Vec<Request>,
 }
@@ -151,6 +153,7 @@ impl Sums {
             configures: false,
             documents: TextDocuments::new(alloc, Agreed::unannounced()),
             passed_over,
+            complaint: String::new(alloc),
             waiting: Vec::new(alloc),
         }
     }
@@ -182,6 +185,7 @@ impl Sums {
         let mut acts = Vec::new(self.alloc);
         if self.passed_over.take() {
             self.documents.lose_all();
+            self.complaint.clear();
             self.log(1, &"a body was no message: no text is known", &mut acts)?;
             self.mark_all(&mut acts)?;
         }
@@ -277,10 +281,14 @@ impl Sums {
         self.check(made.uri, acts)
     }
 
-    /// What the client is told after a notification that was not made: why, and no marks of a text that was lost by it. Each may
-    /// be, if no URI is named.
+    /// What the client is told after a notification that was not made: why, but not at each keystroke anew, and no marks of a text that
+    /// was lost by it. Each may be, if no URI is named.
     fn complain(&mut self, missed: NotMade<'_>, acts: &mut Acts) -> Result<(), AllocError> {
-        self.log(1, &missed, acts)?;
+        let line = format!(in self.alloc; "{missed}")?;
+        if missed.lost || line.as_str() != self.complaint.as_str() {
+            self.log(1, &line, acts)?;
+        }
+        self.complaint = line;
         match missed.uri {
             None => self.mark_all(acts),
             Some(uri) if missed.lost => self.check(uri, acts),
