@@ -20,50 +20,62 @@ GREATEST = 4294967295
 # Texts.
 
 
-def lines(text):
-    """The lines of a text, each as what stands before its end, and its end."""
-    parts = re.split(r"(\r\n|\n|\r)", text)
-    return list(zip(parts[::2], [*parts[1::2], ""]))
+class Counting:
+    """How a client counts: in the units of an encoding, and what ends a line."""
+
+    def __init__(self, encoding, standard):
+        self.units, self.standard = UNITS[encoding], standard
+
+    def lines(self, text):
+        """The lines of a text, each as what stands before its end, and its end: what LSP 3.17 lists, or a line feed alone."""
+        parts = re.split(r"(\r\n|\n|\r)" if self.standard else r"(\n)", text)
+        found = list(zip(parts[::2], [*parts[1::2], ""]))
+        # A second model: Python ends lines of bytes where the standard does, and splits at one letter.
+        own = (text + "x").encode()
+        own = own.splitlines() if self.standard else own.split(b"\n")
+        if b"|".join(own) != ("|".join(row for row, _ in found) + "x").encode():
+            raise SystemExit(f"other lines: {text!r}")
+        return found
 
 
-def place(text, position, encoding):
+def place(text, position, counting):
     """How many code points stand before a position."""
     line, character = position
-    rows = lines(text)
+    rows = counting.lines(text)
     if line >= len(rows):
         return len(text)
     before = sum(len(a) + len(b) for a, b in rows[:line])
     used = 0
     for letter in rows[line][0]:
-        used += UNITS[encoding](letter)
+        used += counting.units(letter)
         if used > character:
             break
         before += 1
     return before
 
 
-def position(text, index, encoding):
+def position(text, index, counting):
     """The position of the place before a code point."""
     start = 0
-    for number, (row, end) in enumerate(lines(text)):
+    for number, (row, end) in enumerate(counting.lines(text)):
         if index < start + len(row) + len(end) or end == "":
-            return number, sum(UNITS[encoding](c) for c in row[: index - start])
+            return number, sum(counting.units(c) for c in row[: index - start])
         start += len(row) + len(end)
 
 
-def is_past(text, position, encoding):
+def is_past(text, position, counting):
     """Whether a position lies past its line's end, or past the place behind the last line, which LSP 3.17 takes for these ends."""
     line, character = position
-    rows = lines(text)
+    rows = counting.lines(text)
     if line >= len(rows):
         return position != (len(rows), 0)
-    return character > sum(UNITS[encoding](it) for it in rows[line][0])
+    return character > sum(counting.units(it) for it in rows[line][0])
 
 
-def edited(text, span, new, encoding):
+def edited(text, span, new, counting):
     if span is None:
         return new
-    a, b = sorted(place(text, it, encoding) for it in span)
+    a, b = sorted(place(text, it, counting) for it in span)
     return text[:a] + new + text[b:]
 
 
@@ -140,8 +152,10 @@ def path_named(uri):
 class Documents:
     """What a server holds, and what it answers. A document whose text is lost has None for its text and its version."""
 
-    def __init__(self, encoding, include_text=True):
-        self.encoding, self.include_text = encoding, include_text
+    def __init__(self, encoding, include_text=True, standard=False, makes_late=False):
+        self.encoding, self.include_text, self.makes_late = encoding, include_text, makes_late
+        self.counting = Counting(encoding, standard)
+        # Of each document its version, its language and its text. The version of one that is lost for want of order stays.
         self.open = {}
         self.seen = []
         self.copies = ""
@@ -153,7 +167,8 @@ class Documents:
         message = json.loads(text)
         method, params = message["method"], message.get("params")
         if method == "initialize":
-            self.__init__(agreed(params), not isinstance(params, dict) or params.get("includeText") is not False)
+            asked = params if isinstance(params, dict) else {}
+            self.__init__(agreed(params), asked.get("includeText") is not False, asked.get("standard") is True, asked.get("makesLate") is True)
             return [self.encoding]
         if method == "keep":
             # Copies stay as they are, whatever becomes of the documents.
@@ -182,7 +197,7 @@ class Documents:
             remark = "Some(OpenAlready)" if uri in self.open else "None"
             self.open[uri] = (None, "", text)
         text = self.open[uri][2]
-        return f"{remark} {len(text.encode())} {len(lines(text))}"
+        return f"{remark} {len(text.encode())} {len(self.counting.lines(text))}"
 
     def unread(self):
         """A body that is no message may have told of any document."""
@@ -211,10 +226,14 @@ class Documents:
         if not self.is_known(uri):
             return "no place"
         text = self.open[uri][2]
-        index = place(text, position_member(params, "position"), self.encoding)
-        start, end = (position(text, it, self.encoding) for it in (index, len(text)))
+        at = position_member(params, "position")
+        index = place(text, at, self.counting)
+        start, end = (position(text, it, self.counting) for it in (index, len(text)))
         written = {name: dict(zip(("line", "character"), it)) for name, it in (("start", start), ("end", end))}
-        return f"{len(text[:index].encode())} {json.dumps(written, separators=(',', ':'), sort_keys=True)}"
+        # A line without its end, which `\r\n` is also where positions count its `\r`.
+        rows = re.split("\r\n|\n|\r" if self.counting.standard else "\r\n|\n", text)
+        line = rows[at[0]] if at[0] < len(rows) else None
+        return f"{len(text[:index].encode())} {json.dumps(written, separators=(',', ':'), sort_keys=True)} {json.dumps(line, ensure_ascii=False)}"
 
     def row(self, method, params):
         if method not in METHODS:
@@ -283,12 +302,16 @@ class Documents:
         if not is_open and not is_whole:
             return f"{uri}: the document is not open"
         before, language, text = self.open.get(uri, (None, "", None))
+        if is_open and not self.makes_late and None not in (version, before) and version < before:
+            # Changes of a lower version come behind others that were made without them.
+            self.open[uri] = (before, language, None)
+            return f"{uri}: changes came out of order"
         if text is None and not is_whole:
             return f"{uri}: the document is out of step"
         past, is_known = False, text is not None
         for new, span in changes:
-            past = past or is_known and span is not None and any(is_past(text, it, self.encoding) for it in span)
-            text = new if span is None else text if text is None else edited(text, span, new, self.encoding)
+            past = past or is_known and span is not None and any(is_past(text, it, self.counting) for it in span)
+            text = new if span is None else text if text is None else edited(text, span, new, self.counting)
         self.open[uri] = (version, language, text)
         if not is_open:
             return f"made {uri}: the document was not open"
@@ -303,9 +326,9 @@ class Documents:
         if not self.is_known(uri):
             return f"{uri} ?"
         version, language, text = self.open[uri]
-        places = [position(text, i, self.encoding) for i in range(len(text) + 1)]
+        places = [position(text, i, self.counting) for i in range(len(text) + 1)]
         written = json.dumps(text, ensure_ascii=False)
-        return f"{uri} {shown_version(version)} {language} {written} {len(lines(text))} " + " ".join("%d:%d" % it for it in places)
+        return f"{uri} {shown_version(version)} {language} {written} {len(self.counting.lines(text))} " + " ".join("%d:%d" % it for it in places)
 
 
 # Rows.
@@ -319,8 +342,8 @@ class Table:
         self.asked.append(json.dumps({"method": method, "params": params}, ensure_ascii=False, separators=(",", ":")))
         self.documents.answers(self.asked[-1])
 
-    def begin(self, encoding, params=None):
-        offered = {"capabilities": {"general": {"positionEncodings": [encoding]}}}
+    def begin(self, encoding, params=None, **more):
+        offered = {"capabilities": {"general": {"positionEncodings": [encoding]}}, **more}
         self.tell("initialize", offered if params is None else params)
         if self.documents.encoding != encoding:
             raise SystemExit(f"another encoding than {encoding}: {params}")
@@ -416,7 +439,7 @@ def back(table, uri):
 
 def wrong(table):
     """Notifications with something wrong in them, and after each one each way back."""
-    table.begin("utf-16")
+    table.begin("utf-16", standard=True, makesLate=True)
     a, b = "file:///a", "file:///b"
     table.opens(a, "abc", 5)
     table.opens(b, "x\r\ny", -2147483648, "other")
@@ -475,6 +498,30 @@ def wrong(table):
     table.changes(a, 8, [(((0, 0), (0, 0)), "-"), (None, "yes"), (((0, 9), (0, 9)), "!")])
     table.changes(a, 9, [(((0, 4), (0, 4)), "!")])
     table.opens(a, "anew", 1)
+
+
+def late(table):
+    """A burst whose changes come out of order, by ranges and by whole texts, and each way back (docs/DECISIONS.md)."""
+    a = "file:///a"
+    table.begin("utf-16")
+    for bursts in [
+        [(1, [(((0, 3), (0, 3)), "1")]), (3, [(((0, 4), (0, 4)), "3")]), (2, [(((0, 4), (0, 4)), "2")])],
+        [(3, [(None, "three")]), (1, [(None, "one")]), (2, [(None, "two")])], [(3, [(None, "three")]), (3, [(None, "3")]), (None, [(None, "none")]), (2, [(None, "two")])],
+    ]:
+        for way in [lambda: table.changes(a, 4, [(None, "four")]), *back(table, a)]:
+            table.opens(a, "abc", 0)
+            for version, changes in bursts:
+                table.changes(a, version, changes)
+            table.changes(a, 4, [(((0, 0), (0, 0)), "4")])
+            way()
+            table.changes(a, 5, [(((0, 0), (0, 0)), "5")])
+            table.looks(a, (0, 1))
+    # What else is missed lets versions begin anew.
+    table.opens(a, "abc", 7)
+    table.tell("textDocument/didChange", {"textDocument": {"uri": a}})
+    table.changes(a, 1, [(None, "whole")])
+    table.opens(a, "anew", 0)
+    table.changes(a, 1, [(((0, 0), (0, 0)), "-")])
 
 
 HALF = '{"method":"textDocument/didChange","params":{"textDocument":{"uri":"file:///a","version":7},"contentChanges":[{"text":"\\ud83d"}]}}'
@@ -576,37 +623,38 @@ def some_text(source, most):
     return "".join(source.choice(LETTERS) for _ in range(source.randrange(most)))
 
 
-def some_position(source, text, encoding):
+def some_position(source, text, counting):
     if source.random() < 0.6:
-        return position(text, source.randrange(len(text) + 1), encoding)
-    number = source.randrange(len(lines(text)) + 2)
+        return position(text, source.randrange(len(text) + 1), counting)
+    number = source.randrange(len(counting.lines(text)) + 2)
     if source.random() < 0.05:
         number = GREATEST
     return number, source.choice([0, 1, 2, 3, 4, 5, 7, 20, GREATEST])
 
 
-def some_changes(source, text, encoding):
+def some_changes(source, text, counting):
     """Changes of one notification, each made for what the one before it leaves."""
     changes = []
     for _ in range(source.choice([1, 1, 1, 2, 3, 5])):
         span = None
         if source.random() < 0.95:
-            span = (some_position(source, text, encoding), some_position(source, text, encoding))
+            span = (some_position(source, text, counting), some_position(source, text, counting))
         changes.append((span, some_text(source, 5)))
-        text = edited(text, *changes[-1], encoding)
+        text = edited(text, *changes[-1], counting)
     return changes
 
 
 def session(table, source, count):
     """Opens, changes, saves and closes of several documents, one in eight of them wrong."""
     encoding = source.choice(["utf-16", "utf-16", "utf-8", "utf-32"])
-    table.begin(encoding)
+    table.begin(encoding, standard=source.random() < 0.5, makesLate=source.random() < 0.5)
+    counting = table.documents.counting
     for _ in range(count):
         uri = source.choice(URIS)
         held = table.documents.open.get(uri)
         if source.random() < 0.1:
             text = held[2] if held else None
-            table.looks(uri, some_position(source, text or "", encoding))
+            table.looks(uri, some_position(source, text or "", counting))
         kind = source.random()
         if held and source.random() < 0.06:
             name = uri if source.random() < 0.8 else None
@@ -615,7 +663,7 @@ def session(table, source, count):
             if source.random() < 0.5:
                 table.saves(uri, text=some_text(source, 14))
             else:
-                table.changes(uri, 4, [(None, some_text(source, 14))] + some_changes(source, "", encoding))
+                table.changes(uri, 4, [(None, some_text(source, 14))] + some_changes(source, "", counting))
         elif (held is None) == (source.random() < 0.9):
             table.opens(uri, some_text(source, 14), source.choice([None, -2, -1, 0, 1, 2, 3]))
         elif kind < 0.08:
@@ -625,20 +673,23 @@ def session(table, source, count):
         else:
             version, _, text = held or (0, "", "")
             next_version = None if source.random() < 0.05 else (version or 0) + source.choice([1, 1, 1, 2, 0, -1])
-            table.changes(uri, next_version, some_changes(source, text or "", encoding))
+            table.changes(uri, next_version, some_changes(source, text or "", counting))
 
 
 def rows(seed, sessions):
     table, source = Table(), random.Random(seed)
     for encoding, text, changes in FIXED:
-        table.begin(encoding)
-        table.opens("u", text)
-        if changes:
-            table.changes("u", 2, changes)
-        table.looks("u", (0, 2), (0, 3), (1, 1), (GREATEST, 0))
+        # Both ways of ending lines, where they differ.
+        for more in [{}, {"standard": True}][: 1 + ("\\r" in json.dumps([text, changes]))]:
+            table.begin(encoding, **more)
+            table.opens("u", text)
+            if changes:
+                table.changes("u", 2, changes)
+            table.looks("u", (0, 2), (0, 3), (1, 1), (GREATEST, 0))
     for params, encoding in OFFERS:
         table.begin(encoding, {} if params is None else params)
     wrong(table)
+    late(table)
     unread(table)
     unasked(table)
     paths(table)

@@ -598,21 +598,22 @@ def tokens_answer(text):
 
 
 def offset_answer(rest):
-    """LSP 3.17, "Position": a character past the line's end is that end, and one within a pair is its start (docs/DECISIONS.md)."""
+    """LSP 3.17, "Position": a character past the line's end is that end, and one within a pair is its start. A line ends with `\n` alone
+    (docs/DECISIONS.md)."""
     position, _, text = rest.partition(" ")
-    found, lines = read_as("Position", json.loads(position)), re.split("(?<=\n)|(?<=\r)(?!\n)", json.loads(text))
-    before, units = "".join(lines[: found["line"]]), 0
-    for it in lines[found["line"]].rstrip("\r\n") if found["line"] < len(lines) else "":
+    found, lines = read_as("Position", json.loads(position)), json.loads(text).split("\n")
+    before, units = "".join(it + "\n" for it in lines[: found["line"]]), 0
+    for it in lines[found["line"]] if found["line"] < len(lines) else "":
         units += 1 + (it > "\uffff")
         if units > found["character"]:
             break
         before += it
-    return [str(len(before.encode()))]
+    return [str(min(len(before.encode()), len(json.loads(text).encode())))]
 
 
 def lines_answer(text):
-    """LSP 3.17, "Text Documents": a line ends with `\\n`, `\\r\\n` or `\\r`. Behind the last there is none."""
-    return [" ".join([*map(quoted, re.split("\r\n|\n|\r", json.loads(text))), "none"])]
+    """By docs/DECISIONS.md a line ends with `\\n` or `\\r\\n`, and by LSP 3.17, "Text Documents", also with `\\r`. Behind the last there is none."""
+    return [" ".join(it for ends in ("\r?\n", "\r\n|\n|\r") for it in [*map(quoted, re.split(ends, json.loads(text))), "none"])]
 
 
 ROWS = {"plain": plain_answers, "typed": typed_answer, "uri": uri_answer, "path": path_answer, "names": names_answer, "folders": folders_answer, "tokens": tokens_answer, "offset": offset_answer, "lines": lines_answer}

@@ -1,22 +1,23 @@
 // Open documents, as rows of notifications tell of them: a message with a method and params.
 //
 // `initialize` begins anew, in the encoding that its params agree on. The text of a save is asked for unless `includeText` of the
-// params says no. For a notification the line has `made`, its URI and what is to be said of it, or what is wrong, and whether a text
+// params says no. Lines end by the standard if `standard` says so, and late changes are made if `makesLate` does. For a notification the line has `made`, its URI and what is to be said of it, or what is wrong, and whether a text
 // is lost by it, and then each document that was open once: its URI, its version, its language, its text, and how many lines it has
 // and the position of each place where a character begins. One that is closed shows `-`, and one whose text is lost `?`. A body that
 // is no message has `unread`: it may have told of any document, so each text is lost. `known` has each URI whose text is known, with
-// its version, and then with a copy of the document. `place` has where a position of a document is, in bytes, and the range from
-// there to the text's end. `path` has the URI and the version of the document of a path. `keep` keeps copies of the documents, and
+// its version, and then with a copy of the document. `place` has where a position of a document is, in bytes, the range from there
+// to the text's end, and the position's line. `path` has the URI and the version of the document of a path. `keep` keeps copies of the documents, and
 // `kept` has these. `long` opens a document of a text so many times over, and `often` puts a text before one so many times in one
 // call: what comes is how long it is then, in bytes and in lines.
 use crate::messages::text_in;
 use crate::said::Said;
 use crate::types::say_written;
 use lsp_documents::{
-    Agreed, DocumentFault, Made, NotMade, OpenText, Remark, TextDocuments, position_in,
+    Agreed, DocumentFault, DocumentOptions, Made, NotMade, OpenText, Remark, TextDocuments,
+    position_in,
 };
 use lsp_message::Notification;
-use lsp_text::{ContentChange, Position, Range, Text, TextDocument};
+use lsp_text::{ContentChange, LineEnds, Position, Range, Text, TextDocument};
 use serde_json::Value;
 use std::alloc::{AllocError, Global};
 use std::fmt::Write;
@@ -111,13 +112,13 @@ impl Documents {
 
     /// Agrees with a client, and begins anew.
     fn initialize(&mut self, said: &mut Said, params: &Value) {
-        let asked = params.get("includeText").and_then(|asked| asked.as_bool());
+        let includes_text = flag_in(params, "includeText") != Some(false);
         let mut can = Value::Null;
-        let agreed = Agreed::announced(self.alloc, params, asked != Some(false), &mut can);
+        let agreed = Agreed::announced(self.alloc, params, includes_text, &mut can);
         drop(can);
         match agreed {
             Ok(agreed) => {
-                self.begin(agreed);
+                self.begin(agreed.with_options(options_in(params)));
                 said.push(agreed.encoding().name());
             }
             Err(_) => said.is_short = true,
@@ -297,6 +298,8 @@ impl Documents {
                 said.show(offset);
                 said.push(" ");
                 say_written(said, &self.documents.range_of(text, part));
+                said.push(" ");
+                say_written(said, &line_of(text, params));
             }
             None => said.push("no place"),
         }
@@ -346,6 +349,27 @@ fn show_copies(said: &mut Said, copies: &[OpenText]) {
         said.push(" ");
         say_written(said, &copy.text.as_str());
     }
+}
+
+/// The line of a position that params have.
+fn line_of<'t>(text: &'t Text, params: &Value) -> Option<&'t str> {
+    text.line(position_in(params.get("position")?)?.line)
+}
+
+fn flag_in(params: &Value, name: &str) -> Option<bool> {
+    params.get(name)?.as_bool()
+}
+
+/// How a row has its client read.
+fn options_in(params: &Value) -> DocumentOptions {
+    let mut options = DocumentOptions::new();
+    if flag_in(params, "standard") == Some(true) {
+        options.line_ends = LineEnds::Standard;
+    }
+    if flag_in(params, "makesLate") == Some(true) {
+        options.makes_late = true;
+    }
+    options
 }
 
 /// How many times a row asks for.

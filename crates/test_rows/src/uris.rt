@@ -1,7 +1,7 @@
 // Paths and their URIs, the folders that are open, the numbers of semantic tokens, and the place that params ask about.
 use crate::said::Said;
 use crate::types::{read, read_typed, say_written};
-use lsp_text::{PositionEncoding, Text};
+use lsp_text::{LineEnds, PositionEncoding, Text};
 use lsp_types::{
     FileUriFault, InitializeParams, Position, SemanticToken, SemanticTokens, names_path,
     path_of_uri, uri_of_path,
@@ -100,10 +100,18 @@ pub fn offset(said: &mut Said, row: &str) {
     }
 }
 
-/// The lines of a text, which is given as JSON, and whether there is one more.
+/// The lines of a text, which is given as JSON, and whether there is one more: as `Text::new` ends them, and by the standard.
 pub fn lines(said: &mut Said, text: &str) {
     let text = read(said, text, String::new(said.alloc));
-    match Text::new(said.alloc, text.as_str()) {
+    let made = Text::new(said.alloc, text.as_str());
+    say_made(said, made);
+    said.push(" ");
+    let made = Text::with_line_ends(said.alloc, text.as_str(), LineEnds::Standard);
+    say_made(said, made);
+}
+
+fn say_made(said: &mut Said, made: Result<Text, AllocError>) {
+    match made {
         Ok(text) => {
             say_lines(said, &text);
             drop(text);
