@@ -7,6 +7,7 @@ Then the same servers are started with the words of LSP 3.17 ("Implementation Co
 that listens at a port or at a socket file itself, with words that are refused, and at addresses where nobody may listen. It ends in status 1
 at the first difference.
 """
+import json
 import resource
 import signal
 import socket
@@ -156,6 +157,8 @@ def reads_late(server):
             time.sleep(0.1)
             server.process.send_signal(signal.SIGCONT)
         editor = Editor(source, sink)
+        for content in contents:
+            editor.typed.sent(json.loads(content))
         for id in [1, *ids]:
             while "method" in (reply := editor.receive("a reply")):
                 pass

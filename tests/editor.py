@@ -15,6 +15,13 @@ import sys
 import threading
 import time
 
+sys.dont_write_bytecode = True
+
+try:  # where it lies beside this file, messages have to be of LSP's types
+    from typed import Typed
+except ImportError:
+    Typed = None
+
 PATIENCE = 300
 METHOD_NOT_FOUND = -32601
 
@@ -37,6 +44,7 @@ class Editor:
         self.messages = queue.Queue()
         self.notices = []  # the notifications that came and were not looked at
         self.answers = {}  # a method of the server's own requests, and the result to give; else null
+        self.typed = Typed() if Typed else None
         threading.Thread(target=self.read_all, args=[source], daemon=True).start()
 
     def read_all(self, source):
@@ -53,7 +61,14 @@ class Editor:
             pass
         self.messages.put(None)
 
+    def look(self, message):
+        """What is done with each message that comes."""
+        if self.typed:
+            expect("what is wrong with the type of a message", self.typed.came(message), [])
+
     def send(self, **message):
+        if self.typed:
+            self.typed.sent(message)
         body = json.dumps({"jsonrpc": "2.0", **message}).encode()
         self.sink.write(b"Content-Length: %d\r\n\r\n%s" % (len(body), body))
         self.sink.flush()
@@ -67,6 +82,7 @@ class Editor:
                 raise Difference(f"{what} did not come within {PATIENCE} seconds") from None
             if message is None:
                 raise Difference(f"the server's output ended before {what} came")
+            self.look(message)
             if "method" not in message or "id" not in message:
                 return message
             self.send(id=message["id"], result=self.answers.get(message["method"]))

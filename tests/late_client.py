@@ -25,6 +25,7 @@ class Slow(Editor):
         message = self.messages.get(timeout=PATIENCE)
         if message is None:
             raise Difference(f"the server's output ended before {what} came")
+        self.look(message)
         return message
 
     def asked(self, method):

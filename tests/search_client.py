@@ -15,6 +15,7 @@ sys.dont_write_bytecode = True
 
 from client import EXIT, SERVE, SHUTDOWN, SHUTDOWN_REPLY, Difference, compact, expect, frame, run_checks
 from tcp_client import TcpServer
+from typed import Typed
 
 PROGRAM = SERVE.parents[2] / "example_search" / "out" / "example_search"
 DOCUMENTS = 20
@@ -29,8 +30,10 @@ class Client:
     def __init__(self, server):
         self.server = server
         self.last_id = 10
+        self.typed = Typed()
 
     def sends(self, **message):
+        self.typed.sent(message)
         self.server.send_bytes(frame(compact({"jsonrpc": "2.0", **message})))
 
     def asks(self, method, params):
@@ -39,11 +42,16 @@ class Client:
         self.sends(id=self.last_id, method=method, params=params)
         return self.last_id
 
+    def receives(self):
+        message = json.loads(self.server.receive())
+        expect("what is wrong with the type of a message", self.typed.came(message), [])
+        return message
+
     def read_to_all(self, ids):
         """What comes up to the replies to these requests, in any order."""
         came, missing = [], set(ids)
         while missing:
-            message = json.loads(self.server.receive())
+            message = self.receives()
             came.append(message)
             if "id" in message:
                 expect("a reply to a request that has none", message["id"] in missing, True)
@@ -58,7 +66,7 @@ def begin(client):
     for number in range(DOCUMENTS):
         document = {"uri": f"file:///{number}.sums", "languageId": "sums", "version": 1, "text": TEXT}
         client.sends(method="textDocument/didOpen", params={"textDocument": document})
-        marks = json.loads(client.server.receive())
+        marks = client.receives()
         expect("what is wrong with a text", marks["params"], {"uri": document["uri"], "diagnostics": []})
 
 
@@ -301,7 +309,7 @@ def check_all(program):
                 is_refused(client, name, params, back)
                 print(f"{name} is refused, and {back[0]} brings the text back")
         client.sends(method="textDocument/didClose", params={"textDocument": {"uri": NOTE}})
-        expect("the marks of a text that is closed", shown(json.loads(server.receive())), marks())
+        expect("the marks of a text that is closed", shown(client.receives()), marks())
         loses_all(client)
         print("a body that is no message is passed over, and no text is shown until it is sent whole")
         server.send_bytes(frame(SHUTDOWN))
