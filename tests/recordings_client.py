@@ -1,0 +1,261 @@
+#!/usr/bin/env python3
+"""Plays the clients of recorded sessions, as real editors held them with real servers (`recordings/`), to the servers of this repository.
+
+Each message of the client's is sent as soon as what its editor had seen before it has come. One thing is changed: the client counts positions
+as it did with the server of the recording, and offers no other way. Its answers to that server's own requests are left out, and the server
+that is tried is told its configuration before anything else. What is looked at:
+
+- each request has one reply, each message has the type that LSP gives it (`typed.py`), and the status is that of LSP 3.17, "Exit Notification";
+- the text that `example_search` holds, behind each notification of a document, is that of a model here, and the marks of
+  `example_diagnostics` are those of its lines;
+- a change that can't be read, behind the client's last one, loses the text: none is held and nothing is marked, until it comes whole.
+
+Then all messages of each recording, of both sides, go through `lsp_demo pump`, which has to give the same trees in the same order. It ends in
+status 1 at the first difference.
+"""
+import json
+import re
+import subprocess
+import sys
+from pathlib import Path
+
+sys.dont_write_bytecode = True
+
+from clients_client import command
+from editor import PATIENCE, Difference, Editor, expect
+from typed import lines_of
+
+RECORDINGS = sorted(Path(__file__).resolve().parent.glob("recordings/*.lsp"))
+WAYS = [["example_session"], ["example_diagnostics"], ["example_search"], ["example_search", "threads"], ["example_search", "jobs"]]
+LINE_END = re.compile("\r\n|\n|\r")
+# The configuration: how many characters `example_diagnostics` allows in a line, and what `example_search` allows as a value.
+LONGEST = 20
+CONFIGURATION = {"example_diagnostics": [LONGEST], "example_search": [{"largest": 20}]}
+UNIT_LENGTHS = {"utf-8": lambda char: len(char.encode()), "utf-16": lambda char: 1 + (char > "\uffff"), "utf-32": lambda char: 1}
+
+
+class Text:
+    """The text of a document, by the rules of LSP 3.17, "Text Documents"."""
+
+    def __init__(self, encoding):
+        self.length = UNIT_LENGTHS[encoding]
+        self.text = self.version = None
+        # Behind a version that is not higher the server may hold no text.
+        self.is_doubtful = False
+
+    def hear(self, method, params):
+        document = params["textDocument"]
+        if method == "textDocument/didOpen":
+            self.text, self.version, self.is_doubtful = document["text"], document["version"], False
+        elif method == "textDocument/didChange":
+            self.is_doubtful |= document["version"] <= self.version
+            self.version = document["version"]
+            for change in params["contentChanges"]:
+                self.change(change)
+        elif method == "textDocument/didSave" and "text" in params:
+            if not self.is_doubtful:
+                expect("the text of a save", params["text"], self.text)
+            self.text, self.is_doubtful = params["text"], False
+        elif method == "textDocument/didClose":
+            self.text = None
+
+    def change(self, change):
+        if "range" not in change:
+            self.text, self.is_doubtful = change["text"], False
+            return
+        start, end = (self.offset(change["range"][side]) for side in ("start", "end"))
+        self.text = self.text[:start] + change["text"] + self.text[end:]
+
+    def offset(self, position):
+        """A place past the end of its line is that end, and one past the last line the end of the text."""
+        ends = [found.span() for found in LINE_END.finditer(self.text)] + [(len(self.text), len(self.text))]
+        if position["line"] >= len(ends):
+            return len(self.text)
+        at, units = ends[position["line"] - 1][1] if position["line"] else 0, position["character"]
+        while units > 0 and at < ends[position["line"]][0]:
+            units -= self.length(self.text[at])
+            at += 1
+        return at
+
+    def marks(self):
+        """The lines that `example_diagnostics` marks."""
+        lines = LINE_END.split(self.text or "")
+        return [number for number, line in enumerate(lines) if len(line) > LONGEST]
+
+
+class Client(Editor):
+    """Sends what a recorded client sent. What comes is looked at as it comes."""
+
+    def __init__(self, source, sink, way):
+        super().__init__(source, sink)
+        self.way = way
+        self.texts = {}  # by URI
+        self.replied = {}  # the replies to each id
+        self.held = {}  # for each request for a text: what it may be
+        self.marks = {}  # for each URI: the marks that came, each once if it comes again
+        self.wanted = {}  # and those that have to
+        self.encoding = "utf-16"
+
+    def look(self, message):
+        super().look(message)
+        params = message.get("params")
+        if message.get("method") == "textDocument/publishDiagnostics":
+            add(self.marks, params["uri"], [mark["range"]["start"]["line"] for mark in params["diagnostics"]])
+        if "method" not in message:
+            self.replied.setdefault(message["id"], []).append(message)
+
+    def awaits(self, id):
+        while id not in self.replied:
+            self.receive(f"the reply to {id!r}")
+
+    def is_configured(self):
+        """Answers the server's first request, which is for its configuration."""
+        while (message := self.messages.get(timeout=PATIENCE)).get("method") != "workspace/configuration":
+            self.look(message)
+        self.look(message)
+        self.send(id=message["id"], result=CONFIGURATION[self.way[0]])
+
+    def tells(self, method, params):
+        """A notification of a document, and what has to come of it."""
+        self.notify(method, params)
+        uri = params["textDocument"]["uri"]
+        text = self.texts.setdefault(uri, Text(self.encoding))
+        text.hear(method, params)
+        self.asks_for_text(uri, text.text, text.is_doubtful)
+        if self.way == ["example_diagnostics"] and method != "textDocument/didSave":
+            add(self.wanted, uri, text.marks())
+
+    def asks_for_text(self, uri, text, is_doubtful=False):
+        if self.way[0] == "example_search":
+            id = f"text {len(self.held)}"
+            self.held[id] = [text, None] if is_doubtful else [text]
+            self.send(id=id, method="sums/text", params={"textDocument": {"uri": uri}})
+
+    def loses(self, uri):
+        """A change that can't be read: the text is held no more, until it comes whole."""
+        text = self.texts[uri]
+        document = {"uri": uri, "version": text.version + 1}
+        self.notify("textDocument/didChange", {"textDocument": document, "contentChanges": [{"text": 1}]})
+        self.asks_for_text(uri, None)
+        add(self.wanted, uri, [])
+        whole = {"textDocument": {"uri": uri, "version": text.version + 2}, "contentChanges": [{"text": text.text}]}
+        self.tells("textDocument/didChange", whole)
+
+
+def add(lists, key, value):
+    known = lists.setdefault(key, [])
+    if known[-1:] != [value]:
+        known.append(value)
+
+
+def encoding_of(messages):
+    """How a recorded client counts: as the reply to `initialize` says."""
+    (ask,) = [message for of_client, message in messages if message.get("method") == "initialize"]
+    for of_client, message in messages:
+        if not of_client and "method" not in message and message["id"] == ask["id"]:
+            return message["result"]["capabilities"].get("positionEncoding", "utf-16")
+
+
+def play(client, messages):
+    client.encoding = encoding_of(messages)
+    changes = [at for at, (of_client, message) in enumerate(messages) if of_client and message.get("method") == "textDocument/didChange"]
+    asked, is_shut = set(), False
+    for at, (of_client, message) in enumerate(messages):
+        method, id, params = message.get("method"), message.get("id"), message.get("params")
+        if not of_client:
+            if method is None and id in asked:
+                client.awaits(id)
+        elif method == "initialize":
+            params["capabilities"].setdefault("general", {})["positionEncodings"] = [client.encoding]
+            client.send(id=id, method=method, params=params)
+            client.awaits(id)
+            capabilities = client.replied[id][0]["result"]["capabilities"]
+            expect("how positions are counted", capabilities.get("positionEncoding", client.encoding), client.encoding)
+        elif method is not None and id is not None:
+            asked.add(id)
+            is_shut |= method == "shutdown"
+            client.send(**{key: value for key, value in message.items() if key != "jsonrpc"})
+        elif method is not None and method.startswith("textDocument/did") and not is_shut:
+            client.tells(method, params)
+            if at == changes[-1]:
+                client.loses(params["textDocument"]["uri"])
+        elif method is not None:
+            client.notify(method, params)
+            if method == "initialized" and client.way[0] in CONFIGURATION:
+                client.is_configured()
+    return asked
+
+
+def status_of(messages):
+    """0 if `exit` comes next behind `shutdown`, and else 1 (LSP 3.17, "Exit Notification")."""
+    calls = [message["method"] for of_client, message in messages if of_client and "method" in message]
+    return 0 if calls[calls.index("shutdown") + 1 :][:1] == ["exit"] else 1
+
+
+def replays(recording, way):
+    messages = list(lines_of(recording))
+    pipe = subprocess.PIPE
+    process = subprocess.Popen(command(way), stdin=pipe, stdout=pipe, stderr=pipe)
+    try:
+        client = Client(process.stdout, process.stdin, way)
+        asked = play(client, messages)
+        process.stdin.close()
+        while (message := client.messages.get(timeout=PATIENCE)) is not None:
+            client.look(message)
+        expect("the status", process.wait(timeout=PATIENCE), status_of(messages))
+        expect("the requests without one reply", [id for id in asked if len(client.replied.get(id, [])) != 1], [])
+        for id, texts in client.held.items():
+            (reply,) = client.replied[id]
+            expect(f"whether the {id} is the client's", reply["result"] in texts or (reply["result"], texts), True)
+        if way == ["example_diagnostics"]:
+            for uri, wanted in client.wanted.items():
+                expect(f"the marks of {uri}", client.marks.get(uri), wanted)
+        return len(asked) + len(client.held)
+    finally:
+        process.kill()
+        process.wait()
+
+
+def frame(message):
+    body = json.dumps(message, ensure_ascii=False).encode()
+    return b"Content-Length: %d\r\n\r\n%s" % (len(body), body)
+
+
+def bodies(data):
+    while data:
+        head, _, rest = data.partition(b"\r\n\r\n")
+        length = int(head.removeprefix(b"Content-Length: "))
+        yield json.loads(rest[:length])
+        data = rest[length:]
+
+
+def is_passed_on(recording):
+    """`"params": null` comes out as no params."""
+    messages = [message for _, message in lines_of(recording)]
+    pumped = subprocess.run(command(["lsp_demo", "pump"]), input=b"".join(map(frame, messages)), capture_output=True, timeout=PATIENCE)
+    expect("the status of pump, and standard error", (pumped.returncode, pumped.stderr), (0, b""))
+    came = list(bodies(pumped.stdout))
+    for sent in messages:
+        if sent.get("params", 0) is None:
+            del sent["params"]
+    expect("how many messages came", len(came), len(messages))
+    for one, other in zip(came, messages):
+        expect("a message", one, other)
+
+
+def main():
+    way = recording = None
+    try:
+        for way in WAYS:
+            for recording in RECORDINGS:
+                print(" ".join(way), recording.stem, f"{replays(recording, way)} replies")
+        way = ["pump"]
+        for recording in RECORDINGS:
+            is_passed_on(recording)
+    except (Difference, OSError, subprocess.TimeoutExpired) as fault:
+        sys.exit(f"tests/recordings_client.py: {' '.join(way)}, {recording.stem}: {fault}")
+    print("each message of each recording passed on: the same tree")
+
+
+if __name__ == "__main__":
+    main()
