@@ -1,6 +1,6 @@
 -- Reloads, renames, wipes, visits again, restarts the server and undoes 200 steps in Neovim, and looks after each of these, and after
 -- edits behind it, whether `example_search` holds the text of the buffer.
---   LSP_SERVER="program argument .." nvim --headless -u NONE -i NONE -S editors/keeping.lua
+--   LSP_SERVER="program argument .." nvim --headless -u NONE -i NONE -S editors/neovim/keeping.lua
 -- Without LSP_SERVER it is `crates/example_search/out/example_search`. Ends in status 1 where a text differs.
 
 local command = vim.split(vim.env.LSP_SERVER or 'crates/example_search/out/example_search', ' ')

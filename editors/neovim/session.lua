@@ -1,5 +1,5 @@
 -- Starts a server as the language client of Neovim does, sends it two requests, prints the replies, and stops it.
---   LSP_SERVER="program argument .." nvim --headless -u NONE -i NONE -S editors/editor.lua
+--   LSP_SERVER="program argument .." nvim --headless -u NONE -i NONE -S editors/neovim/session.lua
 -- Without LSP_SERVER it is `crates/lsp_demo/out/lsp_demo serve`. Ends in status 1 where it isn't answered as it should be.
 
 local command = vim.split(vim.env.LSP_SERVER or 'crates/lsp_demo/out/lsp_demo serve', ' ')

@@ -2,7 +2,7 @@
 
 ;; Starts `example_search jobs' as eglot does, opens texts, and searches all of them: a hover is answered while a search runs, an
 ;; edit reaches the server, notices of progress come, a search is answered once, and one that is cancelled ends.
-;;   LSP_SERVER="program argument .." emacs --batch -l editors/searching.el
+;;   LSP_SERVER="program argument .." emacs --batch -l editors/emacs/searching.el
 ;; Without LSP_SERVER it is `crates/example_search/out/example_search jobs'. Ends in status 1 where it is otherwise.
 
 (require 'eglot)

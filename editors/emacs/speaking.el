@@ -2,7 +2,7 @@
 
 ;; Starts `example_search' as eglot does, opens a text, and looks at what the server says of it: diagnostics follow the
 ;; text and the configuration, a hover is answered, and a request that takes long is cancelled.
-;;   LSP_SERVER="program argument .." emacs --batch -l editors/speaking.el
+;;   LSP_SERVER="program argument .." emacs --batch -l editors/emacs/speaking.el
 ;; Without LSP_SERVER it is `crates/example_search/out/example_search'. Ends in status 1 where it is otherwise.
 
 (require 'eglot)

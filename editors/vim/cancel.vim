@@ -1,6 +1,6 @@
 " Starts a server through Vim's own LSP channel, sends it two requests that it keeps, cancels the first and has the second
 " answered, and counts the answers to each.
-"   vim -u NONE -i NONE -N -es -S editors/editor_cancel.vim | cat
+"   vim -u NONE -i NONE -N -es -S editors/vim/cancel.vim | cat
 " LSP_SERVER="program argument .." names another server than `crates/lsp_demo/out/lsp_demo serve`.
 set encoding=utf-8
 scriptencoding utf-8

@@ -1,5 +1,5 @@
 " Starts a server through Vim's own LSP channel, sends it requests, prints the replies, and ends the session.
-"   vim -u NONE -i NONE -N -es -S editors/editor.vim | cat
+"   vim -u NONE -i NONE -N -es -S editors/vim/session.vim | cat
 " LSP_SERVER="program argument .." names another server than `crates/lsp_demo/out/lsp_demo serve`. LSP_ADDRESS=127.0.0.1:9257
 " starts `crates/lsp_demo/out/lsp_demo tcp` at that address, and speaks to it through a socket.
 set encoding=utf-8

@@ -2,7 +2,7 @@
 -- `example_search` holds the text of the buffer. The lines end with `\n`, then with `\r\n`, then with `\r`. Last they are mixed: there
 -- Neovim takes the `\r` of a `\r\n` for a character of its line, so the texts may part, but not before the server says that a position is
 -- past the end.
---   LSP_SERVER="program argument .." nvim --headless -u NONE -i NONE -S editors/typing.lua
+--   LSP_SERVER="program argument .." nvim --headless -u NONE -i NONE -S editors/neovim/typing.lua
 -- ENCODING is `utf-8`, `utf-16` or `utf-32` (from Neovim 0.10 on): what the client offers to count in.
 -- Without LSP_SERVER it is `crates/example_search/out/example_search`; SEED and EDITS are 1 and 300. Ends in status 1 where
 -- a text differs.

@@ -1,6 +1,6 @@
 -- Starts `example_search` as the language client of Neovim does, opens a text, and looks at what the server says of it:
 -- diagnostics follow the text and the configuration, a hover is answered, and a request that takes long is cancelled.
---   LSP_SERVER="program argument .." nvim --headless -u NONE -i NONE -S editors/speaking.lua
+--   LSP_SERVER="program argument .." nvim --headless -u NONE -i NONE -S editors/neovim/speaking.lua
 -- Without LSP_SERVER it is `crates/example_search/out/example_search`. Ends in status 1 where it is otherwise.
 
 local command = vim.split(vim.env.LSP_SERVER or 'crates/example_search/out/example_search', ' ')

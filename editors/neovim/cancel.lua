@@ -1,6 +1,6 @@
 -- Starts a server as the language client of Neovim does, sends it two requests that it keeps, cancels the first and has the
 -- second answered, and counts the answers that Neovim shows.
---   LSP_SERVER="program argument .." nvim --headless -u NONE -i NONE -S editors/editor_cancel.lua
+--   LSP_SERVER="program argument .." nvim --headless -u NONE -i NONE -S editors/neovim/cancel.lua
 -- Without LSP_SERVER it is `crates/lsp_demo/out/lsp_demo serve`. Ends in status 1 where it isn't answered as it should be.
 
 local command = vim.split(vim.env.LSP_SERVER or 'crates/lsp_demo/out/lsp_demo serve', ' ')

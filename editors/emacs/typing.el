@@ -2,7 +2,7 @@
 
 ;; Types, pastes, undoes and replaces in Emacs, in a text with emoji and combining marks, and looks after each edit whether
 ;; `example_search' holds the text of the buffer.
-;;   LSP_SERVER="program argument .." emacs --batch -l editors/typing.el
+;;   LSP_SERVER="program argument .." emacs --batch -l editors/emacs/typing.el
 ;; Without LSP_SERVER it is `crates/example_search/out/example_search'; SEED and EDITS are 1 and 300. Ends in status 1 where
 ;; a text differs.
 

@@ -1,0 +1,28 @@
+;;; quick.el --- A session that ends as soon as it began, in eglot  -*- lexical-binding: t; -*-
+
+;; Starts a server in a file, and stops it at once: its request for the configuration and `shutdown' cross. Eglot must meet no error.
+;;   LSP_SERVER="program argument .." emacs --batch -l editors/emacs/quick.el
+;; Without LSP_SERVER it is `crates/example_search/out/example_search'. Ends in status 1 at an error.
+
+(require 'eglot)
+
+(defvar command
+  (let ((words (split-string (or (getenv "LSP_SERVER") "crates/example_search/out/example_search"))))
+    (cons (expand-file-name (car words)) (cdr words))))
+(define-derived-mode sums-mode prog-mode "Sums")
+(add-to-list 'auto-mode-alist '("\\.sums\\'" . sums-mode))
+(add-to-list 'eglot-server-programs (cons 'sums-mode command))
+(setq-default eglot-workspace-configuration '((:sums . (:largest 20))))
+(setq eglot-sync-connect t create-lockfiles nil)
+
+(let ((folder (make-temp-file "sums" t)) (good t))
+  (write-region "# one\na = 1\n" nil (expand-file-name "a.sums" folder) nil 'quiet)
+  (find-file (expand-file-name "a.sums" folder))
+  (dotimes (_ 5)
+    (condition-case fault
+        (progn (apply #'eglot (eglot--guess-contact))
+               (eglot-shutdown (eglot-current-server)))
+      (error (setq good nil)
+             (princ (format "%S\n" fault)))))
+  (princ (if good "as it should be\n" "NOT as it should be\n"))
+  (kill-emacs (if good 0 1)))
