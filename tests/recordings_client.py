@@ -27,6 +27,8 @@ from typed import lines_of
 
 RECORDINGS = sorted(Path(__file__).resolve().parent.glob("recordings/*.lsp"))
 WAYS = [["example_session"], ["example_diagnostics"], ["example_search"], ["example_search", "threads"], ["example_search", "jobs"]]
+# Whether a change whose version is not higher loses the text. If not, it is made.
+WAYS_TO_HEAR = [False, True]
 LINE_END = re.compile("\r\n|\n|\r")
 # The configuration: how many characters `example_diagnostics` allows in a line, and what `example_search` allows as a value.
 LONGEST = 20
@@ -35,33 +37,32 @@ UNIT_LENGTHS = {"utf-8": lambda char: len(char.encode()), "utf-16": lambda char:
 
 
 class Text:
-    """The text of a document, by the rules of LSP 3.17, "Text Documents"."""
+    """The text of a document, by the rules of LSP 3.17, "Text Documents". It is None while it is lost, or closed."""
 
-    def __init__(self, encoding):
+    def __init__(self, encoding, is_lost_by_versions=False):
         self.length = UNIT_LENGTHS[encoding]
+        self.is_lost_by_versions = is_lost_by_versions
         self.text = self.version = None
-        # Behind a version that is not higher the server may hold no text.
-        self.is_doubtful = False
 
     def hear(self, method, params):
         document = params["textDocument"]
         if method == "textDocument/didOpen":
-            self.text, self.version, self.is_doubtful = document["text"], document["version"], False
+            self.text, self.version = document["text"], document["version"]
         elif method == "textDocument/didChange":
-            self.is_doubtful |= document["version"] <= self.version
+            if self.is_lost_by_versions and document["version"] <= self.version:
+                self.text = None
             self.version = document["version"]
             for change in params["contentChanges"]:
                 self.change(change)
-        elif method == "textDocument/didSave" and "text" in params:
-            if not self.is_doubtful:
-                expect("the text of a save", params["text"], self.text)
-            self.text, self.is_doubtful = params["text"], False
+        elif method == "textDocument/didSave" and self.text is None:
+            self.text = params.get("text")
         elif method == "textDocument/didClose":
             self.text = None
 
     def change(self, change):
         if "range" not in change:
-            self.text, self.is_doubtful = change["text"], False
+            self.text = change["text"]
+        if "range" not in change or self.text is None:
             return
         start, end = (self.offset(change["range"][side]) for side in ("start", "end"))
         self.text = self.text[:start] + change["text"] + self.text[end:]
@@ -89,11 +90,11 @@ class Client(Editor):
     def __init__(self, source, sink, way):
         super().__init__(source, sink)
         self.way = way
-        self.texts = {}  # by URI
+        self.texts = {}  # by URI, in both ways
         self.replied = {}  # the replies to each id
-        self.held = {}  # for each request for a text: what it may be
+        self.held = {}  # for each request for a text: what it has to be, in both ways
         self.marks = {}  # for each URI: the marks that came, each once if it comes again
-        self.wanted = {}  # and those that have to
+        self.wanted = {False: {}, True: {}}  # and those that have to
         self.encoding = "utf-16"
 
     def look(self, message):
@@ -119,25 +120,28 @@ class Client(Editor):
         """A notification of a document, and what has to come of it."""
         self.notify(method, params)
         uri = params["textDocument"]["uri"]
-        text = self.texts.setdefault(uri, Text(self.encoding))
-        text.hear(method, params)
-        self.asks_for_text(uri, text.text, text.is_doubtful)
-        if self.way == ["example_diagnostics"] and method != "textDocument/didSave":
-            add(self.wanted, uri, text.marks())
+        texts = self.texts.setdefault(uri, {way: Text(self.encoding, way) for way in WAYS_TO_HEAR})
+        for way, text in texts.items():
+            text.hear(method, params)
+            add(self.wanted[way], uri, text.marks())
+        self.asks_for_text(uri, {way: text.text for way, text in texts.items()})
 
-    def asks_for_text(self, uri, text, is_doubtful=False):
+    def asks_for_text(self, uri, texts):
         if self.way[0] == "example_search":
             id = f"text {len(self.held)}"
-            self.held[id] = [text, None] if is_doubtful else [text]
+            self.held[id] = texts
             self.send(id=id, method="sums/text", params={"textDocument": {"uri": uri}})
 
     def loses(self, uri):
         """A change that can't be read: the text is held no more, until it comes whole."""
-        text = self.texts[uri]
+        text = self.texts[uri][True]
+        if text.text is None:
+            return
         document = {"uri": uri, "version": text.version + 1}
         self.notify("textDocument/didChange", {"textDocument": document, "contentChanges": [{"text": 1}]})
-        self.asks_for_text(uri, None)
-        add(self.wanted, uri, [])
+        self.asks_for_text(uri, dict.fromkeys(WAYS_TO_HEAR))
+        for way in WAYS_TO_HEAR:
+            add(self.wanted[way], uri, [])
         whole = {"textDocument": {"uri": uri, "version": text.version + 2}, "contentChanges": [{"text": text.text}]}
         self.tells("textDocument/didChange", whole)
 
@@ -192,6 +196,19 @@ def status_of(messages):
     return 0 if calls[calls.index("shutdown") + 1 :][:1] == ["exit"] else 1
 
 
+def holds(client):
+    """Whether the texts, and the marks, are those of one way to hear."""
+    came = {id: client.replied[id][0]["result"] for id in client.held}
+    wrong = {way: [id for id, text in came.items() if text != client.held[id][way]] for way in WAYS_TO_HEAR}
+    if all(wrong.values()):
+        at = wrong[True][0]
+        raise Difference(f"the {at} is {came[at]!r} in place of {client.held[at]}")
+    if client.way == ["example_diagnostics"]:
+        for uri, marks in client.marks.items():
+            if marks not in [client.wanted[way][uri] for way in WAYS_TO_HEAR]:
+                expect(f"the marks of {uri}", marks, client.wanted[True][uri])
+
+
 def replays(recording, way):
     messages = list(lines_of(recording))
     pipe = subprocess.PIPE
@@ -204,12 +221,7 @@ def replays(recording, way):
             client.look(message)
         expect("the status", process.wait(timeout=PATIENCE), status_of(messages))
         expect("the requests without one reply", [id for id in asked if len(client.replied.get(id, [])) != 1], [])
-        for id, texts in client.held.items():
-            (reply,) = client.replied[id]
-            expect(f"whether the {id} is the client's", reply["result"] in texts or (reply["result"], texts), True)
-        if way == ["example_diagnostics"]:
-            for uri, wanted in client.wanted.items():
-                expect(f"the marks of {uri}", client.marks.get(uri), wanted)
+        holds(client)
         return len(asked) + len(client.held)
     finally:
         process.kill()
