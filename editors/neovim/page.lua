@@ -11,6 +11,7 @@ if block:find('vim.lsp.config', 1, true) and vim.fn.has('nvim-0.11') == 0 then
   io.stdout:write('not of this version\n')
   vim.cmd('qall!')
 end
+if not block:find('vim.filetype.add', 1, true) then block = blocks[1]:match('[^\n]*\n') .. block end
 local command, count = block:gsub("{ '/path/to/example_search' }", function() return vim.inspect(words) end)
 assert(count == 1 and load(command))()
 vim.o.swapfile = false

@@ -33,7 +33,11 @@ if not moment then
   vim.cmd(good and 'qall!' or 'cquit 1')
 end
 
-local function leave() vim.cmd('qall!') end
+local leaves = false
+local function leave()
+  leaves = true
+  vim.cmd('qall!')
+end
 
 vim.api.nvim_buf_set_name(0, vim.fn.tempname() .. '.sums')
 vim.api.nvim_buf_set_lines(0, 0, -1, false, { '# one', 'größe = 3', 'b = größe + c' })
@@ -51,6 +55,7 @@ vim.lsp.start_client({
   settings = { sums = { largest = 20 } },
   handlers = handlers,
   flags = { exit_timeout = 1000 },
+  exit_timeout = 1000, -- so from 0.12 on
   on_init = function(begun) client = begun end,
 })
 if moment == 'begin' then leave() end
@@ -58,6 +63,7 @@ if not vim.wait(5000, function() return client end, 1) then vim.cmd('cquit 1') e
 if moment == 'initialized' then leave() end
 vim.lsp.buf_attach_client(0, client.id)
 vim.wait(moment == 'settings' and 3000 or 200)
+if leaves then return end
 if moment == 'open' then
   vim.api.nvim_buf_set_lines(0, 0, 0, false, { '# 😀' })
 elseif moment == 'asked' then
