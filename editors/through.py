@@ -3,8 +3,9 @@
 
     editors/through.py FILE PROGRAM [WORD ..]
 
-What passes on the editor's side comes into FILE.ID.1.lsp (`tap.py`), and the recording into FILE.ID.log, with the id of this process. Ends in status 1 if they differ: for each way,
-the messages have to be the same trees in the same order, but for `"params": null`, which comes out as no params.
+What passes on the editor's side comes into FILE.ID.1.lsp (`tap.py`), and the recording into FILE.ID.log, with the id of this process. Ends in
+status 1 if they differ: for each way, the messages have to be the same trees in the same order, but for `"params": null`, which comes out
+as no params.
 """
 import json
 import os

@@ -14,6 +14,7 @@ Then all messages of each recording, of both sides, go through `lsp_demo pump`, 
 status 1 at the first difference.
 """
 import json
+import queue
 import re
 import subprocess
 import sys
@@ -27,8 +28,8 @@ from typed import lines_of
 
 RECORDINGS = sorted(Path(__file__).resolve().parent.glob("recordings/*.lsp"))
 WAYS = [["example_session"], ["example_diagnostics"], ["example_search"], ["example_search", "threads"], ["example_search", "jobs"]]
-# Whether a change whose version is not higher loses the text. If not, it is made.
-WAYS_TO_HEAR = [False, True]
+# Whether a change behind a higher version loses the text. If not, it is made.
+WAYS_TO_HEAR = [True]
 LINE_END = re.compile("\r\n|\n|\r")
 # The configuration: how many characters `example_diagnostics` allows in a line, and what `example_search` allows as a value.
 LONGEST = 20
@@ -39,9 +40,10 @@ UNIT_LENGTHS = {"utf-8": lambda char: len(char.encode()), "utf-16": lambda char:
 class Text:
     """The text of a document, by the rules of LSP 3.17, "Text Documents". It is None while it is lost, or closed."""
 
-    def __init__(self, encoding, is_lost_by_versions=False):
+    def __init__(self, encoding, is_lost_by_versions=False, takes_saves=True):
         self.length = UNIT_LENGTHS[encoding]
         self.is_lost_by_versions = is_lost_by_versions
+        self.takes_saves = takes_saves
         self.text = self.version = None
 
     def hear(self, method, params):
@@ -49,12 +51,12 @@ class Text:
         if method == "textDocument/didOpen":
             self.text, self.version = document["text"], document["version"]
         elif method == "textDocument/didChange":
-            if self.is_lost_by_versions and document["version"] <= self.version:
+            if self.is_lost_by_versions and document["version"] < self.version:
                 self.text = None
-            self.version = document["version"]
+            self.version = max(self.version, document["version"])
             for change in params["contentChanges"]:
                 self.change(change)
-        elif method == "textDocument/didSave" and self.text is None:
+        elif method == "textDocument/didSave" and self.text is None and self.takes_saves:
             self.text = params.get("text")
         elif method == "textDocument/didClose":
             self.text = None
@@ -96,6 +98,7 @@ class Client(Editor):
         self.marks = {}  # for each URI: the marks that came, each once if it comes again
         self.wanted = {False: {}, True: {}}  # and those that have to
         self.encoding = "utf-16"
+        self.takes_saves = False  # whether the server asked for the text of a save
 
     def look(self, message):
         super().look(message)
@@ -111,16 +114,18 @@ class Client(Editor):
 
     def is_configured(self):
         """Answers the server's first request, which is for its configuration."""
-        while (message := self.messages.get(timeout=PATIENCE)).get("method") != "workspace/configuration":
+        while (message := self.messages.get(timeout=PATIENCE)) is not None:
             self.look(message)
-        self.look(message)
-        self.send(id=message["id"], result=CONFIGURATION[self.way[0]])
+            if message.get("method") == "workspace/configuration":
+                self.send(id=message["id"], result=CONFIGURATION[self.way[0]])
+                return
+        raise Difference("the server's output ended before it asked for its configuration")
 
     def tells(self, method, params):
         """A notification of a document, and what has to come of it."""
         self.notify(method, params)
         uri = params["textDocument"]["uri"]
-        texts = self.texts.setdefault(uri, {way: Text(self.encoding, way) for way in WAYS_TO_HEAR})
+        texts = self.texts.setdefault(uri, {way: Text(self.encoding, way, self.takes_saves) for way in WAYS_TO_HEAR})
         for way, text in texts.items():
             text.hear(method, params)
             add(self.wanted[way], uri, text.marks())
@@ -175,6 +180,7 @@ def play(client, messages):
             client.awaits(id)
             capabilities = client.replied[id][0]["result"]["capabilities"]
             expect("how positions are counted", capabilities.get("positionEncoding", client.encoding), client.encoding)
+            client.takes_saves = capabilities.get("textDocumentSync", {}).get("save") == {"includeText": True}
         elif method is not None and id is not None:
             asked.add(id)
             is_shut |= method == "shutdown"
@@ -264,8 +270,8 @@ def main():
         way = ["pump"]
         for recording in RECORDINGS:
             is_passed_on(recording)
-    except (Difference, OSError, subprocess.TimeoutExpired) as fault:
-        sys.exit(f"tests/recordings_client.py: {' '.join(way)}, {recording.stem}: {fault}")
+    except (Difference, OSError, subprocess.TimeoutExpired, queue.Empty) as fault:
+        sys.exit(f"tests/recordings_client.py: {' '.join(way)}, {recording.stem}: {fault or 'nothing comes'}")
     print("each message of each recording passed on: the same tree")
 
 

@@ -1,7 +1,7 @@
 ;;; odd.el --- Texts where eglot parts with LSP 3.17  -*- lexical-binding: t; -*-
 
-;; A buffer that is narrowed is edited and saved, and one has carriage returns within its lines. After each edit the text of `example_search' has to be
-;; the buffer's, or the server tells that it may not be, at the latest at a save.
+;; A buffer that is narrowed is edited and saved, and one has carriage returns within its lines. After each edit the text of
+;; `example_search' has to be the buffer's, or the server tells that it may not be, at the latest at a save.
 ;;   LSP_SERVER="program argument .." emacs --batch -l editors/emacs/odd.el
 ;; Without LSP_SERVER it is `crates/example_search/out/example_search'. Ends in status 1 where a text differs and nothing was told.
 

@@ -1,6 +1,6 @@
 #!/usr/bin/env python3
-"""Keys that come in a burst, as pasted into the terminal, have Helix send changes whose versions are out of order. At the first such change the
-server has to say so, and behind a save its text has to be right: it lost the text, and takes that of the save, or the changes as they came gave the same.
+"""Keys that come in a burst, as pasted into the terminal, have Helix 25.01 send changes whose versions are out of order. The server has to
+say so, and behind a save its text has to be right: it lost the text, and takes that of the save, or the changes as they came gave the same.
 
     LSP_SERVER="program argument .." editors/helix/burst.py          at the top of the repository; see screen.py
 
@@ -33,9 +33,9 @@ try:
     behind = sum(1 for one, two in zip(versions, versions[1:]) if two < one)
     told = [it["params"]["message"] for of_client, it in messages if it.get("method") == "window/logMessage"]
     print(f"{len(versions)} changes, {behind} behind a later one; told: {sorted(set(told))}")
-    lost = any("out of step" in line for line in told)
+    lost = any("out of order" in line for line in told)
     print(f"the text was {'lost, and comes whole' if lost else 'made of the changes as they came'}")
-    helix.note("the server said so", not behind or any("version" in line or "out of step" in line for line in told))
+    helix.note("the server said so", not behind or lost or any("version" in line for line in told))
     # A server that did not lose the text keeps its own at a save, and says that it is another one.
     helix.note("its text is the file's behind the save", shown and not any("another one" in line for line in told))
 finally:

@@ -35,13 +35,14 @@ class Helix:
         (self.folder / "helix" / "languages.toml").write_text(settings)
         self.path = self.folder / "prices.sums"
         self.path.write_text("\n".join(lines) + "\n", newline="")
-        home = f"HOME={self.folder} XDG_CONFIG_HOME={self.folder} XDG_CACHE_HOME={self.folder} LANG=C.UTF-8 TERM=xterm-256color"
-        self.tmux("-u", "-f", "/dev/null", "new-session", "-d", "-x", "120", "-y", "30", f"env {home} hx {self.path}; sleep 3")
+        home = f"HOME={self.folder} XDG_CONFIG_HOME={self.folder} XDG_CACHE_HOME={self.folder}"
+        line = f"env {home} LANG=C.UTF-8 TERM=xterm-256color hx {self.path}; sleep 3"
+        self.tmux("-u", "-f", "/dev/null", "new-session", "-d", "-x", "120", "-y", "30", line)
         self.good = True
 
     def tmux(self, *words):
-        said = subprocess.run(["tmux", "-S", self.folder / "tmux", *words], stdout=subprocess.PIPE, stderr=subprocess.DEVNULL, check=False, timeout=PATIENCE)
-        return said.stdout.decode()
+        command = ["tmux", "-S", self.folder / "tmux", *words]
+        return subprocess.run(command, capture_output=True, check=False, timeout=PATIENCE).stdout.decode()
 
     def keys(self, *keys):
         for key in keys:

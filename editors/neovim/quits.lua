@@ -1,4 +1,5 @@
--- Leaves Neovim by `:qall!` at a moment of a session, as its user may. The server has to end, and in status 0 if Neovim sent `shutdown` and `exit`.
+-- Leaves Neovim by `:qall!` at a moment of a session, as its user may. The server has to end, and in status 0 if Neovim sent `shutdown` and
+-- `exit`.
 --   LSP_SERVER="editors/tap.py FILE program argument .." nvim --headless -u NONE -i NONE -S editors/neovim/quits.lua
 -- FILE.1.status tells the status. MOMENT is `begin` (at once), `initialized`, `settings` (while the server asks for them), `open` (with a
 -- change that is not told yet) or `asked` (while requests wait); without it Neovim starts itself for each of them.

@@ -1,7 +1,7 @@
 -- Types, pastes, undoes and replaces in Neovim, in a text with emoji and combining marks, and looks after each edit whether
 -- `example_search` holds the text of the buffer. The lines end with `\n`, then with `\r\n`, then with `\r`. Last they are mixed: there
--- Neovim takes the `\r` of a `\r\n` for a character of its line, so the texts may part, but not before the server says that a position is
--- past the end.
+-- Neovim takes the `\r` of a `\r\n` for a character of its line. A server counts `\r` in one way in all texts. So where it stands by itself the
+-- texts may part, but the server says then that a position is past the end, or at a save that the text is another one.
 --   LSP_SERVER="program argument .." nvim --headless -u NONE -i NONE -S editors/neovim/typing.lua
 -- ENCODING is `utf-8`, `utf-16` or `utf-32` (from Neovim 0.10 on): what the client offers to count in.
 -- Without LSP_SERVER it is `crates/example_search/out/example_search`; SEED and EDITS are 1 and 300. Ends in status 1 where
@@ -120,7 +120,7 @@ local function text_of_server()
 end
 
 for _, format in ipairs({ 'unix', 'dos', 'mac', 'mixed' }) do
-  local mixed, told = format == 'mixed', false
+  local mixed, may_part, told = format == 'mixed', format == 'mixed' or format == 'mac', false
   vim.cmd('enew!')
   vim.bo.fileformat = mixed and 'unix' or format
   vim.api.nvim_buf_set_name(0, vim.fn.tempname() .. '.sums')
@@ -135,7 +135,7 @@ for _, format in ipairs({ 'unix', 'dos', 'mac', 'mixed' }) do
     capabilities = capabilities,
     handlers = {
       ['window/logMessage'] = function(_, params)
-        told = told or params.message:find('past the end', 1, true) ~= nil
+        told = told or params.message:find('past the end', 1, true) ~= nil or params.message:find('another one', 1, true) ~= nil
       end,
     },
     flags = { allow_incremental_sync = true, debounce_text_changes = 0 },
@@ -149,15 +149,19 @@ for _, format in ipairs({ 'unix', 'dos', 'mac', 'mixed' }) do
   if vim.env.ENCODING and client.offset_encoding ~= vim.env.ENCODING then
     fail('the client counts in %s', client.offset_encoding)
   end
-  local right = 0
+  local right, parted = 0, false
   for edit = 1, edits do
     local name = any(names)
     pcall(ways[name])
     vim.wait(5)
     local wanted, found = text_of_buffer(), text_of_server()
-    if wanted ~= found and mixed and told then
-      say('mixed: the texts part at edit %d, and the server said so', edit)
-      right = edits
+    if wanted ~= found and may_part and not told then
+      vim.cmd('silent write')
+      vim.wait(1000, function() return told end, 5)
+    end
+    if wanted ~= found and may_part and told then
+      say('%s: the texts part at edit %d, and the server said so', format, edit)
+      right, parted = edits, true
       break
     elseif wanted ~= found then
       say('after edit %d (%s) of %s, the buffer has\n  %s\nand the server\n  %s', edit, name, format, vim.inspect(wanted), vim.inspect(found))
@@ -165,7 +169,7 @@ for _, format in ipairs({ 'unix', 'dos', 'mac', 'mixed' }) do
     end
     right = right + 1
   end
-  if not mixed then
+  if not parted then
     say('%s: the server held the text of the buffer after %d of %d edits, %d bytes at the end', format, right, edits, #text_of_buffer())
   end
   client.stop()

@@ -1,5 +1,5 @@
-// A session as VS Code holds one, with `example_search`: the configuration is asked for, marks come, a text is edited with one caret and with two, requests
-// are cancelled, progress and watched files are told. Then ids that are texts, and the ends of a session.
+// A session as VS Code holds one, with `example_search`: the configuration is asked for, marks come, a text is edited with one caret and with
+// two, requests are cancelled, progress and watched files are told. Then ids that are texts, and the ends of a session.
 //   LSP_SERVER="program argument .." node editors/vscode/session.js
 // Ends in status 1 where something is otherwise.
 const { rpc, late, soon, until, note, ends, start, begin } = require('./client.js');
