@@ -16,18 +16,22 @@ use Rattle.bench.proofs.Sent.{none_in, one_in, sent_reply}
 
 module _ {S J K P : Type 0} (plain : Plain S P) (may : WithJobs S J K P) (of_job : OfJob J)
     (silent : SilentServer may)
-    (echoes : (job : J) (method : List ℕ) (params : Data) (outcome : Result Data ErrorObject) → of_job.answers job method params outcome → outcome ≡ Ok params) where
+    (echoes : (job : J) (method : List ℕ) (params : Data) (outcome : Result Data ErrorObject) → of_job.answers job
+    method params outcome → outcome ≡ Ok params) where
   -- what is sent for an outcome is the reply or nothing
-  sends_reply : (earlier : List Exchange) (sent before after : List Message) (id : Id) (result : Data) (o : SendsOutcome plain may of_job earlier sent)
+  sends_reply : (earlier : List Exchange) (sent before after : List Message) (id : Id) (result : Data) (o : SendsOutcome
+      plain may of_job earlier sent)
       → sent ≡ before ++ response id (Ok result) ∷ after → response o.id o.outcome ≡ response id (Ok result)
   sends_reply earlier sent before after id result o cut =
       sent_reply o.sent.0 o.id id o.outcome (Ok result) sent before after o.sent.1
       (rw (silent.1 _ _ _ _ _ _ o.saw, none_refused plain may of_job silent o.refused) at o.sent.2) cut
 
-  is_no_reply : (method : List ℕ) (params : Data) (id : Id) (outcome : Result Data ErrorObject) → notification method params ≡ response id outcome → ⊥
+  is_no_reply : (method : List ℕ) (params : Data) (id : Id) (outcome : Result Data ErrorObject) → notification method
+      params ≡ response id outcome → ⊥
   is_no_reply method params id outcome e = absurd (cc)
 
-  asks_no_reply : (i : Id) (method : List ℕ) (params : Data) (id : Id) (outcome : Result Data ErrorObject) → request i method params ≡ response id outcome → ⊥
+  asks_no_reply : (i : Id) (method : List ℕ) (params : Data) (id : Id) (outcome : Result Data ErrorObject)
+      → request i method params ≡ response id outcome → ⊥
   asks_no_reply i method params id outcome e = absurd (cc)
 
   -- the reply is the params of the last request
@@ -44,7 +48,8 @@ module _ {S J K P : Type 0} (plain : Plain S P) (may : WithJobs S J K P) (of_job
         | inr failed ↦ absurd (cc)
       ]
 
-  reply_echoes : {sent : List Message} (earlier : List Exchange) (id : Id) (result : Data) (o : SendsOutcome plain may of_job earlier sent)
+  reply_echoes : {sent : List Message} (earlier : List Exchange) (id : Id) (result : Data) (o : SendsOutcome plain may
+      of_job earlier sent)
       → response o.id o.outcome ≡ response id (Ok result) → (method : List ℕ) × LastRequest earlier id method result
   reply_echoes earlier id result o same =
       elim o.by [
@@ -59,13 +64,16 @@ module _ {S J K P : Type 0} (plain : Plain S P) (may : WithJobs S J K P) (of_job
       absurd (none_in (response id (Ok result)) before after [] (sym nothing ∙ cut ∙ sym (append-nil _)))
   echoed earlier sent before after id result (inr (inl report)) cut =
       absurd (is_no_reply report.method report.params id (Ok result)
-      (one_in (response id (Ok result)) (notification report.method report.params) before after report.sent.1 (rw cut at report.sent.2)))
+      (one_in (response id (Ok result)) (notification report.method report.params) before after report.sent.1
+      (rw cut at report.sent.2)))
   echoed earlier sent before after id result (inr (inr (inl asked))) cut =
       elim (asks_once plain may of_job earlier sent asked) [
-        | inl nothing ↦ absurd (none_in (response id (Ok result)) before after [] (sym nothing ∙ cut ∙ sym (append-nil _)))
+        | inl nothing ↦ absurd (none_in (response id (Ok result)) before after [] (sym nothing ∙ cut
+            ∙ sym (append-nil _)))
         | inr one ↦
             absurd (asks_no_reply one.0 asked.method asked.params id (Ok result)
-            (one_in (response id (Ok result)) (request one.0 asked.method asked.params) before after [] (sym one.1 ∙ cut ∙ sym (append-nil _))))
+            (one_in (response id (Ok result)) (request one.0 asked.method asked.params) before after [] (sym one.1 ∙ cut
+            ∙ sym (append-nil _))))
       ]
   echoed earlier sent before after id result (inr (inr (inr o))) cut =
       reply_echoes earlier id result o (sends_reply earlier sent before after id result o cut)

@@ -23,7 +23,9 @@ pub one_if : {A : Type 0} (is_held : Bool) (m x : A) (before after rest : List A
 one_if true m x before after rest e = one_in m x before after rest e
 one_if false m x before after rest e = absurd (none_in m before after rest e)
 
-pub sent_reply : {P : Type 0} (queues : Queues P) (i j : Id) (came given : Result Data ErrorObject) (sent before after not_sent : List Message)
-    → all_sends queues (replies i came ∷ []) ≡ sent ++ not_sent → sent ≡ before ++ response j given ∷ after → response i came ≡ response j given
+pub sent_reply : {P : Type 0} (queues : Queues P) (i j : Id) (came given : Result Data ErrorObject) (sent before after
+    not_sent : List Message)
+    → all_sends queues (replies i came ∷ []) ≡ sent ++ not_sent → sent ≡ before ++ response j given ∷ after
+    → response i came ≡ response j given
 sent_reply queues i j came given sent before after not_sent sends cut =
     one_if (map.contains_key queues.held i) (response j given) (response i came) before after not_sent (rw cut at sends)

@@ -6,8 +6,8 @@ use Rattle.lsp_message.specs.Message.{Message, response}
 use Rattle.lsp_session.specs.Session.{Exchange}
 use Rattle.lsp_jobs.specs.JobLaw.{LastRequest}
 
--- Each result that is sent at a wake under an id is the params of the last request under that id. Since that came, no reply under
--- the id was sent, and no cancellation of it came.
+-- Each result that is sent at a wake under an id is the params of the last request under that id. Since that came, no
+-- reply under the id was sent, and no cancellation of it came.
 abbrev pub EchoesAtWakes : List Exchange → Type 0
 EchoesAtWakes exchanges =
     (earlier later : List Exchange) (x : Exchange) (before after : List Message) (id : Id)

@@ -7,9 +7,10 @@ use Rattle.lsp_service.specs.QueuedServer.{ServerSession, held_by}
 use Rattle.lsp_service.specs.Stated.{Stated}
 use Rattle.lsp_session.specs.Session.{Exchange, messages_of, SessionAnswer, Stop}
 
--- A session of this server, from its first state to its last. At no beginning of the session had the client got more replies under
--- an id than it had sent requests. A request whose id it used once has exactly one reply. Or it has none: the server still keeps it, or the session ended
--- at it, since the lifecycle does not allow it. If a write or an allocation failed, replies may be missing.
+-- A session of this server, from its first state to its last. At no beginning of the session had the client got more
+-- replies under an id than it had sent requests. A request whose id it used once has exactly one reply. Or it has none:
+-- the server still keeps it, or the session ended at it, since the lifecycle does not allow it. If a write or an
+-- allocation failed, replies may be missing.
 pub record AnswersOnce {S P : Type 0} (may : Stated S P) (first last : S)
     (exchanges : List Exchange) (stop : Stop) (shutdown_reply : Option Message)
     (answer : SessionAnswer) : Type 0 where

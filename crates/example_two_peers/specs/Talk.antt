@@ -26,7 +26,8 @@ pub record Begins (history : List Entry) : Type 0 where
   pub wrote : written_in first.step first.outcome ≡ message ∷ []
   pub initializes : is_initialize message ≡ true
 
--- The world is what it is after some entries. The first wrote `initialize`, and each message that was written can be read back.
+-- The world is what it is after some entries. The first wrote `initialize`, and each message that was written can be
+-- read back.
 abbrev pub IsTalk : World → Type 0
 IsTalk world = (history : List Entry) × WorldAfter world (λ side. []) history × AreReadable history
     × Begins history

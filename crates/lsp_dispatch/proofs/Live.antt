@@ -1,5 +1,6 @@
 -- Which tickets are live after one more call.
-use Rattle.std.proofs.Common.{◌≡◌, ℕ, List, [], ◌∷◌, ◌++◌, length, Bool, true, false, Option, None, Some, refl, ap, ◌∙◌, subst, ◌⊎◌, inl, inr, ⊎_elim, append_assoc, ◌||◌}
+use Rattle.std.proofs.Common.{◌≡◌, ℕ, List, [], ◌∷◌, ◌++◌, length, Bool, true, false, Option, None, Some, refl, ap, ◌∙◌}
+use Rattle.std.proofs.Common.{subst, ◌⊎◌, inl, inr, ⊎_elim, append_assoc, ◌||◌}
 use Rattle.std.proofs.lemmas.List.Elements.{filter_map-append}
 use Rattle.lsp_message.specs.Id.{Id}
 use Rattle.lsp_dispatch.specs.DispatchCalls.{Call, asked_by, cancelled_by, is_finished_by, is_id, ends}
@@ -16,11 +17,13 @@ one_asked : (o : Option Id) (c : Call) → asked_by c ≡ o → asked (c ∷ [])
 one_asked None c e = rw e refl
 one_asked (Some id) c e = rw e refl
 
-pub asked_push : (calls : List Call) (c : Call) (o : Option Id) → asked_by c ≡ o → asked (calls ++ c ∷ []) ≡ asked calls ++ one o
+pub asked_push : (calls : List Call) (c : Call) (o : Option Id) → asked_by c ≡ o → asked (calls ++ c ∷ []) ≡ asked calls
+    ++ one o
 asked_push calls c o e = filter_map-append asked_by calls (c ∷ []) ∙ ap (λ l. asked calls ++ l) (one_asked o c e)
 
 pub ends_asked : (id : Id) (t : ℕ) (c : Call) → asked_by c ≡ Some id → ends id t c ≡ true
-ends_asked id t c e = (λ i. is_id id (e i) || (is_id id (cancelled_by c) || is_finished_by id t c)) ∙ ap (λ b. b || (is_id id (cancelled_by c) || is_finished_by id t c)) (same_own id)
+ends_asked id t c e = (λ i. is_id id (e i) || (is_id id (cancelled_by c) || is_finished_by id t c))
+    ∙ ap (λ b. b || (is_id id (cancelled_by c) || is_finished_by id t c)) (same_own id)
 
 or_true : (b : Bool) → (b || true) ≡ true
 or_true true = refl
@@ -28,15 +31,18 @@ or_true false = refl
 
 pub ends_cancelled : (id : Id) (t : ℕ) (c : Call) → cancelled_by c ≡ Some id → ends id t c ≡ true
 ends_cancelled id t c e =
-    (λ i. is_id id (asked_by c) || (is_id id (e i) || is_finished_by id t c)) ∙ ap (λ b. is_id id (asked_by c) || (b || is_finished_by id t c)) (same_own id)
+    (λ i. is_id id (asked_by c) || (is_id id (e i) || is_finished_by id t c)) ∙ ap (λ b. is_id id (asked_by c)
+    || (b || is_finished_by id t c)) (same_own id)
     ∙ or_true (is_id id (asked_by c))
 
 pub ends_finished : (id : Id) (t : ℕ) (c : Call) → is_finished_by id t c ≡ true → ends id t c ≡ true
 ends_finished id t c e =
-    ap (λ b. is_id id (asked_by c) || (is_id id (cancelled_by c) || b)) e ∙ ap (λ b. is_id id (asked_by c) || b) (or_true (is_id id (cancelled_by c)))
+    ap (λ b. is_id id (asked_by c) || (is_id id (cancelled_by c) || b)) e ∙ ap (λ b. is_id id (asked_by c) || b)
+    (or_true (is_id id (cancelled_by c)))
     ∙ or_true (is_id id (asked_by c))
 
-pub ends_none : (id : Id) (t : ℕ) (c : Call) → is_id id (asked_by c) ≡ false → is_id id (cancelled_by c) ≡ false → is_finished_by id t c ≡ false → ends id t c ≡ false
+pub ends_none : (id : Id) (t : ℕ) (c : Call) → is_id id (asked_by c) ≡ false → is_id id (cancelled_by c) ≡ false
+    → is_finished_by id t c ≡ false → ends id t c ≡ false
 ends_none id t c a b f = λ i. a i || (b i || f i)
 
 module _ (before : List Call) (c : Call) where
@@ -69,7 +75,8 @@ module _ (before : List Call) (c : Call) where
   }
 
   -- what is live after the call
-  pub comes_from : (id : Id) (t : ℕ) → IsLive (before ++ c ∷ []) id t → ((asked_by c ≡ Some id) × (length (asked before) ≡ t)) ⊎ (IsLive before id t × (ends id t c ≡ false))
+  pub comes_from : (id : Id) (t : ℕ) → IsLive (before ++ c ∷ []) id t → ((asked_by c ≡ Some id) × (length (asked before)
+      ≡ t)) ⊎ (IsLive before id t × (ends id t c ≡ false))
   comes_from id t live =
       ⊎_elim
       (λ none. inl (ap asked_by none.2 ∙ live.brings, ap (λ l. length (asked l)) none.1 ∙ live.counted))
@@ -81,7 +88,8 @@ module _ (before : List Call) (c : Call) where
           place = more.2;
           counted = live.counted;
           brings = live.brings;
-          unended = λ x y d e. live.unended x (y ++ c ∷ []) d (more.1 ∙ ap (λ l. l ++ c ∷ []) e ∙ append_assoc x (d ∷ y) (c ∷ []));
+          unended = λ x y d e. live.unended x (y ++ c ∷ []) d (more.1 ∙ ap (λ l. l ++ c ∷ []) e ∙ append_assoc x (d ∷ y)
+              (c ∷ []));
         },
         live.unended more.0 [] c more.1,
       ))

@@ -1,6 +1,7 @@
 -- The answers to a list of calls, by places in the whole list.
 use Rattle.std.specs.List.{filter_map}
-use Rattle.std.specs.Prelude.{◌≡◌, ◌⊎◌, ℕ, List, [], ◌∷◌, ◌++◌, length, false, Option, Some, None, Result, codes, MatchBool, if◌then◌else◌, IfSome, slice_get}
+use Rattle.std.specs.Prelude.{◌≡◌, ◌⊎◌, ℕ, List, [], ◌∷◌, ◌++◌, length, false, Option, Some, None, Result, codes}
+use Rattle.std.specs.Prelude.{MatchBool, if◌then◌else◌, IfSome, slice_get}
 use Rattle.std.specs.Str.{bytes_eq}
 use Rattle.serde_json.specs.Data.{Data}
 use Rattle.lsp_message.specs.Id.{Id}
@@ -13,8 +14,8 @@ use Rattle.lsp_dispatch.specs.DispatchCalls.{Call, delivers, finishes, is_own, n
 abbrev pub asked : List Call → List Id
 asked calls = filter_map asked_by calls
 
--- Ticket t is the t-th of the calls that brings a request, from zero. It is live from there on until the first later call that
--- brings a request under its id, cancels its id, or finishes its id and t.
+-- Ticket t is the t-th of the calls that brings a request, from zero. It is live from there on until the first later
+-- call that brings a request under its id, cancels its id, or finishes its id and t.
 pub record IsLive (before : List Call) (id : Id) (ticket : ℕ) : Type 0 where
   pub earlier : List Call
   pub call : Call

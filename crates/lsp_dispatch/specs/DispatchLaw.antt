@@ -28,8 +28,8 @@ work_in (finished_work reply ticket) = None
 work_in (note message) = None
 work_in nothing = None
 
--- A reply is to the work of its ticket, under the id of that request. Between the two no reply has this ticket, and no other work
--- came under this id.
+-- A reply is to the work of its ticket, under the id of that request. Between the two no reply has this ticket, and no
+-- other work came under this id.
 pub record RepliesTo (before : List Answer) (id : Id) (ticket : ℕ) : Type 0 where
   pub earlier : List Answer
   pub asked : Answer

@@ -1,6 +1,7 @@
 -- What a dispatcher answers to a call, by what is pending.
 use Rattle.std.specs.FinMap as map
-use Rattle.std.specs.Prelude.{ℕ, ◌+◌, ◌-◌, ◌^◌, ◌==◌, Bool, false, Option, Some, None, Result, codes, if◌then◌else◌, List, [], ◌∷◌}
+use Rattle.std.specs.Prelude.{ℕ, ◌+◌, ◌-◌, ◌^◌, ◌==◌, Bool, false, Option, Some, None, Result, codes, if◌then◌else◌}
+use Rattle.std.specs.Prelude.{List, [], ◌∷◌}
 use Rattle.std.specs.Str.{bytes_eq}
 use Rattle.serde_json.specs.Data.{Data}
 use Rattle.lsp_message.specs.Id.{Id}

@@ -1,6 +1,8 @@
 -- What notifications make of what is kept of one URI, beside the client's own document.
-use Rattle.std.proofs.Common.{◌≡◌, ℕ, ℤ, Bool, true, false, ◌||◌, List, [], ◌∷◌, ◌++◌, Option, Some, None, refl, sym, ap, subst, ◌∙◌, arith, inl, inr, is_none, option_and_then, option_map, append_assoc}
-use Rattle.std.specs.Prelude.{if◌then◌else◌, not, ◌&&◌, is_some, unwrap_or, IfSome, IsSomeAnd, Result, Ok, Err, OnErr, ◌<◌, length}
+use Rattle.std.proofs.Common.{◌≡◌, ℕ, ℤ, Bool, true, false, ◌||◌, List, [], ◌∷◌, ◌++◌, Option, Some, None, refl, sym}
+use Rattle.std.proofs.Common.{ap, subst, ◌∙◌, arith, inl, inr, is_none, option_and_then, option_map, append_assoc}
+use Rattle.std.specs.Prelude.{if◌then◌else◌, not, ◌&&◌, is_some, unwrap_or, IfSome, IsSomeAnd, Result, Ok, Err, OnErr}
+use Rattle.std.specs.Prelude.{◌<◌, length}
 use Rattle.std.specs.Str.{bytes_eq}
 use Rattle.std.proofs.lemmas.List.{append-nil}
 use Rattle.std.proofs.lemmas.Slice.Eq.{bytes_eq-Decides}
@@ -19,7 +21,14 @@ use Rattle.serde_json.specs.View.{view, items_view}
 use Rattle.serde_json.specs.declared.value.Value.{Value}
 use Rattle.lsp_documents.specs.Params.{change_in, changes_in}
 use Rattle.lsp_documents.specs.Remains.{Remains}
-use Rattle.lsp_documents.specs.Notices.{saved_in, Item, text_item, text_by, edited_text, kept_by, begun_by, changed_in, doubted, left_by, shown, version_of, is_late, step_fault, goes_on, version_after, NoticeKind, NoticeKind.opened, NoticeKind.changed, NoticeKind.saved, NoticeKind.closed, Notice, Sent, Sent.made, Sent.unmade, Sent.unread, Documents, Keeps, Puts, Makes, Takes, TakesAll, Agrees, IsVersion, SavesOwn, SavesItsText, after, missed, kept_after, kept_after_all, told, told_all, kinds_in, kinds_of, notices_of, is_current, has_whole, has_changes, fault_of, change_fault, document, opens, edits, Failed}
+use Rattle.lsp_documents.specs.Notices.{saved_in, Item, text_item, text_by, edited_text, kept_by, begun_by, changed_in}
+use Rattle.lsp_documents.specs.Notices.{doubted, left_by, shown, version_of, is_late, step_fault, goes_on}
+use Rattle.lsp_documents.specs.Notices.{version_after, NoticeKind, NoticeKind.opened, NoticeKind.changed}
+use Rattle.lsp_documents.specs.Notices.{NoticeKind.saved, NoticeKind.closed, Notice, Sent, Sent.made, Sent.unmade}
+use Rattle.lsp_documents.specs.Notices.{Sent.unread, Documents, Keeps, Puts, Makes, Takes, TakesAll, Agrees, IsVersion}
+use Rattle.lsp_documents.specs.Notices.{SavesOwn, SavesItsText, after, missed, kept_after, kept_after_all, told}
+use Rattle.lsp_documents.specs.Notices.{told_all, kinds_in, kinds_of, notices_of, is_current, has_whole, has_changes}
+use Rattle.lsp_documents.specs.Notices.{fault_of, change_fault, document, opens, edits, Failed}
 
 never : {P : Type 0} → false ≡ true → P
 never h = grind (arith, h)
@@ -31,30 +40,37 @@ by_test false t f = f refl
 -- ---- one URI
 
 -- with a change of the whole text, the text before does not matter
-whole_first : (e : PositionEncoding) (s t : LinedText) (r : Option Range) (new : List ℕ) (cs : List Change) → s.ends ≡ t.ends → ((s t : LinedText) → s.ends ≡ t.ends → has_whole cs ≡ true → edited_by e s cs ≡ edited_by e t cs) → (is_none r || has_whole cs) ≡ true →
+whole_first : (e : PositionEncoding) (s t : LinedText) (r : Option Range) (new : List ℕ) (cs : List Change) → s.ends
+    ≡ t.ends → ((s t : LinedText) → s.ends ≡ t.ends → has_whole cs ≡ true → edited_by e s cs ≡ edited_by e t cs)
+    → (is_none r || has_whole cs) ≡ true →
     edited_by e (edited e s r new) cs ≡ edited_by e (edited e t r new) cs
 whole_first e s t None new cs same ih h = ap (λ ends. edited_by e (lined ends new) cs) same
 whole_first e s t (Some range) new cs same ih h = ih _ _ same h
 
-whole_ends : (e : PositionEncoding) (cs : List Change) (s t : LinedText) → s.ends ≡ t.ends → has_whole cs ≡ true → edited_by e s cs ≡ edited_by e t cs
+whole_ends : (e : PositionEncoding) (cs : List Change) (s t : LinedText) → s.ends ≡ t.ends → has_whole cs ≡ true
+    → edited_by e s cs ≡ edited_by e t cs
 whole_ends e [] s t same h = never h
 whole_ends e (c ∷ cs) s t same h = whole_first e s t c.range c.text cs same (λ a b i w. whole_ends e cs a b i w) h
 
-whole_text : (a : Agreed) (cs : List Change) (s : List ℕ) → has_whole cs ≡ true → edited_by a.encoding (text_by a []) cs ≡ edited_by a.encoding (text_by a s) cs
+whole_text : (a : Agreed) (cs : List Change) (s : List ℕ) → has_whole cs ≡ true → edited_by a.encoding (text_by a []) cs
+    ≡ edited_by a.encoding (text_by a s) cs
 whole_text a cs s h = whole_ends a.encoding cs (text_by a []) (text_by a s) refl h
 
 -- changes leave the ends of lines as they are
-ends_first : (e : PositionEncoding) (ends : LineEnds) (s : List ℕ) (r : Option Range) (new : List ℕ) (cs : List Change) → ((s : List ℕ) → edited_by e (lined ends s) cs ≡ lined ends (edited_by e (lined ends s) cs).bytes) →
+ends_first : (e : PositionEncoding) (ends : LineEnds) (s : List ℕ) (r : Option Range) (new : List ℕ) (cs : List Change)
+    → ((s : List ℕ) → edited_by e (lined ends s) cs ≡ lined ends (edited_by e (lined ends s) cs).bytes) →
     edited_by e (edited e (lined ends s) r new) cs ≡ lined ends (edited_by e (edited e (lined ends s) r new) cs).bytes
 ends_first e ends s None new cs ih = ih new
 ends_first e ends s (Some range) new cs ih = ih _
 
-ends_stay : (e : PositionEncoding) (ends : LineEnds) (cs : List Change) (s : List ℕ) → edited_by e (lined ends s) cs ≡ lined ends (edited_by e (lined ends s) cs).bytes
+ends_stay : (e : PositionEncoding) (ends : LineEnds) (cs : List Change) (s : List ℕ) → edited_by e (lined ends s) cs
+    ≡ lined ends (edited_by e (lined ends s) cs).bytes
 ends_stay e ends [] s = refl
 ends_stay e ends (c ∷ cs) s = ends_first e ends s c.range c.text cs (ends_stay e ends cs)
 
 -- what changes make of a client's text is what they make of it as it is kept
-edited_is : (a : Agreed) (cs : List Change) (s : List ℕ) → edited_by a.encoding (text_by a s) cs ≡ text_by a (edited_text a s cs)
+edited_is : (a : Agreed) (cs : List Change) (s : List ℕ) → edited_by a.encoding (text_by a s) cs
+    ≡ text_by a (edited_text a s cs)
 edited_is a cs s = ends_stay a.encoding a.options.line_ends cs s
 
 same_version : (v : Option ℤ) → IsVersion v v
@@ -62,33 +78,41 @@ same_version None = tt
 same_version (Some v) = refl
 
 none_changed : (a : Agreed) (l : List ℕ) (r : Remains) (version : Option ℤ) (list : List Change) (w : Bool) →
-    Agrees a (if w then Some (text_item [] version (edited_text a [] list)) else None) (Some (if w then Known (begun_by a l version list) else Lost r))
+    Agrees a (if w then Some (text_item [] version (edited_text a [] list)) else None)
+    (Some (if w then Known (begun_by a l version list) else Lost r))
 none_changed a l r version list true = (edited_is a list [], same_version version)
 none_changed a l r version list false = tt
 
-some_changed : (a : Agreed) (c : Item) (l : List ℕ) (r : Remains) (version : Option ℤ) (list : List Change) (w : Bool) → (w ≡ true → edited_by a.encoding (text_by a []) list ≡ edited_by a.encoding (text_by a c.text) list) →
-    Agrees a (Some (text_item c.language_id version (edited_text a c.text list))) (Some (if w then Known (begun_by a l version list) else Lost r))
+some_changed : (a : Agreed) (c : Item) (l : List ℕ) (r : Remains) (version : Option ℤ) (list : List Change) (w : Bool)
+    → (w ≡ true → edited_by a.encoding (text_by a []) list ≡ edited_by a.encoding (text_by a c.text) list) →
+    Agrees a (Some (text_item c.language_id version (edited_text a c.text list)))
+    (Some (if w then Known (begun_by a l version list) else Lost r))
 some_changed a c l r version list true whole = (whole refl ∙ edited_is a list c.text, same_version version)
 some_changed a c l r version list false whole = tt
 
 none_opened : (a : Agreed) (version : Option ℤ) (list : List Change) (w : Bool) →
-    Agrees a (if w then Some (text_item [] version (edited_text a [] list)) else None) (if w then Some (Known (begun_by a [] version list)) else None)
+    Agrees a (if w then Some (text_item [] version (edited_text a [] list)) else None) (if w then Some
+    (Known (begun_by a [] version list)) else None)
 none_opened a version list true = (edited_is a list [], same_version version)
 none_opened a version list false = tt
 
-some_opened : (a : Agreed) (c : Item) (version : Option ℤ) (list : List Change) (w : Bool) → (w ≡ true → edited_by a.encoding (text_by a []) list ≡ edited_by a.encoding (text_by a c.text) list) →
-    Agrees a (Some (text_item c.language_id version (edited_text a c.text list))) (if w then Some (Known (begun_by a [] version list)) else None)
+some_opened : (a : Agreed) (c : Item) (version : Option ℤ) (list : List Change) (w : Bool)
+    → (w ≡ true → edited_by a.encoding (text_by a []) list ≡ edited_by a.encoding (text_by a c.text) list) →
+    Agrees a (Some (text_item c.language_id version (edited_text a c.text list))) (if w then Some
+    (Known (begun_by a [] version list)) else None)
 some_opened a c version list true whole = (whole refl ∙ edited_is a list c.text, same_version version)
 some_opened a c version list false whole = tt
 
 -- late changes leave nothing to look at
-or_late : (a : Agreed) (client : Option Item) (o next : Open) (late : Bool) → Agrees a client (Some next) → Agrees a client (Some (if late then doubted o else next))
+or_late : (a : Agreed) (client : Option Item) (o next : Open) (late : Bool) → Agrees a client (Some next)
+    → Agrees a client (Some (if late then doubted o else next))
 or_late a client (Known d) next true h = tt
 or_late a client (Lost r) next true h = tt
 or_late a client o next false h = h
 
 -- a text that comes with a save, if it was asked for, and if not
-saved_step : (a : Agreed) (asked : Bool) (client : Option Item) (kept : Option Open) (text : List ℕ) → (asked ≡ true → IsSomeAnd client (λ c. c.text ≡ text)) → Agrees a client kept →
+saved_step : (a : Agreed) (asked : Bool) (client : Option Item) (kept : Option Open) (text : List ℕ) → (asked ≡ true
+    → IsSomeAnd client (λ c. c.text ≡ text)) → Agrees a client kept →
     Agrees a client (if asked then option_map (λ o. saved_in a o text) kept else kept)
 saved_step a false client kept text s h = h
 saved_step a true client None text s h = tt
@@ -96,17 +120,25 @@ saved_step a true client (Some (Known k)) text s h = h
 saved_step a true None (Some (Lost r)) text s h = absurd (s refl)
 saved_step a true (Some c) (Some (Lost r)) text s h = (ap (text_by a) (sym (s refl)), tt)
 
-made_step : (a : Agreed) (client : Option Item) (kept : Option Open) (kind : NoticeKind) → SavesOwn a client kind → Agrees a client kept → Agrees a (told a client kind) (after a kept kind)
+made_step : (a : Agreed) (client : Option Item) (kept : Option Open) (kind : NoticeKind) → SavesOwn a client kind
+    → Agrees a client kept → Agrees a (told a client kind) (after a kept kind)
 made_step a client kept (opened c) s h = (refl, same_version c.version)
 made_step a None None (changed version list) s h = none_opened a version list (has_whole list)
-made_step a (Some c) None (changed version list) s h = some_opened a c version list (has_whole list) (whole_text a list c.text)
+made_step a (Some c) None (changed version list) s h = some_opened a c version list (has_whole list)
+    (whole_text a list c.text)
 made_step a None (Some (Known k)) (changed version list) s h = absurd h
 made_step a (Some c) (Some (Known k)) (changed version list) s h =
-    or_late a (told a (Some c) (changed version list)) (Known k) (changed_in a (Known k) version list) (is_late a version k.version) (ap (λ t. edited_by a.encoding t list) h.0 ∙ edited_is a list c.text, same_version version)
+    or_late a (told a (Some c) (changed version list)) (Known k) (changed_in a (Known k) version list)
+    (is_late a version k.version) (
+      ap (λ t. edited_by a.encoding t list) h.0 ∙ edited_is a list c.text,
+      same_version version,
+    )
 made_step a None (Some (Lost r)) (changed version list) s h =
-    or_late a (told a None (changed version list)) (Lost r) (changed_in a (Lost r) version list) (is_late a version r.version) (none_changed a r.language_id r version list (has_whole list))
+    or_late a (told a None (changed version list)) (Lost r) (changed_in a (Lost r) version list) (is_late a version
+    r.version) (none_changed a r.language_id r version list (has_whole list))
 made_step a (Some c) (Some (Lost r)) (changed version list) s h =
-    or_late a (told a (Some c) (changed version list)) (Lost r) (changed_in a (Lost r) version list) (is_late a version r.version) (some_changed a c r.language_id r version list (has_whole list) (whole_text a list c.text))
+    or_late a (told a (Some c) (changed version list)) (Lost r) (changed_in a (Lost r) version list) (is_late a version
+    r.version) (some_changed a c r.language_id r version list (has_whole list) (whole_text a list c.text))
 made_step a client kept (saved None) s h = h
 made_step a client kept (saved (Some text)) s h = saved_step a a.include_text client kept text s h
 made_step a client kept closed s h = tt
@@ -116,15 +148,18 @@ missed_agrees a client None = tt
 missed_agrees a client (Some (Known d)) = tt
 missed_agrees a client (Some (Lost r)) = tt
 
-told_append : (a : Agreed) (c : Option Item) (xs ys : List NoticeKind) → told_all a c (xs ++ ys) ≡ told_all a (told_all a c xs) ys
+told_append : (a : Agreed) (c : Option Item) (xs ys : List NoticeKind) → told_all a c (xs ++ ys)
+    ≡ told_all a (told_all a c xs) ys
 told_append a c [] ys = refl
 told_append a c (x ∷ xs) ys = told_append a (told a c x) xs ys
 
-saves_append : (a : Agreed) (c : Option Item) (xs ys : List NoticeKind) → SavesItsText a c (xs ++ ys) → SavesItsText a c xs × SavesItsText a (told_all a c xs) ys
+saves_append : (a : Agreed) (c : Option Item) (xs ys : List NoticeKind) → SavesItsText a c (xs ++ ys) → SavesItsText a c
+    xs × SavesItsText a (told_all a c xs) ys
 saves_append a c [] ys h = (tt, h)
 saves_append a c (x ∷ xs) ys h = let r = saves_append a (told a c x) xs ys h.1 in ((h.0, r.0), r.1)
 
-own_step : (a : Agreed) (b : Bool) (c : Option Item) (k : Option Open) (kind : NoticeKind) → Agrees a c k → SavesItsText a c (if b then kind ∷ [] else []) →
+own_step : (a : Agreed) (b : Bool) (c : Option Item) (k : Option Open) (kind : NoticeKind) → Agrees a c k
+    → SavesItsText a c (if b then kind ∷ [] else []) →
     Agrees a (told_all a c (if b then kind ∷ [] else [])) (if b then after a k kind else k)
 own_step a true c k kind h s = made_step a c k kind s.0 h
 own_step a false c k kind h s = h
@@ -134,29 +169,37 @@ unmade_step : (a : Agreed) (b : Bool) (c : Option Item) (k : Option Open) (kind 
 unmade_step a true c k kind h = missed_agrees a (told a c kind) k
 unmade_step a false c k kind h = h
 
-sent_step : (a : Agreed) (uri : List ℕ) (c : Option Item) (k : Option Open) (s : Sent) → Agrees a c k → SavesItsText a c (kinds_in uri (notices_of s)) → Agrees a (told_all a c (kinds_in uri (notices_of s))) (kept_after a uri k s)
+sent_step : (a : Agreed) (uri : List ℕ) (c : Option Item) (k : Option Open) (s : Sent) → Agrees a c k → SavesItsText a c
+    (kinds_in uri (notices_of s)) → Agrees a (told_all a c (kinds_in uri (notices_of s))) (kept_after a uri k s)
 sent_step a uri c k (made n) h s = own_step a (bytes_eq uri n.uri) c k n.kind h s
 sent_step a uri c k (unmade n) h s = unmade_step a (bytes_eq uri n.uri) c k n.kind h
 sent_step a uri c k (unread notices) h s = missed_agrees a (told_all a c (kinds_in uri notices)) k
 
-all_steps : (a : Agreed) (uri : List ℕ) (c : Option Item) (k : Option Open) (sent : List Sent) → Agrees a c k → SavesItsText a c (kinds_of uri sent) → Agrees a (told_all a c (kinds_of uri sent)) (kept_after_all a uri k sent)
+all_steps : (a : Agreed) (uri : List ℕ) (c : Option Item) (k : Option Open) (sent : List Sent) → Agrees a c k
+    → SavesItsText a c (kinds_of uri sent) → Agrees a (told_all a c (kinds_of uri sent)) (kept_after_all a uri k sent)
 all_steps a uri c k [] g h = g
 all_steps a uri c k (s ∷ ss) g h =
     let p = saves_append a c (kinds_in uri (notices_of s)) (kinds_of uri ss) h in
-    subst (λ x. Agrees a x (kept_after_all a uri (kept_after a uri k s) ss)) (sym (told_append a c (kinds_in uri (notices_of s)) (kinds_of uri ss)))
-    (all_steps a uri (told_all a c (kinds_in uri (notices_of s))) (kept_after a uri k s) ss (sent_step a uri c k s g p.0) p.1)
+    subst (λ x. Agrees a x (kept_after_all a uri (kept_after a uri k s) ss))
+    (sym (told_append a c (kinds_in uri (notices_of s)) (kinds_of uri ss)))
+    (all_steps a uri (told_all a c (kinds_in uri (notices_of s))) (kept_after a uri k s) ss (sent_step a uri c k s g
+    p.0) p.1)
 
 -- ---- all that is held
 
-put_step : (before now : Documents) (uri q : List ℕ) (f : Option Open → Option Open) → now.held q ≡ f (before.held q) → (bytes_eq uri q ≡ false → now.held uri ≡ before.held uri) → now.held uri ≡ (if bytes_eq uri q then f (before.held uri) else before.held uri)
+put_step : (before now : Documents) (uri q : List ℕ) (f : Option Open → Option Open) → now.held q ≡ f (before.held q)
+    → (bytes_eq uri q ≡ false → now.held uri ≡ before.held uri) → now.held uri
+    ≡ (if bytes_eq uri q then f (before.held uri) else before.held uri)
 put_step before now uri q f own other =
     by_test (bytes_eq uri q)
     (λ same. (let i : uri ≡ q = (bytes_eq-Decides uri q).0 same in
     rw same (ap now.held i ∙ own ∙ ap (λ u. f (before.held u)) (sym i))))
     (λ apart. rw apart (other apart))
 
-takes_step : (before : Documents) (s : Sent) (now : Documents) → Takes before s now → (uri : List ℕ) → now.held uri ≡ kept_after before.agreed uri (before.held uri) s
-takes_step before (made n) now h uri = put_step before now uri n.uri (λ k. after before.agreed k n.kind) h.own (h.others uri)
+takes_step : (before : Documents) (s : Sent) (now : Documents) → Takes before s now → (uri : List ℕ) → now.held uri
+    ≡ kept_after before.agreed uri (before.held uri) s
+takes_step before (made n) now h uri = put_step before now uri n.uri (λ k. after before.agreed k n.kind) h.own
+    (h.others uri)
 takes_step before (unmade n) now h uri = put_step before now uri n.uri missed h.own (h.others uri)
 takes_step before (unread notices) now h uri = h.held uri
 
@@ -165,33 +208,46 @@ takes_agreed before (made n) now h = h.agreed
 takes_agreed before (unmade n) now h = h.agreed
 takes_agreed before (unread notices) now h = h.agreed
 
-pub all_kept : (before : Documents) (sent : List Sent) (now : Documents) → TakesAll before sent now → (uri : List ℕ) → now.held uri ≡ kept_after_all before.agreed uri (before.held uri) sent
+pub all_kept : (before : Documents) (sent : List Sent) (now : Documents) → TakesAll before sent now → (uri : List ℕ)
+    → now.held uri ≡ kept_after_all before.agreed uri (before.held uri) sent
 all_kept before [] now h uri = h.held uri
 all_kept before (s ∷ ss) now h uri =
-    all_kept h.0 ss now h.2 uri ∙ ap (λ x. kept_after_all x uri (h.0.held uri) ss) (takes_agreed before s h.0 h.1) ∙ ap (λ k. kept_after_all before.agreed uri k ss) (takes_step before s h.0 h.1 uri)
+    all_kept h.0 ss now h.2 uri ∙ ap (λ x. kept_after_all x uri (h.0.held uri) ss) (takes_agreed before s h.0 h.1)
+    ∙ ap (λ k. kept_after_all before.agreed uri k ss) (takes_step before s h.0 h.1 uri)
 
-pub all_agree : (before : Documents) (client : List ℕ → Option Item) (sent : List Sent) (now : Documents) → TakesAll before sent now → (uri : List ℕ) → Agrees before.agreed (client uri) (before.held uri) → SavesItsText before.agreed (client uri) (kinds_of uri sent) →
+pub all_agree : (before : Documents) (client : List ℕ → Option Item) (sent : List Sent) (now : Documents)
+    → TakesAll before sent now → (uri : List ℕ) → Agrees before.agreed (client uri) (before.held uri)
+    → SavesItsText before.agreed (client uri) (kinds_of uri sent) →
     Agrees before.agreed (told_all before.agreed (client uri) (kinds_of uri sent)) (now.held uri)
 all_agree before client sent now h uri a s =
-    subst (λ k. Agrees before.agreed (told_all before.agreed (client uri) (kinds_of uri sent)) k) (sym (all_kept before sent now h uri)) (all_steps before.agreed uri (client uri) (before.held uri) sent a s)
+    subst (λ k. Agrees before.agreed (told_all before.agreed (client uri) (kinds_of uri sent)) k)
+    (sym (all_kept before sent now h uri)) (all_steps before.agreed uri (client uri) (before.held uri) sent a s)
 
 -- ---- a document of which all was made
 
 -- the client's document is known, with this version, and is the one that is kept
 abbrev pub IsCurrent : Agreed → Option ℤ → Option Item → Option Open → Type 0
-IsCurrent a version client kept = (c : Item) × (client ≡ Some c) × (kept ≡ Some (Known (kept_by a c))) × (c.version ≡ version)
+IsCurrent a version client kept = (c : Item) × (client ≡ Some c) × (kept ≡ Some (Known (kept_by a c)))
+    × (c.version ≡ version)
 
-saved_current : (a : Agreed) (asked : Bool) (c : Item) (text : List ℕ) → IsCurrent a c.version (Some c) (if asked then option_map (λ o. saved_in a o text) (Some (Known (kept_by a c))) else Some (Known (kept_by a c)))
+saved_current : (a : Agreed) (asked : Bool) (c : Item) (text : List ℕ) → IsCurrent a c.version (Some c) (if asked then
+    option_map (λ o. saved_in a o text) (Some (Known (kept_by a c))) else Some (Known (kept_by a c)))
 saved_current a true c text = (c, refl, refl, refl)
 saved_current a false c text = (c, refl, refl, refl)
 
 not_late : (a : Agreed) (c : Item) (version : Option ℤ) (list : List Change) (late : Bool) → not late ≡ true →
-    IsCurrent a version (told a (Some c) (changed version list)) (Some (if late then doubted (Known (kept_by a c)) else changed_in a (Known (kept_by a c)) version list))
+    IsCurrent a version (told a (Some c) (changed version list)) (Some (if late then doubted (Known (kept_by a c)) else
+    changed_in a (Known (kept_by a c)) version list))
 not_late a c version list true h = never h
-not_late a c version list false h =
-    (text_item c.language_id version (edited_text a c.text list), refl, ap (λ t. Some (Known (document c.language_id version t))) (edited_is a list c.text), refl)
+not_late a c version list false h = (
+  text_item c.language_id version (edited_text a c.text list),
+  refl,
+  ap (λ t. Some (Known (document c.language_id version t))) (edited_is a list c.text),
+  refl,
+)
 
-own_current : (a : Agreed) (c : Item) (kind : NoticeKind) → goes_on a c.version kind ≡ true → IsCurrent a (version_after c.version kind) (told a (Some c) kind) (after a (Some (Known (kept_by a c))) kind)
+own_current : (a : Agreed) (c : Item) (kind : NoticeKind) → goes_on a c.version kind ≡ true
+    → IsCurrent a (version_after c.version kind) (told a (Some c) kind) (after a (Some (Known (kept_by a c))) kind)
 own_current a c (opened o) h = (o, refl, refl, refl)
 own_current a c (changed version list) h = not_late a c version list (is_late a version c.version) h
 own_current a c (saved None) h = (c, refl, refl, refl)
@@ -209,40 +265,61 @@ not_and false c h = (refl, h)
 abbrev pub IsCurrentAt : Agreed → Option Item → Option Open → Type 0
 IsCurrentAt a client kept = (c : Item) × (client ≡ Some c) × (kept ≡ Some (Known (kept_by a c)))
 
-go_on : (a : Agreed) (uri : List ℕ) (version : Option ℤ) (client : Option Item) (kept : Option Open) (kinds : List NoticeKind) (ss : List Sent) → IsCurrent a version client kept →
-    ((c : Item) → c.version ≡ version → IsCurrentAt a (told_all a (Some c) kinds) (kept_after_all a uri (Some (Known (kept_by a c))) ss)) → IsCurrentAt a (told_all a client kinds) (kept_after_all a uri kept ss)
+go_on : (a : Agreed) (uri : List ℕ) (version : Option ℤ) (client : Option Item) (kept : Option Open)
+    (kinds : List NoticeKind) (ss : List Sent) → IsCurrent a version client kept →
+    ((c : Item) → c.version ≡ version → IsCurrentAt a (told_all a (Some c) kinds) (kept_after_all a uri
+    (Some (Known (kept_by a c))) ss)) → IsCurrentAt a (told_all a client kinds) (kept_after_all a uri kept ss)
 go_on a uri version client kept kinds ss i rest =
     let r = rest i.0 i.3 in
     (r.0, ap (λ x. told_all a x kinds) i.1 ∙ r.1, ap (λ k. kept_after_all a uri k ss) i.2 ∙ r.2)
 
-made_current : (a : Agreed) (uri : List ℕ) (own : Bool) (kind : NoticeKind) (ss : List Sent) (c : Item) → (if own then goes_on a c.version kind && is_current a uri (version_after c.version kind) ss else is_current a uri c.version ss) ≡ true →
-    ((c : Item) (version : Option ℤ) → c.version ≡ version → is_current a uri version ss ≡ true → IsCurrentAt a (told_all a (Some c) (kinds_of uri ss)) (kept_after_all a uri (Some (Known (kept_by a c))) ss)) →
-    IsCurrentAt a (told_all a (Some c) ((if own then kind ∷ [] else []) ++ kinds_of uri ss)) (kept_after_all a uri (if own then after a (Some (Known (kept_by a c))) kind else Some (Known (kept_by a c))) ss)
+made_current : (a : Agreed) (uri : List ℕ) (own : Bool) (kind : NoticeKind) (ss : List Sent) (c : Item)
+    → (if own then goes_on a c.version kind && is_current a uri (version_after c.version kind) ss else is_current a uri
+    c.version ss) ≡ true →
+    ((c : Item) (version : Option ℤ) → c.version ≡ version → is_current a uri version ss ≡ true
+    → IsCurrentAt a (told_all a (Some c) (kinds_of uri ss)) (kept_after_all a uri
+    (Some (Known (kept_by a c))) ss)) →
+    IsCurrentAt a (told_all a (Some c) ((if own then kind ∷ [] else []) ++ kinds_of uri ss)) (kept_after_all a uri
+    (if own then after a (Some (Known (kept_by a c))) kind else Some (Known (kept_by a c))) ss)
 made_current a uri true kind ss c h rest =
     let p = both_true (goes_on a c.version kind) (is_current a uri (version_after c.version kind) ss) h in
-    go_on a uri (version_after c.version kind) (told a (Some c) kind) (after a (Some (Known (kept_by a c))) kind) (kinds_of uri ss) ss (own_current a c kind p.0) (λ d v. rest d (version_after c.version kind) v p.1)
+    go_on a uri (version_after c.version kind) (told a (Some c) kind) (after a (Some (Known (kept_by a c))) kind)
+    (kinds_of uri ss) ss (own_current a c kind p.0) (λ d v. rest d (version_after c.version kind) v p.1)
 made_current a uri false kind ss c h rest = rest c c.version refl h
 
-unmade_current : (a : Agreed) (uri : List ℕ) (own : Bool) (kind : NoticeKind) (ss : List Sent) (c : Item) → own ≡ false → IsCurrentAt a (told_all a (Some c) (kinds_of uri ss)) (kept_after_all a uri (Some (Known (kept_by a c))) ss) →
-    IsCurrentAt a (told_all a (Some c) ((if own then kind ∷ [] else []) ++ kinds_of uri ss)) (kept_after_all a uri (if own then missed (Some (Known (kept_by a c))) else Some (Known (kept_by a c))) ss)
+unmade_current : (a : Agreed) (uri : List ℕ) (own : Bool) (kind : NoticeKind) (ss : List Sent) (c : Item) → own ≡ false
+    → IsCurrentAt a (told_all a (Some c) (kinds_of uri ss)) (kept_after_all a uri (Some (Known (kept_by a c))) ss) →
+    IsCurrentAt a (told_all a (Some c) ((if own then kind ∷ [] else []) ++ kinds_of uri ss)) (kept_after_all a uri
+    (if own then missed (Some (Known (kept_by a c))) else Some (Known (kept_by a c))) ss)
 unmade_current a uri true kind ss c h rest = never (sym h)
 unmade_current a uri false kind ss c h rest = rest
 
-all_current : (a : Agreed) (uri : List ℕ) (sent : List Sent) (c : Item) (version : Option ℤ) → c.version ≡ version → is_current a uri version sent ≡ true → IsCurrentAt a (told_all a (Some c) (kinds_of uri sent)) (kept_after_all a uri (Some (Known (kept_by a c))) sent)
+all_current : (a : Agreed) (uri : List ℕ) (sent : List Sent) (c : Item) (version : Option ℤ) → c.version ≡ version
+    → is_current a uri version sent ≡ true → IsCurrentAt a (told_all a (Some c) (kinds_of uri sent)) (kept_after_all a
+    uri (Some (Known (kept_by a c))) sent)
 all_current a uri [] c version v h = (c, refl, refl)
 all_current a uri (made n ∷ ss) c version v h =
-    made_current a uri (bytes_eq uri n.uri) n.kind ss c (subst (λ x. (if bytes_eq uri n.uri then goes_on a x n.kind && is_current a uri (version_after x n.kind) ss else is_current a uri x ss) ≡ true) (sym v) h) (λ c w g. all_current a uri ss c w g)
+    made_current a uri (bytes_eq uri n.uri) n.kind ss c (subst (λ x. (if bytes_eq uri n.uri then goes_on a x n.kind
+    && is_current a uri (version_after x n.kind) ss else is_current a uri x ss) ≡ true) (sym v) h)
+    (λ c w g. all_current a uri ss c w g)
 all_current a uri (unmade n ∷ ss) c version v h =
     let p = not_and (bytes_eq uri n.uri) (is_current a uri version ss) h in
     unmade_current a uri (bytes_eq uri n.uri) n.kind ss c p.0 (all_current a uri ss c version v p.1)
 all_current a uri (unread notices ∷ ss) c version v h = never h
 
-pub opened_current : (before : Documents) (uri language_id : List ℕ) (version : Option ℤ) (text : List ℕ) (sent : List Sent) (now : Documents) → TakesAll before (made (opens uri language_id version text) ∷ sent) now → is_current before.agreed uri version sent ≡ true →
-    (c : Item) × (told_all before.agreed (Some (text_item language_id version text)) (kinds_of uri sent) ≡ Some c) × (now.held uri ≡ Some (Known (kept_by before.agreed c)))
+pub opened_current : (before : Documents) (uri language_id : List ℕ) (version : Option ℤ) (text : List ℕ)
+    (sent : List Sent) (now : Documents) → TakesAll before (made (opens uri language_id version text) ∷ sent) now
+    → is_current before.agreed uri version sent ≡ true →
+    (c : Item) × (told_all before.agreed (Some (text_item language_id version text)) (kinds_of uri sent) ≡ Some c)
+    × (now.held uri ≡ Some (Known (kept_by before.agreed c)))
 opened_current before uri language_id version text sent now h i =
     let r = all_current before.agreed uri sent (text_item language_id version text) version refl i in
-    let k = all_kept h.0 sent now h.2 uri in
-    (r.0, r.1, k ∙ ap (λ x. kept_after_all x uri (h.0.held uri) sent) h.1.agreed ∙ ap (λ o. kept_after_all before.agreed uri o sent) h.1.own ∙ r.2)
+    let k = all_kept h.0 sent now h.2 uri in (
+      r.0,
+      r.1,
+      k ∙ ap (λ x. kept_after_all x uri (h.0.held uri) sent) h.1.agreed ∙ ap (λ o. kept_after_all before.agreed
+          uri o sent) h.1.own ∙ r.2,
+    )
 
 late_is : (t : Bool) (o next : Open) → t ≡ true → option_and_then shown (Some (if t then doubted o else next)) ≡ None
 late_is true (Known d) next h = refl
@@ -250,10 +327,13 @@ late_is true (Lost r) next h = refl
 late_is false o next h = never h
 
 -- late changes leave no text to look at
-pub late_unshown : (before : Documents) (uri : List ℕ) (version : Option ℤ) (list : List Change) (o : Open) (now : Documents) → before.held uri ≡ Some o → is_late before.agreed version (version_of o) ≡ true → Makes before (edits uri version list) now →
+pub late_unshown : (before : Documents) (uri : List ℕ) (version : Option ℤ) (list : List Change) (o : Open)
+    (now : Documents) → before.held uri ≡ Some o → is_late before.agreed version (version_of o) ≡ true
+    → Makes before (edits uri version list) now →
     option_and_then shown (now.held uri) ≡ None
 late_unshown before uri version list o now b late h =
-    ap (option_and_then shown) (h.own ∙ ap (λ k. after before.agreed k (changed version list)) b) ∙ late_is (is_late before.agreed version (version_of o)) o (changed_in before.agreed o version list) late
+    ap (option_and_then shown) (h.own ∙ ap (λ k. after before.agreed k (changed version list)) b)
+    ∙ late_is (is_late before.agreed version (version_of o)) o (changed_in before.agreed o version list) late
 
 -- ---- faults
 
@@ -263,28 +343,35 @@ none_is h = grind (arith, h)
 some_value : {A : Type 0} {a b : A} → Some a ≡ Some b → a ≡ b
 some_value {A} {a} {b} h = ap (λ o. unwrap_or o a) h
 
-step_same : (a : Agreed) (o : Open) (version : Option ℤ) (list : List Change) (w : Bool) (fault : DocumentFault) → step_fault o w ≡ Some fault → has_whole list ≡ w → changed_in a o version list ≡ o
+step_same : (a : Agreed) (o : Open) (version : Option ℤ) (list : List Change) (w : Bool) (fault : DocumentFault)
+    → step_fault o w ≡ Some fault → has_whole list ≡ w → changed_in a o version list ≡ o
 step_same a (Known d) version list w fault h e = none_is h
 step_same a (Lost r) version list true fault h e = none_is h
 step_same a (Lost r) version list false fault h e = rw e refl
 
-late_same : (a : Agreed) (o : Open) (version : Option ℤ) (list : List Change) (late : Bool) (fault : DocumentFault) → (if late then Some OutOfOrder else step_fault o (has_whole list)) ≡ Some fault → (fault ≡ OutOfOrder → ⊥) →
+late_same : (a : Agreed) (o : Open) (version : Option ℤ) (list : List Change) (late : Bool) (fault : DocumentFault)
+    → (if late then Some OutOfOrder else step_fault o (has_whole list)) ≡ Some fault → (fault ≡ OutOfOrder → ⊥) →
     Some (if late then doubted o else changed_in a o version list) ≡ Some o
 late_same a o version list true fault h other = absurd (other (sym (some_value h)))
 late_same a o version list false fault h other = ap Some (step_same a o version list (has_whole list) fault h refl)
 
-none_same : (a : Agreed) (version : Option ℤ) (list : List Change) (w : Bool) (fault : DocumentFault) → (if w then None else Some NotOpen) ≡ Some fault → (if w then Some (Known (begun_by a [] version list)) else None) ≡ None
+none_same : (a : Agreed) (version : Option ℤ) (list : List Change) (w : Bool) (fault : DocumentFault)
+    → (if w then None else Some NotOpen) ≡ Some fault → (if w then Some (Known (begun_by a [] version list)) else
+    None) ≡ None
 none_same a version list true fault h = none_is h
 none_same a version list false fault h = refl
 
-saved_same : (a : Agreed) (asked : Bool) (text : List ℕ) → (if asked then option_map (λ o. saved_in a o text) None else None) ≡ None
+saved_same : (a : Agreed) (asked : Bool) (text : List ℕ) → (if asked then option_map (λ o. saved_in a o text) None else
+    None) ≡ None
 saved_same a true text = refl
 saved_same a false text = refl
 
-wrong_same : (a : Agreed) (k : Option Open) (kind : NoticeKind) (fault : DocumentFault) → fault_of a k kind ≡ Some fault → (fault ≡ OutOfOrder → ⊥) → after a k kind ≡ k
+wrong_same : (a : Agreed) (k : Option Open) (kind : NoticeKind) (fault : DocumentFault) → fault_of a k kind ≡ Some fault
+    → (fault ≡ OutOfOrder → ⊥) → after a k kind ≡ k
 wrong_same a k (opened c) fault h other = none_is h
 wrong_same a None (changed version list) fault h other = none_same a version list (has_whole list) fault h
-wrong_same a (Some o) (changed version list) fault h other = late_same a o version list (is_late a version (version_of o)) fault h other
+wrong_same a (Some o) (changed version list) fault h other = late_same a o version list (is_late a version
+    (version_of o)) fault h other
 wrong_same a k (saved None) fault h other = refl
 wrong_same a None (saved (Some text)) fault h other = saved_same a a.include_text text
 wrong_same a (Some o) (saved (Some text)) fault h other = none_is h
@@ -292,35 +379,45 @@ wrong_same a None closed fault h other = refl
 wrong_same a (Some o) closed fault h other = none_is h
 
 -- what a refusal of changes leaves is what they make
-left_none : (a : Agreed) (version : Option ℤ) (list : List Change) (w : Bool) (fault : DocumentFault) → (if w then None else Some NotOpen) ≡ Some fault → left_by fault None ≡ (if w then Some (Known (begun_by a [] version list)) else None)
+left_none : (a : Agreed) (version : Option ℤ) (list : List Change) (w : Bool) (fault : DocumentFault)
+    → (if w then None else Some NotOpen) ≡ Some fault → left_by fault None
+    ≡ (if w then Some (Known (begun_by a [] version list)) else None)
 left_none a version list true fault h = none_is h
 left_none a version list false fault h = ap (λ f. left_by f None) (sym (some_value h))
 
-left_step : (a : Agreed) (o : Open) (version : Option ℤ) (list : List Change) (w : Bool) (fault : DocumentFault) → step_fault o w ≡ Some fault → has_whole list ≡ w → left_by fault (Some o) ≡ Some (changed_in a o version list)
+left_step : (a : Agreed) (o : Open) (version : Option ℤ) (list : List Change) (w : Bool) (fault : DocumentFault)
+    → step_fault o w ≡ Some fault → has_whole list ≡ w → left_by fault (Some o) ≡ Some (changed_in a o version list)
 left_step a (Known d) version list w fault h e = none_is h
 left_step a (Lost r) version list true fault h e = none_is h
 left_step a (Lost r) version list false fault h e = ap (λ f. left_by f (Some (Lost r))) (sym (some_value h)) ∙ rw e refl
 
-left_some : (a : Agreed) (o : Open) (version : Option ℤ) (list : List Change) (late : Bool) (fault : DocumentFault) → (if late then Some OutOfOrder else step_fault o (has_whole list)) ≡ Some fault →
+left_some : (a : Agreed) (o : Open) (version : Option ℤ) (list : List Change) (late : Bool) (fault : DocumentFault)
+    → (if late then Some OutOfOrder else step_fault o (has_whole list)) ≡ Some fault →
     left_by fault (Some o) ≡ Some (if late then doubted o else changed_in a o version list)
 left_some a o version list true fault h = ap (λ f. left_by f (Some o)) (sym (some_value h))
 left_some a o version list false fault h = left_step a o version list (has_whole list) fault h refl
 
-pub left_is : (a : Agreed) (k : Option Open) (version : Option ℤ) (list : List Change) (fault : DocumentFault) → change_fault a k version (has_whole list) ≡ Some fault → left_by fault k ≡ after a k (changed version list)
+pub left_is : (a : Agreed) (k : Option Open) (version : Option ℤ) (list : List Change) (fault : DocumentFault)
+    → change_fault a k version (has_whole list) ≡ Some fault → left_by fault k ≡ after a k (changed version list)
 left_is a None version list fault h = left_none a version list (has_whole list) fault h
 left_is a (Some o) version list fault h = left_some a o version list (is_late a version (version_of o)) fault h
 
-keeps_at : (uri : List ℕ) (f g : List ℕ → Option Open) → f uri ≡ g uri → ((q : List ℕ) → bytes_eq q uri ≡ false → f q ≡ g q) → (q : List ℕ) → f q ≡ g q
+keeps_at : (uri : List ℕ) (f g : List ℕ → Option Open) → f uri ≡ g uri → ((q : List ℕ) → bytes_eq q uri ≡ false → f q
+    ≡ g q) → (q : List ℕ) → f q ≡ g q
 keeps_at uri f g own others q =
-    by_test (bytes_eq q uri) (λ same. (let s : q ≡ uri = (bytes_eq-Decides q uri).0 same in ap f s ∙ own ∙ ap g (sym s))) (others q)
+    by_test (bytes_eq q uri) (λ same. (let s : q ≡ uri = (bytes_eq-Decides q uri).0 same in ap f s ∙ own
+    ∙ ap g (sym s))) (others q)
 
 -- if one URI keeps its document, and each other one too, nothing is changed
-pub keeps : (before now : Documents) (uri : List ℕ) → now.agreed ≡ before.agreed → now.held uri ≡ before.held uri → ((q : List ℕ) → bytes_eq q uri ≡ false → now.held q ≡ before.held q) → Keeps before now
+pub keeps : (before now : Documents) (uri : List ℕ) → now.agreed ≡ before.agreed → now.held uri ≡ before.held uri
+    → ((q : List ℕ) → bytes_eq q uri ≡ false → now.held q ≡ before.held q) → Keeps before now
 keeps before now uri a own others = record { agreed = a; held = keeps_at uri now.held before.held own others }
 
 -- what is refused by name changes nothing, but for late changes
-pub refused_keeps : (before : Documents) (n : Notice) (now : Documents) (fault : DocumentFault) → fault_of before.agreed (before.held n.uri) n.kind ≡ Some fault → (fault ≡ OutOfOrder → ⊥) → Makes before n now → Keeps before now
-refused_keeps before n now fault h other m = keeps before now n.uri m.agreed (m.own ∙ wrong_same before.agreed (before.held n.uri) n.kind fault h other) m.others
+pub refused_keeps : (before : Documents) (n : Notice) (now : Documents) (fault : DocumentFault) → fault_of before.agreed
+    (before.held n.uri) n.kind ≡ Some fault → (fault ≡ OutOfOrder → ⊥) → Makes before n now → Keeps before now
+refused_keeps before n now fault h other m = keeps before now n.uri m.agreed (m.own ∙ wrong_same before.agreed
+    (before.held n.uri) n.kind fault h other) m.others
 
 none_value : {A P : Type 0} {a : A} → None ≡ Some a → P
 none_value h = never (ap is_some h)
@@ -328,18 +425,26 @@ none_value h = never (ap is_some h)
 -- ---- changes that can be read
 
 -- they are refused by name
-pub change_refused : (before now : Documents) (uris : Option (List ℕ)) (version given : Option ℤ) (changes : Option (List Change)) (u : List ℕ) (w : Bool) (fault said : DocumentFault) → given ≡ version → uris ≡ Some u → option_map has_whole changes ≡ Some w →
-    change_fault before.agreed (before.held u) given w ≡ Some fault → said ≡ fault → Puts before u (left_by fault (before.held u)) now → Failed before (option_and_then (λ uri. option_map (edits uri version) changes) uris) uris said now
+pub change_refused : (before now : Documents) (uris : Option (List ℕ)) (version given : Option ℤ) (changes : Option
+    (List Change)) (u : List ℕ) (w : Bool) (fault said : DocumentFault) → given ≡ version → uris ≡ Some u
+    → option_map has_whole changes ≡ Some w →
+    change_fault before.agreed (before.held u) given w ≡ Some fault → said ≡ fault
+    → Puts before u (left_by fault (before.held u)) now → Failed before (option_and_then (λ uri. option_map
+    (edits uri version) changes) uris) uris said now
 change_refused before now None version given changes u w fault said hv hu hw hf hs m = none_value hu
 change_refused before now (Some a) version given None u w fault said hv hu hw hf hs m = none_value hw
 change_refused before now (Some a) version given (Some cs) u w fault said hv hu hw hf hs m =
     let ea : a ≡ u = some_value hu in
     let ew : has_whole cs ≡ w = some_value hw in
-    let f : change_fault before.agreed (before.held u) version (has_whole cs) ≡ Some fault = ap (λ v. change_fault before.agreed (before.held u) v (has_whole cs)) (sym hv) ∙ ap (change_fault before.agreed (before.held u) given) ew ∙ hf in
-    let p : Puts before u (after before.agreed (before.held u) (changed version cs)) now = subst (λ k. Puts before u k now) (left_is before.agreed (before.held u) version cs fault f) m in
+    let f : change_fault before.agreed (before.held u) version (has_whole cs) ≡ Some fault = ap (λ v. change_fault
+    before.agreed (before.held u) v (has_whole cs)) (sym hv) ∙ ap (change_fault before.agreed (before.held u) given)
+    ew ∙ hf in
+    let p : Puts before u (after before.agreed (before.held u) (changed version cs)) now = subst (λ k. Puts before u k
+    now) (left_is before.agreed (before.held u) version cs fault f) m in
     subst (λ x. Failed before (Some (edits x version cs)) (Some x) said now) (sym ea) (inl (f ∙ ap Some (sym hs), p))
 
-more_changes : (c : Option Change) (cs : Option (List Change)) → IfSome (option_and_then (λ c. option_map (λ cs. c ∷ cs) cs) c) (λ cs. has_changes cs ≡ true)
+more_changes : (c : Option Change) (cs : Option (List Change)) → IfSome (option_and_then (λ c. option_map (λ cs. c ∷ cs)
+    cs) c) (λ cs. has_changes cs ≡ true)
 more_changes None cs = tt
 more_changes (Some c) None = tt
 more_changes (Some c) (Some cs) = refl
@@ -350,15 +455,20 @@ some_changes [] h = grind (arith, h)
 some_changes (v ∷ vs) h = more_changes (change_in (view v)) (changes_in (items_view vs))
 
 -- no memory was left for them
-pub change_starved : (before now : Documents) (uris : Option (List ℕ)) (version given : Option ℤ) (changes : Option (List Change)) (u : List ℕ) (w : Bool) (said : DocumentFault) → given ≡ version → uris ≡ Some u → option_map has_whole changes ≡ Some w →
-    change_fault before.agreed (before.held u) given w ≡ None → said ≡ Memory → IfSome changes (λ cs. has_changes cs ≡ true) → Puts before u (missed (before.held u)) now → Failed before (option_and_then (λ uri. option_map (edits uri version) changes) uris) uris said now
+pub change_starved : (before now : Documents) (uris : Option (List ℕ)) (version given : Option ℤ) (changes : Option
+    (List Change)) (u : List ℕ) (w : Bool) (said : DocumentFault) → given ≡ version → uris ≡ Some u
+    → option_map has_whole changes ≡ Some w →
+    change_fault before.agreed (before.held u) given w ≡ None → said ≡ Memory → IfSome changes (λ cs. has_changes cs
+    ≡ true) → Puts before u (missed (before.held u)) now → Failed before (option_and_then (λ uri. option_map
+    (edits uri version) changes) uris) uris said now
 change_starved before now None version given changes u w said hv hu hw hf hs hn m = none_value hu
 change_starved before now (Some a) version given None u w said hv hu hw hf hs hn m = none_value hw
 change_starved before now (Some a) version given (Some cs) u w said hv hu hw hf hs hn m =
     let ea : a ≡ u = some_value hu in
     let ew : has_whole cs ≡ w = some_value hw in
     let f : change_fault before.agreed (before.held a) version (has_whole cs) ≡ None =
-    ap (λ x. change_fault before.agreed (before.held x) version (has_whole cs)) ea ∙ ap (λ v. change_fault before.agreed (before.held u) v (has_whole cs)) (sym hv) ∙ ap (change_fault before.agreed (before.held u) given) ew ∙ hf in
+    ap (λ x. change_fault before.agreed (before.held x) version (has_whole cs)) ea ∙ ap (λ v. change_fault before.agreed
+    (before.held u) v (has_whole cs)) (sym hv) ∙ ap (change_fault before.agreed (before.held u) given) ew ∙ hf in
     inr (record {
       why = hs;
       right = f;
@@ -367,8 +477,10 @@ change_starved before now (Some a) version given (Some cs) u w said hv hu hw hf 
     })
 
 -- one more change, read
-pub whole_more : (w b : Bool) (first : Option Change) (rest : Option (List Change)) → Some b ≡ option_map (λ c. is_none c.range) first →
-    option_map (λ cs. w || has_whole cs) (option_and_then (λ c. option_map (λ cs. c ∷ cs) rest) first) ≡ option_map (λ cs. (w || b) || has_whole cs) rest
+pub whole_more : (w b : Bool) (first : Option Change) (rest : Option (List Change)) → Some b
+    ≡ option_map (λ c. is_none c.range) first →
+    option_map (λ cs. w || has_whole cs) (option_and_then (λ c. option_map (λ cs. c ∷ cs) rest) first)
+    ≡ option_map (λ cs. (w || b) || has_whole cs) rest
 whole_more w b None rest h = none_value (sym h)
 whole_more w b (Some c) None h = refl
 whole_more true b (Some c) (Some cs) h = refl
@@ -377,23 +489,29 @@ whole_more false b (Some c) (Some cs) h = ap (λ x. Some (x || has_whole cs)) (s
 -- ---- changes, read one after another
 
 -- one more was read
-pub change_more : (done : List Change) (c : Change) (first : Option Change) (rest : Option (List Change)) → first ≡ Some c →
-    option_map (λ cs. done ++ cs) (option_and_then (λ c. option_map (λ cs. c ∷ cs) rest) first) ≡ option_map (λ cs. (done ++ (c ∷ [])) ++ cs) rest
+pub change_more : (done : List Change) (c : Change) (first : Option Change) (rest : Option (List Change)) → first
+    ≡ Some c →
+    option_map (λ cs. done ++ cs) (option_and_then (λ c. option_map (λ cs. c ∷ cs) rest) first)
+    ≡ option_map (λ cs. (done ++ (c ∷ [])) ++ cs) rest
 change_more done c None rest h = none_value h
 change_more done c (Some d) None h = refl
-change_more done c (Some d) (Some cs) h = ap (λ x. Some (done ++ (x ∷ cs))) (some_value h) ∙ ap Some (sym (append_assoc done (c ∷ []) cs))
+change_more done c (Some d) (Some cs) h = ap (λ x. Some (done ++ (x ∷ cs))) (some_value h)
+    ∙ ap Some (sym (append_assoc done (c ∷ []) cs))
 
 -- the next is none
-pub change_none : (done : List Change) (first : Option Change) (rest : Option (List Change)) → first ≡ None → None ≡ option_map (λ cs. done ++ cs) (option_and_then (λ c. option_map (λ cs. c ∷ cs) rest) first)
+pub change_none : (done : List Change) (first : Option Change) (rest : Option (List Change)) → first ≡ None → None
+    ≡ option_map (λ cs. done ++ cs) (option_and_then (λ c. option_map (λ cs. c ∷ cs) rest) first)
 change_none done None rest h = refl
 change_none done (Some c) rest h = none_value (sym h)
 
 -- all were read
-pub change_all : (done : List Change) (vs : List Value) → vs ≡ [] → Some done ≡ option_map (λ cs. done ++ cs) (changes_in (items_view vs))
+pub change_all : (done : List Change) (vs : List Value) → vs ≡ [] → Some done ≡ option_map (λ cs. done ++ cs)
+    (changes_in (items_view vs))
 change_all done vs h = rw h (ap Some (sym (append-nil done)))
 
 -- none was read yet
-pub change_first : (done : List Change) (all : Option (List Change)) → done ≡ [] → all ≡ option_map (λ cs. done ++ cs) all
+pub change_first : (done : List Change) (all : Option (List Change)) → done ≡ [] → all ≡ option_map (λ cs. done
+    ++ cs) all
 change_first done None h = refl
 change_first done (Some cs) h = rw h refl
 

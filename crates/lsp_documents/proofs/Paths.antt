@@ -11,7 +11,8 @@ abbrev pub Passed : List ℕ → List (List ℕ × Document) → List (List ℕ 
 Passed path known left = (before : List (List ℕ × Document)) × (known ≡ before ++ left) × NoneNames path before
 
 -- one more was passed over
-pub passed_more : (path : List ℕ) (known left rest : List (List ℕ × Document)) (k : List ℕ × Document) → Passed path known left → left ≡ k ∷ rest → (Names k.0 path → ⊥) → Passed path known rest
+pub passed_more : (path : List ℕ) (known left rest : List (List ℕ × Document)) (k : List ℕ × Document)
+    → Passed path known left → left ≡ k ∷ rest → (Names k.0 path → ⊥) → Passed path known rest
 passed_more path known left rest k p e other = (
   p.0 ++ (k ∷ []),
   p.1 ∙ ap (λ xs. p.0 ++ xs) e ∙ sym (append_assoc p.0 (k ∷ []) rest),
@@ -19,5 +20,6 @@ passed_more path known left rest k p e other = (
 )
 
 -- all were
-pub all_passed : (path : List ℕ) (known left : List (List ℕ × Document)) → Passed path known left → left ≡ [] → NoneNames path known
+pub all_passed : (path : List ℕ) (known left : List (List ℕ × Document)) → Passed path known left → left ≡ []
+    → NoneNames path known
 all_passed path known left p e = subst (NoneNames path) (sym (p.1 ∙ ap (λ xs. p.0 ++ xs) e ∙ append-nil p.0)) p.2

@@ -1,5 +1,6 @@
 -- Wrong runs that the definitions of the law refuse: each supposes one, and leads to a contradiction.
-use Rattle.std.proofs.Common.{◌≡◌, ℕ, ℤ, Bool, true, false, List, [], Option, Some, None, refl, sym, ap, ◌∙◌, arith, inl, inr, option_and_then, option_map}
+use Rattle.std.proofs.Common.{◌≡◌, ℕ, ℤ, Bool, true, false, List, [], Option, Some, None, refl, sym, ap, ◌∙◌, arith}
+use Rattle.std.proofs.Common.{inl, inr, option_and_then, option_map}
 use Rattle.std.specs.Prelude.{is_some, if◌then◌else◌}
 use Rattle.std.specs.Str.{bytes_eq}
 use Rattle.lsp_text.specs.Documents.{Document, Change}
@@ -11,7 +12,11 @@ use Rattle.lsp_documents.specs.declared.fault.DocumentFault.{DocumentFault}
 use Rattle.lsp_documents.specs.declared.fault.DocumentFault.TheVariants.{NotOpen, OutOfOrder, Memory}
 use Rattle.lsp_documents.specs.declared.agreed.Agreed.{Agreed}
 use Rattle.lsp_documents.specs.Remains.{Remains}
-use Rattle.lsp_documents.specs.Notices.{text_item, begun_by, doubted, version_of, is_late, step_fault, NoticeKind, NoticeKind.opened, NoticeKind.changed, NoticeKind.saved, NoticeKind.closed, Notice, Sent.made, Sent.unmade, Sent.unread, Documents, Takes, Took, Refused, after, missed, changed_in, saved_in, fault_of, needs_memory, remark_of, change_remark, is_not_higher, has_whole, shown, opens, edits, saves, closes}
+use Rattle.lsp_documents.specs.Notices.{text_item, begun_by, doubted, version_of, is_late, step_fault, NoticeKind}
+use Rattle.lsp_documents.specs.Notices.{NoticeKind.opened, NoticeKind.changed, NoticeKind.saved, NoticeKind.closed}
+use Rattle.lsp_documents.specs.Notices.{Notice, Sent.made, Sent.unmade, Sent.unread, Documents, Takes, Took, Refused}
+use Rattle.lsp_documents.specs.Notices.{after, missed, changed_in, saved_in, fault_of, needs_memory, remark_of}
+use Rattle.lsp_documents.specs.Notices.{change_remark, is_not_higher, has_whole, shown, opens, edits, saves, closes}
 
 never : {P : Type 0} → false ≡ true → P
 never h = grind (arith, h)
@@ -25,53 +30,72 @@ missed_shows (Some (Known d)) = refl
 missed_shows (Some (Lost r)) = refl
 
 -- a stale text that is shown: a notification of the document was missed, and its text is still to be had
-stale_shown : (before now : Documents) (n : Notice) (d : Document) → Takes before (unmade n) now → now.held n.uri ≡ Some (Known d) → ⊥
+stale_shown : (before now : Documents) (n : Notice) (d : Document) → Takes before (unmade n) now → now.held n.uri
+    ≡ Some (Known d) → ⊥
 stale_shown before now n d h k = never (sym (missed_shows (before.held n.uri)) ∙ ap shows (sym h.own ∙ k))
 
 -- the same after a message of which nothing was read
-unread_shown : (before now : Documents) (notices : List Notice) (uri : List ℕ) (d : Document) → Takes before (unread notices) now → now.held uri ≡ Some (Known d) → ⊥
-unread_shown before now notices uri d h k = never (sym (missed_shows (before.held uri)) ∙ ap shows (sym (h.held uri) ∙ k))
+unread_shown : (before now : Documents) (notices : List Notice) (uri : List ℕ) (d : Document)
+    → Takes before (unread notices) now → now.held uri ≡ Some (Known d) → ⊥
+unread_shown before now notices uri d h k = never (sym (missed_shows (before.held uri))
+    ∙ ap shows (sym (h.held uri) ∙ k))
 
-in_lost : (a : Agreed) (r : Remains) (version : Option ℤ) (list : List Change) (late w : Bool) → has_whole list ≡ w → w ≡ false → shows (Some (if late then doubted (Lost r) else (if w then Known (begun_by a r.language_id version list) else Lost r))) ≡ false
+in_lost : (a : Agreed) (r : Remains) (version : Option ℤ) (list : List Change) (late w : Bool) → has_whole list ≡ w → w
+    ≡ false → shows (Some (if late then doubted (Lost r) else (if w then Known (begun_by a r.language_id version list)
+    else Lost r))) ≡ false
 in_lost a r version list true w e h = refl
 in_lost a r version list false true e h = never (sym h)
 in_lost a r version list false false e h = refl
 
 -- an edit made in an older text: the text is lost, no change is of the whole text, and yet a text is shown
-edited_older : (before now : Documents) (uri : List ℕ) (r : Remains) (version : Option ℤ) (list : List Change) (d : Document) → before.held uri ≡ Some (Lost r) → has_whole list ≡ false → Takes before (made (edits uri version list)) now → now.held uri ≡ Some (Known d) → ⊥
+edited_older : (before now : Documents) (uri : List ℕ) (r : Remains) (version : Option ℤ) (list : List Change)
+    (d : Document) → before.held uri ≡ Some (Lost r) → has_whole list ≡ false
+    → Takes before (made (edits uri version list)) now → now.held uri ≡ Some (Known d) → ⊥
 edited_older before now uri r version list d b w h k =
-    never (sym (in_lost before.agreed r version list (is_late before.agreed version r.version) (has_whole list) refl w) ∙ ap shows (ap (λ o. after before.agreed o (changed version list)) (sym b) ∙ sym h.own ∙ k))
+    never (sym (in_lost before.agreed r version list (is_late before.agreed version r.version) (has_whole list) refl w)
+    ∙ ap shows (ap (λ o. after before.agreed o (changed version list)) (sym b) ∙ sym h.own ∙ k))
 
 late_shows : (late : Bool) (o next : Open) → late ≡ true → shows (Some (if late then doubted o else next)) ≡ false
 late_shows true (Known d) next h = refl
 late_shows true (Lost r) next h = refl
 late_shows false o next h = never h
 
--- an older version taken over a newer one, by edits or as a whole text, where the author did not choose it; also over one that was
--- lost for that
-older_taken : (before now : Documents) (uri : List ℕ) (version : Option ℤ) (list : List Change) (o : Open) (d : Document) → before.held uri ≡ Some o → is_late before.agreed version (version_of o) ≡ true → Takes before (made (edits uri version list)) now → now.held uri ≡ Some (Known d) → ⊥
+-- an older version taken over a newer one, by edits or as a whole text, where the author did not choose it; also over
+-- one that was lost for that
+older_taken : (before now : Documents) (uri : List ℕ) (version : Option ℤ) (list : List Change) (o : Open)
+    (d : Document) → before.held uri ≡ Some o → is_late before.agreed version (version_of o) ≡ true
+    → Takes before (made (edits uri version list)) now → now.held uri ≡ Some (Known d) → ⊥
 older_taken before now uri version list o d b late h k =
-    never (sym (late_shows (is_late before.agreed version (version_of o)) o (changed_in before.agreed o version list) late) ∙ ap shows (ap (λ o. after before.agreed o (changed version list)) (sym b) ∙ sym h.own ∙ k))
+    never (sym (late_shows (is_late before.agreed version (version_of o)) o (changed_in before.agreed o version list)
+    late) ∙ ap shows (ap (λ o. after before.agreed o (changed version list)) (sym b) ∙ sym h.own ∙ k))
 
 -- a whole text of a URI that is not open, of which nothing is kept
-whole_unopened : (before now : Documents) (uri : List ℕ) (version : Option ℤ) (list : List Change) → before.held uri ≡ None → has_whole list ≡ true → Takes before (made (edits uri version list)) now → now.held uri ≡ None → ⊥
+whole_unopened : (before now : Documents) (uri : List ℕ) (version : Option ℤ) (list : List Change) → before.held uri
+    ≡ None → has_whole list ≡ true → Takes before (made (edits uri version list)) now → now.held uri ≡ None → ⊥
 whole_unopened before now uri version list b w h k =
-    never (ap shows (sym k ∙ h.own ∙ ap (λ o. after before.agreed o (changed version list)) b ∙ ap (λ (t : Bool). if t then Some (Known (begun_by before.agreed [] version list)) else None) w))
+    never (ap shows (sym k ∙ h.own ∙ ap (λ o. after before.agreed o (changed version list)) b
+    ∙ ap (λ (t : Bool). if t then Some (Known (begun_by before.agreed [] version list)) else None) w))
 
 -- a text of another URI: a document is opened, and the text of another one is another
-opened_other : (before now : Documents) (uri q l text : List ℕ) (version : Option ℤ) (d : Document) → before.held q ≡ None → bytes_eq q uri ≡ false → Takes before (made (opens uri l version text)) now → now.held q ≡ Some (Known d) → ⊥
+opened_other : (before now : Documents) (uri q l text : List ℕ) (version : Option ℤ) (d : Document) → before.held q
+    ≡ None → bytes_eq q uri ≡ false → Takes before (made (opens uri l version text)) now → now.held q
+    ≡ Some (Known d) → ⊥
 opened_other before now uri q l text version d b apart h k = never (ap shows (sym b ∙ sym (h.others q apart) ∙ k))
 
-in_whole : (a : Agreed) (o : Open) (version : Option ℤ) (list : List Change) (late : Bool) → late ≡ false → has_whole list ≡ true → shows (Some (if late then doubted o else changed_in a o version list)) ≡ true
+in_whole : (a : Agreed) (o : Open) (version : Option ℤ) (list : List Change) (late : Bool) → late ≡ false
+    → has_whole list ≡ true → shows (Some (if late then doubted o else changed_in a o version list)) ≡ true
 in_whole a o version list true l w = never (sym l)
 in_whole a (Known d) version list false l w = refl
 in_whole a (Lost r) version list false l w = rw w refl
 
 -- a document that stays out of step after a whole text that does not come late
-whole_lost : (before now : Documents) (uri : List ℕ) (r : Remains) (o : Open) (version : Option ℤ) (list : List Change) → before.held uri ≡ Some o → is_late before.agreed version (version_of o) ≡ false → has_whole list ≡ true → Takes before (made (edits uri version list)) now →
+whole_lost : (before now : Documents) (uri : List ℕ) (r : Remains) (o : Open) (version : Option ℤ) (list : List Change)
+    → before.held uri ≡ Some o → is_late before.agreed version (version_of o) ≡ false → has_whole list ≡ true
+    → Takes before (made (edits uri version list)) now →
     now.held uri ≡ Some (Lost r) → ⊥
 whole_lost before now uri r o version list b l w h k =
-    never (ap shows (sym k ∙ h.own ∙ ap (λ o. after before.agreed o (changed version list)) b) ∙ in_whole before.agreed o version list (is_late before.agreed version (version_of o)) l w)
+    never (ap shows (sym k ∙ h.own ∙ ap (λ o. after before.agreed o (changed version list)) b) ∙ in_whole before.agreed
+    o version list (is_late before.agreed version (version_of o)) l w)
 
 abbrev text_of : Option Open → List ℕ
 text_of None = []
@@ -79,46 +103,65 @@ text_of (Some (Known d)) = d.text.bytes
 text_of (Some (Lost l)) = []
 
 -- a second open that keeps the old text
-opened_kept : (before now : Documents) (uri l text : List ℕ) (version : Option ℤ) (d : Document) → Takes before (made (opens uri l version text)) now → now.held uri ≡ Some (Known d) → (d.text.bytes ≡ text → ⊥) → ⊥
+opened_kept : (before now : Documents) (uri l text : List ℕ) (version : Option ℤ) (d : Document)
+    → Takes before (made (opens uri l version text)) now → now.held uri ≡ Some (Known d) → (d.text.bytes ≡ text → ⊥) → ⊥
 opened_kept before now uri l text version d h k other = other (ap text_of (sym k ∙ h.own))
 
 -- a closed document that is shown
-closed_shown : (before now : Documents) (uri : List ℕ) (d : Document) → Takes before (made (closes uri)) now → now.held uri ≡ Some (Known d) → ⊥
+closed_shown : (before now : Documents) (uri : List ℕ) (d : Document) → Takes before (made (closes uri)) now
+    → now.held uri ≡ Some (Known d) → ⊥
 closed_shown before now uri d h k = never (ap shows (sym h.own ∙ k))
 
-in_step : (a : Agreed) (asked : Bool) (d : Document) (text : List ℕ) → (if asked then option_map (λ o. saved_in a o text) (Some (Known d)) else Some (Known d)) ≡ Some (Known d)
+in_step : (a : Agreed) (asked : Bool) (d : Document) (text : List ℕ) → (if asked then option_map (λ o. saved_in a o
+    text) (Some (Known d)) else Some (Known d)) ≡ Some (Known d)
 in_step a true d text = refl
 in_step a false d text = refl
 
 -- a text in step that a save changes
-saved_other : (before now : Documents) (uri text : List ℕ) (d o : Document) → before.held uri ≡ Some (Known d) → Takes before (made (saves uri (Some text))) now → now.held uri ≡ Some (Known o) → (o.text.bytes ≡ d.text.bytes → ⊥) → ⊥
+saved_other : (before now : Documents) (uri text : List ℕ) (d o : Document) → before.held uri ≡ Some (Known d)
+    → Takes before (made (saves uri (Some text))) now → now.held uri ≡ Some (Known o) → (o.text.bytes ≡ d.text.bytes
+    → ⊥) → ⊥
 saved_other before now uri text d o b h k other =
-    other (ap text_of (sym k ∙ h.own ∙ ap (λ x. after before.agreed x (saved (Some text))) b ∙ in_step before.agreed before.agreed.include_text d text))
+    other (ap text_of (sym k ∙ h.own ∙ ap (λ x. after before.agreed x (saved (Some text))) b ∙ in_step before.agreed
+    before.agreed.include_text d text))
 
-unasked_lost : (a : Agreed) (asked : Bool) (r : Remains) (text : List ℕ) → asked ≡ false → shows (if asked then option_map (λ o. saved_in a o text) (Some (Lost r)) else Some (Lost r)) ≡ false
+unasked_lost : (a : Agreed) (asked : Bool) (r : Remains) (text : List ℕ) → asked ≡ false
+    → shows (if asked then option_map (λ o. saved_in a o text) (Some (Lost r)) else Some (Lost r)) ≡ false
 unasked_lost a true r text h = never (sym h)
 unasked_lost a false r text h = refl
 
 -- a text that was not asked for, taken from a save
-unasked_taken : (before now : Documents) (uri text : List ℕ) (r : Remains) (d : Document) → before.held uri ≡ Some (Lost r) → before.agreed.include_text ≡ false → Takes before (made (saves uri (Some text))) now → now.held uri ≡ Some (Known d) → ⊥
+unasked_taken : (before now : Documents) (uri text : List ℕ) (r : Remains) (d : Document) → before.held uri
+    ≡ Some (Lost r) → before.agreed.include_text ≡ false → Takes before (made (saves uri (Some text))) now
+    → now.held uri ≡ Some (Known d) → ⊥
 unasked_taken before now uri text r d b asked h k =
-    never (sym (unasked_lost before.agreed before.agreed.include_text r text asked) ∙ ap shows (ap (λ x. after before.agreed x (saved (Some text))) (sym b) ∙ sym h.own ∙ k))
+    never (sym (unasked_lost before.agreed before.agreed.include_text r text asked)
+    ∙ ap shows (ap (λ x. after before.agreed x (saved (Some text))) (sym b) ∙ sym h.own ∙ k))
 
 -- ---- what calls say
 
 -- a second open of which nothing is said
-opened_unsaid : (before now : Documents) (uri l text : List ℕ) (version : Option ℤ) (o : Open) → before.held uri ≡ Some o → Took before (opens uri l version text) None now → ⊥
-opened_unsaid before now uri l text version o b h = never (ap is_some (h.remarks ∙ ap (λ k. remark_of before.agreed k (opened (text_item l version text))) b))
+opened_unsaid : (before now : Documents) (uri l text : List ℕ) (version : Option ℤ) (o : Open) → before.held uri
+    ≡ Some o → Took before (opens uri l version text) None now → ⊥
+opened_unsaid before now uri l text version o b h = never (ap is_some (h.remarks ∙ ap (λ k. remark_of before.agreed k
+    (opened (text_item l version text))) b))
 
 -- a change past an end of the text that is known, of which nothing is said
-past_unsaid : (before now : Documents) (uri : List ℕ) (version : Option ℤ) (list : List Change) (d : Document) → before.held uri ≡ Some (Known d) → past_by before.agreed.encoding d.text list ≡ true → Took before (edits uri version list) None now → ⊥
+past_unsaid : (before now : Documents) (uri : List ℕ) (version : Option ℤ) (list : List Change) (d : Document)
+    → before.held uri ≡ Some (Known d) → past_by before.agreed.encoding d.text list ≡ true
+    → Took before (edits uri version list) None now → ⊥
 past_unsaid before now uri version list d b p h =
-    never (ap is_some (h.remarks ∙ ap (λ k. remark_of before.agreed k (changed version list)) b ∙ ap (λ w. change_remark w (is_not_higher version d.version)) p))
+    never (ap is_some (h.remarks ∙ ap (λ k. remark_of before.agreed k (changed version list)) b
+    ∙ ap (λ w. change_remark w (is_not_higher version d.version)) p))
 
 -- a saved text that was asked for and differs from the one that is known, of which nothing is said
-saved_unsaid : (before now : Documents) (uri text : List ℕ) (d : Document) → before.held uri ≡ Some (Known d) → before.agreed.include_text ≡ true → bytes_eq d.text.bytes text ≡ false → Took before (saves uri (Some text)) None now → ⊥
+saved_unsaid : (before now : Documents) (uri text : List ℕ) (d : Document) → before.held uri ≡ Some (Known d)
+    → before.agreed.include_text ≡ true → bytes_eq d.text.bytes text ≡ false → Took before (saves uri (Some text))
+    None now → ⊥
 saved_unsaid before now uri text d b asked p h =
-    never (ap is_some (h.remarks ∙ ap (λ k. remark_of before.agreed k (saved (Some text))) b ∙ ap (λ (w : Bool). if w then (if bytes_eq d.text.bytes text then None else Some SavedTextDiffers) else None) asked
+    never (ap is_some (h.remarks ∙ ap (λ k. remark_of before.agreed k (saved (Some text))) b
+    ∙ ap (λ (w : Bool). if w then (if bytes_eq d.text.bytes text then None else Some SavedTextDiffers) else
+    None) asked
     ∙ ap (λ (w : Bool). if w then None else Some SavedTextDiffers) p))
 
 no_memory_in : (o : Open) (w : Bool) → step_fault o w ≡ Some Memory → ⊥
@@ -126,7 +169,8 @@ no_memory_in (Known d) w h = grind (arith, h)
 no_memory_in (Lost r) true h = grind (arith, h)
 no_memory_in (Lost r) false h = grind (arith, h)
 
-no_memory_late : (late : Bool) (o : Open) (w : Bool) → (if late then Some OutOfOrder else step_fault o w) ≡ Some Memory → ⊥
+no_memory_late : (late : Bool) (o : Open) (w : Bool) → (if late then Some OutOfOrder else step_fault o w)
+    ≡ Some Memory → ⊥
 no_memory_late true o w h = grind (arith, h)
 no_memory_late false o w h = no_memory_in o w h
 
@@ -144,7 +188,8 @@ no_memory a None closed h = grind (arith, h)
 no_memory a (Some o) closed h = grind (arith, h)
 
 -- `Memory` from a call that takes no memory
-needless : (before now : Documents) (n : Notice) → needs_memory before.agreed (before.held n.uri) n.kind ≡ false → Refused before n Memory now → ⊥
+needless : (before now : Documents) (n : Notice) → needs_memory before.agreed (before.held n.uri) n.kind ≡ false
+    → Refused before n Memory now → ⊥
 needless before now n h (inl f) = no_memory before.agreed (before.held n.uri) n.kind f.0
 needless before now n h (inr s) = never (sym h ∙ s.needed)
 
@@ -155,15 +200,18 @@ closed_memory before now uri h = needless before now (closes uri) refl h
 saved_memory : (before now : Documents) (uri : List ℕ) → Refused before (saves uri None) Memory now → ⊥
 saved_memory before now uri h = needless before now (saves uri None) refl h
 
-unchanged_memory : (before now : Documents) (uri : List ℕ) (version : Option ℤ) → Refused before (edits uri version []) Memory now → ⊥
+unchanged_memory : (before now : Documents) (uri : List ℕ) (version : Option ℤ) → Refused before (edits uri version [])
+    Memory now → ⊥
 unchanged_memory before now uri version h = needless before now (edits uri version []) refl h
 
 -- `Memory` in the place of another fault
-right_memory : (before now : Documents) (n : Notice) (fault : DocumentFault) → fault_of before.agreed (before.held n.uri) n.kind ≡ Some fault → Refused before n Memory now → ⊥
+right_memory : (before now : Documents) (n : Notice) (fault : DocumentFault) → fault_of before.agreed
+    (before.held n.uri) n.kind ≡ Some fault → Refused before n Memory now → ⊥
 right_memory before now n fault w (inl f) = no_memory before.agreed (before.held n.uri) n.kind f.0
 right_memory before now n fault w (inr s) = never (ap is_some (sym s.right ∙ w))
 
 -- `Memory`, and a text that is shown
-memory_shown : (before now : Documents) (n : Notice) (d : Document) → Refused before n Memory now → now.held n.uri ≡ Some (Known d) → ⊥
+memory_shown : (before now : Documents) (n : Notice) (d : Document) → Refused before n Memory now → now.held n.uri
+    ≡ Some (Known d) → ⊥
 memory_shown before now n d (inl f) k = no_memory before.agreed (before.held n.uri) n.kind f.0
 memory_shown before now n d (inr s) k = never (sym (missed_shows (before.held n.uri)) ∙ ap shows (sym s.misses.own ∙ k))

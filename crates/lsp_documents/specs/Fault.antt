@@ -5,7 +5,8 @@ use Rattle.lsp_documents.specs.declared.fault.DocumentFault.TheVariants.{Params,
 use Rattle.lsp_documents.specs.declared.fault.Made.{Made}
 use Rattle.lsp_documents.specs.declared.fault.NotMade.{NotMade}
 use Rattle.lsp_documents.specs.declared.fault.Remark.{Remark}
-use Rattle.lsp_documents.specs.declared.fault.Remark.TheVariants.{OpenAlready, VersionNotHigher, PastEnd, SavedTextDiffers, WasNotOpen}
+use Rattle.lsp_documents.specs.declared.fault.Remark.TheVariants.{OpenAlready, VersionNotHigher, PastEnd}
+use Rattle.lsp_documents.specs.declared.fault.Remark.TheVariants.{SavedTextDiffers, WasNotOpen}
 
 abbrev pub fault_text : DocumentFault → Option (List ℕ)
 fault_text Params = Some (codes "params of another shape")

@@ -35,8 +35,8 @@ loses_by DidChange before uri now = loses before uri now
 loses_by DidSave before uri now = false
 loses_by DidClose before uri now = loses before uri now
 
--- what a notification of this method and these params is answered, with the documents before and after it: what the call of its
--- name says
+-- what a notification of this method and these params is answered, with the documents before and after it: what the
+-- call of its name says
 pub record Answers (method : DocumentMethod) (before : TextDocuments) (params : Data)
     (heard : Result Made NotMade) (now : TextDocuments) : Type 0 where
   pub ok : IfOk heard (λ m. IsSomeAnd (notice_in method params) (λ n.

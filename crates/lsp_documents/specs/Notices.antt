@@ -1,6 +1,8 @@
--- The documents that a client has opened, after any list of its notifications (LSP 3.17, "Text Document Synchronization"): the
--- client's own, and those that a server keeps, which may have missed some of what the client did.
-use Rattle.std.specs.Prelude.{◌≡◌, ◌⊎◌, ℕ, ℤ, int_le, int_lt, Bool, true, false, not, ◌&&◌, if◌then◌else◌, is_none, is_some, option_map, option_and_then, List, [], ◌∷◌, ◌++◌, Option, Some, None, IsSomeAnd}
+-- The documents that a client has opened, after any list of its notifications (LSP 3.17, "Text Document
+-- Synchronization"): the client's own, and those that a server keeps, which may have missed some of what the client
+-- did.
+use Rattle.std.specs.Prelude.{◌≡◌, ◌⊎◌, ℕ, ℤ, int_le, int_lt, Bool, true, false, not, ◌&&◌, if◌then◌else◌, is_none}
+use Rattle.std.specs.Prelude.{is_some, option_map, option_and_then, List, [], ◌∷◌, ◌++◌, Option, Some, None, IsSomeAnd}
 use Rattle.std.specs.List.{list_any}
 use Rattle.std.specs.Str.{bytes_eq}
 use Rattle.lsp_text.specs.Documents.{Document, Change}
@@ -10,13 +12,15 @@ use Rattle.lsp_text.specs.declared.position.PositionEncoding.{PositionEncoding}
 use Rattle.lsp_documents.specs.declared.fault.DocumentFault.{DocumentFault}
 use Rattle.lsp_documents.specs.declared.fault.DocumentFault.TheVariants.{Params, NotOpen, OutOfStep, OutOfOrder, Memory}
 use Rattle.lsp_documents.specs.declared.fault.Remark.{Remark}
-use Rattle.lsp_documents.specs.declared.fault.Remark.TheVariants.{OpenAlready, VersionNotHigher, PastEnd, SavedTextDiffers, WasNotOpen}
+use Rattle.lsp_documents.specs.declared.fault.Remark.TheVariants.{OpenAlready, VersionNotHigher, PastEnd}
+use Rattle.lsp_documents.specs.declared.fault.Remark.TheVariants.{SavedTextDiffers, WasNotOpen}
 use Rattle.lsp_documents.specs.declared.agreed.Agreed.{Agreed}
 use Rattle.lsp_documents.specs.declared.kept.Open.{Open}
 use Rattle.lsp_documents.specs.declared.kept.Open.TheVariants.{Known, Lost}
 use Rattle.lsp_documents.specs.Remains.{remains}
 
--- a document as a client has it. The language and the text are the bytes of their UTF-8, and the version is none if the client gives none
+-- a document as a client has it. The language and the text are the bytes of their UTF-8, and the version is none if the
+-- client gives none
 pub record Item : Type 0 where
   pub language_id : List ℕ
   pub version : Option ℤ
@@ -65,7 +69,8 @@ text_by a text = lined a.options.line_ends text
 abbrev pub edited_text : Agreed → List ℕ → List Change → List ℕ
 edited_text a text list = (edited_by a.encoding (text_by a text) list).bytes
 
--- the client's document of a URI after what it tells of it. One that tells a whole text has it, whether it opened it or not
+-- the client's document of a URI after what it tells of it. One that tells a whole text has it, whether it opened it or
+-- not
 abbrev pub told : Agreed → Option Item → NoticeKind → Option Item
 told a before (opened c) = Some c
 told a None (changed version list) =
@@ -143,8 +148,8 @@ changed_in a (Known d) version list = Known (changed_to a.encoding d version lis
 changed_in a (Lost r) version list =
     if has_whole list then Known (begun_by a r.language_id version list) else Lost r
 
--- what a text makes of it that was asked for and comes with a save: it is taken only if the text is lost. Which version it is nobody
--- says
+-- what a text makes of it that was asked for and comes with a save: it is taken only if the text is lost. Which version
+-- it is nobody says
 abbrev pub saved_in : Agreed → Open → List ℕ → Open
 saved_in a (Known d) text = Known d
 saved_in a (Lost r) text = Known (document r.language_id None (text_by a text))
@@ -198,7 +203,8 @@ fault_of a (Some o) (saved text) = None
 fault_of a None closed = Some NotOpen
 fault_of a (Some o) closed = None
 
--- whether a position of the changes lies past its line's end, or past the place behind the last line, in the text that is known
+-- whether a position of the changes lies past its line's end, or past the place behind the last line, in the text that
+-- is known
 abbrev pub is_past : PositionEncoding → Open → List Change → Bool
 is_past e (Known d) list = past_by e d.text list
 is_past e (Lost r) list = false
@@ -213,7 +219,8 @@ abbrev pub save_remark : Open → List ℕ → Option Remark
 save_remark (Known d) text = if bytes_eq d.text.bytes text then None else Some SavedTextDiffers
 save_remark (Lost r) text = None
 
--- what LSP 3.17 forbids the client, though it can be made, or what shows that its text is another one than the text that is kept
+-- what LSP 3.17 forbids the client, though it can be made, or what shows that its text is another one than the text
+-- that is kept
 abbrev pub remark_of : Agreed → Option Open → NoticeKind → Option Remark
 remark_of a None (opened c) = None
 remark_of a None (changed version list) = Some WasNotOpen
@@ -226,8 +233,8 @@ remark_of a (Some o) (saved None) = None
 remark_of a (Some o) (saved (Some text)) = if a.include_text then save_remark o text else None
 remark_of a (Some o) closed = None
 
--- what is kept of the URI after a notice of this kind: as it was where something is wrong, but for late changes, and if a text came
--- with a save that was not asked for
+-- what is kept of the URI after a notice of this kind: as it was where something is wrong, but for late changes, and if
+-- a text came with a save that was not asked for
 abbrev pub after : Agreed → Option Open → NoticeKind → Option Open
 after a before (opened c) = Some (Known (kept_by a c))
 after a None (changed version list) =
@@ -258,7 +265,8 @@ needs_memory a before closed = false
 
 -- ---- notifications, as a server met them
 
--- one was made; or its document is known and no more of it; or nothing of it is known, and the client may have told anything
+-- one was made; or its document is known and no more of it; or nothing of it is known, and the client may have told
+-- anything
 pub data Sent : Type 0 where
   made : Notice → Sent
   unmade : Notice → Sent
@@ -301,7 +309,8 @@ version_after before (changed version list) = version
 version_after before (saved text) = before
 version_after before closed = before
 
--- whether all that was told of a URI was made, none of it late, and none of it closed the document, which had this version before
+-- whether all that was told of a URI was made, none of it late, and none of it closed the document, which had this
+-- version before
 abbrev pub is_current : Agreed → List ℕ → Option ℤ → List Sent → Bool
 is_current a uri before [] = true
 is_current a uri before (made n ∷ ss) =
@@ -390,8 +399,8 @@ Refused before n fault now =
     ((fault_of before.agreed (before.held n.uri) n.kind ≡ Some fault) × Makes before n now)
     ⊎ Starved before n fault now
 
--- the same if the params may be of another shape: then what they tell of the URI that they name is missed; if they name none
--- they may tell of any
+-- the same if the params may be of another shape: then what they tell of the URI that they name is missed; if they name
+-- none they may tell of any
 abbrev pub Failed : Documents → Option Notice → Option (List ℕ) → DocumentFault → Documents → Type 0
 Failed before (Some n) uri fault now = Refused before n fault now
 Failed before None (Some uri) fault now = (fault ≡ Params) × Misses before uri now

@@ -1,6 +1,7 @@
--- What the params of a notification say (LSP 3.17, "DidOpenTextDocumentParams" and the ones after it), and the encoding that a
--- client offers ("GeneralClientCapabilities").
-use Rattle.std.specs.Prelude.{ℕ, ℤ, pos, nat_lt, int_lt, Bool, false, if◌then◌else◌, List, [], ◌∷◌, Option, Some, None, option_map, option_and_then, unwrap_or, codes, is_some}
+-- What the params of a notification say (LSP 3.17, "DidOpenTextDocumentParams" and the ones after it), and the encoding
+-- that a client offers ("GeneralClientCapabilities").
+use Rattle.std.specs.Prelude.{ℕ, ℤ, pos, nat_lt, int_lt, Bool, false, if◌then◌else◌, List, [], ◌∷◌, Option, Some, None}
+use Rattle.std.specs.Prelude.{option_map, option_and_then, unwrap_or, codes, is_some}
 use Rattle.std.specs.Str.{bytes_eq}
 use Rattle.serde_json.specs.Data.{Data, null, Items, no_items, item}
 use Rattle.serde_json.specs.Find.{get, as_str, as_number, as_u64, as_i64, as_array}

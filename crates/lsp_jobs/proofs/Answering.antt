@@ -1,6 +1,7 @@
 -- At each wake a job answers the last request under its id, or it was started since.
 use Rattle.serde_json.specs.Data.{Data}
-use Rattle.std.proofs.Common.{◌≡◌, ◌⊎◌, refl, sym, ◌∙◌, ap, subst, inl, inr, ℕ, ◌+◌, Bool, true, false, cond, List, [], ◌∷◌, ◌++◌, append_assoc, append-nil, arith, Option, Some, None}
+use Rattle.std.proofs.Common.{◌≡◌, ◌⊎◌, refl, sym, ◌∙◌, ap, subst, inl, inr, ℕ, ◌+◌, Bool, true, false, cond, List, []}
+use Rattle.std.proofs.Common.{◌∷◌, ◌++◌, append_assoc, append-nil, arith, Option, Some, None}
 use Rattle.std.specs.FinMap as map
 use Rattle.std.specs.List.{FoldsTo}
 use Rattle.std.specs.Ordering.{eq_by_cmp}
@@ -10,11 +11,15 @@ use Rattle.lsp_message.specs.IdLaws.{id_decides}
 use Rattle.lsp_message.specs.Message.{Message, ErrorObject, request, notification, response}
 use Rattle.lsp_message.specs.Methods.{is_initialized}
 use Rattle.lsp_queue.specs.Queue.{count_of, pending_of}
-use Rattle.lsp_session.proofs.Ran.{Ran, reaches_ran, Idle, early_request, early_note, unasked, uninvited, leaves, exits, late, stays, StepCase, at_initialize, at_initialized, at_served, at_woken, at_shutdown, idle, row, part_none}
-use Rattle.lsp_session.specs.Session.{Exchange, SessionAnswer, Stop, Phase, starting, replied as in_reply, serving, phase_after, Step}
+use Rattle.lsp_session.proofs.Ran.{Ran, reaches_ran, Idle, early_request, early_note, unasked, uninvited, leaves, exits}
+use Rattle.lsp_session.proofs.Ran.{late, stays, StepCase, at_initialize, at_initialized, at_served, at_woken}
+use Rattle.lsp_session.proofs.Ran.{at_shutdown, idle, row, part_none}
+use Rattle.lsp_session.specs.Session.{Exchange, SessionAnswer, Stop, Phase, starting, replied as in_reply, serving}
+use Rattle.lsp_session.specs.Session.{phase_after, Step}
 use Rattle.lsp_service.proofs.Acting.{acts_at}
 use Rattle.lsp_service.proofs.Counting.{how_many-append, Fresh}
-use Rattle.lsp_service.specs.Acts.{Act, Queues, tells, asks, replies, cancels, TakesBack, cancelled_by, cancel_method, cancel_params, does, does_all, is_spent, unsent}
+use Rattle.lsp_service.specs.Acts.{Act, Queues, tells, asks, replies, cancels, TakesBack, cancelled_by, cancel_method}
+use Rattle.lsp_service.specs.Acts.{cancel_params, does, does_all, is_spent, unsent}
 use Rattle.lsp_service.specs.Law.{Handed, how_many, is_reply_under}
 use Rattle.lsp_service.specs.QueuedServer.{with_queues, OpensSending, WorksSending}
 use Rattle.lsp_service.specs.Stated.{Stated}
@@ -22,10 +27,12 @@ use Rattle.lsp_service.specs.SentByActs.{ActsAt, all_sends, queues_at, sends_by,
 use Rattle.lsp_service.specs.View as queues
 use Rattle.lsp_service.specs.declared.queued_server.QueuedServer.{QueuedServer}
 use Rattle.lsp_service.specs.declared.server.Server.{Ghosts as Plain}
-use Rattle.lsp_jobs.proofs.Owed.{fewer, quiet_more, waits_now, waits_on, replies_at_wake, waits_called, waits_opened, HeldWaits}
+use Rattle.lsp_jobs.proofs.Owed.{fewer, quiet_more, waits_now, waits_on, replies_at_wake, waits_called, waits_opened}
+use Rattle.lsp_jobs.proofs.Owed.{HeldWaits}
 use Rattle.lsp_jobs.specs.Asking.{by_server, ByServers}
 use Rattle.lsp_jobs.specs.Ends.{too_many}
-use Rattle.lsp_jobs.specs.JobLaw.{concerns, is_that, AnswersByJobs, IsAskedAt, IsStarted, Refusal, refuse, RepliesToLast, Waits, WakeSends}
+use Rattle.lsp_jobs.specs.JobLaw.{concerns, is_that, AnswersByJobs, IsAskedAt, IsStarted, Refusal, refuse}
+use Rattle.lsp_jobs.specs.JobLaw.{RepliesToLast, Waits, WakeSends}
 use Rattle.lsp_jobs.specs.JobSession.{JobSession, seen_with_jobs}
 use Rattle.lsp_jobs.specs.Pooled.{unanswered, without_cancelled, Does, Finishes, GivesJob, StartsJobs, StartsOne}
 use Rattle.lsp_jobs.specs.PoolView.{pending_jobs}
@@ -62,25 +69,32 @@ module _ {P : Type 0} where
   spares-append id (cancels z ∷ xs) ys first second = spares-append id xs ys first second
 
   -- so they send no reply under it
-  mute_more : (id : Id) (d : Queues P) (act : Act P) (acts : List (Act P)) → how_many (is_reply_under id) (sends_by d act) ≡ 0
-      → how_many (is_reply_under id) (all_sends (does d act) acts) ≡ 0 → how_many (is_reply_under id) (all_sends d (act ∷ acts)) ≡ 0
+  mute_more : (id : Id) (d : Queues P) (act : Act P) (acts : List (Act P)) → how_many (is_reply_under id)
+      (sends_by d act) ≡ 0
+      → how_many (is_reply_under id) (all_sends (does d act) acts) ≡ 0 → how_many (is_reply_under id) (all_sends d (act
+      ∷ acts)) ≡ 0
   mute_more id d act acts one rest =
       how_many-append (is_reply_under id) (sends_by d act) (all_sends (does d act) acts)
       ∙ ap (λ n. n + how_many (is_reply_under id) (all_sends (does d act) acts)) one ∙ ap (λ n. 0 + n) rest
 
-  mute : (id : Id) (acts : List (Act P)) (d : Queues P) → Spares id acts → how_many (is_reply_under id) (all_sends d acts) ≡ 0
+  mute : (id : Id) (acts : List (Act P)) (d : Queues P) → Spares id acts → how_many (is_reply_under id)
+      (all_sends d acts) ≡ 0
   mute id [] d spares = refl
   mute id (replies i outcome ∷ acts) d spares =
-      mute_more id d (replies i outcome) acts (none_if (is_reply_under id) (map.contains_key d.held i) (response i outcome) spares.0)
+      mute_more id d (replies i outcome) acts (none_if (is_reply_under id) (map.contains_key d.held i)
+      (response i outcome) spares.0)
       (mute id acts (does d (replies i outcome)) spares.1)
-  mute id (tells method params ∷ acts) d spares = mute_more id d (tells method params) acts refl (mute id acts (does d (tells method params)) spares)
+  mute id (tells method params ∷ acts) d spares = mute_more id d (tells method params) acts refl
+      (mute id acts (does d (tells method params)) spares)
   mute id (asks method params payload ∷ acts) d spares =
       mute_more id d (asks method params payload) acts
-      (none_unless (is_reply_under id) (is_spent (count_of d.asked)) (request (number (pos (count_of d.asked))) method params) refl)
+      (none_unless (is_reply_under id) (is_spent (count_of d.asked)) (request (number (pos (count_of d.asked))) method
+      params) refl)
       (mute id acts (does d (asks method params payload)) spares)
   mute id (cancels z ∷ acts) d spares =
       mute_more id d (cancels z) acts
-      (none_if (is_reply_under id) (map.contains_key (pending_of d.asked) (number z)) (notification cancel_method (cancel_params z)) refl)
+      (none_if (is_reply_under id) (map.contains_key (pending_of d.asked) (number z)) (notification cancel_method
+      (cancel_params z)) refl)
       (mute id acts (does d (cancels z)) spares)
 
   sent_one : (d : Queues P) (act : Act P) → (does d act).sent ≡ d.sent ++ sends_by d act
@@ -95,12 +109,14 @@ module _ {P : Type 0} where
 
   -- the answer to a request that is cancelled is under no other id
   settled_spares : (arrived : Option Message) (acts : List (Act P)) (id : Id) → Spares id acts
-      → (concerns id arrived ≡ false) ⊎ ((method : List ℕ) × (params : Data) × (arrived ≡ Some (request id method params))) → Spares id (acts_done_at arrived acts)
+      → (concerns id arrived ≡ false) ⊎ ((method : List ℕ) × (params : Data)
+      × (arrived ≡ Some (request id method params))) → Spares id (acts_done_at arrived acts)
   settled_spares None acts id spares calm = spares
   settled_spares (Some (request i method params)) acts id spares calm = spares
   settled_spares (Some (response i outcome)) acts id spares calm = spares
   settled_spares (Some (notification method params)) acts id spares calm =
-      spares-append id acts (cancelled_answer (cancelled_by method params)) spares (other (cancelled_by method params) (elim calm [
+      spares-append id acts (cancelled_answer (cancelled_by method params)) spares (other (cancelled_by method params)
+      (elim calm [
         | inl is ↦ is
         | inr came ↦ (let e = came.2 in absurd (cc (e)))
       ]))
@@ -121,15 +137,18 @@ module _ {P : Type 0} where
 -- ---- pending
 
 module _ {A : Type 0} where
-  without_has : (i : Id) (pending : PendingJobs A) (id : Id) (e : A) → without i pending id ≡ Some e → (pending id ≡ Some e) × (eq_by_cmp id_cmp id i ≡ false)
+  without_has : (i : Id) (pending : PendingJobs A) (id : Id) (e : A) → without i pending id ≡ Some e
+      → (pending id ≡ Some e) × (eq_by_cmp id_cmp id i ≡ false)
   without_has i pending id e has = at (eq_by_cmp id_cmp id i) refl has
     where
-      at : (b : Bool) → eq_by_cmp id_cmp id i ≡ b → cond b None (pending id) ≡ Some e → (pending id ≡ Some e) × (eq_by_cmp id_cmp id i ≡ false)
+      at : (b : Bool) → eq_by_cmp id_cmp id i ≡ b → cond b None (pending id) ≡ Some e → (pending id ≡ Some e)
+          × (eq_by_cmp id_cmp id i ≡ false)
       at true is has = absurd (cc (has))
       at false is has = (has, is)
 
 module _ {A P : Type 0} where
-  unanswered_has : (acts : List (Act P)) (pending : PendingJobs A) (id : Id) (e : A) → unanswered acts pending id ≡ Some e → (pending id ≡ Some e) × Spares id acts
+  unanswered_has : (acts : List (Act P)) (pending : PendingJobs A) (id : Id) (e : A) → unanswered acts pending id
+      ≡ Some e → (pending id ≡ Some e) × Spares id acts
   unanswered_has [] pending id e has = (has, tt)
   unanswered_has (replies i outcome ∷ acts) pending id e has =
       let rest = unanswered_has acts (without i pending) id e has in
@@ -152,7 +171,8 @@ module _ {S J K P : Type 0} (plain : Plain S P) (may : WithJobs S J K P) (arrive
   abbrev AllCome : (Id → J × K → Type 0) → List (Act P) → PendingJobs (J × K) → Type 0
   AllCome from acts pending = (id : Id) (e : J × K) → pending id ≡ Some e → Comes from acts id e
 
-  come_later : (from : Id → J × K → Type 0) (before acts : List (Act P)) (pending : PendingJobs (J × K)) → AllCome from before pending
+  come_later : (from : Id → J × K → Type 0) (before acts : List (Act P)) (pending : PendingJobs (J × K))
+      → AllCome from before pending
       → AllCome from acts (unanswered acts pending)
   come_later from before acts pending all id e has =
       let own = unanswered_has acts pending id e has in
@@ -161,7 +181,8 @@ module _ {S J K P : Type 0} (plain : Plain S P) (may : WithJobs S J K P) (arrive
         | inr started ↦ inr started
       ]
 
-  come_more : (from : Id → J × K → Type 0) (before acts : List (Act P)) (pending : PendingJobs (J × K)) → AllCome from before pending
+  come_more : (from : Id → J × K → Type 0) (before acts : List (Act P)) (pending : PendingJobs (J × K))
+      → AllCome from before pending
       → AllCome from (before ++ acts) (unanswered acts pending)
   come_more from before acts pending all id e has =
       let own = unanswered_has acts pending id e has in
@@ -170,120 +191,180 @@ module _ {S J K P : Type 0} (plain : Plain S P) (may : WithJobs S J K P) (arrive
         | inr started ↦ inr started
       ]
 
-  come_fewer : (from : Id → J × K → Type 0) (acts : List (Act P)) (i : Id) (pending : PendingJobs (J × K)) → AllCome from acts pending → AllCome from acts (without i pending)
+  come_fewer : (from : Id → J × K → Type 0) (acts : List (Act P)) (i : Id) (pending : PendingJobs (J × K))
+      → AllCome from acts pending → AllCome from acts (without i pending)
   come_fewer from acts i pending all id e has = all id e (without_has i pending id e has).0
 
-  come_with : (from : Id → J × K → Type 0) (acts : List (Act P)) (start : Id × J × K) (pending : PendingJobs (J × K)) → IsStarted plain may arrived start.0 start.1 start.2
+  come_with : (from : Id → J × K → Type 0) (acts : List (Act P)) (start : Id × J × K) (pending : PendingJobs (J × K))
+      → IsStarted plain may arrived start.0 start.1 start.2
       → AllCome from acts pending → AllCome from acts (with_job start.0 (start.1, start.2) pending)
   come_with from acts start pending own all id e has = at (eq_by_cmp id_cmp id start.0) refl has
     where
-      at : (b : Bool) → eq_by_cmp id_cmp id start.0 ≡ b → cond b (Some (start.1, start.2)) (pending id) ≡ Some e → Comes from acts id e
+      at : (b : Bool) → eq_by_cmp id_cmp id start.0 ≡ b → cond b (Some (start.1, start.2)) (pending id) ≡ Some e
+          → Comes from acts id e
       at true is has =
           let same : id ≡ start.0 = (id_decides id start.0).0 is in
           let it : ◌≡◌ {A = J × K} (start.1, start.2) e = cc (has) in
           inr (subst (λ (x : Id × (J × K)). IsStarted plain may arrived x.0 x.1.0 x.1.1) (λ k. (sym same k, it k)) own)
       at false is has = all id e has
 
-  refuse-append : (xs ys : List (Refusal plain may arrived)) → refuse plain may (xs ++ ys) ≡ refuse plain may xs ++ refuse plain may ys
+  refuse-append : (xs ys : List (Refusal plain may arrived)) → refuse plain may (xs ++ ys) ≡ refuse plain may xs
+      ++ refuse plain may ys
   refuse-append [] ys = refl
   refuse-append (r ∷ xs) ys =
       ap (λ (l : List (Act P)). r.first ++ replies r.id (Err too_many) ∷ l) (refuse-append xs ys)
       ∙ sym (append_assoc r.first (replies r.id (Err too_many) ∷ refuse plain may xs) (refuse plain may ys))
 
   -- a job is started, or refused
-  one_starts : (from : Id → J × K → Type 0) (o n : S) (before others : List (Id × J × K)) (start : Id × J × K) → IsAskedAt plain may arrived o → may.starts o (before ++ start ∷ others) n
+  one_starts : (from : Id → J × K → Type 0) (o n : S) (before others : List (Id × J × K)) (start : Id × J × K)
+      → IsAskedAt plain may arrived o → may.starts o (before ++ start ∷ others) n
       → (old new : State) → StartsOne may old start new → AllCome from old.2 old.1
-      → AllCome from new.2 new.1 × ((refused : List (Refusal plain may arrived)) × (new.2 ≡ old.2 ++ refuse plain may refused))
+      → AllCome from new.2 new.1 × ((refused : List (Refusal plain may arrived)) × (new.2 ≡ old.2 ++ refuse plain may
+      refused))
   one_starts from o n before others start asked st old new one all = by one
     where
       own : IsStarted plain may arrived start.0 start.1 start.2
       own = record { old = o; asked = asked; first = before; others = others; new = n; starts = st }
 
-      by : StartsOne may old start new → AllCome from new.2 new.1 × ((refused : List (Refusal plain may arrived)) × (new.2 ≡ old.2 ++ refuse plain may refused))
+      by : StartsOne may old start new → AllCome from new.2 new.1 × ((refused : List (Refusal plain may arrived))
+          × (new.2 ≡ old.2 ++ refuse plain may refused))
       by (inl is) = (
         subst (λ (x : State). AllCome from x.2 x.1) (sym is) (come_with from old.2 start old.1 own all),
         ([], ap (λ (x : State). x.2) is ∙ sym (append-nil old.2)),
       )
       by (inr refusal) =
           let e = refusal.1 in
-          let r : Refusal plain may arrived = record { id = start.0; job = start.1; key = start.2; started = own; old = old.0; first = e.0; new = new.0; saw = e.1 } in (
+          let r : Refusal plain may arrived = record {
+            id = start.0;
+            job = start.1;
+            key = start.2;
+            started = own;
+            old = old.0;
+            first = e.0;
+            new = new.0;
+            saw = e.1;
+          } in (
             subst (λ (x : PendingJobs (J × K) × List (Act P)). AllCome from x.1 x.0) (λ k. (sym e.3 k, sym refusal.2 k))
                 (come_more from old.2 refusal.0 (without start.0 old.1) (come_fewer from old.2 start.0 old.1 all)),
             (r ∷ [], refusal.2 ∙ ap (λ (l : List (Act P)). old.2 ++ l) e.2),
           )
 
-  all_start : (from : Id → J × K → Type 0) (o n : S) (before jobs : List (Id × J × K)) → IsAskedAt plain may arrived o → may.starts o (before ++ jobs) n
+  all_start : (from : Id → J × K → Type 0) (o n : S) (before jobs : List (Id × J × K)) → IsAskedAt plain may arrived o
+      → may.starts o (before ++ jobs) n
       → (old new : State) → FoldsTo (StartsOne may) old jobs new → AllCome from old.2 old.1
-      → AllCome from new.2 new.1 × ((refused : List (Refusal plain may arrived)) × (new.2 ≡ old.2 ++ refuse plain may refused))
+      → AllCome from new.2 new.1 × ((refused : List (Refusal plain may arrived)) × (new.2 ≡ old.2 ++ refuse plain may
+      refused))
   all_start from o n before [] asked st old new run all = (
     subst (λ (x : State). AllCome from x.2 x.1) run all,
     ([], ap (λ (x : State). x.2) (sym run) ∙ sym (append-nil old.2)),
   )
   all_start from o n before (start ∷ jobs) asked st old new run all =
       let one = one_starts from o n before jobs start asked st old run.0 run.1 all in
-      let rest = all_start from o n (before ++ start ∷ []) jobs asked (subst (λ (l : List (Id × J × K)). may.starts o l n) (sym (append_assoc before (start ∷ []) jobs)) st)
+      let rest = all_start from o n (before ++ start ∷ []) jobs asked (subst (λ (l : List (Id × J × K)). may.starts o l
+      n) (sym (append_assoc before (start ∷ []) jobs)) st)
       run.0 new run.2 one.0 in (
         rest.0,
         (
           one.1.0 ++ rest.1.0,
-          rest.1.1 ∙ ap (λ (l : List (Act P)). l ++ refuse plain may rest.1.0) one.1.1 ∙ append_assoc old.2 (refuse plain may one.1.0) (refuse plain may rest.1.0)
+          rest.1.1 ∙ ap (λ (l : List (Act P)). l ++ refuse plain may rest.1.0) one.1.1 ∙ append_assoc old.2
+              (refuse plain may one.1.0) (refuse plain may rest.1.0)
               ∙ ap (λ (l : List (Act P)). old.2 ++ l) (sym (refuse-append one.1.0 rest.1.0)),
         ),
       )
 
-  starts_jobs : (from : Id → J × K → Type 0) (before : List (Act P)) (old new : S × PendingJobs (J × K)) (acts all : List (Act P)) → IsAskedAt plain may arrived old.0 → StartsJobs may old acts all new
-      → AllCome from before old.1 → AllCome from all new.1 × ((refused : List (Refusal plain may arrived)) × (all ≡ acts ++ refuse plain may refused))
+  starts_jobs : (from : Id → J × K → Type 0) (before : List (Act P)) (old new : S × PendingJobs (J × K))
+      (acts all : List (Act P)) → IsAskedAt plain may arrived old.0 → StartsJobs may old acts all new
+      → AllCome from before old.1 → AllCome from all new.1 × ((refused : List (Refusal plain may arrived))
+      × (all ≡ acts ++ refuse plain may refused))
   starts_jobs from before old new acts all asked s come =
-      all_start from old.0 s.mid [] s.started asked s.starts (s.mid, unanswered acts old.1, acts) (new.0, new.1, all) s.taken
+      all_start from old.0 s.mid [] s.started asked s.starts (s.mid, unanswered acts old.1, acts) (
+        new.0,
+        new.1,
+        all,
+      ) s.taken
       (come_later from before acts old.1 come)
 
 -- a pending job stays when the message does not concern its id, or the message is its request
 abbrev FromCall : {J K : Type 0} → OfJob J → PendingJobs (J × K) → Option Message → Id → J × K → Type 0
 FromCall of_job old arrived id e =
     ((old id ≡ Some e) × (concerns id arrived ≡ false))
-    ⊎ ((method : List ℕ) × (params : Data) × (arrived ≡ Some (request id method params)) × of_job.is_for e.0 method params)
+    ⊎ ((method : List ℕ) × (params : Data) × (arrived ≡ Some (request id method params)) × of_job.is_for e.0
+    method params)
 
 module _ {S J K P : Type 0} (plain : Plain S P) (may : WithJobs S J K P) (of_job : OfJob J) where
-  stay : (old : PendingJobs (J × K)) (arrived : Option Message) → ((id : Id) → concerns id arrived ≡ false) → (acts : List (Act P)) → ((id : Id) → Spares id acts)
+  stay : (old : PendingJobs (J × K)) (arrived : Option Message) → ((id : Id) → concerns id arrived ≡ false)
+      → (acts : List (Act P)) → ((id : Id) → Spares id acts)
       → AllCome plain may arrived (FromCall of_job old arrived) acts old
   stay old arrived none acts spares id e has = inl (inl (has, none id), spares id)
 
-  stay_without : (old : PendingJobs (J × K)) (arrived : Option Message) (i : Id) → ((id : Id) → concerns id arrived ≡ eq_by_cmp id_cmp id i)
+  stay_without : (old : PendingJobs (J × K)) (arrived : Option Message) (i : Id) → ((id : Id) → concerns id arrived
+      ≡ eq_by_cmp id_cmp id i)
       → AllCome plain may arrived (FromCall of_job old arrived) [] (without i old)
-  stay_without old arrived i same id e has = let own = without_has i old id e has in inl (inl (own.0, same id ∙ own.1), tt)
+  stay_without old arrived i same id e has = let own = without_has i old id e has in inl (
+    inl (
+      own.0,
+      same id
+          ∙ own.1,
+    ),
+    tt,
+  )
 
   stay_cancelled : (old : PendingJobs (J × K)) (method : List ℕ) (params : Data)
-      → AllCome plain may (Some (notification method params)) (FromCall of_job old (Some (notification method params))) [] (without_cancelled (cancelled_by method params) old)
+      → AllCome plain may (Some (notification method params)) (FromCall of_job old (Some (notification method params)))
+      [] (without_cancelled (cancelled_by method params) old)
   stay_cancelled old method params = at (cancelled_by method params) refl
     where
       at : (cancelled : Option Id) → cancelled_by method params ≡ cancelled
-          → AllCome plain may (Some (notification method params)) (FromCall of_job old (Some (notification method params))) [] (without_cancelled cancelled old)
+          → AllCome plain may (Some (notification method params)) (FromCall of_job old
+          (Some (notification method params))) [] (without_cancelled cancelled old)
       at None is = stay old (Some (notification method params)) (λ id. ap (is_that id) is) [] (λ id. tt)
       at (Some i) is = stay_without old (Some (notification method params)) i (λ id. ap (is_that id) is)
 
-  does_jobs : (arrived : Option Message) (from : Id → J × K → Type 0) (did : List (Act P) → S → Type 0) (pending : PendingJobs (J × K)) (all : List (Act P)) (new : S × PendingJobs (J × K))
+  does_jobs : (arrived : Option Message) (from : Id → J × K → Type 0) (did : List (Act P) → S → Type 0)
+      (pending : PendingJobs (J × K)) (all : List (Act P)) (new : S × PendingJobs (J × K))
       → ((acts : List (Act P)) (mid : S) → did acts mid → IsAskedAt plain may arrived mid)
-      → AllCome plain may arrived from [] pending → Does may did pending all new → AllCome plain may arrived from all new.1
-  does_jobs arrived from did pending all new asked come d = (starts_jobs plain may arrived from [] (d.1, pending) new d.0 all (asked d.0 d.1 d.2) d.3 come).0
+      → AllCome plain may arrived from [] pending → Does may did pending all new → AllCome plain may arrived from
+      all new.1
+  does_jobs arrived from did pending all new asked come d = (starts_jobs plain may arrived from [] (d.1, pending) new
+      d.0 all (asked d.0 d.1 d.2) d.3 come).0
 
-  gives_job : (old new : S × PendingJobs (J × K)) (id : Id) (method : List ℕ) (params : Data) (all : List (Act P)) → GivesJob may of_job (old.0, without id old.1) id method params all new
-      → AllCome plain may (Some (request id method params)) (FromCall of_job old.1 (Some (request id method params))) all new.1
+  gives_job : (old new : S × PendingJobs (J × K)) (id : Id) (method : List ℕ) (params : Data) (all : List (Act P))
+      → GivesJob may of_job (old.0, without id old.1) id method params all new
+      → AllCome plain may (Some (request id method params)) (FromCall of_job old.1 (Some (request id method params)))
+      all new.1
   gives_job old new id method params all g =
-      (starts_jobs plain may (Some (request id method params)) (FromCall of_job old.1 (Some (request id method params))) [] g.begins.did new g.begins.acts all (asked g.begins.started) g.begins.others (begun g.begins.started)).0
+      (starts_jobs plain may (Some (request id method params)) (FromCall of_job old.1 (Some (request id method params)))
+      [] g.begins.did new g.begins.acts all (asked g.begins.started) g.begins.others (begun g.begins.started)).0
     where
-      asked : StartsOne may (g.mid, without id old.1, []) (id, g.job, g.key) (g.begins.did.0, g.begins.did.1, g.begins.acts)
+      asked : StartsOne may (g.mid, without id old.1, []) (id, g.job, g.key) (
+        g.begins.did.0,
+        g.begins.did.1,
+        g.begins.acts,
+      )
           → IsAskedAt plain may (Some (request id method params)) g.begins.did.0
-      asked (inl is) = (old.0, inr (g.job, g.key, g.mid, g.gives, inl (ap (λ (x : S × PendingJobs (J × K) × List (Act P)). x.0) is)))
+      asked (inl is) = (
+        old.0,
+        inr (
+          g.job,
+          g.key,
+          g.mid,
+          g.gives,
+          inl (ap (λ (x : S × PendingJobs (J × K) × List (Act P)). x.0) is),
+        ),
+      )
       asked (inr refusal) = (old.0, inr (g.job, g.key, g.mid, g.gives, inr (refusal.1.0, refusal.1.1)))
 
-      before : AllCome plain may (Some (request id method params)) (FromCall of_job old.1 (Some (request id method params))) [] (without id old.1)
+      before : AllCome plain may (Some (request id method params)) (FromCall of_job old.1
+          (Some (request id method params))) [] (without id old.1)
       before = stay_without old.1 (Some (request id method params)) id (λ i. refl)
 
-      given : AllCome plain may (Some (request id method params)) (FromCall of_job old.1 (Some (request id method params))) [] (with_job id (g.job, g.key) (without id old.1))
+      given : AllCome plain may (Some (request id method params)) (FromCall of_job old.1
+          (Some (request id method params))) [] (with_job id (g.job, g.key) (without id old.1))
       given i e has = at (eq_by_cmp id_cmp i id) refl has
         where
           at : (b : Bool) → eq_by_cmp id_cmp i id ≡ b → cond b (Some (g.job, g.key)) (without id old.1 i) ≡ Some e
-              → Comes plain may (Some (request id method params)) (FromCall of_job old.1 (Some (request id method params))) [] i e
+              → Comes plain may (Some (request id method params)) (FromCall of_job old.1
+              (Some (request id method params))) [] i e
           at true is has =
               let same : i ≡ id = (id_decides i id).0 is in
               let it : ◌≡◌ {A = J × K} (g.job, g.key) e = cc (has) in
@@ -298,14 +379,22 @@ module _ {S J K P : Type 0} (plain : Plain S P) (may : WithJobs S J K P) (of_job
               )
           at false is has = before i e has
 
-      begun : StartsOne may (g.mid, without id old.1, []) (id, g.job, g.key) (g.begins.did.0, g.begins.did.1, g.begins.acts)
-          → AllCome plain may (Some (request id method params)) (FromCall of_job old.1 (Some (request id method params))) [] g.begins.did.1
+      begun : StartsOne may (g.mid, without id old.1, []) (id, g.job, g.key) (
+        g.begins.did.0,
+        g.begins.did.1,
+        g.begins.acts,
+      )
+          → AllCome plain may (Some (request id method params)) (FromCall of_job old.1
+          (Some (request id method params))) [] g.begins.did.1
       begun (inl is) =
-          subst (λ (t : PendingJobs (J × K)). AllCome plain may (Some (request id method params)) (FromCall of_job old.1 (Some (request id method params))) [] t)
+          subst (λ (t : PendingJobs (J × K)). AllCome plain may (Some (request id method params)) (FromCall of_job old.1
+          (Some (request id method params))) [] t)
           (sym (ap (λ (x : S × PendingJobs (J × K) × List (Act P)). x.1) is)) given
       begun (inr refusal) =
-          subst (λ (t : PendingJobs (J × K)). AllCome plain may (Some (request id method params)) (FromCall of_job old.1 (Some (request id method params))) [] t) (sym refusal.1.3)
-          (λ i e has. before i e (without_has id (without id old.1) i e (unanswered_has refusal.0 (without id (without id old.1)) i e has).0).0)
+          subst (λ (t : PendingJobs (J × K)). AllCome plain may (Some (request id method params)) (FromCall of_job old.1
+          (Some (request id method params))) [] t) (sym refusal.1.3)
+          (λ i e has. before i e (without_has id (without id old.1) i e (unanswered_has refusal.0
+          (without id (without id old.1)) i e has).0).0)
 
 module _ (T : Type 0) {S J K P : Type 0} (plain : Plain S P) (may : WithJobs S J K P) (of_job : OfJob J) where
   abbrev W : Stated (PooledServer T S J K) (Asked P)
@@ -314,25 +403,36 @@ module _ (T : Type 0) {S J K P : Type 0} (plain : Plain S P) (may : WithJobs S J
   -- Where the pending jobs come from, by acts of the server's own that reply under no other ids than these.
   abbrev Handles : Option Message → PendingJobs (J × K) → List (Act (Asked P)) → PendingJobs (J × K) → Type 0
   Handles arrived old acts new =
-      (own : List (Act P)) × ((id : Id) → Spares id own → Spares id acts) × AllCome plain may arrived (FromCall of_job old arrived) own new
+      (own : List (Act P)) × ((id : Id) → Spares id own → Spares id acts) × AllCome plain may arrived (FromCall of_job
+      old arrived) own new
 
-  by_servers : (arrived : Option Message) (old new : PendingJobs (J × K)) (did : List (Act P) → Type 0) (all : List (Act (Asked P)))
-      → ((acts : List (Act P)) → did acts → AllCome plain may arrived (FromCall of_job old arrived) acts new) → ByServers did all → Handles arrived old all new
-  by_servers arrived old new did all come b = (b.0, (λ id spares. subst (Spares id) (sym b.1) (spares_by_server id b.0 spares)), come b.0 b.2)
+  by_servers : (arrived : Option Message) (old new : PendingJobs (J × K)) (did : List (Act P) → Type 0)
+      (all : List (Act (Asked P)))
+      → ((acts : List (Act P)) → did acts → AllCome plain may arrived (FromCall of_job old arrived) acts new)
+      → ByServers did all → Handles arrived old all new
+  by_servers arrived old new did all come b = (
+    b.0,
+    (λ id spares. subst (Spares id) (sym b.1) (spares_by_server id b.0
+        spares)),
+    come b.0 b.2,
+  )
 
   -- nothing is started
-  idles : (old did : PooledServer T S J K) (arrived : Option Message) (acts none : List (Act (Asked P))) → ((id : Id) → concerns id arrived ≡ false)
+  idles : (old did : PooledServer T S J K) (arrived : Option Message) (acts none : List (Act (Asked P)))
+      → ((id : Id) → concerns id arrived ≡ false)
       → ((id : Id) → Spares id none) → acts ≡ none → pending_jobs did.pool ≡ pending_jobs old.pool
       → Handles arrived (pending_jobs old.pool) acts (pending_jobs did.pool)
   idles old did arrived acts none calm spares is same = (
     [],
     (λ id own. subst (Spares id) (sym is) (spares id)),
-    subst (λ (t : PendingJobs (J × K)). AllCome plain may arrived (FromCall of_job (pending_jobs old.pool) arrived) [] t) (sym same)
+    subst (λ (t : PendingJobs (J × K)). AllCome plain may arrived (FromCall of_job (pending_jobs old.pool) arrived) []
+        t) (sym same)
         (stay plain may of_job (pending_jobs old.pool) arrived calm [] (λ id. tt)),
   )
 
   -- at a wake the server is asked after it saw how a job ended
-  at_end : {all : List (Act P)} {new : S × PendingJobs (J × K)} (old : PooledServer T S J K) (f : Finishes may of_job (seen old) all new) → IsAskedAt plain may None f.did.0
+  at_end : {all : List (Act P)} {new : S × PendingJobs (J × K)} (old : PooledServer T S J K) (f : Finishes may of_job
+      (seen old) all new) → IsAskedAt plain may None f.did.0
   at_end old f = (old.server, f.id, f.key, f.outcome, f.ended.0, f.ended.1)
 
   abbrev pended : PooledServer T S J K → PendingJobs (J × K)
@@ -342,19 +442,28 @@ module _ (T : Type 0) {S J K P : Type 0} (plain : Plain S P) (may : WithJobs S J
   as_seen : (old did : PooledServer T S J K) → seen did ≡ seen old → pending_jobs did.pool ≡ pending_jobs old.pool
   as_seen old did same = ap (λ (x : S × PendingJobs (J × K)). x.1) same
 
-  woken : (old did : PooledServer T S J K) (acts : List (Act (Asked P))) → W.wakes old acts did → Handles None (pending_jobs old.pool) acts (pending_jobs did.pool)
-  woken old did acts (inl nothing) = idles old did None acts [] (λ id. refl) (λ id. tt) nothing.0 (as_seen old did nothing.1)
-  woken old did acts (inr (inl r)) = idles old did None acts (tells r.method r.params ∷ []) (λ id. refl) (λ id. tt) r.acts (as_seen old did r.same)
+  woken : (old did : PooledServer T S J K) (acts : List (Act (Asked P))) → W.wakes old acts did
+      → Handles None (pending_jobs old.pool) acts (pending_jobs did.pool)
+  woken old did acts (inl nothing) = idles old did None acts [] (λ id. refl) (λ id. tt) nothing.0 (as_seen old did
+      nothing.1)
+  woken old did acts (inr (inl r)) = idles old did None acts (tells r.method r.params ∷ []) (λ id. refl) (λ id. tt)
+      r.acts (as_seen old did r.same)
   woken old did acts (inr (inr (inl a))) =
-      idles old did None acts (asks a.method a.params (ByJob a.number) ∷ []) (λ id. refl) (λ id. tt) a.acts (as_seen old did a.same)
+      idles old did None acts (asks a.method a.params (ByJob a.number) ∷ []) (λ id. refl) (λ id. tt) a.acts
+      (as_seen old did a.same)
   woken old did acts (inr (inr (inr b))) =
-      by_servers None (pending_jobs old.pool) (pending_jobs did.pool) (λ own. Finishes may of_job (seen old) own (seen did)) acts
-      (λ own f. (starts_jobs plain may None (FromCall of_job (pending_jobs old.pool) None) [] f.did (seen did) f.acts own (at_end old f) f.others
-      (subst (λ (t : PendingJobs (J × K)). AllCome plain may None (FromCall of_job (pending_jobs old.pool) None) [] t) (sym f.ended.3)
+      by_servers None (pending_jobs old.pool) (pending_jobs did.pool) (λ own. Finishes may of_job (seen old) own
+      (seen did)) acts
+      (λ own f. (starts_jobs plain may None (FromCall of_job (pending_jobs old.pool) None) [] f.did (seen did) f.acts
+      own (at_end old f) f.others
+      (subst (λ (t : PendingJobs (J × K)). AllCome plain may None (FromCall of_job (pending_jobs old.pool) None) [] t)
+      (sym f.ended.3)
       (λ i e has. stay plain may of_job (pending_jobs old.pool) None (λ id. refl) [] (λ id. tt) i e
-      (without_has f.id (pending_jobs old.pool) i e (unanswered_has f.acts (without f.id (pending_jobs old.pool)) i e has).0).0))).0) b
+      (without_has f.id (pending_jobs old.pool) i e (unanswered_has f.acts (without f.id (pending_jobs old.pool)) i e
+      has).0).0))).0) b
 
-  handed_jobs : (old did : PooledServer T S J K) (arrived : Option Message) (payload : Option (Asked P)) (acts : List (Act (Asked P))) → Handed W old arrived payload acts did
+  handed_jobs : (old did : PooledServer T S J K) (arrived : Option Message) (payload : Option (Asked P))
+      (acts : List (Act (Asked P))) → Handed W old arrived payload acts did
       → Handles arrived (pending_jobs old.pool) acts (pending_jobs did.pool)
   handed_jobs old did (Some (request id method params)) payload acts h =
       by_servers (Some (request id method params)) (pending_jobs old.pool) (pending_jobs did.pool)
@@ -362,19 +471,27 @@ module _ (T : Type 0) {S J K P : Type 0} (plain : Plain S P) (may : WithJobs S J
       ⊎ Does may (plain.requested old.server id method params) (without id (pending_jobs old.pool)) own (seen did)) acts
       (λ own done. elim done [
         | inl g ↦ gives_job plain may of_job (seen old) (seen did) id method params own g
-        | inr d ↦ does_jobs plain may of_job (Some (request id method params)) (FromCall of_job (pending_jobs old.pool) (Some (request id method params))) (plain.requested old.server id method params) (without id (pending_jobs old.pool)) own (seen did)
+        | inr d ↦ does_jobs plain may of_job (Some (request id method params)) (FromCall of_job (pending_jobs old.pool)
+            (Some (request id method params))) (plain.requested old.server id method params)
+            (without id (pending_jobs old.pool)) own (seen did)
             (λ did mid does. (old.server, inl (did, does)))
             (stay_without plain may of_job (pending_jobs old.pool) (Some (request id method params)) id (λ i. refl)) d
       ]) h.0
   handed_jobs old did (Some (notification method params)) payload acts h =
       by_servers (Some (notification method params)) (pending_jobs old.pool) (pending_jobs did.pool)
-      (λ own. Does may (plain.notified old.server method params) (without_cancelled (cancelled_by method params) (pending_jobs old.pool)) own (seen did)) acts
-      (λ own d. does_jobs plain may of_job (Some (notification method params)) (FromCall of_job (pending_jobs old.pool) (Some (notification method params))) (plain.notified old.server method params)
-      (without_cancelled (cancelled_by method params) (pending_jobs old.pool)) own (seen did) (λ did mid does. (old.server, did, inl does)) (stay_cancelled plain may of_job (pending_jobs old.pool) method params) d) h.0
+      (λ own. Does may (plain.notified old.server method params) (without_cancelled (cancelled_by method params)
+      (pending_jobs old.pool)) own (seen did)) acts
+      (λ own d. does_jobs plain may of_job (Some (notification method params)) (FromCall of_job (pending_jobs old.pool)
+      (Some (notification method params))) (plain.notified old.server method params)
+      (without_cancelled (cancelled_by method params) (pending_jobs old.pool)) own (seen did)
+      (λ did mid does. (old.server, did, inl does)) (stay_cancelled plain may of_job (pending_jobs old.pool) method
+      params) d) h.0
   handed_jobs old did (Some (response id outcome)) (Some (ByServer payload)) acts h =
       by_servers (Some (response id outcome)) (pending_jobs old.pool) (pending_jobs did.pool)
       (λ own. Does may (plain.replied old.server payload outcome) (pending_jobs old.pool) own (seen did)) acts
-      (λ own d. does_jobs plain may of_job (Some (response id outcome)) (FromCall of_job (pending_jobs old.pool) (Some (response id outcome))) (plain.replied old.server payload outcome) (pending_jobs old.pool) own (seen did)
+      (λ own d. does_jobs plain may of_job (Some (response id outcome)) (FromCall of_job (pending_jobs old.pool)
+      (Some (response id outcome))) (plain.replied old.server payload outcome) (pending_jobs old.pool) own
+      (seen did)
       (λ did mid does. (old.server, payload, did, does))
       (stay plain may of_job (pending_jobs old.pool) (Some (response id outcome)) (λ i. refl) [] (λ i. tt)) d) h
   handed_jobs old did (Some (response id outcome)) (Some (ByJob n)) acts h =
@@ -383,17 +500,21 @@ module _ (T : Type 0) {S J K P : Type 0} (plain : Plain S P) (may : WithJobs S J
       idles old did (Some (response id outcome)) acts [] (λ i. refl) (λ i. tt) h.1 (ap pended h.0)
   handed_jobs old did None payload acts h = woken old did acts h.0
 
-  back_one : (payload : Asked P) (old new : PooledServer T S J K) → W.takes_back old payload new → pending_jobs new.pool ≡ pending_jobs old.pool
+  back_one : (payload : Asked P) (old new : PooledServer T S J K) → W.takes_back old payload new → pending_jobs new.pool
+      ≡ pending_jobs old.pool
   back_one (ByServer payload) old new back = back.1
   back_one (ByJob n) old new same = as_seen old new same
 
-  back_pending : (payloads : List (Asked P)) (old new : PooledServer T S J K) → TakesBack W.takes_back old payloads new → pending_jobs new.pool ≡ pending_jobs old.pool
+  back_pending : (payloads : List (Asked P)) (old new : PooledServer T S J K) → TakesBack W.takes_back old payloads new
+      → pending_jobs new.pool ≡ pending_jobs old.pool
   back_pending [] old new same = ap pended same
-  back_pending (payload ∷ payloads) old new back = back_pending payloads back.0 new back.2 ∙ back_one payload old back.0 back.1
+  back_pending (payload ∷ payloads) old new back = back_pending payloads back.0 new back.2 ∙ back_one payload old
+      back.0 back.1
 
   -- ---- exchanges
 
-  waits_more : (earlier : List Exchange) (x : Exchange) (id : Id) (job : J) → concerns id x.came ≡ false → how_many (is_reply_under id) x.sent ≡ 0
+  waits_more : (earlier : List Exchange) (x : Exchange) (id : Id) (job : J) → concerns id x.came ≡ false
+      → how_many (is_reply_under id) x.sent ≡ 0
       → Waits plain may of_job earlier id job → Waits plain may of_job (earlier ++ x ∷ []) id job
   waits_more earlier x id job calm none (inl r) = inl (r.0, r.1, r.2, waits_on earlier x id r.0 r.1 calm none r.3)
   waits_more earlier x id job calm none (inr l) = inr (record {
@@ -411,25 +532,45 @@ module _ (T : Type 0) {S J K P : Type 0} (plain : Plain S P) (may : WithJobs S J
   AllWait earlier pending = (id : Id) (e : J × K) → pending id ≡ Some e → Waits plain may of_job earlier id e.0
 
   abbrev Calm : Id → Option Message → Type 0
-  Calm id arrived = (concerns id arrived ≡ false) ⊎ ((method : List ℕ) × (params : Data) × (arrived ≡ Some (request id method params)))
+  Calm id arrived = (concerns id arrived ≡ false) ⊎ ((method : List ℕ) × (params : Data)
+      × (arrived ≡ Some (request id method params)))
 
-  wait_on : (earlier : List Exchange) (x : Exchange) (old new : PendingJobs (J × K)) (acts : List (Act P)) → AllWait earlier old
-      → AllCome plain may x.came (FromCall of_job old x.came) acts new → ((id : Id) → Spares id acts → Calm id x.came → how_many (is_reply_under id) x.sent ≡ 0)
+  wait_on : (earlier : List Exchange) (x : Exchange) (old new : PendingJobs (J × K)) (acts : List (Act P))
+      → AllWait earlier old
+      → AllCome plain may x.came (FromCall of_job old x.came) acts new → ((id : Id) → Spares id acts → Calm id x.came
+      → how_many (is_reply_under id) x.sent ≡ 0)
       → AllWait (earlier ++ x ∷ []) new
   wait_on earlier x old new acts before come silent id e has = by (come id e has)
     where
-      by : Comes plain may x.came (FromCall of_job old x.came) acts id e → Waits plain may of_job (earlier ++ x ∷ []) id e.0
+      by : Comes plain may x.came (FromCall of_job old x.came) acts id e → Waits plain may of_job (earlier ++ x
+          ∷ []) id e.0
       by (inl own) = of own.0
         where
           of : FromCall of_job old x.came id e → Waits plain may of_job (earlier ++ x ∷ []) id e.0
           of (inl was) = waits_more earlier x id e.0 was.1 (silent id own.1 (inl was.1)) (before id e was.0)
-          of (inr given) = inl (given.0, given.1, given.3, waits_now earlier x id given.0 given.1 given.2 (silent id own.1 (inr (given.0, given.1, given.2))))
-      by (inr started) = inr (record { before = earlier; start = x; since = []; cut = refl; quiet = tt; key = e.1; started = started })
+          of (inr given) = inl (
+            given.0,
+            given.1,
+            given.3,
+            waits_now earlier x id given.0 given.1 given.2
+                (silent id own.1 (inr (given.0, given.1, given.2))),
+          )
+      by (inr started) = inr (record {
+        before = earlier;
+        start = x;
+        since = [];
+        cut = refl;
+        quiet = tt;
+        key = e.1;
+        started = started;
+      })
 
   -- what is sent at a wake
-  wake_sends : (earlier : List Exchange) (old did : PooledServer T S J K) (acts : List (Act (Asked P))) (output not_sent : List Message) (d : Queues (Asked P)) → all_sends d acts ≡ output ++ not_sent
+  wake_sends : (earlier : List Exchange) (old did : PooledServer T S J K) (acts : List (Act (Asked P)))
+      (output not_sent : List Message) (d : Queues (Asked P)) → all_sends d acts ≡ output ++ not_sent
       → W.wakes old acts did → AllWait earlier (pending_jobs old.pool) → WakeSends plain may of_job earlier output
-  wake_sends earlier old did acts output not_sent d is (inl nothing) waits = inl (part_none output not_sent (all_sends d acts) (sym is) (ap (all_sends d) nothing.0))
+  wake_sends earlier old did acts output not_sent d is (inl nothing) waits = inl (part_none output not_sent
+      (all_sends d acts) (sym is) (ap (all_sends d) nothing.0))
   wake_sends earlier old did acts output not_sent d is (inr (inl r)) waits = inr (inl (record {
     id = r.id;
     job = r.job;
@@ -452,10 +593,12 @@ module _ (T : Type 0) {S J K P : Type 0} (plain : Plain S P) (may : WithJobs S J
   wake_sends earlier old did acts output not_sent d is (inr (inr (inr b))) waits =
       let own = b.0 in
       let f = b.2 in
-      let s = starts_jobs plain may None (λ id e. Unit {0}) [] f.did (seen did) f.acts own (at_end old f) f.others (λ id e has. inl (tt, tt)) in
+      let s = starts_jobs plain may None (λ id e. Unit {0}) [] f.did (seen did) f.acts own (at_end old f) f.others
+      (λ id e has. inl (tt, tt)) in
       let first = f.ended.0 in
       let all : own ≡ first ++ replies f.id f.outcome ∷ refuse plain may s.1.0 =
-      s.1.1 ∙ ap (λ (l : List (Act P)). l ++ refuse plain may s.1.0) f.ended.2 ∙ append_assoc first (replies f.id f.outcome ∷ []) (refuse plain may s.1.0) in
+      s.1.1 ∙ ap (λ (l : List (Act P)). l ++ refuse plain may s.1.0) f.ended.2 ∙ append_assoc first
+      (replies f.id f.outcome ∷ []) (refuse plain may s.1.0) in
       inr (inr (inr (record {
         id = f.id;
         outcome = f.outcome;
@@ -505,85 +648,122 @@ module _ (T : Type 0) {S J K P : Type 0} (plain : Plain S P) (may : WithJobs S J
   abbrev Steps_on : List Exchange → Exchange → Phase → Working → Type 0
   Steps_on earlier x q w = Wake earlier x × Ready (earlier ++ x ∷ []) q w
 
-  ready_after : (outcome : Result Data ErrorObject) (earlier : List Exchange) (w : Working) → Fresh W w × (pending w ≡ no_jobs) → Ready earlier (phase_after outcome) w
+  ready_after : (outcome : Result Data ErrorObject) (earlier : List Exchange) (w : Working) → Fresh W w
+      × (pending w ≡ no_jobs) → Ready earlier (phase_after outcome) w
   ready_after (Ok result) earlier w ready = ready
   ready_after (Err error) earlier w ready = ready
 
   -- a service that is called
-  called : (earlier : List Exchange) (w w' : Working) (x : Exchange) (full more : List Message) → x.sent ++ more ≡ full → Ready earlier serving w
+  called : (earlier : List Exchange) (w w' : Working) (x : Exchange) (full more : List Message) → x.sent ++ more ≡ full
+      → Ready earlier serving w
       → WorksSending W (queues.seen w) x.came full (queues.seen w') → Steps_on earlier x serving w'
   called earlier w w' x full more part ready gives = (
     λ none. (
       wakes x.came a.payload a.handed sent none,
-      λ id. replies_at_wake W id earlier w w' x full more part ready.0 (ready.2 id) (subst (λ (l : Option Message). WorksSending W (queues.seen w) l full (queues.seen w')) none gives),
+      λ id. replies_at_wake W id earlier w w' x full more part ready.0 (ready.2 id)
+          (subst (λ (l : Option Message). WorksSending W (queues.seen w) l full (queues.seen w')) none gives),
     ),
-    (ap (λ (y : PooledServer T S J K × Queues (Asked P)). y.1.sent) gives.3, waits, λ id. waits_called W id earlier w w' x full more part ready.0 (ready.2 id) gives),
+    (
+      ap (λ (y : PooledServer T S J K × Queues (Asked P)). y.1.sent) gives.3,
+      waits,
+      λ id. waits_called W id earlier w w'
+          x full more part ready.0 (ready.2 id) gives,
+    ),
   )
     where
       a : ActsAt W (queues.seen w) x.came full (queues.seen w')
       a = acts_at W (queues.seen w) x.came full (queues.seen w') gives
 
       sent : full ≡ all_sends (queues_at (queues.queues_of w.queues) x.came a.payload) (acts_done_at x.came a.acts)
-      sent = a.sent ∙ ap (λ (l : List Message). l ++ all_sends (queues_at (queues.queues_of w.queues) x.came a.payload) (acts_done_at x.came a.acts)) ready.0
+      sent = a.sent ∙ ap (λ (l : List Message). l ++ all_sends (queues_at (queues.queues_of w.queues) x.came a.payload)
+          (acts_done_at x.came a.acts)) ready.0
 
       wakes : (arrived : Option Message) (payload : Option (Asked P)) → Handed W w.server arrived payload a.acts a.did
-          → full ≡ all_sends (queues_at (queues.queues_of w.queues) arrived payload) (acts_done_at arrived a.acts) → arrived ≡ None → WakeSends plain may of_job earlier x.sent
-      wakes None payload handed sent none = wake_sends earlier w.server a.did a.acts x.sent more (queues.queues_of w.queues) (sym sent ∙ sym part) handed.0 ready.1
+          → full ≡ all_sends (queues_at (queues.queues_of w.queues) arrived payload) (acts_done_at arrived a.acts)
+          → arrived ≡ None → WakeSends plain may of_job earlier x.sent
+      wakes None payload handed sent none = wake_sends earlier w.server a.did a.acts x.sent more (queues.queues_of
+          w.queues) (sym sent ∙ sym part) handed.0 ready.1
       wakes (Some m) payload handed sent none = absurd (cc (none))
 
       silent : (id : Id) → Spares id a.acts → Calm id x.came → how_many (is_reply_under id) x.sent ≡ 0
       silent id spares calm =
           fewer (is_reply_under id) x.sent more full part
-          (ap (how_many (is_reply_under id)) sent ∙ mute id (acts_done_at x.came a.acts) (queues_at (queues.queues_of w.queues) x.came a.payload) (settled_spares x.came a.acts id spares calm))
+          (ap (how_many (is_reply_under id)) sent ∙ mute id (acts_done_at x.came a.acts) (queues_at (queues.queues_of
+          w.queues) x.came a.payload) (settled_spares x.came a.acts id spares calm))
 
       come : Handles x.came (pending w) a.acts (pending_jobs a.did.pool)
       come = handed_jobs w.server a.did x.came a.payload a.acts a.handed
 
       waits : AllWait (earlier ++ x ∷ []) (pending w')
       waits =
-          subst (AllWait (earlier ++ x ∷ [])) (sym (back_pending (unsent (count_of (queues.queues_of w.queues).asked) a.acts) a.did w'.server a.back))
-          (wait_on earlier x (pending w) (pending_jobs a.did.pool) come.0 ready.1 come.2 (λ id own. silent id (come.1 id own)))
+          subst (AllWait (earlier ++ x ∷ [])) (sym (back_pending (unsent (count_of (queues.queues_of w.queues).asked)
+          a.acts) a.did w'.server a.back))
+          (wait_on earlier x (pending w) (pending_jobs a.did.pool) come.0 ready.1 come.2 (λ id own. silent id
+          (come.1 id own)))
 
   -- `initialized` came
-  opened : (earlier : List Exchange) (w w' : Working) (x : Exchange) (m : Message) (full more : List Message) → x.came ≡ Some m → is_initialized m ≡ true → x.sent ++ more ≡ full
-      → Fresh W w × (pending w ≡ no_jobs) → OpensSending W (queues.seen w) full (queues.seen w') → Steps_on earlier x serving w'
+  opened : (earlier : List Exchange) (w w' : Working) (x : Exchange) (m : Message) (full more : List Message) → x.came
+      ≡ Some m → is_initialized m ≡ true → x.sent ++ more ≡ full
+      → Fresh W w × (pending w ≡ no_jobs) → OpensSending W (queues.seen w) full (queues.seen w') → Steps_on earlier x
+      serving w'
   opened earlier w w' x m full more there begins part ready o = (
     (λ none. absurd (cc (there, none))),
-    (ap (λ (y : PooledServer T S J K × Queues (Asked P)). y.1.sent) o.3, waits, λ id. waits_opened W id (earlier ++ x ∷ []) w w' full ready.0 o),
+    (
+      ap (λ (y : PooledServer T S J K × Queues (Asked P)). y.1.sent) o.3,
+      waits,
+      λ id. waits_opened W id (earlier ++ x
+          ∷ []) w w' full ready.0 o,
+    ),
   )
     where
       rests : Rests w
       rests = ap (λ (d : Queues (Asked P)). d.sent) ready.0
 
       sent : full ≡ all_sends (queues.queues_of w.queues) o.1.0
-      sent = o.2 ∙ ap (λ (d : Queues (Asked P)). d.sent) o.1.4 ∙ sent_all (queues.queues_of w.queues) o.1.0 ∙ ap (λ (l : List Message). l ++ all_sends (queues.queues_of w.queues) o.1.0) rests
+      sent = o.2 ∙ ap (λ (d : Queues (Asked P)). d.sent) o.1.4 ∙ sent_all (queues.queues_of w.queues) o.1.0
+          ∙ ap (λ (l : List Message). l ++ all_sends (queues.queues_of w.queues) o.1.0) rests
 
       silent : (id : Id) → Spares id o.1.0 → Calm id x.came → how_many (is_reply_under id) x.sent ≡ 0
-      silent id spares calm = fewer (is_reply_under id) x.sent more full part (ap (how_many (is_reply_under id)) sent ∙ mute id o.1.0 (queues.queues_of w.queues) spares)
+      silent id spares calm = fewer (is_reply_under id) x.sent more full part (ap (how_many (is_reply_under id)) sent
+          ∙ mute id o.1.0 (queues.queues_of w.queues) spares)
 
       none : (id : Id) (e : J × K) → pending w id ≡ Some e → ⊥
       none id e has = let is = ap (λ (t : PendingJobs (J × K)). t id) (sym ready.1) ∙ has in absurd (cc (is))
 
-      at_initialized_asked : (m : Message) → is_initialized m ≡ true → (acts : List (Act P)) (mid : S) → plain.at_initialized w.server.server acts mid → IsAskedAt plain may (Some m) mid
-      at_initialized_asked (notification method params) begins acts mid does = (w.server.server, acts, inr (begins, does))
+      at_initialized_asked : (m : Message) → is_initialized m ≡ true → (acts : List (Act P)) (mid : S)
+          → plain.at_initialized w.server.server acts mid → IsAskedAt plain may (Some m) mid
+      at_initialized_asked (notification method params) begins acts mid does = (
+        w.server.server,
+        acts,
+        inr (begins, does),
+      )
       at_initialized_asked (request id method params) begins acts mid does = absurd (cc (begins))
       at_initialized_asked (response id outcome) begins acts mid does = absurd (cc (begins))
 
       come : Handles x.came (pending w) o.1.0 (pending_jobs o.1.1.pool)
       come =
-          by_servers x.came (pending w) (pending_jobs o.1.1.pool) (λ own. Does may (plain.at_initialized w.server.server) (pending w) own (seen o.1.1)) o.1.0
-          (λ own d. does_jobs plain may of_job x.came (FromCall of_job (pending w) x.came) (plain.at_initialized w.server.server) (pending w) own (seen o.1.1)
-          (λ acts mid does. subst (λ (l : Option Message). IsAskedAt plain may l mid) (sym there) (at_initialized_asked m begins acts mid does)) (λ id e has. absurd (none id e has)) d) o.1.2
+          by_servers x.came (pending w) (pending_jobs o.1.1.pool) (λ own. Does may (plain.at_initialized
+          w.server.server) (pending w) own (seen o.1.1)) o.1.0
+          (λ own d. does_jobs plain may of_job x.came (FromCall of_job (pending w) x.came) (plain.at_initialized
+          w.server.server) (pending w) own (seen o.1.1)
+          (λ acts mid does. subst (λ (l : Option Message). IsAskedAt plain may l mid) (sym there) (at_initialized_asked
+          m begins acts mid does)) (λ id e has. absurd (none id e has)) d) o.1.2
 
       waits : AllWait (earlier ++ x ∷ []) (pending w')
       waits =
-          subst (AllWait (earlier ++ x ∷ [])) (sym (back_pending (unsent (count_of (queues.queues_of w.queues).asked) o.1.0) o.1.1 w'.server
-          (subst (λ (p : PooledServer T S J K). TakesBack W.takes_back o.1.1 (unsent (count_of (queues.queues_of w.queues).asked) o.1.0) p) (sym (ap (λ (y : PooledServer T S J K × Queues (Asked P)). y.0) o.3)) o.1.3)))
-          (wait_on earlier x (pending w) (pending_jobs o.1.1.pool) come.0 (λ id e has. absurd (none id e has)) come.2 (λ id own. silent id (come.1 id own)))
+          subst (AllWait (earlier ++ x ∷ [])) (sym (back_pending (unsent (count_of (queues.queues_of w.queues).asked)
+          o.1.0) o.1.1 w'.server
+          (subst (λ (p : PooledServer T S J K). TakesBack W.takes_back o.1.1
+          (unsent (count_of (queues.queues_of w.queues).asked) o.1.0) p)
+          (sym (ap (λ (y : PooledServer T S J K × Queues (Asked P)). y.0) o.3)) o.1.3)))
+          (wait_on earlier x (pending w) (pending_jobs o.1.1.pool) come.0 (λ id e has. absurd (none id e has)) come.2
+          (λ id own. silent id (come.1 id own)))
 
   -- a message for which the server is not called
-  idly : (earlier : List Exchange) (p q : Phase) (w : Working) (x : Exchange) (m : Message) (full : List Message) → Ready earlier p w → Idle p m full q → Ready (earlier ++ x ∷ []) q w
-  idly earlier p q w x m full ready (early_request i method params reply begun is early sent next) = rw next (rw begun at ready)
+  idly : (earlier : List Exchange) (p q : Phase) (w : Working) (x : Exchange) (m : Message) (full : List Message)
+      → Ready earlier p w → Idle p m full q → Ready (earlier ++ x ∷ []) q w
+  idly earlier p q w x m full ready (early_request i method params reply begun is early sent next) = rw next
+      (rw begun at ready)
   idly earlier p q w x m full ready (early_note begun mute early sent next) = rw next (rw begun at ready)
   idly earlier p q w x m full ready (unasked shown begun mute other sent next) = rw next tt
   idly earlier p q w x m full ready (uninvited shown begun other sent next) = rw next tt
@@ -592,7 +772,8 @@ module _ (T : Type 0) {S J K P : Type 0} (plain : Plain S P) (may : WithJobs S J
   idly earlier p q w x m full ready (late i begun is sent next) = rw next tt
   idly earlier p q w x m full ready (stays i shown begun e sent next) = rw next tt
 
-  one_step : (earlier : List Exchange) (p q : Phase) (w w' : Working) (x : Exchange) (full more : List Message) → x.sent ++ more ≡ full → Ready earlier p w
+  one_step : (earlier : List Exchange) (p q : Phase) (w w' : Working) (x : Exchange) (full more : List Message) → x.sent
+      ++ more ≡ full → Ready earlier p w
       → Step (with_queues W) p w x.came full q w' → Steps_on earlier x q w'
   one_step earlier p q w w' x full more part ready step = by (row (with_queues W) p q w w' x.came full step)
     where
@@ -602,12 +783,18 @@ module _ (T : Type 0) {S J K P : Type 0} (plain : Plain S P) (may : WithJobs S J
             (λ none. absurd (cc (is, none))),
             rw next (ready_after outcome (earlier ++ x ∷ []) w' (init.1 ∙ before.0, init.0.1 ∙ before.1)),
           )
-      by (at_initialized m begun there e gives next) = rw next (opened earlier w w' x m full more there e part (rw begun at ready) gives)
+      by (at_initialized m begun there e gives next) = rw next (opened earlier w w' x m full more there e part
+          (rw begun at ready) gives)
       by (at_served m begun there e gives next) =
-          rw next (called earlier w w' x full more part (rw begun at ready) (subst (λ (l : Option Message). WorksSending W (queues.seen w) l full (queues.seen w')) (sym there) gives))
+          rw next (called earlier w w' x full more part (rw begun at ready) (subst (λ (l : Option Message). WorksSending
+          W (queues.seen w) l full (queues.seen w')) (sym there) gives))
       by (at_woken begun none gives next) =
-          rw next (called earlier w w' x full more part (rw begun at ready) (subst (λ (l : Option Message). WorksSending W (queues.seen w) l full (queues.seen w')) (sym none) gives))
-      by (at_shutdown i method params parting begun there e gives sent next) = ((λ none. absurd (cc (there, none))), rw next tt)
+          rw next (called earlier w w' x full more part (rw begun at ready) (subst (λ (l : Option Message). WorksSending
+          W (queues.seen w) l full (queues.seen w')) (sym none) gives))
+      by (at_shutdown i method params parting begun there e gives sent next) = (
+        (λ none. absurd (cc (there, none))),
+        rw next tt,
+      )
       by (idle m there same any is) = (
         (λ none. absurd (cc (there, none))),
         subst (λ (v : Working). Ready (earlier ++ x ∷ []) q v) (sym same) (idly earlier p q w x m full ready is),
@@ -617,30 +804,37 @@ module _ (T : Type 0) {S J K P : Type 0} (plain : Plain S P) (may : WithJobs S J
   AllWakes earlier [] = Unit {0}
   AllWakes earlier (x ∷ xs) = Wake earlier x × AllWakes (earlier ++ x ∷ []) xs
 
-  run_wakes : (stop : Stop) (earlier xs : List Exchange) (p q : Phase) (w w' : Working) → Ran (with_queues W) stop p w xs q w' → Ready earlier p w → AllWakes earlier xs
+  run_wakes : (stop : Stop) (earlier xs : List Exchange) (p q : Phase) (w w' : Working) → Ran (with_queues W) stop p w
+      xs q w' → Ready earlier p w → AllWakes earlier xs
   run_wakes stop earlier [] p q w w' run ready = tt
   run_wakes stop earlier (x ∷ xs) p q w w' run ready =
       let one = one_step earlier p run.4 w run.5 x run.0 run.1 run.2 ready run.6 in
       (one.0, run_wakes stop (earlier ++ x ∷ []) xs run.4 q run.5 w' run.8 one.1)
 
-  at_each : (earlier xs : List Exchange) → AllWakes earlier xs → (before later : List Exchange) (x : Exchange) → xs ≡ before ++ x ∷ later → x.came ≡ None
+  at_each : (earlier xs : List Exchange) → AllWakes earlier xs → (before later : List Exchange) (x : Exchange) → xs
+      ≡ before ++ x ∷ later → x.came ≡ None
       → WakeSends plain may of_job (earlier ++ before) x.sent × RepliesToLast (earlier ++ before) x.sent
   at_each earlier [] all [] later x e none = absurd (cc (e))
   at_each earlier [] all (b ∷ before) later x e none = absurd (cc (e))
   at_each earlier (y ∷ xs) all [] later x e none =
       let same : y ≡ x = cc (e) in
-      subst (λ (es : List Exchange). WakeSends plain may of_job es x.sent × RepliesToLast es x.sent) (sym (append-nil earlier)) (subst (Wake earlier) same all.0 none)
+      subst (λ (es : List Exchange). WakeSends plain may of_job es x.sent × RepliesToLast es x.sent)
+      (sym (append-nil earlier)) (subst (Wake earlier) same all.0 none)
   at_each earlier (y ∷ xs) all (b ∷ before) later x e none =
       let same : y ≡ b = cc (e) in
       let rest : xs ≡ before ++ x ∷ later = cc (e) in
-      subst (λ (es : List Exchange). WakeSends plain may of_job es x.sent × RepliesToLast es x.sent) (append_assoc earlier (y ∷ []) before ∙ ap (λ (z : Exchange). earlier ++ z ∷ before) same)
+      subst (λ (es : List Exchange). WakeSends plain may of_job es x.sent × RepliesToLast es x.sent)
+      (append_assoc earlier (y ∷ []) before ∙ ap (λ (z : Exchange). earlier ++ z ∷ before) same)
       (at_each (earlier ++ y ∷ []) xs all.1 before later x rest none)
 
-  pub answers_by_jobs : (first last : S) (xs : List Exchange) (stop : Stop) (shutdown_reply : Option Message) (answer : SessionAnswer)
+  pub answers_by_jobs : (first last : S) (xs : List Exchange) (stop : Stop) (shutdown_reply : Option Message)
+      (answer : SessionAnswer)
       → JobSession T plain may of_job first last xs stop shutdown_reply answer → AnswersByJobs plain may of_job xs
   answers_by_jobs first last xs stop shutdown_reply answer session =
       let s = session.session in
       let none : pending s.old ≡ no_jobs =
-      ap (λ (y : PooledServer T S J K × Queues (Asked P)). pending_jobs y.0.pool) s.from_first ∙ ap (λ (y : S × PendingJobs (J × K)). y.1) session.from_first in
-      at_each [] xs (run_wakes stop [] xs starting s.out.last s.old s.out.after (reaches_ran (with_queues W) stop starting s.out.last s.old s.out.after xs s.out.reached)
+      ap (λ (y : PooledServer T S J K × Queues (Asked P)). pending_jobs y.0.pool) s.from_first
+      ∙ ap (λ (y : S × PendingJobs (J × K)). y.1) session.from_first in
+      at_each [] xs (run_wakes stop [] xs starting s.out.last s.old s.out.after (reaches_ran (with_queues W) stop
+      starting s.out.last s.old s.out.after xs s.out.reached)
       (ap (λ (y : PooledServer T S J K × Queues (Asked P)). y.1) s.from_first, none))

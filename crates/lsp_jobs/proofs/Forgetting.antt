@@ -1,5 +1,6 @@
 -- Jobs that are forgotten, one after another.
-use Rattle.std.proofs.Common.{◌≡◌, refl, Bool, true, false, cond, List, [], ◌∷◌, ◌++◌, Option, Some, None, is_some, option_map}
+use Rattle.std.proofs.Common.{◌≡◌, refl, Bool, true, false, cond, List, [], ◌∷◌, ◌++◌, Option, Some, None, is_some}
+use Rattle.std.proofs.Common.{option_map}
 use Rattle.std.specs.List.{list_any}
 use Rattle.std.specs.Prelude.{◌||◌}
 use Rattle.lsp_message.specs.Id.{Id, same_id}
@@ -14,12 +15,15 @@ module _ {A : Type 0} (q : Id) (o : Option A) where
   none_twice false = refl
 
   -- one id more
-  pub gone_more : (ids : List Id) (id : Id) → cond (same_id q id) None (cond (list_any (same_id q) ids) None o) ≡ cond (list_any (same_id q) (ids ++ id ∷ [])) None o
+  pub gone_more : (ids : List Id) (id : Id) → cond (same_id q id) None (cond (list_any (same_id q) ids) None o)
+      ≡ cond (list_any (same_id q) (ids ++ id ∷ [])) None o
   gone_more [] id = alone (same_id q id)
   gone_more (i ∷ ids) id = at (same_id q i) (gone_more ids id)
     where
-      at : (b : Bool) → cond (same_id q id) None (cond (list_any (same_id q) ids) None o) ≡ cond (list_any (same_id q) (ids ++ id ∷ [])) None o
-          → cond (same_id q id) None (cond (b || list_any (same_id q) ids) None o) ≡ cond (b || list_any (same_id q) (ids ++ id ∷ [])) None o
+      at : (b : Bool) → cond (same_id q id) None (cond (list_any (same_id q) ids) None o)
+          ≡ cond (list_any (same_id q) (ids ++ id ∷ [])) None o
+          → cond (same_id q id) None (cond (b || list_any (same_id q) ids) None o) ≡ cond (b || list_any (same_id q)
+          (ids ++ id ∷ [])) None o
       at true rest = none_twice (same_id q id)
       at false rest = rest
 

@@ -1,6 +1,7 @@
 -- A task with its end of the channel may go to another thread.
 use denote.Enum.Declared.{shape as cases}
-use denote.Param.Send.{IsSend, IsSync, Frees, sendable, enum_send, struct_send, struct_sync, recorded_send, recorded_sync}
+use denote.Param.Send.{IsSend, IsSync, Frees, sendable, enum_send, struct_send, struct_sync, recorded_send}
+use denote.Param.Send.{recorded_sync}
 use denote.Builtin.{unit}
 use denote.RattleType.{RattleType}
 use denote.Struct.Declared.{shape}
@@ -47,41 +48,83 @@ bell_sync = search (crosses, sendable) depth 40
 
 module _ (C : RattleType) where
   pair_send : IsSend C → IsSend (pair.the_row C)
-  pair_send s = recorded_send (pair.the_field C).row _ _ (pair.the_type C).to_one (struct_send (shape (pair.the_type C)) (s, (bell_send, (bell_send, tt))))
+  pair_send s = recorded_send (pair.the_field C).row _ _ (pair.the_type C).to_one (struct_send (shape (pair.the_type C))
+      (s, (bell_send, (bell_send, tt))))
 
   pair_sync : IsSync C → IsSync (pair.the_row C)
-  pair_sync s = recorded_sync (pair.the_field C).row _ _ (pair.the_type C).to_one (struct_sync (shape (pair.the_type C)) (s, (bell_sync, (bell_sync, tt))))
+  pair_sync s = recorded_sync (pair.the_field C).row _ _ (pair.the_type C).to_one (struct_sync (shape (pair.the_type C))
+      (s, (bell_sync, (bell_sync, tt))))
 
   sending_send : IsSend C → IsSync C → IsSend (sending.the_field C Heap.the_row ghosts).row
-  sending_send s y = struct_send (shape (sending.the_type C Heap.the_row ghosts)) (Arc-send (pair.the_row C) (pair_send s) (pair_sync y), tt)
+  sending_send s y = struct_send (shape (sending.the_type C Heap.the_row ghosts)) (
+    Arc-send (pair.the_row C)
+        (pair_send s) (pair_sync y),
+    tt,
+  )
 
 module _ (S V K P : RattleType) (g : Rule P.Denot S.Denot V.Denot K.Denot) where
   table_send : IsSend S → IsSend (table.the_field S V K P Heap.the_row g ghosts).row
   table_send s =
-      struct_send (shape (table.the_type S V K P Heap.the_row g ghosts))
-      (shared.the_send S V K P g s, (search sendable, (search sendable, (lease.the_send _ _ _ send heap_frees, (lease.the_send _ _ _ send heap_frees, (send, tt))))))
+      struct_send (shape (table.the_type S V K P Heap.the_row g ghosts)) (
+        shared.the_send S V K P g s,
+        (
+          search sendable,
+          (
+            search sendable,
+            (
+              lease.the_send _ _ _ send heap_frees,
+              (lease.the_send _ _ _ send heap_frees, (send, tt)),
+            ),
+          ),
+        ),
+      )
 
   table_sync : IsSend S → IsSync (table.the_field S V K P Heap.the_row g ghosts).row
   table_sync s =
-      struct_sync (shape (table.the_type S V K P Heap.the_row g ghosts))
-      (shared.the_sync S V K P g s, (search sendable, (search sendable, (lease.the_sync _ _ _ send heap_frees, (lease.the_sync _ _ _ send heap_frees, (sync, tt))))))
+      struct_sync (shape (table.the_type S V K P Heap.the_row g ghosts)) (
+        shared.the_sync S V K P g s,
+        (
+          search sendable,
+          (
+            search sendable,
+            (
+              lease.the_sync _ _ _ send heap_frees,
+              (lease.the_sync _ _ _ send heap_frees, (sync, tt)),
+            ),
+          ),
+        ),
+      )
 
-module _ (S D Q M K L : RattleType) (q : Rule Q.Denot S.Denot D.Denot S.Denot) (l : Rule L.Denot M.Denot K.Denot (Unit {0})) where
+module _ (S D Q M K L : RattleType) (q : Rule Q.Denot S.Denot D.Denot S.Denot) (l : Rule L.Denot M.Denot K.Denot
+    (Unit {0})) where
   rows_send : IsSend S → IsSend M → IsSend (rows.the_row S D Q M K L Heap.the_row q l ghosts)
   rows_send s m =
-      recorded_send (rows.the_field S D Q M K L Heap.the_row q l ghosts).row _ _ (rows.the_type S D Q M K L Heap.the_row q l ghosts).to_one
-      (struct_send (shape (rows.the_type S D Q M K L Heap.the_row q l ghosts)) (table_send S D S Q q s, (table_send M K unit L l m, (search sendable, (search sendable, tt)))))
+      recorded_send (rows.the_field S D Q M K L Heap.the_row q l ghosts).row _ _ (rows.the_type S D Q M K L Heap.the_row
+      q l ghosts).to_one
+      (struct_send (shape (rows.the_type S D Q M K L Heap.the_row q l ghosts)) (
+        table_send S D S Q q s,
+        (table_send M K unit L l m, (search sendable, (search sendable, tt))),
+      ))
 
   rows_sync : IsSend S → IsSend M → IsSync (rows.the_row S D Q M K L Heap.the_row q l ghosts)
   rows_sync s m =
-      recorded_sync (rows.the_field S D Q M K L Heap.the_row q l ghosts).row _ _ (rows.the_type S D Q M K L Heap.the_row q l ghosts).to_one
-      (struct_sync (shape (rows.the_type S D Q M K L Heap.the_row q l ghosts)) (table_sync S D S Q q s, (table_sync M K unit L l m, (search sendable, (search sendable, tt)))))
+      recorded_sync (rows.the_field S D Q M K L Heap.the_row q l ghosts).row _ _ (rows.the_type S D Q M K L Heap.the_row
+      q l ghosts).to_one
+      (struct_sync (shape (rows.the_type S D Q M K L Heap.the_row q l ghosts)) (
+        table_sync S D S Q q s,
+        (table_sync M K unit L l m, (search sendable, (search sendable, tt))),
+      ))
 
 module _ (R : RattleType) where
   message_parts : IsSend R → IsSend (saying.the_field R).row
   message_parts t =
-      enum_send (cases (saying.the_type R))
-      ((notice_parts, tt), ((search (Vec-send, both, sendable) depth 40, (tree_parts, (search sendable, tt))), ((t, tt), tt)))
+      enum_send (cases (saying.the_type R)) (
+        (notice_parts, tt),
+        (
+          (search (Vec-send, both, sendable) depth 40, (tree_parts, (search sendable, tt))),
+          ((t, tt), tt),
+        ),
+      )
 
   item_send : IsSend R → IsSend (slip.the_row R)
   item_send t =
@@ -102,11 +145,34 @@ module _ (R : RattleType) where
         let knows = known.the_row J in
         let send_key = badge.the_send (key.the_row it) in
         let send_slot = option_send t in
-        let turns = rounds.ghosts it knows rule.the_row (tickets.ghosts J R G tickets.no_dict tickets.no_dict) rounds.no_dict in
+        let turns = rounds.ghosts it knows rule.the_row (tickets.ghosts J R G tickets.no_dict tickets.no_dict)
+        rounds.no_dict in
         let slots = lockers.ghosts it it whole.the_row (sight.ghosts it) lockers.no_dict in
         let sender =
         sending_send _
-        (rows_send (badge_row.the_row (key.the_row it)) (doing.the_row it knows) (rounds_row.the_row rule.the_row) (option.the_row it) (key.the_row it) (lockers_row.the_row whole.the_row) turns slots send_key send_slot)
-        (rows_sync (badge_row.the_row (key.the_row it)) (doing.the_row it knows) (rounds_row.the_row rule.the_row) (option.the_row it) (key.the_row it) (lockers_row.the_row whole.the_row) turns slots send_key send_slot) in
-        struct_send (shape (assignment.the_type J R G))
-        (s, (search sendable, (id_send, (sender, (seat.the_send _ _ send_key, (sender, (seat.the_send _ _ send_key, (search (crosses, sendable) depth 80, tt))))))))
+        (rows_send (badge_row.the_row (key.the_row it)) (doing.the_row it knows) (rounds_row.the_row rule.the_row)
+        (option.the_row it) (key.the_row it) (lockers_row.the_row whole.the_row) turns slots send_key send_slot)
+        (rows_sync (badge_row.the_row (key.the_row it)) (doing.the_row it knows) (rounds_row.the_row rule.the_row)
+        (option.the_row it) (key.the_row it) (lockers_row.the_row whole.the_row) turns slots send_key send_slot) in
+        struct_send (shape (assignment.the_type J R G)) (
+          s,
+          (
+            search sendable,
+            (
+              id_send,
+              (
+                sender,
+                (
+                  seat.the_send _ _ send_key,
+                  (
+                    sender,
+                    (
+                      seat.the_send _ _ send_key,
+                      (search (crosses, sendable) depth 80, tt),
+                    ),
+                  ),
+                ),
+              ),
+            ),
+          ),
+        )

@@ -19,8 +19,10 @@ use Rattle.lsp_jobs.specs.declared.job_server.JobServer.{Ghosts as WithJobs}
 use Rattle.lsp_jobs.specs.declared.pooled_server.PooledServer.{PooledServer}
 
 module _ (T : Type 0) {S J K P : Type 0} (plain : Plain S P) (may : WithJobs S J K P) (of_job : OfJob J) where
-  pub job_session : (old new : WokenQueuedServer (PooledServer T S J K) (Asked P)) (pooled : PooledServer T S J K) (first last : S)
-      → queues.seen old.queued ≡ (pooled, empty_queues) → seen pooled ≡ (first, no_jobs) → last ≡ new.queued.server.server
+  pub job_session : (old new : WokenQueuedServer (PooledServer T S J K) (Asked P)) (pooled : PooledServer T S J K)
+      (first last : S)
+      → queues.seen old.queued ≡ (pooled, empty_queues) → seen pooled ≡ (first, no_jobs) → last
+      ≡ new.queued.server.server
       → (xs : List Exchange) (stop : Stop) (shutdown_reply : Option Message) (answer : SessionAnswer)
       → SessionOut (woken_with_queues (seen_with_jobs T plain may of_job)) old new xs stop shutdown_reply answer
       → JobSession T plain may of_job first last xs stop shutdown_reply answer
@@ -29,13 +31,17 @@ module _ (T : Type 0) {S J K P : Type 0} (plain : Plain S P) (may : WithJobs S J
     new = new.queued.server;
     from_first = began;
     to_last = left;
-    session = woken_session_of (seen_with_jobs T plain may of_job) old new pooled new.queued.server put refl xs stop shutdown_reply answer out;
+    session = woken_session_of (seen_with_jobs T plain may of_job) old new pooled new.queued.server put refl xs stop
+        shutdown_reply answer out;
   }
 
-  pub lawful_jobs : (first last : S) (xs : List Exchange) (stop : Stop) (shutdown_reply : Option Message) (answer : SessionAnswer)
-      → JobSession T plain may of_job first last xs stop shutdown_reply answer → LawfulJobSession T plain may of_job first last xs stop shutdown_reply answer
+  pub lawful_jobs : (first last : S) (xs : List Exchange) (stop : Stop) (shutdown_reply : Option Message)
+      (answer : SessionAnswer)
+      → JobSession T plain may of_job first last xs stop shutdown_reply answer → LawfulJobSession T plain may of_job
+      first last xs stop shutdown_reply answer
   lawful_jobs first last xs stop shutdown_reply answer session = record {
     session = session;
-    laws = keeps_laws (seen_with_jobs T plain may of_job) session.old session.new xs stop shutdown_reply answer session.session;
+    laws = keeps_laws (seen_with_jobs T plain may of_job) session.old session.new xs stop shutdown_reply answer
+        session.session;
     jobs = answers_by_jobs T plain may of_job first last xs stop shutdown_reply answer session;
   }

@@ -1,6 +1,8 @@
--- The requests that are held, in the exchanges of a session: each is the last under its id, has no reply yet, and was not cancelled.
+-- The requests that are held, in the exchanges of a session: each is the last under its id, has no reply yet, and was
+-- not cancelled.
 use Rattle.serde_json.specs.Data.{Data}
-use Rattle.std.proofs.Common.{◌≡◌, ◌⊎◌, refl, sym, ◌∙◌, ap, subst, inl, inr, ℕ, zero, suc, ◌+◌, ◌≤◌, Bool, true, false, cond, List, [], ◌∷◌, ◌++◌, append_assoc, arith, Option, Some, None}
+use Rattle.std.proofs.Common.{◌≡◌, ◌⊎◌, refl, sym, ◌∙◌, ap, subst, inl, inr, ℕ, zero, suc, ◌+◌, ◌≤◌, Bool, true, false}
+use Rattle.std.proofs.Common.{cond, List, [], ◌∷◌, ◌++◌, append_assoc, arith, Option, Some, None}
 use Rattle.std.specs.FinMap as map
 use Rattle.std.specs.FinMap.{get-empty, get-insert, get-remove}
 use Rattle.std.specs.Ordering.{eq_by_cmp}
@@ -22,29 +24,35 @@ use Rattle.lsp_service.specs.declared.queued_server.QueuedServer.{QueuedServer}
 use Rattle.lsp_jobs.specs.Ends.{Outcome}
 use Rattle.lsp_jobs.specs.JobLaw.{concerns, is_that, IsQuiet, LastRequest}
 
-pub fewer : (p : Message → Bool) (output more full : List Message) → output ++ more ≡ full → how_many p full ≡ 0 → how_many p output ≡ 0
+pub fewer : (p : Message → Bool) (output more full : List Message) → output ++ more ≡ full → how_many p full ≡ 0
+    → how_many p output ≡ 0
 fewer p output more full is none =
-    let all : how_many p full ≡ how_many p output + how_many p more = ap (how_many p) (sym is) ∙ how_many-append p output more in
+    let all : how_many p full ≡ how_many p output + how_many p more = ap (how_many p) (sym is) ∙ how_many-append p
+    output more in
     omega (arith, all, none)
 
-pub quiet_more : (id : Id) (xs : List Exchange) (x : Exchange) → IsQuiet id xs → concerns id x.came ≡ false → how_many (is_reply_under id) x.sent ≡ 0 → IsQuiet id (xs ++ x ∷ [])
+pub quiet_more : (id : Id) (xs : List Exchange) (x : Exchange) → IsQuiet id xs → concerns id x.came ≡ false
+    → how_many (is_reply_under id) x.sent ≡ 0 → IsQuiet id (xs ++ x ∷ [])
 quiet_more id [] x quiet calm none = (calm, none, tt)
 quiet_more id (y ∷ xs) x quiet calm none = (quiet.0, quiet.1, quiet_more id xs x quiet.2 calm none)
 
 -- an exchange more, with which the request goes on waiting
-pub waits_on : (earlier : List Exchange) (x : Exchange) (id : Id) (method : List ℕ) (params : Data) → concerns id x.came ≡ false → how_many (is_reply_under id) x.sent ≡ 0
+pub waits_on : (earlier : List Exchange) (x : Exchange) (id : Id) (method : List ℕ) (params : Data) → concerns id x.came
+    ≡ false → how_many (is_reply_under id) x.sent ≡ 0
     → LastRequest earlier id method params → LastRequest (earlier ++ x ∷ []) id method params
 waits_on earlier x id method params calm none l = record {
   before = l.before;
   sent = l.sent;
   since = l.since ++ x ∷ [];
-  came = ap (λ (es : List Exchange). es ++ x ∷ []) l.came ∙ append_assoc l.before (record { came = Some (request id method params); sent = l.sent } ∷ l.since) (x ∷ []);
+  came = ap (λ (es : List Exchange). es ++ x ∷ []) l.came ∙ append_assoc l.before
+      (record { came = Some (request id method params); sent = l.sent } ∷ l.since) (x ∷ []);
   unanswered = l.unanswered;
   quiet = quiet_more id l.since x l.quiet calm none;
 }
 
 -- the request that just came waits
-pub waits_now : (earlier : List Exchange) (x : Exchange) (id : Id) (method : List ℕ) (params : Data) → x.came ≡ Some (request id method params)
+pub waits_now : (earlier : List Exchange) (x : Exchange) (id : Id) (method : List ℕ) (params : Data) → x.came
+    ≡ Some (request id method params)
     → how_many (is_reply_under id) x.sent ≡ 0 → LastRequest (earlier ++ x ∷ []) id method params
 waits_now earlier x id method params there none = record {
   before = earlier;
@@ -56,10 +64,12 @@ waits_now earlier x id method params there none = record {
 }
 
 module _ (id : Id) where
-  held_insert : (held : Pending (Unit {0})) (i : Id) → held_under id (map.insert held i tt) ≡ cond (eq_by_cmp id_cmp id i) 1 (held_under id held)
+  held_insert : (held : Pending (Unit {0})) (i : Id) → held_under id (map.insert held i tt)
+      ≡ cond (eq_by_cmp id_cmp id i) 1 (held_under id held)
   held_insert held i = let got = get-insert id_total held i tt id in grind (arith, got)
 
-  held_remove : (held : Pending (Unit {0})) (i : Id) → held_under id (map.remove held i) ≡ cond (eq_by_cmp id_cmp id i) 0 (held_under id held)
+  held_remove : (held : Pending (Unit {0})) (i : Id) → held_under id (map.remove held i) ≡ cond (eq_by_cmp id_cmp id i)
+      0 (held_under id held)
   held_remove held i = let got = get-remove id_total held i id in grind (arith, got)
 
   at_most_one : (b : Bool) → one_if b ≤ 1
@@ -72,21 +82,30 @@ module _ {P : Type 0} (id : Id) where
   answered d outcome = at (map.contains_key d.held id) refl
     where
       at : (b : Bool) → map.contains_key d.held id ≡ b
-          → held_under id (if b then record { held = map.remove d.held id; asked = d.asked; sent = d.sent ++ response id outcome ∷ [] } else d).held ≡ 0
+          → held_under id (if b then record {
+            held = map.remove d.held id;
+            asked = d.asked;
+            sent = d.sent
+                ++ response id outcome ∷ [];
+          } else d).held ≡ 0
       at true there = held_remove id d.held id ∙ ap (λ b. cond b 0 (held_under id d.held)) ((id_decides id id).1 refl)
       at false there = ap one_if there
 
-  cancelled : (d : Queues P) (acts : List (Act P)) (which : Option Id) → is_that id which ≡ true → held_under id (does_all d (acts ++ cancelled_answer which)).held ≡ 0
+  cancelled : (d : Queues P) (acts : List (Act P)) (which : Option Id) → is_that id which ≡ true
+      → held_under id (does_all d (acts ++ cancelled_answer which)).held ≡ 0
   cancelled d acts None is = absurd (cc (is))
   cancelled d acts (Some i) is =
       let same : id ≡ i = (id_decides id i).0 is in
       subst (λ (j : Id). held_under id (does_all d (acts ++ replies j (Err canceled) ∷ [])).held ≡ 0) same
-      (ap (λ (q : Queues P). held_under id q.held) (does_push d acts (replies id (Err canceled))) ∙ answered (does_all d acts) (Err canceled))
+      (ap (λ (q : Queues P). held_under id q.held) (does_push d acts (replies id (Err canceled)))
+      ∙ answered (does_all d acts) (Err canceled))
 
   -- when the server acts, one reply more is due if a request under the id came
   due_at : (d : Queues P) (m : Option Message) (payload : Option P)
-      → due id (queues_at d m payload) ≡ how_many (is_reply_under id) d.sent + cond (came_with (is_request_under id) m) 1 (held_under id d.held)
-  due_at d (Some (request i method params)) payload = ap (λ n. how_many (is_reply_under id) d.sent + n) (held_insert id d.held i)
+      → due id (queues_at d m payload) ≡ how_many (is_reply_under id) d.sent + cond (came_with (is_request_under id) m)
+      1 (held_under id d.held)
+  due_at d (Some (request i method params)) payload = ap (λ n. how_many (is_reply_under id) d.sent + n) (held_insert id
+      d.held i)
   due_at d (Some (response i outcome)) (Some payload) = refl
   due_at d m payload = refl
 
@@ -106,25 +125,31 @@ module _ {S P : Type 0} (may : Stated S P) (id : Id) where
   HeldWaits earlier w = (owed w ≡ 0) ⊎ Waiting earlier
 
   -- what is sent, and what is held then
-  due_one : (w w' : QueuedServer S P) (m : Option Message) (full : List Message) → (queues_of w.queues).sent ≡ [] → WorksSending may (seen w) m full (seen w')
+  due_one : (w w' : QueuedServer S P) (m : Option Message) (full : List Message) → (queues_of w.queues).sent ≡ []
+      → WorksSending may (seen w) m full (seen w')
       → R full + owed w' ≡ cond (came_with (is_request_under id) m) 1 (owed w)
   due_one w w' m full silent step =
       let a = acts_at may (seen w) m full (seen w') step in
-      let all = due_acts id (queues_at (queues_of w.queues) m a.payload) (acts_done_at m a.acts) ∙ due_at id (queues_of w.queues) m a.payload in
+      let all = due_acts id (queues_at (queues_of w.queues) m a.payload) (acts_done_at m a.acts)
+      ∙ due_at id (queues_of w.queues) m a.payload in
       let none : R (queues_of w.queues).sent ≡ 0 = ap R silent in
-      let kept : owed w' ≡ held_under id (does_all (queues_at (queues_of w.queues) m a.payload) (acts_done_at m a.acts)).held = ap (λ (d : Queues P). held_under id d.held) a.queues in
+      let kept : owed w' ≡ held_under id (does_all (queues_at (queues_of w.queues) m a.payload) (acts_done_at m
+      a.acts)).held = ap (λ (d : Queues P). held_under id d.held) a.queues in
       let sent = ap R (sent_so may (seen w) m full (seen w') a) in
       omega (arith, all, none, kept, sent)
 
   -- a request that is cancelled is held no more
   cancelled_at : (w w' : QueuedServer S P) (method : List ℕ) (params : Data) (full : List Message)
-      → WorksSending may (seen w) (Some (notification method params)) full (seen w') → is_that id (cancelled_by method params) ≡ true → owed w' ≡ 0
+      → WorksSending may (seen w) (Some (notification method params)) full (seen w') → is_that id (cancelled_by method
+      params) ≡ true → owed w' ≡ 0
   cancelled_at w w' method params full step is =
       let a = acts_at may (seen w) (Some (notification method params)) full (seen w') step in
-      ap (λ (d : Queues P). held_under id d.held) a.queues ∙ cancelled id (queues_of w.queues) a.acts (cancelled_by method params) is
+      ap (λ (d : Queues P). held_under id d.held) a.queues ∙ cancelled id (queues_of w.queues) a.acts
+      (cancelled_by method params) is
 
   -- the server is called
-  pub waits_called : (earlier : List Exchange) (w w' : QueuedServer S P) (x : Exchange) (full more : List Message) → x.sent ++ more ≡ full → (queues_of w.queues).sent ≡ []
+  pub waits_called : (earlier : List Exchange) (w w' : QueuedServer S P) (x : Exchange) (full more : List Message)
+      → x.sent ++ more ≡ full → (queues_of w.queues).sent ≡ []
       → HeldWaits earlier w → WorksSending may (seen w) x.came full (seen w') → HeldWaits (earlier ++ x ∷ []) w'
   waits_called earlier w w' x full more part silent held step = at (owed w') refl
     where
@@ -140,18 +165,26 @@ module _ {S P : Type 0} (may : Stated S P) (id : Id) where
 
           on : concerns id x.came ≡ false → came_with (is_request_under id) x.came ≡ false → Waiting (earlier ++ x ∷ [])
           on calm other = elim held [
-            | inl none ↦ (let e : R full + owed w' ≡ owed w = count ∙ ap (λ b. cond b 1 (owed w)) other in absurd (omega (arith, e, none, is)))
-            | inr l ↦ (l.0, l.1, waits_on earlier x id l.0 l.1 calm (mute (owed w) (at_most_one id (is_some (map.get (queues_of w.queues).held id))) (count ∙ ap (λ b. cond b 1 (owed w)) other)) l.2)
+            | inl none ↦ (let e : R full + owed w' ≡ owed w = count ∙ ap (λ b. cond b 1 (owed w)) other in absurd
+                (omega (arith, e, none, is)))
+            | inr l ↦ (
+              l.0,
+              l.1,
+              waits_on earlier x id l.0 l.1 calm (mute (owed w) (at_most_one id
+                  (is_some (map.get (queues_of w.queues).held id))) (count ∙ ap (λ b. cond b 1 (owed w)) other)) l.2,
+            )
           ]
 
           by : (arrived : Option Message) → x.came ≡ arrived → Waiting (earlier ++ x ∷ [])
           by None there = on (ap (concerns id) there) (ap (came_with (is_request_under id)) there)
-          by (Some (response i outcome)) there = on (ap (concerns id) there) (ap (came_with (is_request_under id)) there)
+          by (Some (response i outcome)) there = on (ap (concerns id) there)
+              (ap (came_with (is_request_under id)) there)
           by (Some (notification method params)) there = of (is_that id (cancelled_by method params)) refl
             where
               of : (b : Bool) → is_that id (cancelled_by method params) ≡ b → Waiting (earlier ++ x ∷ [])
               of true that =
-                  let none = cancelled_at w w' method params full (subst (λ (m : Option Message). WorksSending may (seen w) m full (seen w')) there step) that in
+                  let none = cancelled_at w w' method params full (subst (λ (m : Option Message). WorksSending may
+                  (seen w) m full (seen w')) there step) that in
                   absurd (omega (arith, none, is))
               of false other = on (ap (concerns id) there ∙ other) (ap (came_with (is_request_under id)) there)
           by (Some (request i method params)) there = of (eq_by_cmp id_cmp id i) refl
@@ -161,13 +194,16 @@ module _ {S P : Type 0} (may : Stated S P) (id : Id) where
                   let it : id ≡ i = (id_decides id i).0 same in (
                     method,
                     params,
-                    waits_now earlier x id method params (there ∙ ap (λ (j : Id). Some (request j method params)) (sym it))
-                        (mute 1 (omega arith) (count ∙ ap (λ b. cond b 1 (owed w)) (ap (came_with (is_request_under id)) there ∙ same))),
+                    waits_now earlier x id method params (there ∙ ap (λ (j : Id). Some (request j method params))
+                        (sym it))
+                        (mute 1 (omega arith) (count ∙ ap (λ b. cond b 1 (owed w)) (ap (came_with (is_request_under id))
+                        there ∙ same))),
                   )
               of false other = on (ap (concerns id) there ∙ other) (ap (came_with (is_request_under id)) there ∙ other)
 
   -- at a wake each reply goes to a request that waits
-  pub replies_at_wake : (earlier : List Exchange) (w w' : QueuedServer S P) (x : Exchange) (full more : List Message) → x.sent ++ more ≡ full → (queues_of w.queues).sent ≡ []
+  pub replies_at_wake : (earlier : List Exchange) (w w' : QueuedServer S P) (x : Exchange) (full more : List Message)
+      → x.sent ++ more ≡ full → (queues_of w.queues).sent ≡ []
       → HeldWaits earlier w → WorksSending may (seen w) None full (seen w') → (R x.sent ≡ 0) ⊎ Waiting earlier
   replies_at_wake earlier w w' x full more part silent (inl none) step =
       let count = due_one w w' None full silent step in
@@ -175,10 +211,13 @@ module _ {S P : Type 0} (may : Stated S P) (id : Id) where
   replies_at_wake earlier w w' x full more part silent (inr waits) step = inr waits
 
   -- before `initialized` nothing is held, and at it nothing is answered
-  pub waits_opened : (earlier : List Exchange) (w w' : QueuedServer S P) (full : List Message) → Fresh may w → OpensSending may (seen w) full (seen w') → HeldWaits earlier w'
+  pub waits_opened : (earlier : List Exchange) (w w' : QueuedServer S P) (full : List Message) → Fresh may w
+      → OpensSending may (seen w) full (seen w') → HeldWaits earlier w'
   waits_opened earlier w w' full fresh opened =
       let kept : owed w' ≡ held_under id opened.0.1.held = ap (λ (x : S × Queues P). held_under id x.1.held) opened.3 in
-      let all : due id opened.0.1 ≡ due id (queues_of w.queues) = ap (due id) opened.1.4 ∙ due_acts id (queues_of w.queues) opened.1.0 in
+      let all : due id opened.0.1 ≡ due id (queues_of w.queues) = ap (due id) opened.1.4
+      ∙ due_acts id (queues_of w.queues) opened.1.0 in
       let silent : R (queues_of w.queues).sent ≡ 0 = ap (λ (d : Queues P). R d.sent) fresh in
-      let none : owed w ≡ 0 = ap (λ (d : Queues P). held_under id d.held) fresh ∙ ap (λ o. one_if (is_some o)) (get-empty id_cmp id) in
+      let none : owed w ≡ 0 = ap (λ (d : Queues P). held_under id d.held) fresh ∙ ap (λ o. one_if (is_some o))
+      (get-empty id_cmp id) in
       inl (omega (arith, kept, all, silent, none))

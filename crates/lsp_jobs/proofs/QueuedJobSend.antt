@@ -38,7 +38,10 @@ waiter_send =
 waiters_send : IsSend waiters.the_row
 waiters_send =
     recorded_send (waiters.the_field).row _ _ (waiters.the_type).to_one
-    (struct_send (shape waiters.the_type) (search (waiter_send, BTreeMap-send, both, sendable) depth 40, (search sendable, tt)))
+    (struct_send (shape waiters.the_type) (
+      search (waiter_send, BTreeMap-send, both, sendable) depth 40,
+      (search sendable, tt),
+    ))
 
 replies_parts : IsSend (replies.the_field).row
 replies_parts =

@@ -36,8 +36,8 @@ IsQuiet id [] = Unit {0}
 IsQuiet id (x ∷ xs) =
     (concerns id x.came ≡ false) × (how_many (is_reply_under id) x.sent ≡ 0) × IsQuiet id xs
 
--- The last request under this id has this method and these params. Since it came, no reply under the id was sent, and no cancellation
--- of it came.
+-- The last request under this id has this method and these params. Since it came, no reply under the id was sent, and
+-- no cancellation of it came.
 pub record LastRequest (earlier : List Exchange) (id : Id) (method : List ℕ)
     (params : Data) : Type 0 where
   pub before : List Exchange
@@ -48,7 +48,8 @@ pub record LastRequest (earlier : List Exchange) (id : Id) (method : List ℕ)
   pub unanswered : how_many (is_reply_under id) sent ≡ 0
   pub quiet : IsQuiet id since
 
--- Each reply of these goes to the last request under its id, to which none was sent since it came, and which was not cancelled.
+-- Each reply of these goes to the last request under its id, to which none was sent since it came, and which was not
+-- cancelled.
 abbrev pub RepliesToLast : List Exchange → List Message → Type 0
 RepliesToLast earlier output =
     (id : Id) → (how_many (is_reply_under id) output ≡ 0)
@@ -60,8 +61,8 @@ SendsSo {P} acts output = (queues : Queues P) × (not_sent : List Message)
     × (all_sends queues acts ≡ output ++ not_sent)
 
 module _ {S J K P : Type 0} (plain : Plain S P) (may : WithJobs S J K P) where
-  -- The server is asked for jobs in this state. It came to it at this message, or at a wake when it saw how a job ended, by what it
-  -- states of that.
+  -- The server is asked for jobs in this state. It came to it at this message, or at a wake when it saw how a job
+  -- ended, by what it states of that.
   abbrev pub IsAskedAt : Option Message → S → Type 0
   IsAskedAt (Some (request id method params)) new =
       (old : S) × (((acts : List (Act P)) × plain.requested old id method params acts new)
@@ -86,8 +87,9 @@ module _ {S J K P : Type 0} (plain : Plain S P) (may : WithJobs S J K P) where
     pub new : S
     pub starts : may.starts old (first ++ (id, job, key) ∷ others) new
 
-  -- In one of these exchanges such a job was started under this id. Since then no request under the id came, no cancellation of it, and no
-  -- reply under it was sent. In which state the server was then is not said, but by what it states of the message or wake.
+  -- In one of these exchanges such a job was started under this id. Since then no request under the id came, no
+  -- cancellation of it, and no reply under it was sent. In which state the server was then is not said, but by what it
+  -- states of the message or wake.
   pub record LastStart (earlier : List Exchange) (id : Id) (job : J) : Type 0 where
     pub before : List Exchange
     pub start : Exchange
@@ -97,8 +99,8 @@ module _ {S J K P : Type 0} (plain : Plain S P) (may : WithJobs S J K P) where
     pub key : K
     pub started : IsStarted start.came id job key
 
-  -- A job that the server started at this message or wake found no room. The server sees that and does something first, and then the
-  -- request is refused.
+  -- A job that the server started at this message or wake found no room. The server sees that and does something first,
+  -- and then the request is refused.
   pub record Refusal (came : Option Message) : Type 0 where
     pub id : Id
     pub job : J
@@ -113,8 +115,8 @@ module _ {S J K P : Type 0} (plain : Plain S P) (may : WithJobs S J K P) where
   refuse [] = []
   refuse (r ∷ rs) = r.first ++ replies r.id (Err too_many) ∷ refuse rs
 
--- The last request under the id waits for a job that is for it, and may get this outcome: one that `answers` allows from this job for
--- it, or the error of a failed allocation.
+-- The last request under the id waits for a job that is for it, and may get this outcome: one that `answers` allows
+-- from this job for it, or the error of a failed allocation.
 pub record AnswersRequest {J : Type 0} (of_job : OfJob J) (earlier : List Exchange) (id : Id)
     (outcome : Outcome) : Type 0 where
   pub method : List ℕ
@@ -159,8 +161,8 @@ module _ {S J K P : Type 0} (plain : Plain S P) (may : WithJobs S J K P) (of_job
     pub may_ask : of_job.asks job method params
     pub sent : SendsSo {P = Asked P} (asks method params (ByJob number) ∷ []) output
 
-  -- A job came to this outcome. The server sees that and does something first, then the request with this id gets it. Then requests are
-  -- refused whose jobs found no room.
+  -- A job came to this outcome. The server sees that and does something first, then the request with this id gets it.
+  -- Then requests are refused whose jobs found no room.
   pub record SendsOutcome (earlier : List Exchange) (output : List Message) : Type 0 where
     pub id : Id
     pub outcome : Outcome
@@ -187,7 +189,8 @@ module _ {S J K P : Type 0} (plain : Plain S P) (may : WithJobs S J K P) (of_job
       → x.came ≡ None
       → WakeSends earlier x.sent × RepliesToLast earlier x.sent
 
--- The server starts no job but at its request, and does nothing when one ended: so it is by the defaults of `starts` and `finishes`.
+-- The server starts no job but at its request, and does nothing when one ended: so it is by the defaults of `starts`
+-- and `finishes`.
 abbrev pub SilentServer : {S J K P : Type 0} → WithJobs S J K P → Type 0
 SilentServer {S} {J} {K} {P} may =
     ((old : S) (jobs : List (Id × J × K)) (new : S) → may.starts old jobs new → jobs ≡ [])
@@ -196,7 +199,8 @@ SilentServer {S} {J} {K} {P} may =
 
 module _ (T : Type 0) {S J K P : Type 0} (plain : Plain S P) (may : WithJobs S J K P)
     (of_job : OfJob J) where
-  -- a session of a server with jobs, which keeps the laws of a session of a server, and in which each job answers its own request
+  -- a session of a server with jobs, which keeps the laws of a session of a server, and in which each job answers its
+  -- own request
   pub record LawfulJobSession (first last : S) (exchanges : List Exchange) (stop : Stop)
       (shutdown_reply : Option Message) (answer : SessionAnswer)
       : Type 0 where

@@ -9,7 +9,8 @@ use Rattle.lsp_jobs.specs.declared.job.Job.{Ghosts as OfJob}
 abbrev pub PendingJobs : Type 0 → Type 0
 PendingJobs A = Id → Option A
 
--- what a job says: a notification; a request to the client; or the outcome of its request, with what was kept with the job
+-- what a job says: a notification; a request to the client; or the outcome of its request, with what was kept with the
+-- job
 pub data FromJob (K : Type 0) : Type 0 where
   reports : List ℕ → Data → FromJob K
   asks : List ℕ → Data → FromJob K
@@ -35,7 +36,8 @@ module _ {J : Type 0} (may : OfJob J) where
       → may.answers job method params outcome)
       ⊎ (outcome ≡ Err no_memory)
 
-  -- A pending job reports or asks the client, and its request goes on waiting; or its request gets its outcome, and is pending no more.
+  -- A pending job reports or asks the client, and its request goes on waiting; or its request gets its outcome, and is
+  -- pending no more.
   abbrev pub Tells : {K : Type 0} → Id → PendingJobs (J × K) → FromJob K → PendingJobs (J × K) → Type 0
   Tells {K} id old (reports method params) new =
       (job : J) × (kept : K) × (old id ≡ Some (job, kept)) × may.reports job method params

@@ -1,4 +1,5 @@
--- A server at its pool of jobs: the server, and under the id of each request that waits for a job, this job and its key.
+-- A server at its pool of jobs: the server, and under the id of each request that waits for a job, this job and its
+-- key.
 use Rattle.serde_json.specs.Data.{Data}
 use Rattle.std.specs.List.{FoldsTo}
 use Rattle.std.specs.Prelude.{◌≡◌, ◌⊎◌, ℕ, List, [], ◌∷◌, ◌++◌, Option, Some, None}
@@ -124,8 +125,8 @@ module _ {S J K P : Type 0} (may : WithJobs S J K P) where
         ⊎ (Reports old all new
         ⊎ (Asks old all new ⊎ ByServers (λ acts. Finishes old acts new) all))
 
-    -- What a server with its jobs may do. A reply to a request of a job is not told to the server. At `shutdown` no job is started, and no
-    -- request waits for one any more.
+    -- What a server with its jobs may do. A reply to a request of a job is not told to the server. At `shutdown` no job
+    -- is started, and no request waits for one any more.
     abbrev pub with_jobs : Plain S P → Stated (S × PendingJobs (J × K)) (Asked P)
     with_jobs plain = record {
       initializes = λ old params outcome new. plain.initializes old.0 params outcome new.0

@@ -1,5 +1,7 @@
 -- A frame, from its header part and its content part.
-use Rattle.std.proofs.Common.{◌≡◌, ◌≢◌, ℕ, ◌<◌, ◌≤◌, Bool, true, false, cond, List, [], length, take, drop, Option, Some, None, IfSome, IsSomeAnd, inl, inr, Result, Ok, Err, refl, sym, ap, subst, ◌∙◌, nat_lt}
+use Rattle.std.proofs.Common.{◌≡◌, ◌≢◌, ℕ, ◌<◌, ◌≤◌, Bool, true, false, cond, List, [], length, take, drop, Option}
+use Rattle.std.proofs.Common.{Some, None, IfSome, IsSomeAnd, inl, inr, Result, Ok, Err, refl, sym, ap, subst, ◌∙◌}
+use Rattle.std.proofs.Common.{nat_lt}
 use Rattle.std.specs.Option.{ok_or}
 use Rattle.std.specs.Result.{result_map_both}
 use Rattle.std.proofs.lemmas.Bool.{lt-ltb, le-ltb}
@@ -7,17 +9,20 @@ use Rattle.std.proofs.lemmas.Str.{is_utf8-from_IsUtf8}
 use Rattle.std.specs.Str.{IsUtf8, is_utf8}
 use Rattle.serde_json.specs.Data.{Data, null, boolean, number, string, array, object}
 use Rattle.serde_json.specs.Read.{read}
-use Rattle.lsp_message.specs.Frame.{body_means, tree_means, no_message, RunsOutBefore, body_of, content_of, frame_of, most_content, header_under, reading_of}
+use Rattle.lsp_message.specs.Frame.{body_means, tree_means, no_message, RunsOutBefore, body_of, content_of, frame_of}
+use Rattle.lsp_message.specs.Frame.{most_content, header_under, reading_of}
 use Rattle.lsp_message.specs.HeaderPart.{header_of}
 use Rattle.lsp_message.specs.Meaning.{meaning}
 use Rattle.lsp_message.specs.Message.{Message}
 use Rattle.lsp_message.specs.Reading.{Reading, Answers, StopsWithin}
 use Rattle.lsp_message.specs.ReadingSteps.{AnswersHeader, Decodes}
 use Rattle.lsp_message.specs.declared.frame.ReadFault.{ReadFault}
-use Rattle.lsp_message.specs.declared.frame.ReadFault.TheVariants.{Input, ShortBody, BodyNotText, NoJson, NoMessage, Memory, TooLong, Batch}
+use Rattle.lsp_message.specs.declared.frame.ReadFault.TheVariants.{Input, ShortBody, BodyNotText, NoJson, NoMessage}
+use Rattle.lsp_message.specs.declared.frame.ReadFault.TheVariants.{Memory, TooLong, Batch}
 use Rattle.lsp_message.specs.declared.frame.limits.Limits.{Limits}
 use Rattle.lsp_message.proofs.KnownLines.{IsKnownHeader, header_known}
-use Rattle.lsp_message.proofs.Suffixes.{EndsIn-trans, StopsWithin-less, StopsWithin-start, StopsBefore-within, content_of-rest}
+use Rattle.lsp_message.proofs.Suffixes.{EndsIn-trans, StopsWithin-less, StopsWithin-start, StopsBefore-within}
+use Rattle.lsp_message.proofs.Suffixes.{content_of-rest}
 use Rattle.lsp_message.proofs.Bounds.{header_under-rest}
 
 -- text means what its tree means
@@ -32,19 +37,29 @@ module _ {M : Type 0} (means : List ℕ → Result M ReadFault) (limit : Limits)
   bytes n left = record { outcome = Ok (Some (take n left)); rest = drop n left }
 
   pub body_of-bytes : (n : ℕ) (left items : List ℕ) → (body_of Ok n left).outcome ≡ Ok (Some items)
-      → ((body_of means n left).outcome ≡ result_map_both Some (λ fault. fault) (means items)) × ((body_of means n left).rest ≡ (body_of Ok n left).rest)
+      → ((body_of means n left).outcome ≡ result_map_both Some (λ fault. fault) (means items))
+      × ((body_of means n left).rest ≡ (body_of Ok n left).rest)
   body_of-bytes n left items = at (nat_lt (length left) n)
     where
-      at : (t : Bool) → (cond {A = Reading (List ℕ)} t (record { outcome = Err ShortBody; rest = [] }) (bytes n left)).outcome ≡ Ok (Some items)
-          → ((cond {A = Reading M} t (record { outcome = Err ShortBody; rest = [] }) (whole n left)).outcome ≡ result_map_both Some (λ fault. fault) (means items))
-          × ((cond {A = Reading M} t (record { outcome = Err ShortBody; rest = [] }) (whole n left)).rest ≡ (cond {A = Reading (List ℕ)} t (record { outcome = Err ShortBody; rest = [] }) (bytes n left)).rest)
+      at : (t : Bool) → (cond {A = Reading (List ℕ)} t (record { outcome = Err ShortBody; rest = [] })
+          (bytes n left)).outcome ≡ Ok (Some items)
+          → ((cond {A = Reading M} t (record { outcome = Err ShortBody; rest = [] }) (whole n left)).outcome
+          ≡ result_map_both Some (λ fault. fault) (means items))
+          × ((cond {A = Reading M} t (record { outcome = Err ShortBody; rest = [] }) (whole n left)).rest
+          ≡ (cond {A = Reading (List ℕ)} t (record { outcome = Err ShortBody; rest = [] }) (bytes n left)).rest)
       at true is = absurd (cc)
-      at false is = let same : take n left ≡ items = cc in (ap (λ l. result_map_both Some (λ fault. fault) (means l)) same, refl)
+      at false is = let same : take n left ≡ items = cc in (
+        ap (λ l. result_map_both Some (λ fault. fault) (means l))
+            same,
+        refl,
+      )
 
-  pub body_of-fault : (n : ℕ) (left : List ℕ) (fault : ReadFault) → (body_of Ok n left).outcome ≡ Err fault → (body_of means n left).outcome ≡ Err fault
+  pub body_of-fault : (n : ℕ) (left : List ℕ) (fault : ReadFault) → (body_of Ok n left).outcome ≡ Err fault
+      → (body_of means n left).outcome ≡ Err fault
   body_of-fault n left fault = at (nat_lt (length left) n)
     where
-      at : (t : Bool) → (cond {A = Reading (List ℕ)} t (record { outcome = Err ShortBody; rest = [] }) (bytes n left)).outcome ≡ Err fault
+      at : (t : Bool) → (cond {A = Reading (List ℕ)} t (record { outcome = Err ShortBody; rest = [] })
+          (bytes n left)).outcome ≡ Err fault
           → (cond {A = Reading M} t (record { outcome = Err ShortBody; rest = [] }) (whole n left)).outcome ≡ Err fault
       at true is = cc
       at false is = absurd (cc)
@@ -58,28 +73,37 @@ module _ {M : Type 0} (means : List ℕ → Result M ReadFault) (limit : Limits)
       at false = refl
 
   -- the header part was not read
-  pub header_refused : {X : Type 0} (view : X → M) (fault : ReadFault) (a b : Option (List ℕ)) → IfSome a (λ text. AnswersHeader (λ n. n) (Err fault) b (header_under limit.header text))
+  pub header_refused : {X : Type 0} (view : X → M) (fault : ReadFault) (a b : Option (List ℕ))
+      → IfSome a (λ text. AnswersHeader (λ n. n) (Err fault) b (header_under limit.header text))
       → IfSome a (λ text. Answers view (Err fault) b (frame_of means limit text))
   header_refused view fault None b header = tt
-  header_refused view (Input kind) (Some text) b header = StopsWithin-less b (header_under limit.header text) (frame_of means limit text) header (content_of-rest means limit.content (header_under limit.header text).outcome (header_under limit.header text).rest)
-  header_refused view Memory (Some text) b header = StopsWithin-less b (header_under limit.header text) (frame_of means limit text) (StopsBefore-within b (header_under limit.header text) header) (content_of-rest means limit.content (header_under limit.header text).outcome (header_under limit.header text).rest)
+  header_refused view (Input kind) (Some text) b header = StopsWithin-less b (header_under limit.header text)
+      (frame_of means limit text) header (content_of-rest means limit.content (header_under limit.header text).outcome
+      (header_under limit.header text).rest)
+  header_refused view Memory (Some text) b header = StopsWithin-less b (header_under limit.header text) (frame_of means
+      limit text) (StopsBefore-within b (header_under limit.header text) header) (content_of-rest means limit.content
+      (header_under limit.header text).outcome (header_under limit.header text).rest)
   header_refused view fault (Some text) b header = rw (header.0) (refl, header.1)
 
   -- no byte of the frame was taken
   pub frame_unread : (text : List ℕ) → StopsWithin (Some text) (frame_of means limit text)
   frame_unread text =
       let header = header_under-rest limit.header text in
-      let content = content_of-rest means limit.content (header_under limit.header text).outcome (header_under limit.header text).rest in
-      StopsWithin-start text (frame_of means limit text) (EndsIn-trans text (header_under limit.header text).rest (frame_of means limit text).rest header content)
+      let content = content_of-rest means limit.content (header_under limit.header text).outcome
+      (header_under limit.header text).rest in
+      StopsWithin-start text (frame_of means limit text) (EndsIn-trans text (header_under limit.header text).rest
+      (frame_of means limit text).rest header content)
 
   -- the header part gave a length above the limit
-  pub content_too_long : {X : Type 0} (view : X → M) (a b : Option (List ℕ)) (n : ℕ) → limit.content < n → IfSome a (λ text. AnswersHeader (λ n. n) (Ok (Some n)) b (header_under limit.header text))
+  pub content_too_long : {X : Type 0} (view : X → M) (a b : Option (List ℕ)) (n : ℕ) → limit.content < n
+      → IfSome a (λ text. AnswersHeader (λ n. n) (Ok (Some n)) b (header_under limit.header text))
       → IfSome a (λ text. Answers view (Err TooLong) b (frame_of means limit text))
   content_too_long view None b n above header = tt
   content_too_long view (Some text) b n above header = rw (header.0, lt-ltb limit.content n above) (refl, header.1)
 
   -- the header part gave a length within the limit, and what follows is the content part
-  content_at : (a b : Option (List ℕ)) (n : ℕ) → n ≤ limit.content → IfSome a (λ text. AnswersHeader (λ n. n) (Ok (Some n)) b (header_under limit.header text))
+  content_at : (a b : Option (List ℕ)) (n : ℕ) → n ≤ limit.content → IfSome a (λ text. AnswersHeader (λ n. n)
+      (Ok (Some n)) b (header_under limit.header text))
       → IfSome a (λ text. IsSomeAnd b (λ left. frame_of means limit text ≡ body_of means n left))
   content_at None b n within header = tt
   content_at (Some text) None n within header = absurd (cc (header.1))
@@ -87,28 +111,38 @@ module _ {M : Type 0} (means : List ℕ → Result M ReadFault) (limit : Limits)
       let same : (header_under limit.header text).rest ≡ left = cc (header.1) in
       let rest = (header_under limit.header text).rest in
       ap (λ o. content_of means limit.content o rest) header.0
-      ∙ ap (λ t. cond {A = Reading M} t (record { outcome = Err TooLong; rest = rest }) (body_of means n rest)) (le-ltb limit.content n within)
+      ∙ ap (λ t. cond {A = Reading M} t (record { outcome = Err TooLong; rest = rest }) (body_of means n rest))
+      (le-ltb limit.content n within)
       ∙ ap (body_of means n) same
 
   -- the content part was not read
-  pub content_refused : {X Y : Type 0} (view : X → M) (shown : Y → List ℕ) (fault : ReadFault) (a b c : Option (List ℕ)) (n : ℕ) → n ≤ limit.content
+  pub content_refused : {X Y : Type 0} (view : X → M) (shown : Y → List ℕ) (fault : ReadFault) (a b c : Option (List ℕ))
+      (n : ℕ) → n ≤ limit.content
       → IfSome a (λ text. AnswersHeader (λ n. n) (Ok (Some n)) b (header_under limit.header text))
-      → IfSome b (λ left. Answers shown (Err fault) c (body_of Ok n left)) → IfSome a (λ text. Answers view (Err fault) c (frame_of means limit text))
+      → IfSome b (λ left. Answers shown (Err fault) c (body_of Ok n left)) → IfSome a (λ text. Answers view (Err fault)
+      c (frame_of means limit text))
   content_refused view shown fault a b c n within header = at fault a b (content_at a b n within header)
     where
-      at : (fault : ReadFault) (a b : Option (List ℕ)) → IfSome a (λ text. IsSomeAnd b (λ left. frame_of means limit text ≡ body_of means n left))
-          → IfSome b (λ left. Answers shown (Err fault) c (body_of Ok n left)) → IfSome a (λ text. Answers view (Err fault) c (frame_of means limit text))
+      at : (fault : ReadFault) (a b : Option (List ℕ)) → IfSome a (λ text. IsSomeAnd b (λ left. frame_of means limit
+          text ≡ body_of means n left))
+          → IfSome b (λ left. Answers shown (Err fault) c (body_of Ok n left)) → IfSome a (λ text. Answers view
+          (Err fault) c (frame_of means limit text))
       at fault None b is body = tt
       at fault (Some text) None is body = absurd is
       at (Input kind) (Some text) (Some left) is body = rw (is, body_of-rest n left) body
       at Memory (Some text) (Some left) is body = rw (is, body_of-rest n left) body
-      at fault (Some text) (Some left) is body = rw (is) (body_of-fault n left fault body.0, body.1 ∙ ap Some (sym (body_of-rest n left)))
+      at fault (Some text) (Some left) is body = rw (is) (
+        body_of-fault n left fault body.0,
+        body.1
+            ∙ ap Some (sym (body_of-rest n left)),
+      )
 
   -- the header part gave a length, and the content part was read
   pub frame_read : (a b c : Option (List ℕ)) (n : ℕ) (items : List ℕ) → n ≤ limit.content
       → IfSome a (λ text. AnswersHeader (λ n. n) (Ok (Some n)) b (header_under limit.header text))
       → IfSome b (λ left. Answers (λ bytes. bytes) (Ok (Some items)) c (body_of Ok n left))
-      → IfSome a (λ text. ((frame_of means limit text).outcome ≡ result_map_both Some (λ fault. fault) (means items)) × (c ≡ Some (frame_of means limit text).rest))
+      → IfSome a (λ text. ((frame_of means limit text).outcome ≡ result_map_both Some (λ fault. fault) (means items))
+      × (c ≡ Some (frame_of means limit text).rest))
   frame_read None b c n items within header body = tt
   frame_read (Some text) None c n items within header body = absurd (cc (header.1))
   frame_read (Some text) (Some left) c n items within header body =
@@ -117,14 +151,18 @@ module _ {M : Type 0} (means : List ℕ → Result M ReadFault) (limit : Limits)
       (ap (λ r. r.outcome) content ∙ found.0, body.1 ∙ ap Some (sym found.1 ∙ ap (λ r. r.rest) (sym content)))
 
   -- and what was made of the content part is the answer
-  pub frame_answered : {X : Type 0} (view : X → M) (a b c : Option (List ℕ)) (n : ℕ) (items : List ℕ) (r : Result X ReadFault) → n ≤ limit.content
+  pub frame_answered : {X : Type 0} (view : X → M) (a b c : Option (List ℕ)) (n : ℕ) (items : List ℕ)
+      (r : Result X ReadFault) → n ≤ limit.content
       → IfSome a (λ text. AnswersHeader (λ n. n) (Ok (Some n)) b (header_under limit.header text))
       → IfSome b (λ left. Answers (λ bytes. bytes) (Ok (Some items)) c (body_of Ok n left))
-      → Decodes view r (means items) → IfSome a (λ text. Answers view (result_map_both Some (λ fault. fault) r) c (frame_of means limit text))
-  frame_answered {X = X} view a b c n items r within header body decoded = at a r decoded (frame_read a b c n items within header body)
+      → Decodes view r (means items) → IfSome a (λ text. Answers view (result_map_both Some (λ fault. fault) r) c
+      (frame_of means limit text))
+  frame_answered {X = X} view a b c n items r within header body decoded = at a r decoded (frame_read a b c n items
+      within header body)
     where
       at : (o : Option (List ℕ)) (r : Result X ReadFault) → Decodes view r (means items)
-          → IfSome o (λ text. ((frame_of means limit text).outcome ≡ result_map_both Some (λ fault. fault) (means items)) × (c ≡ Some (frame_of means limit text).rest))
+          → IfSome o (λ text. ((frame_of means limit text).outcome ≡ result_map_both Some (λ fault. fault)
+          (means items)) × (c ≡ Some (frame_of means limit text).rest))
           → IfSome o (λ text. Answers view (result_map_both Some (λ fault. fault) r) c (frame_of means limit text))
       at None r decoded read = tt
       at (Some text) (Ok x) decoded read = (read.0 ∙ ap (result_map_both Some (λ fault. fault)) decoded, read.1)
@@ -133,7 +171,8 @@ module _ {M : Type 0} (means : List ℕ → Result M ReadFault) (limit : Limits)
       at (Some text) (Err fault) decoded read = (read.0 ∙ ap (result_map_both Some (λ fault. fault)) decoded, read.1)
 
 -- an answer decodes what it is
-pub decodes_same : {X : Type 0} (view : X → Message) (r : Result X ReadFault) (means : Result Message ReadFault) → result_map_both view (λ fault. fault) r ≡ means → Decodes view r means
+pub decodes_same : {X : Type 0} (view : X → Message) (r : Result X ReadFault) (means : Result Message ReadFault)
+    → result_map_both view (λ fault. fault) r ≡ means → Decodes view r means
 decodes_same view (Ok x) means same = sym same
 decodes_same view (Err Memory) means same = tt
 decodes_same view (Err fault) means same = sym same
@@ -160,8 +199,10 @@ tree_known (array ds) None = tt
 tree_known (object ms) None = tt
 
 -- what a tree means is no want of memory
-pub tree_needs_no_memory : {X : Type 0} (view : X → Message) (r : Result X ReadFault) (tree : Data) → result_map_both view (λ fault. fault) r ≡ tree_means (Some tree) → r ≢ Err Memory
-tree_needs_no_memory view r tree same is = subst IsKnownContent (sym same ∙ ap (result_map_both view (λ fault. fault)) is) (tree_known tree (meaning tree))
+pub tree_needs_no_memory : {X : Type 0} (view : X → Message) (r : Result X ReadFault) (tree : Data)
+    → result_map_both view (λ fault. fault) r ≡ tree_means (Some tree) → r ≢ Err Memory
+tree_needs_no_memory view r tree same is = subst IsKnownContent (sym same ∙ ap (result_map_both view (λ fault. fault))
+    is) (tree_known tree (meaning tree))
 
 abbrev given : Result Message ReadFault → Result (Option Message) ReadFault
 given r = result_map_both Some (λ fault. fault) r
@@ -183,19 +224,23 @@ content_known body = given_known (body_means body) (at (is_utf8 body) (read body
 
 module _ (limit : Limits) where
   -- memory ran out in the header part
-  pub memory_in_header : (fault : ReadFault) (a b : Option (List ℕ)) → IfSome a (λ text. AnswersHeader (λ n. n) (Err fault) b (header_under limit.header text)) → fault ≡ Memory
+  pub memory_in_header : (fault : ReadFault) (a b : Option (List ℕ)) → IfSome a (λ text. AnswersHeader (λ n. n)
+      (Err fault) b (header_under limit.header text)) → fault ≡ Memory
       → IfSome a (λ text. RunsOutBefore limit text b)
   memory_in_header fault None b header is = tt
-  memory_in_header fault (Some text) b header is = inl (subst (λ f. AnswersHeader (λ n. n) (Err f) b (header_under limit.header text)) is header)
+  memory_in_header fault (Some text) b header is = inl (subst (λ f. AnswersHeader (λ n. n) (Err f) b
+      (header_under limit.header text)) is header)
 
   -- or after it, before the content part was begun
-  pub memory_after_header : (a b c : Option (List ℕ)) (n : ℕ) → n ≤ limit.content → IfSome a (λ text. AnswersHeader (λ n. n) (Ok (Some n)) b (header_under limit.header text)) → c ≡ b
+  pub memory_after_header : (a b c : Option (List ℕ)) (n : ℕ) → n ≤ limit.content → IfSome a (λ text. AnswersHeader
+      (λ n. n) (Ok (Some n)) b (header_under limit.header text)) → c ≡ b
       → IfSome a (λ text. RunsOutBefore limit text c)
   memory_after_header None b c n within header same = tt
   memory_after_header (Some text) b c n within header same = inr (n, header.0, within, same ∙ header.1)
 
 -- a content part that was taken is not short
-pub content_is_no_short : (body : List ℕ) (r : Result (Option Message) ReadFault) → r ≡ given (body_means body) → r ≢ Err ShortBody
+pub content_is_no_short : (body : List ℕ) (r : Result (Option Message) ReadFault) → r ≡ given (body_means body)
+    → r ≢ Err ShortBody
 content_is_no_short body r is = λ short. subst IsKnownContent (sym is ∙ short) (content_known body)
 
 -- with no limit no length is above it
@@ -205,11 +250,16 @@ not_too_long text = at (header_of text).outcome (header_of text).rest (header_kn
     part : (n : ℕ) (rest : List ℕ) → (body_of body_means n rest).outcome ≢ Err TooLong
     part n rest = short (nat_lt (length rest) n)
       where
-        short : (t : Bool) → (cond {A = Reading Message} t (record { outcome = Err ShortBody; rest = [] }) (record { outcome = result_map_both Some (λ fault. fault) (body_means (take n rest)); rest = drop n rest })).outcome ≢ Err TooLong
+        short : (t : Bool) → (cond {A = Reading Message} t (record { outcome = Err ShortBody; rest = [] })
+            (record {
+              outcome = result_map_both Some (λ fault. fault) (body_means (take n rest));
+              rest = drop n rest;
+            })).outcome ≢ Err TooLong
         short true is = cc
         short false is = subst IsKnownContent is (content_known (take n rest))
 
-    at : (count : Result (Option ℕ) ReadFault) (rest : List ℕ) → IsKnownHeader count → (content_of body_means most_content count rest).outcome ≢ Err TooLong
+    at : (count : Result (Option ℕ) ReadFault) (rest : List ℕ) → IsKnownHeader count
+        → (content_of body_means most_content count rest).outcome ≢ Err TooLong
     at (Err fault) rest known = λ is. known (cc)
     at (Ok None) rest known = λ is. cc
     at (Ok (Some n)) rest known = rw (le-ltb most_content n known) (part n rest)
@@ -217,4 +267,5 @@ not_too_long text = at (header_of text).outcome (header_of text).rest (header_kn
 pub never_too_long : {X : Type 0} (view : X → Message) (a b : Option (List ℕ)) (r : Result (Option X) ReadFault)
     → IfSome a (λ text. Answers view r b (reading_of text)) → IfSome a (λ text. r ≢ Err TooLong)
 never_too_long view None b r answers = tt
-never_too_long view (Some text) b r answers = λ is. not_too_long text (subst (λ r. Answers view r b (reading_of text)) is answers).0
+never_too_long view (Some text) b r answers = λ is. not_too_long text (subst (λ r. Answers view r b (reading_of text))
+    is answers).0

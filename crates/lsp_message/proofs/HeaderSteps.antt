@@ -1,10 +1,12 @@
 -- The header part, line by line.
-use Rattle.std.proofs.Common.{◌≡◌, ◌≢◌, ℕ, Bool, true, false, cond, eqb, List, [], ◌∷◌, length, Option, Some, None, IfSome, IsSomeAnd, Result, Ok, Err, refl, sym, ap, subst, ◌∙◌}
+use Rattle.std.proofs.Common.{◌≡◌, ◌≢◌, ℕ, Bool, true, false, cond, eqb, List, [], ◌∷◌, length, Option, Some, None}
+use Rattle.std.proofs.Common.{IfSome, IsSomeAnd, Result, Ok, Err, refl, sym, ap, subst, ◌∙◌}
 use Rattle.std.specs.Io.BufRead.{take_through, drop_through}
 use Rattle.std.specs.List.{concat}
 use Rattle.std.specs.Result.{result_map_both}
 use Rattle.lsp_message.specs.Gathering.{EndsLine}
-use Rattle.lsp_message.specs.HeaderPart.{header_line, is_field, fields, after_fields, length_in, or_else, content_length, at_last_line, header_end, header_of, lines, onto_first}
+use Rattle.lsp_message.specs.HeaderPart.{header_line, is_field, fields, after_fields, length_in, or_else}
+use Rattle.lsp_message.specs.HeaderPart.{content_length, at_last_line, header_end, header_of, lines, onto_first}
 use Rattle.lsp_message.specs.Reading.{Reading, StopsWithin, StopsBefore}
 use Rattle.lsp_message.specs.ReadingSteps.{AnswersHeader, first_line}
 use Rattle.lsp_message.specs.declared.frame.ReadFault.{ReadFault}
@@ -12,7 +14,8 @@ use Rattle.lsp_message.specs.declared.frame.ReadFault.TheVariants.{Input, Memory
 use Rattle.lsp_message.specs.declared.frame.header.HeaderLine.{HeaderLine}
 use Rattle.lsp_message.specs.declared.frame.header.HeaderLine.TheVariants.{Blank, Length, Other}
 use Rattle.lsp_message.proofs.KnownLines.{line_tested}
-use Rattle.lsp_message.proofs.Suffixes.{EndsIn, EndsIn-refl, EndsIn-append, StopsWithin-less, StopsWithin-start, StopsBefore-less}
+use Rattle.lsp_message.proofs.Suffixes.{EndsIn, EndsIn-refl, EndsIn-append, StopsWithin-less, StopsWithin-start}
+use Rattle.lsp_message.proofs.Suffixes.{StopsBefore-less}
 
 -- the first line is what stands up to the first line feed
 pub lines-split : (b : ℕ) (bs : List ℕ) → lines (b ∷ bs) ≡ take_through 10 (b ∷ bs) ∷ lines (drop_through 10 (b ∷ bs))
@@ -24,7 +27,8 @@ lines-split b [] = at (eqb b 10)
 lines-split b (c ∷ cs) = at (eqb b 10) (lines-split c cs)
   where
     at : (t : Bool) → lines (c ∷ cs) ≡ take_through 10 (c ∷ cs) ∷ lines (drop_through 10 (c ∷ cs))
-        → cond t ((b ∷ []) ∷ lines (c ∷ cs)) (onto_first b (lines (c ∷ cs))) ≡ cond t (b ∷ []) (b ∷ take_through 10 (c ∷ cs)) ∷ lines (cond t (c ∷ cs) (drop_through 10 (c ∷ cs)))
+        → cond t ((b ∷ []) ∷ lines (c ∷ cs)) (onto_first b (lines (c ∷ cs))) ≡ cond t (b ∷ []) (b ∷ take_through 10 (c
+        ∷ cs)) ∷ lines (cond t (c ∷ cs) (drop_through 10 (c ∷ cs)))
     at true later = refl
     at false later = ap (onto_first b) later
 
@@ -43,7 +47,8 @@ concat-lines (b ∷ bs) = at (eqb b 10) (concat-lines bs)
 
 -- what the header part comes to after fields with this length
 abbrev pub header_after : Option ℕ → List ℕ → Reading ℕ
-header_after length text = header_end (or_else (content_length (fields (lines text))) length) (after_fields (lines text))
+header_after length text = header_end (or_else (content_length (fields (lines text))) length)
+    (after_fields (lines text))
 
 pub or_else-none : (a : Option ℕ) → or_else a None ≡ a
 or_else-none None = refl
@@ -56,17 +61,20 @@ or_else-assoc (Some n) b c = refl
 pub header_after-none : (text : List ℕ) → header_of text ≡ header_after None text
 header_after-none text = ap (λ n. header_end n (after_fields (lines text))) (sym (or_else-none _))
 
-pub after_field : (length : Option ℕ) (b : ℕ) (bs : List ℕ) (line : Result HeaderLine ReadFault) → header_line (take_through 10 (b ∷ bs)) ≡ line → is_field line ≡ true
+pub after_field : (length : Option ℕ) (b : ℕ) (bs : List ℕ) (line : Result HeaderLine ReadFault)
+    → header_line (take_through 10 (b ∷ bs)) ≡ line → is_field line ≡ true
     → header_after length (b ∷ bs) ≡ header_after (or_else (length_in line) length) (drop_through 10 (b ∷ bs))
 after_field length b bs line is goes =
     let first = take_through 10 (b ∷ bs) in
     let more = lines (drop_through 10 (b ∷ bs)) in
     let holds : is_field (header_line first) ≡ true = ap is_field is ∙ goes in
     ap (λ ls. header_end (or_else (content_length (fields ls)) length) (after_fields ls)) (lines-split b bs)
-    ∙ (rw (holds) (ap (λ n. header_end n (after_fields more)) (or_else-assoc (content_length (fields more)) (length_in (header_line first)) length
+    ∙ (rw (holds) (ap (λ n. header_end n (after_fields more)) (or_else-assoc (content_length (fields more))
+    (length_in (header_line first)) length
     ∙ ap (λ l. or_else (content_length (fields more)) (or_else (length_in l) length)) is)))
 
-pub at_line : (length : Option ℕ) (b : ℕ) (bs : List ℕ) (line : Result HeaderLine ReadFault) → header_line (take_through 10 (b ∷ bs)) ≡ line → is_field line ≡ false
+pub at_line : (length : Option ℕ) (b : ℕ) (bs : List ℕ) (line : Result HeaderLine ReadFault)
+    → header_line (take_through 10 (b ∷ bs)) ≡ line → is_field line ≡ false
     → header_after length (b ∷ bs) ≡ record { outcome = at_last_line length line; rest = drop_through 10 (b ∷ bs) }
 at_line length b bs line is stops =
     let first = take_through 10 (b ∷ bs) in
@@ -78,7 +86,8 @@ at_line length b bs line is stops =
 -- lines, and what is left of the header part that they begin
 header_end-rest : (n : Option ℕ) (ls : List (List ℕ)) → EndsIn (concat ls) (header_end n (after_fields ls)).rest
 header_end-rest n [] = EndsIn-refl []
-header_end-rest n (line ∷ more) = EndsIn-append line (concat more) _ (at (is_field (header_line line)) (header_end-rest n more))
+header_end-rest n (line ∷ more) = EndsIn-append line (concat more) _ (at (is_field (header_line line)) (header_end-rest
+    n more))
   where
     at : (t : Bool) → EndsIn (concat more) (header_end n (after_fields more)).rest
         → EndsIn (concat more) (header_end n (cond t (after_fields more) (line ∷ more))).rest
@@ -87,14 +96,17 @@ header_end-rest n (line ∷ more) = EndsIn-append line (concat more) _ (at (is_f
 
 pub header_after-rest : (length : Option ℕ) (text : List ℕ) → EndsIn text (header_after length text).rest
 header_after-rest length text =
-    subst (λ l. EndsIn l (header_after length text).rest) (concat-lines text) (header_end-rest (or_else (content_length (fields (lines text))) length) (lines text))
+    subst (λ l. EndsIn l (header_after length text).rest) (concat-lines text) (header_end-rest
+    (or_else (content_length (fields (lines text))) length) (lines text))
 
 -- what the header part leaves follows its first line
-pub header_after-line : (length : Option ℕ) (text : List ℕ) → EndsIn (first_line text).rest (header_after length text).rest
+pub header_after-line : (length : Option ℕ) (text : List ℕ) → EndsIn (first_line text).rest (header_after length
+    text).rest
 header_after-line length [] = EndsIn-refl []
 header_after-line length (b ∷ bs) = at (is_field (header_line (take_through 10 (b ∷ bs)))) refl
   where
-    at : (t : Bool) → is_field (header_line (take_through 10 (b ∷ bs))) ≡ t → EndsIn (drop_through 10 (b ∷ bs)) (header_after length (b ∷ bs)).rest
+    at : (t : Bool) → is_field (header_line (take_through 10 (b ∷ bs))) ≡ t → EndsIn (drop_through 10 (b ∷ bs))
+        (header_after length (b ∷ bs)).rest
     at true is = rw (after_field length b bs _ refl is) (header_after-rest _ (drop_through 10 (b ∷ bs)))
     at false is = rw (at_line length b bs _ refl is) (EndsIn-refl _)
 
@@ -103,7 +115,8 @@ abbrev pub Continues : Option (List ℕ) → Option (List ℕ) → Option ℕ �
 Continues a b length = IfSome a (λ text. IsSomeAnd b (λ left. header_of text ≡ header_after length left))
 
 -- a fault that is the reading's, or the reader's
-line_fault : {X A : Type 0} (view : X → A) (fault : ReadFault) (left : Option (List ℕ)) (reading : Reading A) → fault ≢ Memory → reading.outcome ≡ Err fault → left ≡ Some reading.rest
+line_fault : {X A : Type 0} (view : X → A) (fault : ReadFault) (left : Option (List ℕ)) (reading : Reading A)
+    → fault ≢ Memory → reading.outcome ≡ Err fault → left ≡ Some reading.rest
     → AnswersHeader view (Err fault) left reading
 line_fault view (Input kind) left reading known outcome rest = ([], rest)
 line_fault view Memory left reading known outcome rest = absurd (known refl)
@@ -111,7 +124,8 @@ line_fault view fault left reading known outcome rest = (outcome, rest)
 
 module _ (given : Option ℕ) where
   -- the input ends at a line's start
-  pub at_input_end : (a b c : Option (List ℕ)) → Continues a b given → IfSome b (λ left. AnswersHeader (λ line. line) (Ok None) c (first_line left))
+  pub at_input_end : (a b c : Option (List ℕ)) → Continues a b given → IfSome b (λ left. AnswersHeader (λ line. line)
+      (Ok None) c (first_line left))
       → IfSome a (λ text. AnswersHeader (λ n. n) (Ok None) c (header_of text))
   at_input_end None b c same line = tt
   at_input_end (Some text) None c same line = absurd same
@@ -122,21 +136,26 @@ module _ (given : Option ℕ) where
       never (Ok line) is = cc
       never (Err fault) is = cc
 
-  found_line : (r : Result HeaderLine ReadFault) (line : HeaderLine) → result_map_both Some (λ fault. fault) r ≡ Ok (Some line) → r ≡ Ok line
+  found_line : (r : Result HeaderLine ReadFault) (line : HeaderLine) → result_map_both Some (λ fault. fault) r
+      ≡ Ok (Some line) → r ≡ Ok line
   found_line (Ok line) last is = cc
   found_line (Err fault) last is = cc
 
   -- a field
-  pub at_field : (line : HeaderLine) (a b c : Option (List ℕ)) → is_field (Ok line) ≡ true → Continues a b given → IfSome b (λ left. AnswersHeader (λ line. line) (Ok (Some line)) c (first_line left))
+  pub at_field : (line : HeaderLine) (a b c : Option (List ℕ)) → is_field (Ok line) ≡ true → Continues a b given
+      → IfSome b (λ left. AnswersHeader (λ line. line) (Ok (Some line)) c (first_line left))
       → Continues a c (or_else (length_in (Ok line)) given)
   at_field line None b c goes same read = tt
   at_field line (Some text) None c goes same read = absurd same
   at_field line (Some text) (Some []) c goes same read = absurd (cc (read.0))
-  at_field line (Some text) (Some (x ∷ xs)) c goes same read = rw (read.1) (same ∙ after_field given x xs (Ok line) (found_line _ line read.0) goes)
+  at_field line (Some text) (Some (x ∷ xs)) c goes same read = rw (read.1) (same ∙ after_field given x xs (Ok line)
+      (found_line _ line read.0) goes)
 
   -- a bad line, or the blank one
-  pub at_last : (line : Result HeaderLine ReadFault) (a b c : Option (List ℕ)) → is_field line ≡ false → Continues a b given
-      → IfSome b (λ left. ((first_line left).outcome ≡ result_map_both Some (λ fault. fault) line) × (c ≡ Some (first_line left).rest))
+  pub at_last : (line : Result HeaderLine ReadFault) (a b c : Option (List ℕ)) → is_field line ≡ false
+      → Continues a b given
+      → IfSome b (λ left. ((first_line left).outcome ≡ result_map_both Some (λ fault. fault) line)
+      × (c ≡ Some (first_line left).rest))
       → IfSome a (λ text. ((header_of text).outcome ≡ at_last_line given line) × (c ≡ Some (header_of text).rest))
   at_last line None b c stops same read = tt
   at_last line (Some text) None c stops same read = absurd same
@@ -149,50 +168,63 @@ module _ (given : Option ℕ) where
       let reading = same ∙ at_line given x xs line (same_line _ line read.0) stops in
       (ap (λ r. r.outcome) reading, read.1 ∙ ap (λ r. Some r.rest) (sym reading))
     where
-      same_line : (r s : Result HeaderLine ReadFault) → result_map_both Some (λ fault. fault) r ≡ result_map_both Some (λ fault. fault) s → r ≡ s
+      same_line : (r s : Result HeaderLine ReadFault) → result_map_both Some (λ fault. fault) r ≡ result_map_both Some
+          (λ fault. fault) s → r ≡ s
       same_line (Ok r) (Ok s) is = cc
       same_line (Ok r) (Err s) is = cc
       same_line (Err r) (Ok s) is = cc
       same_line (Err r) (Err s) is = cc
 
 -- a line that was gathered and tested
-pub line_read : (a c : Option (List ℕ)) (gathered : List ℕ) (r : Result HeaderLine ReadFault) → EndsLine [] a gathered c → (length gathered ≡ 0 → ⊥) → r ≡ header_line gathered
+pub line_read : (a c : Option (List ℕ)) (gathered : List ℕ) (r : Result HeaderLine ReadFault) → EndsLine [] a gathered c
+    → (length gathered ≡ 0 → ⊥) → r ≡ header_line gathered
     → IfSome a (λ text. AnswersHeader (λ line. line) (result_map_both Some (λ fault. fault) r) c (first_line text))
 line_read None c gathered r ends some is = tt
 line_read (Some []) c gathered r ends some is = absurd (some (ap length ends.0))
-line_read (Some (x ∷ xs)) c gathered (Ok line) ends some is = (ap (result_map_both Some (λ fault. fault)) (sym (is ∙ ap header_line ends.0)), ends.1)
+line_read (Some (x ∷ xs)) c gathered (Ok line) ends some is = (
+  ap (result_map_both Some (λ fault. fault))
+      (sym (is ∙ ap header_line ends.0)),
+  ends.1,
+)
 line_read (Some (x ∷ xs)) c gathered (Err fault) ends some is =
-    line_fault (λ line. line) fault c (first_line (x ∷ xs)) (λ memory. line_tested gathered (sym is ∙ ap Err memory)) (ap (result_map_both Some (λ fault. fault)) (sym (is ∙ ap header_line ends.0))) ends.1
+    line_fault (λ line. line) fault c (first_line (x ∷ xs)) (λ memory. line_tested gathered (sym is ∙ ap Err memory))
+    (ap (result_map_both Some (λ fault. fault)) (sym (is ∙ ap header_line ends.0))) ends.1
 
 -- nothing after the line was taken
-at_stop : (given : Option ℕ) (a b c : Option (List ℕ)) → Continues a b given → IfSome b (λ left. StopsWithin c (first_line left)) → IfSome a (λ text. StopsWithin c (header_of text))
+at_stop : (given : Option ℕ) (a b c : Option (List ℕ)) → Continues a b given → IfSome b (λ left. StopsWithin c
+    (first_line left)) → IfSome a (λ text. StopsWithin c (header_of text))
 at_stop given None b c same read = tt
 at_stop given (Some text) None c same read = absurd same
 at_stop given (Some text) (Some left) c same read =
     rw (same) (StopsWithin-less c (first_line left) (header_after given left) read (header_after-line given left))
 
 -- a byte of the line at least was not taken
-at_break : (given : Option ℕ) (a b c : Option (List ℕ)) → Continues a b given → IfSome b (λ left. StopsBefore c (first_line left)) → IfSome a (λ text. StopsBefore c (header_of text))
+at_break : (given : Option ℕ) (a b c : Option (List ℕ)) → Continues a b given → IfSome b (λ left. StopsBefore c
+    (first_line left)) → IfSome a (λ text. StopsBefore c (header_of text))
 at_break given None b c same read = tt
 at_break given (Some text) None c same read = absurd same
 at_break given (Some text) (Some left) c same read =
     rw (same) (StopsBefore-less c (first_line left) (header_after given left) read (header_after-line given left))
 
 -- the header part was not read to its end
-pub Continues-stops : (a b : Option (List ℕ)) (given : Option ℕ) → Continues a b given → IfSome a (λ text. StopsWithin b (header_of text))
+pub Continues-stops : (a b : Option (List ℕ)) (given : Option ℕ) → Continues a b given → IfSome a (λ text. StopsWithin b
+    (header_of text))
 Continues-stops None b given same = tt
 Continues-stops (Some text) None given same = absurd same
-Continues-stops (Some text) (Some left) given same = rw (same) (StopsWithin-start left (header_after given left) (header_after-rest given left))
+Continues-stops (Some text) (Some left) given same = rw (same) (StopsWithin-start left (header_after given left)
+    (header_after-rest given left))
 
 -- the line was refused
-pub at_fault : (given : Option ℕ) (fault : ReadFault) (a b c : Option (List ℕ)) → Continues a b given → IfSome b (λ left. AnswersHeader (λ line. line) (Err fault) c (first_line left))
+pub at_fault : (given : Option ℕ) (fault : ReadFault) (a b c : Option (List ℕ)) → Continues a b given
+    → IfSome b (λ left. AnswersHeader (λ line. line) (Err fault) c (first_line left))
     → IfSome a (λ text. AnswersHeader (λ n. n) (Err fault) c (header_of text))
 at_fault given (Input kind) a b c same read = at_stop given a b c same read
 at_fault given Memory a b c same read = at_break given a b c same read
 at_fault given fault a b c same read = at_last given (Err fault) a b c refl same read
 
 -- the blank line
-pub at_blank : (given : Option ℕ) (a b c : Option (List ℕ)) → Continues a b given → IfSome b (λ left. AnswersHeader (λ line. line) (Ok (Some Blank)) c (first_line left))
+pub at_blank : (given : Option ℕ) (a b c : Option (List ℕ)) → Continues a b given → IfSome b (λ left. AnswersHeader
+    (λ line. line) (Ok (Some Blank)) c (first_line left))
     → IfSome a (λ text. AnswersHeader (λ n. n) (at_last_line given (Ok Blank)) c (header_of text))
 at_blank None a b c same read = at_last None (Ok Blank) a b c refl same read
 at_blank (Some n) a b c same read = at_last (Some n) (Ok Blank) a b c refl same read
@@ -201,7 +233,8 @@ at_blank (Some n) a b c same read = at_last (Some n) (Ok Blank) a b c refl same 
 abbrev pub Next : Option ℕ → Option (List ℕ) → Option (List ℕ) → Result (Option HeaderLine) ReadFault → Type 0
 Next given a c (Err fault) = IfSome a (λ text. AnswersHeader (λ n. n) (Err fault) c (header_of text))
 Next given a c (Ok None) = IfSome a (λ text. AnswersHeader (λ n. n) (Ok None) c (header_of text))
-Next given a c (Ok (Some Blank)) = IfSome a (λ text. AnswersHeader (λ n. n) (at_last_line given (Ok Blank)) c (header_of text))
+Next given a c (Ok (Some Blank)) = IfSome a (λ text. AnswersHeader (λ n. n) (at_last_line given (Ok Blank)) c
+    (header_of text))
 Next given a c (Ok (Some (Length n))) = Continues a c (Some n)
 Next given a c (Ok (Some Other)) = Continues a c given
 

@@ -16,7 +16,8 @@ pub same_is : (a b : Id) → same_id a b ≡ true → a ≡ b
 same_is a b e = (id_decides a b).0 e
 
 pub cases_id : (a b : Id) → (a ≡ b) ⊎ (a ≢ b)
-cases_id a b = ⊎_elim (λ e. inl (same_is a b e)) (λ e. inr (λ same. true≢false (sym ((id_decides a b).1 same) ∙ e))) (cases_Bool (same_id a b))
+cases_id a b = ⊎_elim (λ e. inl (same_is a b e)) (λ e. inr (λ same. true≢false (sym ((id_decides a b).1 same) ∙ e)))
+    (cases_Bool (same_id a b))
 
 -- the tree of an id has no levels
 pub id_flat : (i : Id) → depth (id_tree i) ≡ 0

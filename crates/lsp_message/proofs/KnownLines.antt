@@ -1,5 +1,7 @@
 -- What a test of a header line can give: a length of 64 bits, or a fault of the line itself.
-use Rattle.std.proofs.Common.{◌≡◌, ◌≢◌, ℕ, ◌-◌, ◌^◌, ◌<◌, ◌≤◌, nat_lt, Bool, true, false, not, ◌&&◌, cond, nat_eq, List, [], ◌∷◌, length, take, codes, option_map, Option, Some, None, Result, Ok, Err, refl, subst, arith}
+use Rattle.std.proofs.Common.{◌≡◌, ◌≢◌, ℕ, ◌-◌, ◌^◌, ◌<◌, ◌≤◌, nat_lt, Bool, true, false, not, ◌&&◌, cond, nat_eq, List}
+use Rattle.std.proofs.Common.{[], ◌∷◌, length, take, codes, option_map, Option, Some, None, Result, Ok, Err, refl}
+use Rattle.std.proofs.Common.{subst, arith}
 use Rattle.std.proofs.lemmas.Bool.{ltb-true}
 use Rattle.std.specs.List.{ends_with}
 use Rattle.std.specs.Option.{ok_or}
@@ -7,9 +9,12 @@ use Rattle.std.specs.Str.{is_utf8, all_ascii_digits}
 use Rattle.std.specs.declared.io.ErrorKind.{ErrorKind}
 use Rattle.std.specs.Str.Parse.{without_leading_plus, digits_value}
 use Rattle.lsp_message.specs.Limits.{most_content}
-use Rattle.lsp_message.specs.HeaderPart.{number, name_and_value, same_name, field, parted, header_text, header_line, fields, after_fields, length_in, or_else, content_length, at_last_line, header_end, header_of, lines}
+use Rattle.lsp_message.specs.HeaderPart.{number, name_and_value, same_name, field, parted, header_text, header_line}
+use Rattle.lsp_message.specs.HeaderPart.{fields, after_fields, length_in, or_else, content_length, at_last_line}
+use Rattle.lsp_message.specs.HeaderPart.{header_end, header_of, lines}
 use Rattle.lsp_message.specs.declared.frame.ReadFault.{ReadFault}
-use Rattle.lsp_message.specs.declared.frame.ReadFault.TheVariants.{Input, LineNotText, LineEnd, NoSeparator, BadLength, Memory, TooLong}
+use Rattle.lsp_message.specs.declared.frame.ReadFault.TheVariants.{Input, LineNotText, LineEnd, NoSeparator, BadLength}
+use Rattle.lsp_message.specs.declared.frame.ReadFault.TheVariants.{Memory, TooLong}
 use Rattle.lsp_message.specs.declared.frame.header.HeaderLine.{HeaderLine}
 use Rattle.lsp_message.specs.declared.frame.header.HeaderLine.TheVariants.{Blank, Length, Other}
 
@@ -34,7 +39,8 @@ IsKnownLength (Some n) = n ≤ most_content
 number_known : (value : List ℕ) → IsKnownLength (number value)
 number_known value =
     let digits = without_leading_plus value in
-    at (nat_lt 0 (length digits)) (all_ascii_digits digits) (nat_lt (digits_value 10 digits) (2 ^ 64)) (digits_value 10 digits) (λ below. ltb-true _ _ below)
+    at (nat_lt 0 (length digits)) (all_ascii_digits digits) (nat_lt (digits_value 10 digits) (2 ^ 64)) (digits_value 10
+    digits) (λ below. ltb-true _ _ below)
   where
     at : (a b c : Bool) (n : ℕ) → (c ≡ true → n < 2 ^ 64) → IsKnownLength (cond (a && (b && c)) (Some n) None)
     at true true true n small = let below = small refl in omega arith
@@ -45,7 +51,8 @@ number_known value =
 field_known : (name value : List ℕ) → IsKnownLine (field name value)
 field_known name value = at (same_name name (codes "Content-Length")) (number value) (number_known value)
   where
-    at : (t : Bool) (n : Option ℕ) → IsKnownLength n → IsKnownLine (cond t (ok_or (option_map Length n) BadLength) (Ok Other))
+    at : (t : Bool) (n : Option ℕ) → IsKnownLength n → IsKnownLine (cond t (ok_or (option_map Length n) BadLength)
+        (Ok Other))
     at true None known = tt
     at true (Some n) known = known
     at false n known = tt
@@ -61,7 +68,8 @@ text_known (c ∷ text) = at (name_and_value (c ∷ text))
 line_known : (line : List ℕ) → IsKnownLine (header_line line)
 line_known line = at (not (is_utf8 line)) (not (ends_with nat_eq line (13 ∷ 10 ∷ [])))
   where
-    at : (s t : Bool) → IsKnownLine (cond s (Err LineNotText) (cond t (Err LineEnd) (header_text (take (length line - 2) line))))
+    at : (s t : Bool) → IsKnownLine (cond s (Err LineNotText) (cond t (Err LineEnd) (header_text (take (length line - 2)
+        line))))
     at true t = tt
     at false true = tt
     at false false = text_known (take (length line - 2) line)
@@ -78,7 +86,8 @@ lengths_known : (ls : List (List ℕ)) → IsKnownLength (content_length ls)
 lengths_known [] = tt
 lengths_known (line ∷ more) = at (content_length more) (header_line line) (lengths_known more) (line_known line)
   where
-    at : (n : Option ℕ) (r : Result HeaderLine ReadFault) → IsKnownLength n → IsKnownLine r → IsKnownLength (or_else n (length_in r))
+    at : (n : Option ℕ) (r : Result HeaderLine ReadFault) → IsKnownLength n → IsKnownLine r
+        → IsKnownLength (or_else n (length_in r))
     at (Some n) r later known = later
     at None (Ok Blank) later known = tt
     at None (Ok (Length n)) later known = known
@@ -91,9 +100,11 @@ IsKnownHeader (Err fault) = fault ≢ TooLong
 
 -- a header part gives a length of 64 bits, and compares it with no limit
 pub header_known : (text : List ℕ) → IsKnownHeader (header_of text).outcome
-header_known text = at (content_length (fields (lines text))) (after_fields (lines text)) (lengths_known (fields (lines text)))
+header_known text = at (content_length (fields (lines text))) (after_fields (lines text)) (lengths_known
+    (fields (lines text)))
   where
-    last : (n : Option ℕ) (r : Result HeaderLine ReadFault) → IsKnownLength n → IsKnownLine r → IsKnownHeader (at_last_line n r)
+    last : (n : Option ℕ) (r : Result HeaderLine ReadFault) → IsKnownLength n → IsKnownLine r
+        → IsKnownHeader (at_last_line n r)
     last n (Err fault) given known = λ long. subst IsOfLine long known
     last None (Ok line) given known = λ long. cc
     last (Some n) (Ok line) given known = given

@@ -1,5 +1,6 @@
 -- The value of a numeral is what `parse` gives.
-use Rattle.std.proofs.Common.{◌≡◌, ℕ, zero, suc, ◌<◌, ◌^◌, Bool, true, false, ◌&&◌, cond, eqb, eqb-true, List, [], ◌∷◌, length, drop, Some, None, Result, Ok, Err, refl, sym, ap, arith}
+use Rattle.std.proofs.Common.{◌≡◌, ℕ, zero, suc, ◌<◌, ◌^◌, Bool, true, false, ◌&&◌, cond, eqb, eqb-true, List, [], ◌∷◌}
+use Rattle.std.proofs.Common.{length, drop, Some, None, Result, Ok, Err, refl, sym, ap, arith}
 use Rattle.std.proofs.lemmas.Bool.{ltb-true, lt-ltb}
 use Rattle.std.proofs.lemmas.Fmt.{IsAscii-from_digits}
 use Rattle.std.proofs.lemmas.Str.{IsUtf8-from_ascii, IsUtf8-nil, IsUtf8-append}
@@ -13,7 +14,8 @@ pub own : IsNumeralModel (λ ds. all_ascii_digits ds ≡ true) (digits_value 10)
 own = numerals_by_value _ tells_all_ascii_digits
 
 -- a test of three that can't all hold
-some_fails : {X : Type 0} (a b c : Bool) (x : X) → (a ≡ true → b ≡ true → c ≡ true → ⊥) → cond (a && (b && c)) (Some x) None ≡ None
+some_fails : {X : Type 0} (a b c : Bool) (x : X) → (a ≡ true → b ≡ true → c ≡ true → ⊥) → cond (a && (b && c)) (Some x)
+    None ≡ None
 some_fails true true true x never = absurd (never refl refl refl)
 some_fails true true false x never = refl
 some_fails true false c x never = refl
@@ -42,7 +44,8 @@ text_with_plus (c ∷ cs) h = at (eqb c 43) refl h
     at : (b : Bool) → eqb c 43 ≡ b → AllDigits 10 (drop (cond b 1 0) (c ∷ cs)) → IsUtf8 (c ∷ cs)
     at true e h =
         let plus = eqb-true c 43 e in
-        IsUtf8-append (c ∷ []) cs (IsUtf8-from_ascii (c ∷ []) (one_ascii c (omega arith))) (IsUtf8-from_ascii cs (IsAscii-from_digits cs h))
+        IsUtf8-append (c ∷ []) cs (IsUtf8-from_ascii (c ∷ []) (one_ascii c (omega arith))) (IsUtf8-from_ascii cs
+        (IsAscii-from_digits cs h))
     at false e h = IsUtf8-from_ascii (c ∷ cs) (IsAscii-from_digits (c ∷ cs) h)
 
 pub number-no_text : (bs : List ℕ) → ¬ IsUtf8 bs → None ≡ number bs

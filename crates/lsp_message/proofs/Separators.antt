@@ -1,5 +1,7 @@
 -- The name and the value of a field, from the first place of ": ".
-use Rattle.std.proofs.Common.{◌≡◌, ℕ, zero, suc, ◌+◌, ◌<◌, Bool, true, false, ◌&&◌, eqb, eq-eqb, eqb-true, List, [], ◌∷◌, length, take, drop, get_or, Option, Some, None, option_map, refl, sym, ap, ◌∙◌, arith, true≢false}
+use Rattle.std.proofs.Common.{◌≡◌, ℕ, zero, suc, ◌+◌, ◌<◌, Bool, true, false, ◌&&◌, eqb, eq-eqb, eqb-true, List, []}
+use Rattle.std.proofs.Common.{◌∷◌, length, take, drop, get_or, Option, Some, None, option_map, refl, sym, ap, ◌∙◌}
+use Rattle.std.proofs.Common.{arith, true≢false}
 use Rattle.memchr.specs.Find.{OccursAt, FindsNeedle}
 use Rattle.lsp_message.specs.HeaderPart.{name_and_value, parted, header_text}
 
@@ -9,13 +11,15 @@ separator = 58 ∷ 32 ∷ []
 shorter : (c : ℕ) (text : List ℕ) (k : ℕ) → OccursAt (c ∷ text) separator (suc k) → OccursAt text separator k
 shorter c text k h = record {
   fits = omega (arith, h.fits);
-  reads = λ j below. let same : suc k + j ≡ suc (k + j) = omega arith in ap (λ i. get_or (c ∷ text) i 0) (sym same) ∙ h.reads j below;
+  reads = λ j below. let same : suc k + j ≡ suc (k + j) = omega arith in ap (λ i. get_or (c ∷ text) i 0) (sym same)
+      ∙ h.reads j below;
 }
 
 longer : (c : ℕ) (text : List ℕ) (k : ℕ) → OccursAt text separator k → OccursAt (c ∷ text) separator (suc k)
 longer c text k h = record {
   fits = omega (arith, h.fits);
-  reads = λ j below. let same : suc k + j ≡ suc (k + j) = omega arith in ap (λ i. get_or (c ∷ text) i 0) same ∙ h.reads j below;
+  reads = λ j below. let same : suc k + j ≡ suc (k + j) = omega arith in ap (λ i. get_or (c ∷ text) i 0) same
+      ∙ h.reads j below;
 }
 
 first_two : (c d : ℕ) (text : List ℕ) → c ≡ 58 → d ≡ 32 → OccursAt (c ∷ d ∷ text) separator 0
@@ -48,7 +52,8 @@ parted_at (c ∷ d ∷ text) zero h before =
     rw (colon, space) refl
 parted_at (c ∷ d ∷ text) (suc k) h before =
     let other = not_first c d text (before 0 (omega arith)) in
-    let later = parted_at (d ∷ text) k (shorter c (d ∷ text) k h) (λ j below at. before (suc j) (omega arith) (longer c (d ∷ text) j at)) in
+    let later = parted_at (d ∷ text) k (shorter c (d ∷ text) k h) (λ j below at. before (suc j) (omega arith)
+    (longer c (d ∷ text) j at)) in
     let same : suc k + 2 ≡ suc (k + 2) = omega arith in
     rw (other, later, same) refl
 

@@ -1,5 +1,8 @@
 -- What a reader shows of the bytes that it has left, and what a line takes of it.
-use Rattle.std.proofs.Common.{◌≡◌, ◌≢◌, ℕ, zero, suc, ◌+◌, ◌<◌, ◌≤◌, eqb, eq-eqb, ne_eqb, Bool, true, false, true≢false, List, [], ◌∷◌, ◌++◌, length, take, drop, get_or, get_or-take, take-take, take_all, length-take, length-take-le, append_assoc, le_refl, eqb-true, All, Option, Some, None, IfSome, OnSome, Result, Ok, Bor, refl, sym, ap, subst, ◌∙◌, arith}
+use Rattle.std.proofs.Common.{◌≡◌, ◌≢◌, ℕ, zero, suc, ◌+◌, ◌<◌, ◌≤◌, eqb, eq-eqb, ne_eqb, Bool, true, false, true≢false}
+use Rattle.std.proofs.Common.{List, [], ◌∷◌, ◌++◌, length, take, drop, get_or, get_or-take, take-take, take_all}
+use Rattle.std.proofs.Common.{length-take, length-take-le, append_assoc, le_refl, eqb-true, All, Option, Some, None}
+use Rattle.std.proofs.Common.{IfSome, OnSome, Result, Ok, Bor, refl, sym, ap, subst, ◌∙◌, arith}
 use Rattle.std.proofs.lemmas.List.{get_or_default}
 use Rattle.std.specs.Io.{StartsWith}
 use Rattle.std.specs.Io.BufRead.{take_through, drop_through, FillKeeps, DropsConsumable}
@@ -21,23 +24,27 @@ take_through-at (x ∷ xs) (suc k) within at before =
     (rw (miss, later.0, same) refl, rw (miss, later.1, same) refl)
 
 -- what `fill_buf` keeps, at the slice that it shows
-pub kept_shown : {E : Type 0} (a b : Option (List ℕ)) (limit : Option ℕ) (r : Result (Bor (List ℕ)) E) (s : Bor (List ℕ)) → r ≡ Ok s
+pub kept_shown : {E : Type 0} (a b : Option (List ℕ)) (limit : Option ℕ) (r : Result (Bor (List ℕ)) E)
+    (s : Bor (List ℕ)) → r ≡ Ok s
     → FillKeeps a b limit r → Keeps a b × IfSome a (λ _. IfSome limit (λ n. length s.now ≤ n))
 kept_shown a b limit r s is kept = subst (FillKeeps a b limit) is kept
 
 -- a reader that kept its bytes while it showed some, and then gave n of these
 pub dropped : (a b c : Option (List ℕ)) (limit : Option ℕ) (shown : List ℕ) (n : ℕ) → n ≤ length shown → Keeps a b
-    → IfSome a (λ _. IfSome limit (λ k. length shown ≤ k)) → DropsConsumable b c limit n → IfSome a (λ xs. c ≡ Some (drop n xs))
+    → IfSome a (λ _. IfSome limit (λ k. length shown ≤ k)) → DropsConsumable b c limit n → IfSome a (λ xs. c
+    ≡ Some (drop n xs))
 dropped None b c limit shown n within kept fits drops = tt
 dropped (Some x) None c limit shown n within kept fits drops = absurd kept
-dropped (Some x) (Some y) c limit shown n within kept fits drops = drops (room limit fits) ∙ ap (λ l. Some (drop n l)) kept
+dropped (Some x) (Some y) c limit shown n within kept fits drops = drops (room limit fits) ∙ ap (λ l. Some (drop n l))
+    kept
   where
     room : (o : Option ℕ) → IfSome o (λ k. length shown ≤ k) → IfSome o (λ k. n ≤ k)
     room None h = tt
     room (Some k) h = omega arith
 
 -- bytes are left, if some of them are shown
-pub shown_left : (a b : Option (List ℕ)) (shown : List ℕ) → Keeps a b → IfSome a (λ xs. StartsWith xs shown) → 0 < length shown → OnSome a (LeavesSome b)
+pub shown_left : (a b : Option (List ℕ)) (shown : List ℕ) → Keeps a b → IfSome a (λ xs. StartsWith xs shown)
+    → 0 < length shown → OnSome a (LeavesSome b)
 shown_left None b shown kept front some = tt
 shown_left (Some xs) None shown kept front some = absurd kept
 shown_left (Some xs) (Some ys) shown kept front some = λ none.
@@ -68,23 +75,32 @@ module _ (shown xs : List ℕ) (front : StartsWith xs shown) where
 
   -- no line feed is shown
   pub past_shown : IsFirstByte (is_byte 10) shown None
-      → (take_through 10 xs ≡ shown ++ take_through 10 (drop (length shown) xs)) × (drop_through 10 xs ≡ drop_through 10 (drop (length shown) xs))
+      → (take_through 10 xs ≡ shown ++ take_through 10 (drop (length shown) xs)) × (drop_through 10 xs
+      ≡ drop_through 10 (drop (length shown) xs))
   past_shown nowhere =
       let split = starts_with_rest xs shown front in
-      let none : All (λ x. x ≢ 10) shown = λ j d below is. nowhere j (omega arith) below (eq-eqb _ _ (get_or_default shown j 0 d below ∙ is)) in
-      (ap (take_through 10) split ∙ take_through-append 10 shown _ none, ap (drop_through 10) split ∙ drop_through-append 10 shown _ none)
+      let none : All (λ x. x ≢ 10) shown = λ j d below is. nowhere j (omega arith) below
+      (eq-eqb _ _ (get_or_default shown j 0 d below ∙ is)) in (
+        ap (take_through 10) split ∙ take_through-append 10 shown _ none,
+        ap (drop_through 10) split
+            ∙ drop_through-append 10 shown _ none,
+      )
 
 -- the first bytes of what is shown are shown
-pub front_shown : (a : Option (List ℕ)) (shown : List ℕ) (most : ℕ) → most ≤ length shown → IfSome a (λ xs. StartsWith xs shown) → IfSome a (λ xs. StartsWith xs (take most shown))
+pub front_shown : (a : Option (List ℕ)) (shown : List ℕ) (most : ℕ) → most ≤ length shown
+    → IfSome a (λ xs. StartsWith xs shown) → IfSome a (λ xs. StartsWith xs (take most shown))
 front_shown None shown most within front = tt
-front_shown (Some xs) shown most within front = ap (λ n. take n xs) (length-take-le most shown within) ∙ sym (shown_take shown xs front most within)
+front_shown (Some xs) shown most within front = ap (λ n. take n xs) (length-take-le most shown within)
+    ∙ sym (shown_take shown xs front most within)
 
-pub end_shown : (a : Option (List ℕ)) (shown : List ℕ) (most : ℕ) → most ≤ length shown → (most ≡ 0 → length shown ≡ 0) → IfSome a (λ xs. length shown ≡ 0 → xs ≡ [])
+pub end_shown : (a : Option (List ℕ)) (shown : List ℕ) (most : ℕ) → most ≤ length shown → (most ≡ 0 → length shown ≡ 0)
+    → IfSome a (λ xs. length shown ≡ 0 → xs ≡ [])
     → IfSome a (λ xs. length (take most shown) ≡ 0 → xs ≡ [])
 end_shown None shown most within none end = tt
 end_shown (Some xs) shown most within none end = λ empty. end (none (sym (length-take-le most shown within) ∙ empty))
 
-pub fits_shown : (a : Option (List ℕ)) (limit : Option ℕ) (shown : List ℕ) (most : ℕ) → most ≤ length shown → IfSome a (λ _. IfSome limit (λ n. length shown ≤ n))
+pub fits_shown : (a : Option (List ℕ)) (limit : Option ℕ) (shown : List ℕ) (most : ℕ) → most ≤ length shown
+    → IfSome a (λ _. IfSome limit (λ n. length shown ≤ n))
     → IfSome a (λ _. IfSome limit (λ n. length (take most shown) ≤ n))
 fits_shown None limit shown most within fits = tt
 fits_shown (Some xs) None shown most within fits = tt
@@ -96,7 +112,8 @@ pub record IsLinePart (shown : List ℕ) (count : ℕ) (whole : Bool) : Type 0 w
   pub ended : whole ≡ true → (xs : List ℕ) → StartsWith xs shown → (length shown ≡ 0 → xs ≡ [])
       → (take_through 10 xs ≡ take count shown) × (drop_through 10 xs ≡ drop count xs)
   pub unended : whole ≡ false → (xs : List ℕ) → StartsWith xs shown
-      → (take_through 10 xs ≡ take count shown ++ take_through 10 (drop count xs)) × (drop_through 10 xs ≡ drop_through 10 (drop count xs))
+      → (take_through 10 xs ≡ take count shown ++ take_through 10 (drop count xs)) × (drop_through 10 xs
+      ≡ drop_through 10 (drop count xs))
 
 pub part_to_feed : (shown : List ℕ) (k : ℕ) → IsFirstByte (is_byte 10) shown (Some k) → IsLinePart shown (k + 1) true
 part_to_feed shown k first = record {
@@ -105,7 +122,8 @@ part_to_feed shown k first = record {
   unended = λ e. absurd (true≢false e);
 }
 
-pub part_with_no_feed : (shown : List ℕ) → IsFirstByte (is_byte 10) shown None → IsLinePart shown (length shown) (eqb (length shown) 0)
+pub part_with_no_feed : (shown : List ℕ) → IsFirstByte (is_byte 10) shown None → IsLinePart shown (length shown)
+    (eqb (length shown) 0)
 part_with_no_feed shown nowhere = record {
   within = le_refl _;
   ended = λ e xs front end.
@@ -115,11 +133,15 @@ part_with_no_feed shown nowhere = record {
         ap (drop_through 10) empty ∙ sym (ap (λ n. drop n []) none) ∙ sym (ap (drop (length shown)) empty),
       );
   unended = λ _ xs front.
-      let past = past_shown shown xs front nowhere in
-      (past.0 ∙ ap (λ l. l ++ take_through 10 (drop (length shown) xs)) (sym (take_all (length shown) shown (le_refl _))), past.1);
+      let past = past_shown shown xs front nowhere in (
+        past.0 ∙ ap (λ l. l ++ take_through 10 (drop (length shown) xs)) (sym (take_all (length shown) shown
+            (le_refl _))),
+        past.1,
+      );
 }
 
-module _ (a c : Option (List ℕ)) (old new shown : List ℕ) (count : ℕ) (whole : Bool) (part : IsLinePart shown count whole)
+module _ (a c : Option (List ℕ)) (old new shown : List ℕ) (count : ℕ) (whole : Bool) (part : IsLinePart shown count
+    whole)
     (taken : new ≡ old ++ take count shown) where
   pub line_ends : IfSome a (λ xs. StartsWith xs shown) → IfSome a (λ xs. length shown ≡ 0 → xs ≡ [])
       → IfSome a (λ xs. c ≡ Some (drop count xs)) → whole ≡ true → EndsLine old a new c
@@ -132,11 +154,17 @@ module _ (a c : Option (List ℕ)) (old new shown : List ℕ) (count : ℕ) (who
           let line = part.ended is xs front end in
           (taken ∙ ap (λ l. old ++ l) (sym line.0), left ∙ ap Some (sym line.1))
 
-  pub line_goes_on : IfSome a (λ xs. StartsWith xs shown) → IfSome a (λ xs. c ≡ Some (drop count xs)) → whole ≡ false → KeepsLine old a new c
+  pub line_goes_on : IfSome a (λ xs. StartsWith xs shown) → IfSome a (λ xs. c ≡ Some (drop count xs)) → whole ≡ false
+      → KeepsLine old a new c
   line_goes_on = at a
     where
-      at : (o : Option (List ℕ)) → IfSome o (λ xs. StartsWith xs shown) → IfSome o (λ xs. c ≡ Some (drop count xs)) → whole ≡ false → KeepsLine old o new c
+      at : (o : Option (List ℕ)) → IfSome o (λ xs. StartsWith xs shown) → IfSome o (λ xs. c ≡ Some (drop count xs))
+          → whole ≡ false → KeepsLine old o new c
       at None front left is = tt
       at (Some xs) front left is =
           let line = part.unended is xs front in
-          rw left (ap (λ l. l ++ take_through 10 (drop count xs)) taken ∙ append_assoc old _ _ ∙ ap (λ l. old ++ l) (sym line.0), sym line.1)
+          rw left (
+            ap (λ l. l ++ take_through 10 (drop count xs)) taken ∙ append_assoc old _ _ ∙ ap (λ l. old ++ l)
+                (sym line.0),
+            sym line.1,
+          )

@@ -13,7 +13,8 @@ TakesFront-kept (Some xs) (Some ys) kept = ([], sym kept)
 pub TakesFront-trans : (a b c : Option (List ℕ)) → TakesFront a b → TakesFront b c → TakesFront a c
 TakesFront-trans a b c first second = (_, Consumes-trans a b c _ _ first.1 second.1)
 
-pub KeepsLine-trans : (x : List ℕ) (a : Option (List ℕ)) (y : List ℕ) (b : Option (List ℕ)) (z : List ℕ) (c : Option (List ℕ))
+pub KeepsLine-trans : (x : List ℕ) (a : Option (List ℕ)) (y : List ℕ) (b : Option (List ℕ)) (z : List ℕ)
+    (c : Option (List ℕ))
     → KeepsLine x a y b → KeepsLine y b z c → KeepsLine x a z c
 KeepsLine-trans x None y b z c first second = tt
 KeepsLine-trans x (Some xs) y None z c first second = absurd first
@@ -21,7 +22,8 @@ KeepsLine-trans x (Some xs) y (Some ys) z None first second = absurd second
 KeepsLine-trans x (Some xs) y (Some ys) z (Some zs) first second = (second.0 ∙ first.0, second.1 ∙ first.1)
 
 -- what holds if the later bytes are known holds if the earlier ones are
-pub KeepsLine-known : (P : Type 0) (x : List ℕ) (a : Option (List ℕ)) (y : List ℕ) (b : Option (List ℕ)) → KeepsLine x a y b → OnSome b P → OnSome a P
+pub KeepsLine-known : (P : Type 0) (x : List ℕ) (a : Option (List ℕ)) (y : List ℕ) (b : Option (List ℕ))
+    → KeepsLine x a y b → OnSome b P → OnSome a P
 KeepsLine-known P x None y b kept holds = tt
 KeepsLine-known P x (Some xs) y None kept holds = absurd kept
 KeepsLine-known P x (Some xs) y (Some ys) kept holds = holds
@@ -41,13 +43,15 @@ pub StaysInLine-same : (a : Option (List ℕ)) → StaysInLine a a
 StaysInLine-same None = tt
 StaysInLine-same (Some xs) = refl
 
-pub KeepsLine-stays : (x : List ℕ) (a : Option (List ℕ)) (y : List ℕ) (b c : Option (List ℕ)) → KeepsLine x a y b → StaysInLine b c → StaysInLine a c
+pub KeepsLine-stays : (x : List ℕ) (a : Option (List ℕ)) (y : List ℕ) (b c : Option (List ℕ)) → KeepsLine x a y b
+    → StaysInLine b c → StaysInLine a c
 KeepsLine-stays x None y b c first second = tt
 KeepsLine-stays x (Some xs) y None c first second = absurd first
 KeepsLine-stays x (Some xs) y (Some ys) None first second = absurd second
 KeepsLine-stays x (Some xs) y (Some ys) (Some zs) first second = second ∙ first.1
 
-pub KeepsLine-ends : (x : List ℕ) (a : Option (List ℕ)) (y : List ℕ) (b : Option (List ℕ)) (z : List ℕ) (c : Option (List ℕ))
+pub KeepsLine-ends : (x : List ℕ) (a : Option (List ℕ)) (y : List ℕ) (b : Option (List ℕ)) (z : List ℕ)
+    (c : Option (List ℕ))
     → KeepsLine x a y b → EndsLine y b z c → EndsLine x a z c
 KeepsLine-ends x None y b z c first second = tt
 KeepsLine-ends x (Some xs) y None z c first second = absurd first

@@ -1,5 +1,6 @@
 -- Parts that were taken from a reader, one after another.
-use Rattle.std.proofs.Common.{◌≡◌, ℕ, true, List, [], ◌∷◌, ◌++◌, length, Option, Some, None, OnSome, refl, sym, ap, subst, ◌∙◌, arith, append_assoc, append-nil}
+use Rattle.std.proofs.Common.{◌≡◌, ℕ, true, List, [], ◌∷◌, ◌++◌, length, Option, Some, None, OnSome, refl, sym, ap}
+use Rattle.std.proofs.Common.{subst, ◌∙◌, arith, append_assoc, append-nil}
 use Rattle.std.specs.List.{concat}
 use Rattle.std.specs.Io.KnownBytes.{Keeps, Consumes, IsAtEnd}
 use Rattle.std.proofs.KnownBytes.{Consumes-trans}
@@ -15,14 +16,20 @@ shows_end-append (p ∷ r ∷ ps) q qs = shows_end-append (r ∷ ps) q qs
 pub Takes-none : (before : Parts) (a b : Option (List ℕ)) → Keeps a b → Takes [] before before a b
 Takes-none before None b kept = record { added = sym (append-nil before); consumed = tt; at_end = λ is. tt }
 Takes-none before (Some x) None kept = absurd kept
-Takes-none before (Some x) (Some y) kept = record { added = sym (append-nil before); consumed = sym kept; at_end = λ is. absurd (cc (is)) }
+Takes-none before (Some x) (Some y) kept = record {
+  added = sym (append-nil before);
+  consumed = sym kept;
+  at_end = λ
+      is. absurd (cc (is));
+}
 
 nothing : (part : List ℕ) → is_nothing part ≡ true → part ≡ []
 nothing [] is = refl
 nothing (b ∷ bs) is = absurd (cc (is))
 
 -- one part was taken
-pub Takes-one : (before after : Parts) (part : List ℕ) (a b : Option (List ℕ)) → after ≡ before ++ part ∷ [] → Consumes a b part → (length part ≡ 0 → OnSome a (IsAtEnd b))
+pub Takes-one : (before after : Parts) (part : List ℕ) (a b : Option (List ℕ)) → after ≡ before ++ part ∷ []
+    → Consumes a b part → (length part ≡ 0 → OnSome a (IsAtEnd b))
     → Takes (part ∷ []) before after a b
 Takes-one before after part a b is taken end = record {
   added = is;
@@ -39,26 +46,30 @@ pub shows_end-one : (part : List ℕ) → length part ≡ 0 → shows_end (part 
 shows_end-one [] none = refl
 shows_end-one (b ∷ bs) none = absurd (omega (arith, none))
 
-end_later : (a b c : Option (List ℕ)) (bs cs : List ℕ) → Consumes a b bs → Consumes b c cs → OnSome b (IsAtEnd c) → OnSome a (IsAtEnd c)
+end_later : (a b c : Option (List ℕ)) (bs cs : List ℕ) → Consumes a b bs → Consumes b c cs → OnSome b (IsAtEnd c)
+    → OnSome a (IsAtEnd c)
 end_later None b c bs cs first second end = tt
 end_later (Some x) None c bs cs first second end = absurd first
 end_later (Some x) (Some y) c bs cs first second end = end
 
-end_kept : (a b c : Option (List ℕ)) → Consumes b c [] → OnSome a (IsAtEnd b) → (bs : List ℕ) → Consumes a b bs → OnSome a (IsAtEnd c)
+end_kept : (a b c : Option (List ℕ)) → Consumes b c [] → OnSome a (IsAtEnd b) → (bs : List ℕ) → Consumes a b bs
+    → OnSome a (IsAtEnd c)
 end_kept None b c second end bs first = tt
 end_kept (Some x) None c second end bs first = absurd first
 end_kept (Some x) (Some y) None second end bs first = absurd second
 end_kept (Some x) (Some y) (Some z) second end bs first = sym second ∙ end
 
 -- parts were taken, and then more
-pub Takes-trans : (ps qs before mid after : Parts) (a b c : _) → Takes ps before mid a b → Takes qs mid after b c → Takes (ps ++ qs) before after a c
+pub Takes-trans : (ps qs before mid after : Parts) (a b c : _) → Takes ps before mid a b → Takes qs mid after b c
+    → Takes (ps ++ qs) before after a c
 Takes-trans ps qs before mid after a b c first second = record {
   added = second.added ∙ ap (λ l. l ++ qs) first.added ∙ append_assoc before ps qs;
   consumed = subst (Consumes a c) (sym (concat-append ps qs)) (Consumes-trans a b c _ _ first.consumed second.consumed);
   at_end = at qs second.consumed second.at_end;
 }
   where
-    at : (qs : Parts) → Consumes b c (concat qs) → (shows_end qs ≡ true → OnSome b (IsAtEnd c)) → shows_end (ps ++ qs) ≡ true → OnSome a (IsAtEnd c)
+    at : (qs : Parts) → Consumes b c (concat qs) → (shows_end qs ≡ true → OnSome b (IsAtEnd c)) → shows_end (ps ++ qs)
+        ≡ true → OnSome a (IsAtEnd c)
     at [] taken end is = end_kept a b c taken (first.at_end (ap shows_end (sym (append-nil ps)) ∙ is)) _ first.consumed
     at (q ∷ qs) taken end is = end_later a b c _ _ first.consumed taken (end (sym (shows_end-append ps q qs) ∙ is))
 

@@ -1,5 +1,7 @@
 -- The header part and the content part, from the parts that were taken.
-use Rattle.std.proofs.Common.{◌≡◌, ◌⊎◌, ⊎_elim, ℕ, ◌<◌, ◌≤◌, Bool, true, false, List, [], ◌∷◌, ◌++◌, length, length-append, Option, Some, None, Result, Ok, Err, refl, sym, ap, subst, ◌∙◌, arith, append_assoc, append-nil}
+use Rattle.std.proofs.Common.{◌≡◌, ◌⊎◌, ⊎_elim, ℕ, ◌<◌, ◌≤◌, Bool, true, false, List, [], ◌∷◌, ◌++◌, length}
+use Rattle.std.proofs.Common.{length-append, Option, Some, None, Result, Ok, Err, refl, sym, ap, subst, ◌∙◌, arith}
+use Rattle.std.proofs.Common.{append_assoc, append-nil}
 use Rattle.std.specs.List.{concat}
 use Rattle.std.specs.declared.io.ErrorKind.{ErrorKind}
 use Rattle.std.specs.declared.io.ErrorKind.TheVariants.{Other as OtherKind}
@@ -54,48 +56,70 @@ module _ (given : Option ℕ) (ps qs : Parts) (goes : GoesOn given ps) where
   may_last : (rest : List ℕ) → (shows_end (ps ++ qs) ≡ true → rest ≡ []) → shows_end qs ≡ true → rest ≡ []
   may_last rest may is = may (end_of_last ps qs is)
 
-  after : (r : Result (Option HeaderLine) ReadFault) (rest : List ℕ) → AnswersHeader (λ line. line) r (Some rest) (first_line (concat qs ++ rest))
+  after : (r : Result (Option HeaderLine) ReadFault) (rest : List ℕ) → AnswersHeader (λ line. line) r (Some rest)
+      (first_line (concat qs ++ rest))
       → Next given (Some (concat ps ++ (concat qs ++ rest))) (Some rest) r
-  after r rest read = next given (Some (concat ps ++ (concat qs ++ rest))) (Some (concat qs ++ rest)) (Some rest) r (goes (concat qs ++ rest)) read
+  after r rest read = next given (Some (concat ps ++ (concat qs ++ rest))) (Some (concat qs ++ rest)) (Some rest) r
+      (goes (concat qs ++ rest)) read
 
   header_next : (r : Result (Option HeaderLine) ReadFault) → ReadsLine r qs → NextTold given r (ps ++ qs)
   header_next (Ok None) line = λ rest may.
-      all (λ text. Answers {X = ℕ} (λ n. n) (Ok None) (Some rest) (header_of text)) rest (after (Ok None) rest (line_ended qs rest line (may_last rest may)))
-  header_next (Ok (Some Blank)) line = λ rest may. at given rest (after (Ok (Some Blank)) rest (line_found Blank qs rest line))
+      all (λ text. Answers {X = ℕ} (λ n. n) (Ok None) (Some rest) (header_of text)) rest (after (Ok None) rest
+      (line_ended qs rest line (may_last rest may)))
+  header_next (Ok (Some Blank)) line = λ rest may. at given rest (after (Ok (Some Blank)) rest (line_found Blank qs rest
+      line))
     where
-      at : (n : Option ℕ) (rest : List ℕ) → AnswersHeader (λ n. n) (at_last_line n (Ok Blank)) (Some rest) (header_of (concat ps ++ (concat qs ++ rest)))
+      at : (n : Option ℕ) (rest : List ℕ) → AnswersHeader (λ n. n) (at_last_line n (Ok Blank)) (Some rest)
+          (header_of (concat ps ++ (concat qs ++ rest)))
           → Answers (λ n. n) (at_last_line n (Ok Blank)) (Some rest) (header_of (concat (ps ++ qs) ++ rest))
-      at None rest holds = all (λ text. Answers (λ n. n) (at_last_line None (Ok Blank)) (Some rest) (header_of text)) rest holds
-      at (Some n) rest holds = all (λ text. Answers (λ n. n) (at_last_line (Some n) (Ok Blank)) (Some rest) (header_of text)) rest holds
+      at None rest holds = all (λ text. Answers (λ n. n) (at_last_line None (Ok Blank)) (Some rest) (header_of text))
+          rest holds
+      at (Some n) rest holds = all (λ text. Answers (λ n. n) (at_last_line (Some n) (Ok Blank)) (Some rest)
+          (header_of text)) rest holds
   header_next (Ok (Some (Length n))) line = λ rest.
-      all (λ text. Continues (Some text) (Some rest) (Some n)) rest (after (Ok (Some (Length n))) rest (line_found (Length n) qs rest line))
+      all (λ text. Continues (Some text) (Some rest) (Some n)) rest (after (Ok (Some (Length n))) rest
+      (line_found (Length n) qs rest line))
   header_next (Ok (Some Other)) line = λ rest.
-      all (λ text. Continues (Some text) (Some rest) given) rest (after (Ok (Some Other)) rest (line_found Other qs rest line))
+      all (λ text. Continues (Some text) (Some rest) given) rest (after (Ok (Some Other)) rest (line_found Other qs rest
+      line))
   header_next (Err (Input kind)) line = λ rest may.
-      all (λ text. StopsWithin (Some rest) (header_of text)) rest (after (Err (Input kind)) rest (line_broken kind qs rest line))
+      all (λ text. StopsWithin (Some rest) (header_of text)) rest (after (Err (Input kind)) rest (line_broken kind qs
+      rest line))
   header_next (Err Memory) line = λ rest may.
-      all (λ text. StopsWithin (Some rest) (header_of text)) rest (after (Err (Input OtherKind)) rest (line_broken OtherKind qs rest line))
+      all (λ text. StopsWithin (Some rest) (header_of text)) rest (after (Err (Input OtherKind)) rest
+      (line_broken OtherKind qs rest line))
   header_next (Err fault) line = λ rest may.
-      all (λ text. Answers {X = ℕ} (λ n. n) (Err fault) (Some rest) (header_of text)) rest (after (Err fault) rest (line_faulty fault qs rest line.0 line.1 line.2 (may_last rest may)))
+      all (λ text. Answers {X = ℕ} (λ n. n) (Err fault) (Some rest) (header_of text)) rest (after (Err fault) rest
+      (line_faulty fault qs rest line.0 line.1 line.2 (may_last rest may)))
 
-pub told_header : (given : Option ℕ) (r : Result (Option HeaderLine) ReadFault) (t u v : Parts) (a b c : Option (List ℕ)) → Told (GoesOn given) t u a b → Told (ReadsLine r) u v b c
+pub told_header : (given : Option ℕ) (r : Result (Option HeaderLine) ReadFault) (t u v : Parts) (a b c : Option
+    (List ℕ)) → Told (GoesOn given) t u a b → Told (ReadsLine r) u v b c
     → Told (NextTold given r) t v a c
-told_header given r t u v a b c first second =
-    (first.0 ++ second.0, Takes-trans first.0 second.0 t u v a b c first.1 second.1, header_next given first.0 second.0 first.2 r second.2)
+told_header given r t u v a b c first second = (
+  first.0 ++ second.0,
+  Takes-trans first.0 second.0 t u v a b c first.1 second.1,
+  header_next given first.0 second.0
+      first.2 r second.2,
+)
 
 -- the same at an answer, or a length, that is equal
-pub told_header_as : (given : Option ℕ) (r s : Result (Option HeaderLine) ReadFault) (t u v : Parts) (a b c : Option (List ℕ)) → r ≡ s → Told (GoesOn given) t u a b → Told (ReadsLine r) u v b c
+pub told_header_as : (given : Option ℕ) (r s : Result (Option HeaderLine) ReadFault) (t u v : Parts) (a b c : Option
+    (List ℕ)) → r ≡ s → Told (GoesOn given) t u a b → Told (ReadsLine r) u v b c
     → Told (NextTold given s) t v a c
-told_header_as given r s t u v a b c same first second = subst (λ r. Told (NextTold given r) t v a c) same (told_header given r t u v a b c first second)
+told_header_as given r s t u v a b c same first second = subst (λ r. Told (NextTold given r) t v a c) same
+    (told_header given r t u v a b c first second)
 
-pub told_goes_as : (n m : Option ℕ) (t u : Parts) (a b : Option (List ℕ)) → n ≡ m → Told (GoesOn n) t u a b → Told (GoesOn m) t u a b
+pub told_goes_as : (n m : Option ℕ) (t u : Parts) (a b : Option (List ℕ)) → n ≡ m → Told (GoesOn n) t u a b
+    → Told (GoesOn m) t u a b
 told_goes_as n m t u a b same told = subst (λ n. Told (GoesOn n) t u a b) same told
 
-pub told_length_as : (r s : Result (Option ℕ) ReadFault) (t u : Parts) (a b : Option (List ℕ)) → r ≡ s → Told (IsOfParts (λ n. n) header_of r) t u a b → Told (IsOfParts (λ n. n) header_of s) t u a b
+pub told_length_as : (r s : Result (Option ℕ) ReadFault) (t u : Parts) (a b : Option (List ℕ)) → r ≡ s
+    → Told (IsOfParts (λ n. n) header_of r) t u a b → Told (IsOfParts (λ n. n) header_of s) t u a b
 told_length_as r s t u a b same told = subst (λ r. Told (IsOfParts (λ n. n) header_of r) t u a b) same told
 
 -- the header part was not read to its end
-pub told_unread : (given : Option ℕ) (kind : ErrorKind) (t u : Parts) (a b : Option (List ℕ)) → Told (GoesOn given) t u a b
+pub told_unread : (given : Option ℕ) (kind : ErrorKind) (t u : Parts) (a b : Option (List ℕ)) → Told (GoesOn given) t u
+    a b
     → Told (IsOfParts {X = ℕ} (λ n. n) header_of (Err (Input kind))) t u a b
 told_unread given kind t u a b told =
     (told.0, told.1, λ rest may. Continues-stops (Some (concat told.0 ++ rest)) (Some rest) given (told.2 rest))
@@ -107,37 +131,50 @@ module _ {X : Type 0} (view : X → List ℕ) (n : ℕ) where
   pub body_refused : IsOfParts view (body_of Ok n) (Err Memory) []
   body_refused = λ rest may. body_stops Ok n (Some rest) (Some rest) [] refl (omega arith)
 
-  pub body_is_whole : (x : X) (parts : Parts) → view x ≡ concat parts → length (view x) ≡ n → IsOfParts view (body_of Ok n) (Ok (Some x)) parts
-  body_is_whole x parts is whole = λ rest may. body_whole view x n (Some (concat parts ++ rest)) (Some rest) (ap (λ l. l ++ rest) (sym is)) whole
+  pub body_is_whole : (x : X) (parts : Parts) → view x ≡ concat parts → length (view x) ≡ n
+      → IsOfParts view (body_of Ok n) (Ok (Some x)) parts
+  body_is_whole x parts is whole = λ rest may. body_whole view x n (Some (concat parts ++ rest)) (Some rest) (ap (λ l. l
+      ++ rest) (sym is)) whole
 
-  pub body_is_short : (parts : Parts) → length (concat parts) < n → shows_end parts ≡ true → IsOfParts view (body_of Ok n) (Err ShortBody) parts
+  pub body_is_short : (parts : Parts) → length (concat parts) < n → shows_end parts ≡ true
+      → IsOfParts view (body_of Ok n) (Err ShortBody) parts
   body_is_short parts short end = λ rest may.
       subst (λ r. Answers view (Err ShortBody) (Some r) (body_of Ok n (concat parts ++ r))) (sym (may end)) (
       let long : length (concat parts ++ []) < n = omega (arith, short, length-append (concat parts) []) in
       rw (lt-ltb (length (concat parts ++ [])) n long) (refl, refl))
 
-  pub body_broken : (fault : ReadFault) (parts : Parts) → IsFromReader fault → length (concat parts) ≤ n → IsOfParts view (body_of Ok n) (Err fault) parts
-  body_broken fault parts failed within = λ rest may. body_fails view fault n (Some (concat parts ++ rest)) (Some rest) (concat parts) failed refl within
+  pub body_broken : (fault : ReadFault) (parts : Parts) → IsFromReader fault → length (concat parts) ≤ n
+      → IsOfParts view (body_of Ok n) (Err fault) parts
+  body_broken fault parts failed within = λ rest may. body_fails view fault n (Some (concat parts ++ rest)) (Some rest)
+      (concat parts) failed refl within
 
 -- what was taken of a content part, and then more
-pub told_body : (r : Result Bool ReadFault) (x y z : List ℕ) (t u v : Parts) (a b c : Option (List ℕ)) → Told (λ parts. y ≡ x ++ concat parts) t u a b → Told (TakesPart r y z) u v b c
+pub told_body : (r : Result Bool ReadFault) (x y z : List ℕ) (t u v : Parts) (a b c : Option (List ℕ))
+    → Told (λ parts. y ≡ x ++ concat parts) t u a b → Told (TakesPart r y z) u v b c
     → Told (TakesPart r x z) t v a c
 told_body r x y z t u v a b c first second =
     (first.0 ++ second.0, Takes-trans first.0 second.0 t u v a b c first.1 second.1, at r second.2)
   where
     grown : z ≡ y ++ concat second.0 → z ≡ x ++ concat (first.0 ++ second.0)
-    grown is = is ∙ ap (λ l. l ++ concat second.0) first.2 ∙ append_assoc x (concat first.0) (concat second.0) ∙ ap (λ l. x ++ l) (sym (concat-append first.0 second.0))
+    grown is = is ∙ ap (λ l. l ++ concat second.0) first.2 ∙ append_assoc x (concat first.0) (concat second.0)
+        ∙ ap (λ l. x ++ l) (sym (concat-append first.0 second.0))
 
     at : (r : Result Bool ReadFault) → TakesPart r y z second.0 → TakesPart r x z (first.0 ++ second.0)
     at (Ok false) part = (grown part.0, end_of_last first.0 second.0 part.1)
     at (Ok true) part = grown part
     at (Err fault) part = grown part
 
-pub takes_part : (w : Bool) (old new part : List ℕ) → (w ≡ false → length part ≡ 0) → new ≡ old ++ part → TakesPart (Ok w) old new (part ∷ [])
+pub takes_part : (w : Bool) (old new part : List ℕ) → (w ≡ false → length part ≡ 0) → new ≡ old ++ part
+    → TakesPart (Ok w) old new (part ∷ [])
 takes_part true old new part none is = is ∙ ap (λ l. old ++ l) (sym (concat-one part))
-takes_part false old new part none is = (is ∙ ap (λ l. old ++ l) (sym (concat-one part)), shows_end-one part (none refl))
+takes_part false old new part none is = (
+  is ∙ ap (λ l. old ++ l) (sym (concat-one part)),
+  shows_end-one part
+      (none refl),
+)
 
-pub takes_nothing : {P Q : Type 0} (old : List ℕ) (kind : ErrorKind) (r : Result Bool ReadFault) → (P × (r ≡ Ok true)) ⊎ (Q × (r ≡ Err (Input kind))) → TakesPart r old old []
+pub takes_nothing : {P Q : Type 0} (old : List ℕ) (kind : ErrorKind) (r : Result Bool ReadFault) → (P × (r ≡ Ok true))
+    ⊎ (Q × (r ≡ Err (Input kind))) → TakesPart r old old []
 takes_nothing old kind r came = ⊎_elim
     (λ again. subst (λ r. TakesPart r old old []) (sym again.1) (sym (append-nil old)))
     (λ failed. subst (λ r. TakesPart r old old []) (sym failed.1) (sym (append-nil old)))
@@ -147,47 +184,71 @@ takes_nothing old kind r came = ⊎_elim
 
 module _ {M : Type 0} (means : List ℕ → Result M ReadFault) (limit : Limits) {X : Type 0} (view : X → M) where
   -- the header part was not read
-  pub told_refused : (fault : ReadFault) (parts : Parts) → IsOfParts {X = ℕ} (λ n. n) (header_under limit.header) (Err fault) parts → IsOfParts view (frame_of means limit) (Err fault) parts
+  pub told_refused : (fault : ReadFault) (parts : Parts) → IsOfParts {X = ℕ} (λ n. n) (header_under limit.header)
+      (Err fault) parts → IsOfParts view (frame_of means limit) (Err fault) parts
   told_refused fault parts header = λ rest may. at fault rest (header rest may)
     where
-      at : (fault : ReadFault) (rest : List ℕ) → Answers {X = ℕ} (λ n. n) (Err fault) (Some rest) (header_under limit.header (concat parts ++ rest))
+      at : (fault : ReadFault) (rest : List ℕ) → Answers {X = ℕ} (λ n. n) (Err fault) (Some rest)
+          (header_under limit.header (concat parts ++ rest))
           → Answers view (Err fault) (Some rest) (frame_of means limit (concat parts ++ rest))
-      at (Input kind) rest header = header_refused means limit view (Input kind) (Some (concat parts ++ rest)) (Some rest) header
-      at Memory rest header = header_refused means limit view (Input OtherKind) (Some (concat parts ++ rest)) (Some rest) header
+      at (Input kind) rest header = header_refused means limit view (Input kind) (Some (concat parts ++ rest))
+          (Some rest) header
+      at Memory rest header = header_refused means limit view (Input OtherKind) (Some (concat parts ++ rest))
+          (Some rest) header
       at fault rest header = header_refused means limit view fault (Some (concat parts ++ rest)) (Some rest) header
 
   -- the input ended
-  pub told_none : (parts : Parts) → IsOfParts {X = ℕ} (λ n. n) (header_under limit.header) (Ok None) parts → IsOfParts view (frame_of means limit) (Ok None) parts
+  pub told_none : (parts : Parts) → IsOfParts {X = ℕ} (λ n. n) (header_under limit.header) (Ok None) parts
+      → IsOfParts view (frame_of means limit) (Ok None) parts
   told_none parts header = λ rest may. let read = header rest may in rw (read.0) (refl, read.1)
 
-  pub told_long : (n : ℕ) (parts : Parts) → limit.content < n → IsOfParts {X = ℕ} (λ n. n) (header_under limit.header) (Ok (Some n)) parts → IsOfParts view (frame_of means limit) (Err TooLong) parts
-  told_long n parts above header = λ rest may. content_too_long means limit view (Some (concat parts ++ rest)) (Some rest) n above (header rest tt)
+  pub told_long : (n : ℕ) (parts : Parts) → limit.content < n → IsOfParts {X = ℕ} (λ n. n) (header_under limit.header)
+      (Ok (Some n)) parts → IsOfParts view (frame_of means limit) (Err TooLong) parts
+  told_long n parts above header = λ rest may. content_too_long means limit view (Some (concat parts ++ rest))
+      (Some rest) n above (header rest tt)
 
-module _ (limit : Limits) {X : Type 0} (view : X → List ℕ) (n : ℕ) (within : n ≤ limit.content) (ps qs : Parts) (header : IsOfParts {X = ℕ} (λ n. n) (header_under limit.header) (Ok (Some n)) ps) where
-  pub told_content : (x : X) → IsOfParts view (body_of Ok n) (Ok (Some x)) qs → IsOfParts view (frame_of Ok limit) (Ok (Some x)) (ps ++ qs)
+module _ (limit : Limits) {X : Type 0} (view : X → List ℕ) (n : ℕ) (within : n ≤ limit.content) (ps qs : Parts)
+    (header : IsOfParts {X = ℕ} (λ n. n) (header_under limit.header) (Ok (Some n)) ps) where
+  pub told_content : (x : X) → IsOfParts view (body_of Ok n) (Ok (Some x)) qs → IsOfParts view (frame_of Ok limit)
+      (Ok (Some x)) (ps ++ qs)
   told_content x body = λ rest may.
       subst (λ text. Answers view (Ok (Some x)) (Some rest) (frame_of Ok limit text)) (sym (joined ps qs rest))
-      (frame_answered Ok limit view (Some (concat ps ++ (concat qs ++ rest))) (Some (concat qs ++ rest)) (Some rest) n (view x) (Ok x) within (header (concat qs ++ rest) tt) (body rest tt) refl)
+      (frame_answered Ok limit view (Some (concat ps ++ (concat qs ++ rest))) (Some (concat qs ++ rest)) (Some rest) n
+      (view x) (Ok x) within (header (concat qs ++ rest) tt) (body rest tt) refl)
 
-  pub told_content_fault : (fault : ReadFault) → IsOfParts view (body_of Ok n) (Err fault) qs → IsOfParts view (frame_of Ok limit) (Err fault) (ps ++ qs)
+  pub told_content_fault : (fault : ReadFault) → IsOfParts view (body_of Ok n) (Err fault) qs
+      → IsOfParts view (frame_of Ok limit) (Err fault) (ps ++ qs)
   told_content_fault fault body = λ rest may.
       subst (λ text. Answers view (Err fault) (Some rest) (frame_of Ok limit text)) (sym (joined ps qs rest))
-      (content_refused Ok limit view view fault (Some (concat ps ++ (concat qs ++ rest))) (Some (concat qs ++ rest)) (Some rest) n within (header (concat qs ++ rest) tt)
+      (content_refused Ok limit view view fault (Some (concat ps ++ (concat qs ++ rest))) (Some (concat qs ++ rest))
+      (Some rest) n within (header (concat qs ++ rest) tt)
       (body rest (λ is. may (end_of_last ps qs is))))
 
-pub Told-trans : (P Q R : Parts → Type 0) (t u v : Parts) (a b c : Option (List ℕ)) → ((ps qs : Parts) → P ps → Q qs → R (ps ++ qs)) → Told P t u a b → Told Q u v b c → Told R t v a c
-Told-trans P Q R t u v a b c f first second =
-    (first.0 ++ second.0, Takes-trans first.0 second.0 t u v a b c first.1 second.1, f first.0 second.0 first.2 second.2)
+pub Told-trans : (P Q R : Parts → Type 0) (t u v : Parts) (a b c : Option (List ℕ)) → ((ps qs : Parts) → P ps → Q qs
+    → R (ps ++ qs)) → Told P t u a b → Told Q u v b c → Told R t v a c
+Told-trans P Q R t u v a b c f first second = (
+  first.0 ++ second.0,
+  Takes-trans first.0 second.0 t u v a b c first.1 second.1,
+  f first.0 second.0 first.2
+      second.2,
+)
 
 -- ---- a message
 
-module _ {M : Type 0} (means : List ℕ → Result M ReadFault) (limit : Limits) {X Y : Type 0} (view : X → M) (shown : Y → List ℕ) where
-  pub told_decoded : (content : Y) (r : Result X ReadFault) (parts : Parts) → IsOfParts shown (frame_of Ok limit) (Ok (Some content)) parts → Decodes view r (means (shown content))
+module _ {M : Type 0} (means : List ℕ → Result M ReadFault) (limit : Limits) {X Y : Type 0} (view : X → M) (shown : Y
+    → List ℕ) where
+  pub told_decoded : (content : Y) (r : Result X ReadFault) (parts : Parts) → IsOfParts shown (frame_of Ok limit)
+      (Ok (Some content)) parts → Decodes view r (means (shown content))
       → IsOfParts view (frame_of means limit) (found r) parts
-  told_decoded content r parts read decodes = λ rest may. decoded means limit view shown (Some (concat parts ++ rest)) (Some rest) content r (read rest tt) decodes
+  told_decoded content r parts read decodes = λ rest may. decoded means limit view shown (Some (concat parts ++ rest))
+      (Some rest) content r (read rest tt) decodes
 
-  pub told_not_there : (parts : Parts) → IsOfParts shown (frame_of Ok limit) (Ok None) parts → IsOfParts view (frame_of means limit) (Ok None) parts
-  told_not_there parts read = λ rest may. not_there means limit view shown (Some (concat parts ++ rest)) (Some rest) (read rest may)
+  pub told_not_there : (parts : Parts) → IsOfParts shown (frame_of Ok limit) (Ok None) parts
+      → IsOfParts view (frame_of means limit) (Ok None) parts
+  told_not_there parts read = λ rest may. not_there means limit view shown (Some (concat parts ++ rest)) (Some rest)
+      (read rest may)
 
-  pub told_not_read : (fault : ReadFault) (parts : Parts) → IsOfParts shown (frame_of Ok limit) (Err fault) parts → IsOfParts view (frame_of means limit) (Err fault) parts
-  told_not_read fault parts read = λ rest may. not_read means limit view shown (Some (concat parts ++ rest)) (Some rest) fault (read rest may)
+  pub told_not_read : (fault : ReadFault) (parts : Parts) → IsOfParts shown (frame_of Ok limit) (Err fault) parts
+      → IsOfParts view (frame_of means limit) (Err fault) parts
+  told_not_read fault parts read = λ rest may. not_read means limit view shown (Some (concat parts ++ rest)) (Some rest)
+      fault (read rest may)

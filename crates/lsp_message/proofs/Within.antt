@@ -1,5 +1,6 @@
 -- A whole front lies within its text, and a faulty one has the number of a fault of the header part.
-use Rattle.std.proofs.Common.{◌≡◌, ℕ, ◌-◌, ◌≤◌, List, [], ◌∷◌, length, Bool, true, false, Ok, Err, Option, Some, None, Result, arith}
+use Rattle.std.proofs.Common.{◌≡◌, ℕ, ◌-◌, ◌≤◌, List, [], ◌∷◌, length, Bool, true, false, Ok, Err, Option, Some, None}
+use Rattle.std.proofs.Common.{Result, arith}
 use Rattle.std.specs.Io.BufRead.{ends_with_byte}
 use Rattle.std.specs.List.{concat, ends_with}
 use Rattle.std.specs.Option.{ok_or}
@@ -7,7 +8,8 @@ use Rattle.std.specs.Prelude.{codes, nat_eq, nat_lt, not, option_map, take, if�
 use Rattle.std.specs.Str.{is_utf8}
 use Rattle.lsp_message.specs.Faults.{read_fault_number}
 use Rattle.lsp_message.specs.Front.{front_of, front_end, at_header_end}
-use Rattle.lsp_message.specs.HeaderPart.{at_last_line, header_line, header_text, parted, field, same_name, number, name_and_value, fields, after_fields, content_length, lines}
+use Rattle.lsp_message.specs.HeaderPart.{at_last_line, header_line, header_text, parted, field, same_name, number}
+use Rattle.lsp_message.specs.HeaderPart.{name_and_value, fields, after_fields, content_length, lines}
 use Rattle.lsp_message.specs.declared.frame.ReadFault.{ReadFault}
 use Rattle.lsp_message.specs.declared.frame.ReadFault.TheVariants.{LineNotText, LineEnd, BadLength}
 use Rattle.lsp_message.specs.declared.frame.Front.TheVariants.{Whole, Fault, More}
@@ -28,12 +30,14 @@ within_lines : (all k : ℕ) (given : Option ℕ) (ls : List (List ℕ)) → fro
 within_lines all k given [] is = cc
 within_lines all k given (line ∷ more) is = at (ends_with_byte 10 line) is
   where
-    at : (b : Bool) → (if b then at_header_end all (at_last_line given (header_line line)) (length (concat more)) else More) ≡ Whole k → k ≤ all
+    at : (b : Bool) → (if b then at_header_end all (at_last_line given (header_line line)) (length (concat more)) else
+        More) ≡ Whole k → k ≤ all
     at true e = within_end all (length (concat more)) k (at_last_line given (header_line line)) e
     at false e = cc
 
 pub front_within : (text : List ℕ) (k : ℕ) → front_of text ≡ Whole k → k ≤ length text
-front_within text k is = within_lines (length text) k (content_length (fields (lines text))) (after_fields (lines text)) is
+front_within text k is = within_lines (length text) k (content_length (fields (lines text))) (after_fields (lines text))
+    is
 
 -- ---- the number of a fault
 
@@ -61,18 +65,24 @@ in_text (c ∷ text) = in_parted (name_and_value (c ∷ text))
 in_line : (line : List ℕ) → FaultsInHeader (header_line line)
 in_line line = at (is_utf8 line) (ends_with nat_eq line (13 ∷ 10 ∷ []))
   where
-    at : (is_text is_ended : Bool) → FaultsInHeader (if not is_text then Err LineNotText else (if not is_ended then Err LineEnd else header_text (take (length line - 2) line)))
+    at : (is_text is_ended : Bool) → FaultsInHeader (if not is_text then Err LineNotText else (if not is_ended then Err
+        LineEnd else header_text (take (length line - 2) line)))
     at false is_ended = (omega arith, omega arith)
     at true false = (omega arith, omega arith)
     at true true = in_text (take (length line - 2) line)
 
-in_last : (given : Option ℕ) (line : Result HeaderLine ReadFault) → FaultsInHeader line → FaultsInHeader (at_last_line given line)
+in_last : (given : Option ℕ) (line : Result HeaderLine ReadFault) → FaultsInHeader line
+    → FaultsInHeader (at_last_line given line)
 in_last given (Err fault) bad = bad
 in_last None (Ok line) bad = (omega arith, omega arith)
 in_last (Some n) (Ok line) bad = tt
 
-number_end : (all left n : ℕ) (r : Result (Option ℕ) ReadFault) → FaultsInHeader r → at_header_end all r left ≡ Fault n → (2 ≤ n) × (n ≤ 6)
-number_end all left n (Err fault) bad is = let same : read_fault_number fault ≡ n = cc in (omega (arith, bad.0, same), omega (arith, bad.1, same))
+number_end : (all left n : ℕ) (r : Result (Option ℕ) ReadFault) → FaultsInHeader r → at_header_end all r left ≡ Fault n
+    → (2 ≤ n) × (n ≤ 6)
+number_end all left n (Err fault) bad is = let same : read_fault_number fault ≡ n = cc in (
+  omega (arith, bad.0, same),
+  omega (arith, bad.1, same),
+)
 number_end all left n (Ok None) bad is = absurd (let e : More ≡ Fault n = is in cc)
 number_end all left n (Ok (Some m)) bad is = at (nat_lt left m) is
   where
@@ -80,13 +90,17 @@ number_end all left n (Ok (Some m)) bad is = at (nat_lt left m) is
     at true e = absurd (let f : More ≡ Fault n = e in cc)
     at false e = absurd (let f : Whole (all - (left - m)) ≡ Fault n = e in cc)
 
-number_lines : (all n : ℕ) (given : Option ℕ) (ls : List (List ℕ)) → front_end all given ls ≡ Fault n → (2 ≤ n) × (n ≤ 6)
+number_lines : (all n : ℕ) (given : Option ℕ) (ls : List (List ℕ)) → front_end all given ls ≡ Fault n → (2 ≤ n)
+    × (n ≤ 6)
 number_lines all n given [] is = absurd (let e : More ≡ Fault n = is in cc)
 number_lines all n given (line ∷ more) is = at (ends_with_byte 10 line) is
   where
-    at : (b : Bool) → (if b then at_header_end all (at_last_line given (header_line line)) (length (concat more)) else More) ≡ Fault n → (2 ≤ n) × (n ≤ 6)
-    at true e = number_end all (length (concat more)) n (at_last_line given (header_line line)) (in_last given (header_line line) (in_line line)) e
+    at : (b : Bool) → (if b then at_header_end all (at_last_line given (header_line line)) (length (concat more)) else
+        More) ≡ Fault n → (2 ≤ n) × (n ≤ 6)
+    at true e = number_end all (length (concat more)) n (at_last_line given (header_line line)) (in_last given
+        (header_line line) (in_line line)) e
     at false e = absurd (let f : More ≡ Fault n = e in cc)
 
 pub front_number : (text : List ℕ) (n : ℕ) → front_of text ≡ Fault n → (2 ≤ n) × (n ≤ 6)
-front_number text n is = number_lines (length text) n (content_length (fields (lines text))) (after_fields (lines text)) is
+front_number text n is = number_lines (length text) n (content_length (fields (lines text))) (after_fields (lines text))
+    is

@@ -1,7 +1,11 @@
 -- The numbers of the error codes (JSON-RPC 2.0, section 5.1; LSP 3.17, base protocol).
 use Rattle.std.specs.Prelude.{ℤ, pos, neg_ℤ}
 use Rattle.lsp_message.specs.declared.msg.code.ErrorCode.{ErrorCode}
-use Rattle.lsp_message.specs.declared.msg.code.ErrorCode.TheVariants.{ParseError, InvalidRequest, MethodNotFound, InvalidParams, InternalError, ServerErrorStart, ServerErrorEnd, ServerNotInitialized, UnknownErrorCode, RequestCanceled, ContentModified, ServerCancelled, RequestFailed}
+use Rattle.lsp_message.specs.declared.msg.code.ErrorCode.TheVariants.{ParseError, InvalidRequest, MethodNotFound}
+use Rattle.lsp_message.specs.declared.msg.code.ErrorCode.TheVariants.{InvalidParams, InternalError, ServerErrorStart}
+use Rattle.lsp_message.specs.declared.msg.code.ErrorCode.TheVariants.{ServerErrorEnd, ServerNotInitialized}
+use Rattle.lsp_message.specs.declared.msg.code.ErrorCode.TheVariants.{UnknownErrorCode, RequestCanceled}
+use Rattle.lsp_message.specs.declared.msg.code.ErrorCode.TheVariants.{ContentModified, ServerCancelled, RequestFailed}
 
 abbrev pub number_of : ErrorCode → ℤ
 number_of ParseError = neg_ℤ (pos 32700)

@@ -4,7 +4,9 @@ use Rattle.std.specs.Prelude.{ℕ, List, ◌++◌, Option, Some, codes}
 use Rattle.std.specs.declared.io.ErrorKind.{ErrorKind}
 use Rattle.std.specs.declared.io.ErrorKind.TheVariants.{InvalidData, UnexpectedEof, OutOfMemory}
 use Rattle.lsp_message.specs.declared.frame.ReadFault.{ReadFault}
-use Rattle.lsp_message.specs.declared.frame.ReadFault.TheVariants.{Input, LineNotText, LineEnd, NoSeparator, BadLength, NoLength, ShortBody, BodyNotText, NoJson, NoMessage, Memory, TooLong, Batch, HeaderTooLong}
+use Rattle.lsp_message.specs.declared.frame.ReadFault.TheVariants.{Input, LineNotText, LineEnd, NoSeparator, BadLength}
+use Rattle.lsp_message.specs.declared.frame.ReadFault.TheVariants.{NoLength, ShortBody, BodyNotText, NoJson, NoMessage}
+use Rattle.lsp_message.specs.declared.frame.ReadFault.TheVariants.{Memory, TooLong, Batch, HeaderTooLong}
 use Rattle.lsp_message.specs.declared.frame.WriteFault.{WriteFault}
 use Rattle.lsp_message.specs.declared.frame.WriteFault.TheVariants.{Output, Memory as NoMemory}
 

@@ -2,14 +2,16 @@
 use Rattle.serde_json.specs.Data.{Data, array}
 use Rattle.serde_json.specs.Read.{read}
 use Rattle.std.specs.Option.{ok_or}
-use Rattle.std.specs.Prelude.{◌≡◌, ◌≢◌, ◌⊎◌, ℕ, ◌≤◌, List, [], length, take, drop, Option, Some, None, Result, Ok, Err, nat_lt, if◌then◌else◌}
+use Rattle.std.specs.Prelude.{◌≡◌, ◌≢◌, ◌⊎◌, ℕ, ◌≤◌, List, [], length, take, drop, Option, Some, None, Result, Ok, Err}
+use Rattle.std.specs.Prelude.{nat_lt, if◌then◌else◌}
 use Rattle.std.specs.Str.{is_utf8}
 pub use Rattle.lsp_message.specs.Limits.{of_content, most_content, no_limit, header_under}
 use Rattle.lsp_message.specs.Meaning.{meaning}
 use Rattle.lsp_message.specs.Message.{Message}
 use Rattle.lsp_message.specs.Reading.{Reading, found, StopsBefore}
 use Rattle.lsp_message.specs.declared.frame.ReadFault.{ReadFault}
-use Rattle.lsp_message.specs.declared.frame.ReadFault.TheVariants.{ShortBody, BodyNotText, NoJson, NoMessage, TooLong, Batch}
+use Rattle.lsp_message.specs.declared.frame.ReadFault.TheVariants.{ShortBody, BodyNotText, NoJson, NoMessage, TooLong}
+use Rattle.lsp_message.specs.declared.frame.ReadFault.TheVariants.{Batch}
 use Rattle.lsp_message.specs.declared.frame.limits.Limits.{Limits}
 
 -- ---- what a content part means: JSON in UTF-8 (LSP 3.17, "Content Part"), which is a message of JSON-RPC 2.0
@@ -50,8 +52,8 @@ module _ {M : Type 0} (means : List ℕ → Result M ReadFault) where
 
 -- ---- a message
 
--- The message at the front of a text, whose parts have at most so many bytes: the message, a fault or the end, and the bytes
--- that are left.
+-- The message at the front of a text, whose parts have at most so many bytes: the message, a fault or the end, and the
+-- bytes that are left.
 abbrev pub reading_within : Limits → List ℕ → Reading Message
 reading_within limit text = frame_of body_means limit text
 
@@ -67,15 +69,16 @@ reading_of text = reading_within no_limit text
 abbrev pub Begins : Limits → List ℕ → Message → List ℕ → Type 0
 Begins limit text m rest = reading_within limit text ≡ record { outcome = Ok (Some m); rest = rest }
 
--- Memory ran out in the header part; or if the room for a content part within the limit was reserved, and none of it was taken.
+-- Memory ran out in the header part; or if the room for a content part within the limit was reserved, and none of it
+-- was taken.
 abbrev pub RunsOutBefore : Limits → List ℕ → Option (List ℕ) → Type 0
 RunsOutBefore limit text left =
     StopsBefore left (header_under limit.header text)
     ⊎ ((n : ℕ) × ((header_under limit.header text).outcome ≡ Ok (Some n)) × (n ≤ limit.content)
     × (left ≡ Some (header_under limit.header text).rest))
 
--- Memory ran out: in the header part; or if the room for a content part within the limit was reserved, and none of it was
--- taken; or after the whole content part was taken.
+-- Memory ran out: in the header part; or if the room for a content part within the limit was reserved, and none of it
+-- was taken; or after the whole content part was taken.
 abbrev pub RunsOut : Limits → List ℕ → Option (List ℕ) → Type 0
 RunsOut limit text left =
     StopsBefore left (header_under limit.header text)

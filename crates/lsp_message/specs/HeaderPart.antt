@@ -1,5 +1,6 @@
 -- The header part of a message (LSP 3.17, "Base Protocol", "Header Part").
-use Rattle.std.specs.Prelude.{ℕ, ◌-◌, ◌^◌, List, [], ◌∷◌, length, take, map, Bool, true, false, not, ◌&&◌, nat_eq, nat_lt, ◌==◌, if◌then◌else◌, Option, Some, None, option_map, Result, Ok, Err, codes}
+use Rattle.std.specs.Prelude.{ℕ, ◌-◌, ◌^◌, List, [], ◌∷◌, length, take, map, Bool, true, false, not, ◌&&◌, nat_eq}
+use Rattle.std.specs.Prelude.{nat_lt, ◌==◌, if◌then◌else◌, Option, Some, None, option_map, Result, Ok, Err, codes}
 use Rattle.std.specs.Char.{to_ascii_lowercase}
 use Rattle.std.specs.List.{concat, ends_with}
 use Rattle.std.specs.Option.{ok_or}
@@ -7,7 +8,8 @@ use Rattle.std.specs.Str.{is_utf8, all_ascii_digits, bytes_eq}
 use Rattle.std.specs.Str.Parse.{without_leading_plus, digits_value}
 use Rattle.lsp_message.specs.Reading.{Reading}
 use Rattle.lsp_message.specs.declared.frame.ReadFault.{ReadFault}
-use Rattle.lsp_message.specs.declared.frame.ReadFault.TheVariants.{LineNotText, LineEnd, NoSeparator, BadLength, NoLength}
+use Rattle.lsp_message.specs.declared.frame.ReadFault.TheVariants.{LineNotText, LineEnd, NoSeparator, BadLength}
+use Rattle.lsp_message.specs.declared.frame.ReadFault.TheVariants.{NoLength}
 use Rattle.lsp_message.specs.declared.frame.header.HeaderLine.{HeaderLine}
 use Rattle.lsp_message.specs.declared.frame.header.HeaderLine.TheVariants.{Blank, Length, Other}
 

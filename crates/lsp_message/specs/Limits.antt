@@ -17,8 +17,8 @@ most_content = 2 ^ 64 - 1
 abbrev pub no_limit : Limits
 no_limit = of_content most_content
 
--- The header part that a text begins with, of at most so many bytes, if there is a bound. Of one that takes more, just the first
--- byte above the bound is taken.
+-- The header part that a text begins with, of at most so many bytes, if there is a bound. Of one that takes more, just
+-- the first byte above the bound is taken.
 abbrev pub header_under : Option ℕ → List ℕ → Reading ℕ
 header_under None text = header_of text
 header_under (Some bound) text =

@@ -1,5 +1,6 @@
 -- Which message a tree is (JSON-RPC 2.0, sections 4 and 5).
-use Rattle.std.specs.Prelude.{ℕ, ◌^◌, ℤ, pos, negsuc, List, Bool, nat_lt, if◌then◌else◌, Option, Some, None, option_map, option_and_then, unwrap_or, Result, Ok, Err, codes}
+use Rattle.std.specs.Prelude.{ℕ, ◌^◌, ℤ, pos, negsuc, List, Bool, nat_lt, if◌then◌else◌, Option, Some, None, option_map}
+use Rattle.std.specs.Prelude.{option_and_then, unwrap_or, Result, Ok, Err, codes}
 use Rattle.serde_json.specs.Data.{Num, Data, null, number, string, array, object, Items, no_items, item}
 use Rattle.serde_json.specs.Find.{get_member, as_str, as_number, as_integer}
 use Rattle.lsp_message.specs.Id as id

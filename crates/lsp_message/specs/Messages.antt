@@ -1,4 +1,5 @@
--- The messages of a stream of bytes, up to and with the first `exit` (LSP 3.17, "Base Protocol" and "Exit Notification").
+-- The messages of a stream of bytes, up to and with the first `exit` (LSP 3.17, "Base Protocol" and "Exit
+-- Notification").
 use Rattle.std.specs.List.{FoldsTo}
 use Rattle.std.specs.Prelude.{◌≡◌, ℕ, List, [], ◌∷◌, ◌++◌, true, false, None, Ok, Err}
 use Rattle.lsp_message.specs.Frame.{reading_within}
@@ -27,7 +28,8 @@ module _ (limit : Limits) where
   abbrev pub PassesAll : List ℕ → List Message → List ℕ → Type 0
   PassesAll = FoldsTo Passes
 
-  -- The messages of a text, what ends them, and the bytes that are left then. The last message is the first `exit`, if one comes.
+  -- The messages of a text, what ends them, and the bytes that are left then. The last message is the first `exit`, if
+  -- one comes.
   abbrev pub Messages : List ℕ → List Message → Ending → List ℕ → Type 0
   Messages text ms exited rest = (before : List Message) × (last : Message) × (at : List ℕ)
       × (ms ≡ before ++ last ∷ []) × PassesAll text before at × Begins limit at last rest

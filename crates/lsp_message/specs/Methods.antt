@@ -43,7 +43,8 @@ is_early (request i method params) = not (bytes_eq method (codes "initialize"))
 is_early (notification method params) = not (bytes_eq method (codes "exit"))
 is_early (response i outcome) = false
 
--- a text shows the message, in the answer to it or in the reply: any but `initialize` and a notification that is passed over
+-- a text shows the message, in the answer to it or in the reply: any but `initialize` and a notification that is passed
+-- over
 abbrev pub is_shown : Message → Bool
 is_shown (request i method params) = not (bytes_eq method (codes "initialize"))
 is_shown (notification method params) = bytes_eq method (codes "exit")

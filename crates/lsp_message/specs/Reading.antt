@@ -4,7 +4,8 @@ use Rattle.std.specs.Result.{result_map_both}
 use Rattle.lsp_message.specs.declared.frame.ReadFault.{ReadFault}
 use Rattle.lsp_message.specs.declared.frame.ReadFault.TheVariants.{Input, Memory}
 
--- what the bytes at the front of a text come to, and the bytes that follow them: an answer, none if the text is at its end, or a fault
+-- what the bytes at the front of a text come to, and the bytes that follow them: an answer, none if the text is at its
+-- end, or a fault
 pub record Reading (A : Type 0) : Type 0 where
   pub outcome : Result (Option A) ReadFault
   pub rest : List ℕ
@@ -22,7 +23,8 @@ abbrev pub StopsBefore : {A : Type 0} → Option (List ℕ) → Reading A → Ty
 StopsBefore left reading = (byte : ℕ) × (unread : List ℕ)
     × (left ≡ Some (byte ∷ unread ++ reading.rest))
 
--- What was answered and what is left unread. If the reader failed or memory ran out, nothing after the reading was taken.
+-- What was answered and what is left unread. If the reader failed or memory ran out, nothing after the reading was
+-- taken.
 abbrev pub Answers : {X A : Type 0} → (X → A) → Result (Option X) ReadFault → Option (List ℕ)
     → Reading A → Type 0
 Answers view (Ok answer) left reading = (reading.outcome ≡ Ok (option_map view answer))

@@ -19,8 +19,8 @@ first_line (byte ∷ bytes) =
           drop_through 10 (byte ∷ bytes);
     }
 
--- What was answered to a header line, or to the header part, and what is left unread. If memory ran out, a byte of it at
--- least was not taken.
+-- What was answered to a header line, or to the header part, and what is left unread. If memory ran out, a byte of it
+-- at least was not taken.
 abbrev pub AnswersHeader : {X A : Type 0} → (X → A) → Result (Option X) ReadFault → Option (List ℕ)
     → Reading A → Type 0
 AnswersHeader view (Ok answer) left reading = (reading.outcome ≡ Ok (option_map view answer))
@@ -30,7 +30,8 @@ AnswersHeader view (Err Memory) left reading = StopsBefore left reading
 AnswersHeader view (Err fault) left reading = (reading.outcome ≡ Err fault)
     × (left ≡ Some reading.rest)
 
--- A line that the reader shows whole is answered. One that is cut is left with all the bytes, and at the end of the input there is none.
+-- A line that the reader shows whole is answered. One that is cut is left with all the bytes, and at the end of the
+-- input there is none.
 abbrev pub AnswersInPlace : Result InPlace ReadFault → Option (List ℕ) → List ℕ → Type 0
 AnswersInPlace (Ok Cut) left text = left ≡ Some text
 AnswersInPlace (Ok AtEnd) left text = AnswersHeader (λ line. line) (Ok None) left (first_line text)

@@ -1,4 +1,5 @@
--- The text of a message (JSON-RPC 2.0, sections 4 and 5), and the content part that carries it (LSP 3.17, base protocol).
+-- The text of a message (JSON-RPC 2.0, sections 4 and 5), and the content part that carries it (LSP 3.17, base
+-- protocol).
 use Rattle.std.specs.Prelude.{◌≡◌, ◌≤◌, ℕ, List, [], ◌++◌, false, Option, Some, None, Ok, Err, codes}
 use Rattle.json.specs.Lex.{tokens}
 use Rattle.json.specs.Print.{print}
@@ -10,8 +11,9 @@ use Rattle.lsp_message.specs.Meaning.{unless_null}
 use Rattle.lsp_message.specs.Message.{ErrorObject, Message, request, notification, response}
 use Rattle.lsp_message.specs.Tree.{id_tree}
 
--- A text that `serde_json` may write for a value, with no space. There is one if the value has no float. The digits of a float are
--- the choice of `serde_json`: they are read back as that float, as far as a value is read back at all, which nests at most 127 levels.
+-- A text that `serde_json` may write for a value, with no space. There is one if the value has no float. The digits of
+-- a float are the choice of `serde_json`: they are read back as that float, as far as a value is read back at all,
+-- which nests at most 127 levels.
 pub record IsValueText (d : Data) (text : List ℕ) : Type 0 where
   pub exact : has_float d ≡ false → text ≡ compact_text d
   pub compact : text ≡ print (tokens text)

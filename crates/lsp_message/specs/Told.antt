@@ -1,4 +1,5 @@
--- What was taken from a reader, part after part, as an account has it. This is said of each reader, whether or not its bytes are known.
+-- What was taken from a reader, part after part, as an account has it. This is said of each reader, whether or not its
+-- bytes are known.
 use Rattle.std.specs.List.{concat}
 use Rattle.std.specs.Prelude.{◌≡◌, ℕ, Bool, true, false, List, [], ◌∷◌, ◌++◌, Option, Some, OnSome, Result, Ok, Err}
 use Rattle.std.specs.Io.KnownBytes.{Appends, Consumes, IsAtEnd}
@@ -23,8 +24,8 @@ shows_end [] = false
 shows_end (part ∷ []) = is_nothing part
 shows_end (part ∷ next ∷ more) = shows_end (next ∷ more)
 
--- These parts were taken, and added to the account. If the reader's bytes are known, they were the first of them, and it showed its end only
--- where none are left.
+-- These parts were taken, and added to the account. If the reader's bytes are known, they were the first of them, and
+-- it showed its end only where none are left.
 pub record Takes (parts before after : Parts) (known left : Option (List ℕ)) : Type 0 where
   pub added : after ≡ before ++ parts
   pub consumed : Consumes known left (concat parts)
@@ -34,12 +35,14 @@ pub record Takes (parts before after : Parts) (known left : Option (List ℕ)) :
 abbrev pub Told : (Parts → Type 0) → Parts → Parts → Option (List ℕ) → Option (List ℕ) → Type 0
 Told P before after known left = (parts : Parts) × Takes parts before after known left × P parts
 
--- What may follow the parts that were taken for an answer: after a message anything; else nothing, if the reader showed its end.
+-- What may follow the parts that were taken for an answer: after a message anything; else nothing, if the reader showed
+-- its end.
 abbrev pub MayFollow : {X : Type 0} → Result (Option X) ReadFault → Parts → List ℕ → Type 0
 MayFollow (Ok (Some x)) parts rest = Unit {0}
 MayFollow result parts rest = shows_end parts ≡ true → rest ≡ []
 
--- The answer is that of the parts that were taken, whatever follows them, and the parts are its own bytes and no others.
+-- The answer is that of the parts that were taken, whatever follows them, and the parts are its own bytes and no
+-- others.
 abbrev pub IsOfParts : {X A : Type 0} → (X → A) → (List ℕ → Reading A) → Result (Option X) ReadFault
     → Parts → Type 0
 IsOfParts view reading result parts = (rest : List ℕ) → MayFollow result parts rest

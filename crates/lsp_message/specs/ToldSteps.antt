@@ -1,6 +1,7 @@
 -- Words of the private clauses on what was taken.
 use Rattle.std.specs.List.{concat}
-use Rattle.std.specs.Prelude.{◌≡◌, ◌≢◌, ◌⊎◌, ℕ, ◌+◌, true, false, Bool, List, [], ◌∷◌, ◌++◌, length, All, Option, Some, None, Result, Ok, Err}
+use Rattle.std.specs.Prelude.{◌≡◌, ◌≢◌, ◌⊎◌, ℕ, ◌+◌, true, false, Bool, List, [], ◌∷◌, ◌++◌, length, All, Option, Some}
+use Rattle.std.specs.Prelude.{None, Result, Ok, Err}
 use Rattle.lsp_message.specs.HeaderPart.{header_line}
 use Rattle.lsp_message.specs.Told.{Parts, shows_end}
 use Rattle.lsp_message.specs.declared.frame.header.HeaderLine.{HeaderLine}

@@ -1,9 +1,12 @@
--- Outcomes that no history and no run has: these lists of steps and outcomes are refused, whatever the messages' frames are.
-use Rattle.std.proofs.Common.{◌≡◌, ◌≢◌, ℕ, ℤ, ◌+◌, ◌-◌, ◌≤◌, List, [], ◌∷◌, ◌++◌, String, Global, length, codes, min, refl, sym, ap, ◌∙◌, subst, arith, length-append}
+-- Outcomes that no history and no run has: these lists of steps and outcomes are refused, whatever the messages' frames
+-- are.
+use Rattle.std.proofs.Common.{◌≡◌, ◌≢◌, ℕ, ℤ, ◌+◌, ◌-◌, ◌≤◌, List, [], ◌∷◌, ◌++◌, String, Global, length, codes, min}
+use Rattle.std.proofs.Common.{refl, sym, ap, ◌∙◌, subst, arith, length-append}
 use Rattle.std.proofs.lemmas.Bool.{le-leb, cond-true}
 use Rattle.std.proofs.lemmas.List.{append_cancel_left, length-map}
 use Rattle.std.specs.Fmt.{decimal}
-use Rattle.std.specs.Prelude.{pos, Option, None, Some, Result, Ok, Err, Bool, true, false, if◌then◌else◌, nat_le, string_bytes, map as each}
+use Rattle.std.specs.Prelude.{pos, Option, None, Some, Result, Ok, Err, Bool, true, false, if◌then◌else◌, nat_le}
+use Rattle.std.specs.Prelude.{string_bytes, map as each}
 use Rattle.serde_json.specs.Data.{Data}
 use Rattle.serde_json.specs.View.{view}
 use Rattle.serde_json.specs.declared.value.Value.{Value}
@@ -33,28 +36,46 @@ frame_some : (l : SentFrame) → 16 ≤ length l.frame
 frame_some l =
     let body = l.framed.0 in
     let frame : l.frame ≡ frame_text body = l.framed.2 in
-    omega (arith, ap (λ (x : List ℕ). length x) frame, length-append (codes "Content-Length: ") (decimal (length body) ++ 13 ∷ 10 ∷ 13 ∷ 10 ∷ body))
+    omega (
+      arith,
+      ap (λ (x : List ℕ). length x) frame,
+      length-append (codes "Content-Length: ") (decimal (length body)
+          ++ 13 ∷ 10 ∷ 13 ∷ 10 ∷ body),
+    )
 
 -- what comes of taking a request, if it may have arrived
-not_returned : (own others : List Entry) (l : SentFrame) (b : Bool) (key id : Id) (method : List ℕ) (params : _) (x : Option ℕ) → l.message ≡ request key method params → Returned id x ≡ taking own others (if b then Some l else None) → ⊥
-not_returned own others l true key id method params x is came = let e : Returned id x ≡ Arrived key = came ∙ ap (λ (m : Message). outcome_of_taking own others m) is in cc
+not_returned : (own others : List Entry) (l : SentFrame) (b : Bool) (key id : Id) (method : List ℕ) (params : _)
+    (x : Option ℕ) → l.message ≡ request key method params → Returned id x ≡ taking own others (if b then Some l else
+    None) → ⊥
+not_returned own others l true key id method params x is came = let e : Returned id x ≡ Arrived key = came
+    ∙ ap (λ (m : Message). outcome_of_taking own others m) is in cc
 not_returned own others l false key id method params x is came = cc
 
-module _ (method : String Global) (params : Value) (result : Value) (rest : List Entry) (w1 w2 w3 w4 w5 w6 w7 : List SentFrame) where
+module _ (method : String Global) (params : Value) (result : Value) (rest : List Entry) (w1 w2 w3 w4 w5 w6 w7 : List
+    SentFrame) where
   -- a reply is taken before its request has arrived at the other side
-  pub early : IsHistory (entry (Register A method params 7) (Registered (nth_id 0)) w1 ∷ entry (Take A 0) (Returned (nth_id 0) (Some 7)) w2 ∷ rest) → ⊥
+  pub early : IsHistory (entry (Register A method params 7) (Registered (nth_id 0)) w1 ∷ entry (Take A 0)
+      (Returned (nth_id 0) (Some 7)) w2 ∷ rest) → ⊥
   early history = let came = history.1.0.outcome_is in cc
 
   -- nothing arrives of a request
-  pub unpassed_request : IsHistory (entry (Register A method params 7) (Registered (nth_id 0)) w1 ∷ entry (Pass B 1000) (Passed 0) w2 ∷ rest) → ⊥
+  pub unpassed_request : IsHistory (entry (Register A method params 7) (Registered (nth_id 0)) w1 ∷ entry (Pass B 1000)
+      (Passed 0) w2 ∷ rest) → ⊥
   unpassed_request history =
       let one = one_sent_frame w1 _ history.0.wrote_is in
       let came : Passed 0 ≡ Passed (min 1000 (length (frames (w1 ++ [])) - 0)) = history.1.0.outcome_is in
       let none : 0 ≡ min 1000 (length (frames (w1 ++ [])) - 0) = cc in
-      absurd (omega (arith, none, ap (λ (l : List SentFrame). length (frames (l ++ []))) one.1, length-append one.0.frame [], frame_some one.0))
+      absurd (omega (
+        arith,
+        none,
+        ap (λ (l : List SentFrame). length (frames (l ++ []))) one.1,
+        length-append one.0.frame [],
+        frame_some one.0,
+      ))
 
   -- a request of which every byte has arrived is not taken
-  pub lazy : length (frames w1) ≤ 1000 → IsHistory (entry (Register A method params 7) (Registered (nth_id 0)) w1 ∷ entry (Pass B 1000) (Passed (length (frames w1))) w2 ∷ entry (Take B 0) Waiting w3 ∷ rest) → ⊥
+  pub lazy : length (frames w1) ≤ 1000 → IsHistory (entry (Register A method params 7) (Registered (nth_id 0)) w1
+      ∷ entry (Pass B 1000) (Passed (length (frames w1))) w2 ∷ entry (Take B 0) Waiting w3 ∷ rest) → ⊥
   lazy short history = at w1 history.0.wrote_is history.1.1.0.outcome_is
     where
       own : List SentFrame → List Entry
@@ -63,34 +84,50 @@ module _ (method : String Global) (params : Value) (result : Value) (rest : List
       theirs : List SentFrame → List Entry
       theirs w = entry (Register A method params 7) (Registered (nth_id 0)) w ∷ []
 
-      at : (w : List SentFrame) → messages w ≡ request (nth_id 0) (string_bytes method) (view params) ∷ [] → Waiting ≡ taking (own w) (theirs w) (next_sent (own w) (theirs w)) → ⊥
+      at : (w : List SentFrame) → messages w ≡ request (nth_id 0) (string_bytes method) (view params) ∷ [] → Waiting
+          ≡ taking (own w) (theirs w) (next_sent (own w) (theirs w)) → ⊥
       at [] is came = cc
       at (l ∷ ls) is came =
           let first : l.message ≡ request (nth_id 0) (string_bytes method) (view params) = cc in
-          let whole : nat_le (0 + length l.frame) (length (l.frame ++ frames ls) + 0) ≡ true = le-leb (0 + length l.frame) (length (l.frame ++ frames ls) + 0) (omega (arith, length-append l.frame (frames ls))) in
-          let arrives : Waiting ≡ Arrived (nth_id 0) = came ∙ ap (λ (o : Option SentFrame). taking (own (l ∷ ls)) (theirs (l ∷ ls)) o) (cond-true (nat_le (0 + length l.frame) (length (l.frame ++ frames ls) + 0)) (Some l) None whole) ∙ ap (λ (m : Message). outcome_of_taking (own (l ∷ ls)) (theirs (l ∷ ls)) m) first in
+          let whole : nat_le (0 + length l.frame) (length (l.frame ++ frames ls) + 0)
+          ≡ true = le-leb (0 + length l.frame) (length (l.frame ++ frames ls) + 0) (omega (
+            arith,
+            length-append l.frame (frames ls),
+          )) in
+          let arrives : Waiting ≡ Arrived (nth_id 0) = came ∙ ap (λ (o : Option SentFrame). taking (own (l ∷ ls))
+          (theirs (l ∷ ls)) o) (cond-true (nat_le (0 + length l.frame) (length (l.frame ++ frames ls) + 0)) (Some l)
+          None whole) ∙ ap (λ (m : Message). outcome_of_taking (own (l ∷ ls)) (theirs (l ∷ ls)) m) first in
           cc
 
   -- a reply is taken before a request that was written first
-  pub swapped : (n m : ℕ) (key id : Id) (x : Option ℕ) → IsHistory (entry (Register A method params 7) (Registered (nth_id 0)) w1 ∷ entry (Register B method params 8) (Registered (nth_id 0)) w2 ∷ entry (Pass B 1000) (Passed n) w3 ∷ entry (Take B 5) (Arrived (nth_id 0)) w4 ∷ entry (Answer B (nth_id 0) result) (Answered 5) w5 ∷ entry (Pass A 1000) (Passed m) w6 ∷ entry (Take A 6) (Returned id x) w7 ∷ rest) → ⊥
+  pub swapped : (n m : ℕ) (key id : Id) (x : Option ℕ) → IsHistory (entry (Register A method params 7)
+      (Registered (nth_id 0)) w1 ∷ entry (Register B method params 8) (Registered (nth_id 0)) w2 ∷ entry (Pass B 1000)
+      (Passed n) w3 ∷ entry (Take B 5) (Arrived (nth_id 0)) w4 ∷ entry (Answer B (nth_id 0) result) (Answered 5) w5
+      ∷ entry (Pass A 1000) (Passed m) w6 ∷ entry (Take A 6) (Returned id x) w7 ∷ rest) → ⊥
   swapped n m key id x history = at w2 history.1.0.wrote_is history.1.1.1.1.1.1.0.outcome_is
     where
       own : List Entry
       own = entry (Register A method params 7) (Registered (nth_id 0)) w1 ∷ entry (Pass A 1000) (Passed m) w6 ∷ []
 
       theirs : List SentFrame → List Entry
-      theirs w = entry (Register B method params 8) (Registered (nth_id 0)) w ∷ entry (Pass B 1000) (Passed n) w3 ∷ entry (Take B 5) (Arrived (nth_id 0)) w4 ∷ entry (Answer B (nth_id 0) result) (Answered 5) w5 ∷ []
+      theirs w = entry (Register B method params 8) (Registered (nth_id 0)) w ∷ entry (Pass B 1000) (Passed n) w3
+          ∷ entry (Take B 5) (Arrived (nth_id 0)) w4 ∷ entry (Answer B (nth_id 0) result) (Answered 5) w5 ∷ []
 
-      at : (w : List SentFrame) → messages w ≡ request (nth_id 0) (string_bytes method) (view params) ∷ [] → Returned id x ≡ taking own (theirs w) (next_sent own (theirs w)) → ⊥
+      at : (w : List SentFrame) → messages w ≡ request (nth_id 0) (string_bytes method) (view params) ∷ []
+          → Returned id x ≡ taking own (theirs w) (next_sent own (theirs w)) → ⊥
       at [] is came = cc
-      at (l ∷ ls) is came = let first : l.message ≡ request (nth_id 0) (string_bytes method) (view params) = cc in not_returned own (theirs (l ∷ ls)) l (nat_le (0 + length l.frame) (0 + (m + 0))) (nth_id 0) id (string_bytes method) (view params) x first came
+      at (l ∷ ls) is came = let first : l.message ≡ request (nth_id 0) (string_bytes method) (view params) = cc in
+          not_returned own (theirs (l ∷ ls)) l (nat_le (0 + length l.frame) (0 + (m + 0))) (nth_id 0) id
+          (string_bytes method) (view params) x first came
 
 -- an answer to a request that nobody holds, however deep its result is
-pub answered_nothing : (value : Value) (wrote : List SentFrame) (rest : List Entry) → IsHistory (entry (Answer A (nth_id 0) value) (Answered 0) wrote ∷ rest) → ⊥
+pub answered_nothing : (value : Value) (wrote : List SentFrame) (rest : List Entry)
+    → IsHistory (entry (Answer A (nth_id 0) value) (Answered 0) wrote ∷ rest) → ⊥
 answered_nothing value wrote rest history = let came = history.0.outcome_is in cc
 
 -- a refusal of a request that nobody holds
-pub refused_nothing : (code : ℤ) (text : String Global) (wrote : List SentFrame) (rest : List Entry) → IsHistory (entry (Refuse A (nth_id 0) code text) (Answered 0) wrote ∷ rest) → ⊥
+pub refused_nothing : (code : ℤ) (text : String Global) (wrote : List SentFrame) (rest : List Entry)
+    → IsHistory (entry (Refuse A (nth_id 0) code text) (Answered 0) wrote ∷ rest) → ⊥
 refused_nothing code text wrote rest history = let came = history.0.outcome_is in cc
 
 -- the code of an answer that is an error
@@ -99,31 +136,40 @@ code_of (Ok result) = pos 0
 code_of (Err error) = error.code
 
 -- A asks and B replies, by any step that writes this answer. Then A takes this answer, and no other.
-module _ (world new : World) (handed : Side → List Message) (method : String Global) (params : Value) (n m : ℕ) (w1 w2 w3 w4 w5 w6 : List SentFrame) where
+module _ (world new : World) (handed : Side → List Message) (method : String Global) (params : Value) (n m : ℕ)
+    (w1 w2 w3 w4 w5 w6 : List SentFrame) where
   abbrev asked : Step → List Entry
-  asked reply = entry (Register A method params 7) (Registered (nth_id 0)) w1 ∷ entry (Pass B 1000) (Passed n) w2 ∷ entry (Take B 5) (Arrived (nth_id 0)) w3 ∷ entry reply (Answered 5) w4 ∷ entry (Pass A 1000) (Passed m) w5 ∷ []
+  asked reply = entry (Register A method params 7) (Registered (nth_id 0)) w1 ∷ entry (Pass B 1000) (Passed n) w2
+      ∷ entry (Take B 5) (Arrived (nth_id 0)) w3 ∷ entry reply (Answered 5) w4 ∷ entry (Pass A 1000) (Passed m) w5 ∷ []
 
   abbrev Took : Step → Result Data ErrorObject → Type 0
   Took reply answer =
-      (payload : Option ℕ) × WorldAfter world handed (asked reply) × WorldAfter new handed (asked reply ++ entry (Take A 6) (Returned (nth_id 0) payload) w6 ∷ [])
-      × (each message_view (seen_at A new).taken ≡ each message_view (seen_at A world).taken ++ response (nth_id 0) answer ∷ [])
+      (payload : Option ℕ) × WorldAfter world handed (asked reply) × WorldAfter new handed (asked reply
+      ++ entry (Take A 6) (Returned (nth_id 0) payload) w6 ∷ [])
+      × (each message_view (seen_at A new).taken ≡ each message_view (seen_at A world).taken ++ response (nth_id 0)
+      answer ∷ [])
 
-  only_this : (reply : Step) (said answer : Result Data ErrorObject) → written_in reply (Answered 5) ≡ response (nth_id 0) said ∷ [] → (earlier : List Entry) (e : Entry) (later : List Entry) → earlier ++ e ∷ later ≡ asked reply → side_of e.step ≡ B → written_in e.step e.outcome ≡ response (nth_id 0) answer ∷ [] → answer ≡ said
+  only_this : (reply : Step) (said answer : Result Data ErrorObject) → written_in reply (Answered 5)
+      ≡ response (nth_id 0) said ∷ [] → (earlier : List Entry) (e : Entry) (later : List Entry) → earlier ++ e ∷ later
+      ≡ asked reply → side_of e.step ≡ B → written_in e.step e.outcome ≡ response (nth_id 0) answer ∷ [] → answer ≡ said
   only_this reply said answer says [] e later is by wrote =
       let same : e ≡ entry (Register A method params 7) (Registered (nth_id 0)) w1 = cc in
       let never : A ≡ B = subst (λ (x : Entry). side_of x.step ≡ B) same by in
       cc
   only_this reply said answer says (x ∷ []) e later is by wrote =
       let same : e ≡ entry (Pass B 1000) (Passed n) w2 = cc in
-      let never : [] ≡ response (nth_id 0) answer ∷ [] = subst (λ (x : Entry). written_in x.step x.outcome ≡ response (nth_id 0) answer ∷ []) same wrote in
+      let never : [] ≡ response (nth_id 0) answer ∷ [] = subst (λ (x : Entry). written_in x.step x.outcome
+      ≡ response (nth_id 0) answer ∷ []) same wrote in
       cc
   only_this reply said answer says (x ∷ y ∷ []) e later is by wrote =
       let same : e ≡ entry (Take B 5) (Arrived (nth_id 0)) w3 = cc in
-      let never : [] ≡ response (nth_id 0) answer ∷ [] = subst (λ (x : Entry). written_in x.step x.outcome ≡ response (nth_id 0) answer ∷ []) same wrote in
+      let never : [] ≡ response (nth_id 0) answer ∷ [] = subst (λ (x : Entry). written_in x.step x.outcome
+      ≡ response (nth_id 0) answer ∷ []) same wrote in
       cc
   only_this reply said answer says (x ∷ y ∷ z ∷ []) e later is by wrote =
       let same : e ≡ entry reply (Answered 5) w4 = cc in
-      let both : response (nth_id 0) said ∷ [] ≡ response (nth_id 0) answer ∷ [] = sym says ∙ subst (λ (x : Entry). written_in x.step x.outcome ≡ response (nth_id 0) answer ∷ []) same wrote in
+      let both : response (nth_id 0) said ∷ [] ≡ response (nth_id 0) answer ∷ [] = sym says
+      ∙ subst (λ (x : Entry). written_in x.step x.outcome ≡ response (nth_id 0) answer ∷ []) same wrote in
       cc
   only_this reply said answer says (x ∷ y ∷ z ∷ u ∷ []) e later is by wrote =
       let same : e ≡ entry (Pass A 1000) (Passed m) w5 = cc in
@@ -132,29 +178,40 @@ module _ (world new : World) (handed : Side → List Message) (method : String G
   only_this reply said answer says (x ∷ y ∷ z ∷ u ∷ v ∷ []) e later is by wrote = cc
   only_this reply said answer says (x ∷ y ∷ z ∷ u ∷ v ∷ w ∷ more) e later is by wrote = cc
 
-  took_this : (reply : Step) (said answer : Result Data ErrorObject) → written_in reply (Answered 5) ≡ response (nth_id 0) said ∷ [] → Took reply answer → answer ≡ said
+  took_this : (reply : Step) (said answer : Result Data ErrorObject) → written_in reply (Answered 5)
+      ≡ response (nth_id 0) said ∷ [] → Took reply answer → answer ≡ said
   took_this reply said answer says took =
-      let law = answered_law world new handed (asked reply) (entry (Take A 6) (Returned (nth_id 0) took.0) w6) took.1 took.2 A 6 (nth_id 0) took.0 refl refl in
-      let both : response (nth_id 0) answer ∷ [] ≡ response (nth_id 0) law.0 ∷ [] = append_cancel_left (each message_view (seen_at A world).taken) _ _ (sym took.3 ∙ law.1) in
+      let law = answered_law world new handed (asked reply) (entry (Take A 6) (Returned (nth_id 0) took.0) w6) took.1
+      took.2 A 6 (nth_id 0) took.0 refl refl in
+      let both : response (nth_id 0) answer ∷ [] ≡ response (nth_id 0) law.0 ∷ [] = append_cancel_left
+      (each message_view (seen_at A world).taken) _ _ (sym took.3 ∙ law.1) in
       let same : answer ≡ law.0 = cc in
       same ∙ only_this reply said law.0 says law.2.earlier law.2.entry law.2.later law.2.history_is law.2.by law.2.wrote
 
   -- an answer that comes with another result
-  pub another_result : (result : Value) (other : Data) → other ≢ view result → Took (Answer B (nth_id 0) result) (Ok other) → ⊥
+  pub another_result : (result : Value) (other : Data) → other ≢ view result → Took (Answer B (nth_id 0) result)
+      (Ok other) → ⊥
   another_result result other apart took =
-      let same : Ok other ≡ Ok (view result) = took_this (Answer B (nth_id 0) result) (Ok (view result)) (Ok other) refl took in
+      let same : Ok other ≡ Ok (view result) = took_this (Answer B (nth_id 0) result) (Ok (view result)) (Ok other) refl
+      took in
       apart cc
 
   -- a refusal that comes as a result
-  pub refused_with_a_result : (code : ℤ) (text : String Global) (other : Data) → Took (Refuse B (nth_id 0) code text) (Ok other) → ⊥
+  pub refused_with_a_result : (code : ℤ) (text : String Global) (other : Data) → Took (Refuse B (nth_id 0) code text)
+      (Ok other) → ⊥
   refused_with_a_result code text other took =
       let same = took_this (Refuse B (nth_id 0) code text) _ (Ok other) refl took in
       cc
 
   -- a refusal that comes with another code
-  pub another_code : (code wrong : ℤ) (text : String Global) → wrong ≢ code → Took (Refuse B (nth_id 0) code text) (Err (record { code = wrong; message = string_bytes text; details = None })) → ⊥
+  pub another_code : (code wrong : ℤ) (text : String Global) → wrong ≢ code → Took (Refuse B (nth_id 0) code text)
+      (Err (record { code = wrong; message = string_bytes text; details = None })) → ⊥
   another_code code wrong text apart took =
-      let same = took_this (Refuse B (nth_id 0) code text) _ (Err (record { code = wrong; message = string_bytes text; details = None })) refl took in
+      let same = took_this (Refuse B (nth_id 0) code text) _ (Err (record {
+        code = wrong;
+        message = string_bytes text;
+        details = None;
+      })) refl took in
       apart (ap code_of same)
 
 module _ (world : World) where
@@ -162,23 +219,36 @@ module _ (world : World) where
   pub answered_nothing_run : (value : Value) → IsWholeRun (Answer A (nth_id 0) value ∷ []) (Answered 0 ∷ []) world → ⊥
   answered_nothing_run value run = at run.0 run.1 run.2 run.3.lawful
     where
-      at : (history : List Entry) → each (λ e. e.step) history ≡ Answer A (nth_id 0) value ∷ [] → each (λ e. e.outcome) history ≡ Answered 0 ∷ [] → IsHistory history → ⊥
+      at : (history : List Entry) → each (λ e. e.step) history ≡ Answer A (nth_id 0) value ∷ [] → each (λ e. e.outcome)
+          history ≡ Answered 0 ∷ [] → IsHistory history → ⊥
       at [] steps outcomes lawful = cc
       at (e ∷ history) steps outcomes lawful =
           let step : e.step ≡ Answer A (nth_id 0) value = cc in
           let outcome : e.outcome ≡ Answered 0 = cc in
-          let came : e.outcome ≡ outcome_of [] [] (Answer A (nth_id 0) value) = lawful.0.outcome_is ∙ ap (λ (x : Step). outcome_of (entries_of (side_of x) []) (entries_of (other (side_of x)) []) x) step in
+          let came : e.outcome ≡ outcome_of [] [] (Answer A (nth_id 0) value) = lawful.0.outcome_is
+          ∙ ap (λ (x : Step). outcome_of (entries_of (side_of x) []) (entries_of (other (side_of x)) []) x) step in
           cc
 
   -- a run that stops before the last step, and gives any world: each step has its outcome
-  pub no_outcome_missing : (steps : List Step) (outcomes : List Outcome) → IsWholeRun steps outcomes world → length outcomes ≡ length steps
-  no_outcome_missing steps outcomes run = omega (arith, ap (λ (l : List Step). length l) run.1, ap (λ (l : List Outcome). length l) run.2, length-map run.0 (λ (e : Entry). e.step), length-map run.0 (λ (e : Entry). e.outcome))
+  pub no_outcome_missing : (steps : List Step) (outcomes : List Outcome) → IsWholeRun steps outcomes world
+      → length outcomes ≡ length steps
+  no_outcome_missing steps outcomes run = omega (
+    arith,
+    ap (λ (l : List Step). length l) run.1,
+    ap (λ (l : List Outcome). length l) run.2,
+    length-map run.0 (λ (e : Entry). e.step),
+    length-map run.0 (λ (e : Entry). e.outcome),
+  )
 
   -- a run in which B takes a request that nests too deeply, whatever its outcomes are
-  pub takes_too_deep : (method : String Global) (params : Value) (payload bytes label : ℕ) (outcomes : List Outcome) → IsWholeRun (Register A method params payload ∷ Pass B bytes ∷ Take B label ∷ []) outcomes world → ((before : List Entry) → each (λ e. e.step) before ≡ Register A method params payload ∷ Pass B bytes ∷ [] → IsHistory before → TakesReadable before (Take B label) → ⊥) → ⊥
+  pub takes_too_deep : (method : String Global) (params : Value) (payload bytes label : ℕ) (outcomes : List Outcome)
+      → IsWholeRun (Register A method params payload ∷ Pass B bytes ∷ Take B label ∷ []) outcomes world
+      → ((before : List Entry) → each (λ e. e.step) before ≡ Register A method params payload ∷ Pass B bytes ∷ []
+      → IsHistory before → TakesReadable before (Take B label) → ⊥) → ⊥
   takes_too_deep method params payload bytes label outcomes run deep = at run.0 run.1 run.3.lawful run.4
     where
-      at : (history : List Entry) → each (λ e. e.step) history ≡ Register A method params payload ∷ Pass B bytes ∷ Take B label ∷ [] → IsHistory history → AllTakeReadable [] history → ⊥
+      at : (history : List Entry) → each (λ e. e.step) history ≡ Register A method params payload ∷ Pass B bytes
+          ∷ Take B label ∷ [] → IsHistory history → AllTakeReadable [] history → ⊥
       at [] steps lawful reads = cc
       at (x ∷ []) steps lawful reads = cc
       at (x ∷ y ∷ []) steps lawful reads = cc
@@ -186,5 +256,6 @@ module _ (world : World) where
           let first : x.step ≡ Register A method params payload = cc in
           let second : y.step ≡ Pass B bytes = cc in
           let third : z.step ≡ Take B label = cc in
-          deep (x ∷ y ∷ []) (λ i. first i ∷ second i ∷ []) (lawful.0, (lawful.1.0, tt)) (subst (TakesReadable (x ∷ y ∷ [])) third reads.1.1.0)
+          deep (x ∷ y ∷ []) (λ i. first i ∷ second i ∷ []) (lawful.0, (lawful.1.0, tt)) (subst (TakesReadable (x ∷ y
+          ∷ [])) third reads.1.1.0)
       at (x ∷ y ∷ z ∷ u ∷ more) steps lawful reads = cc

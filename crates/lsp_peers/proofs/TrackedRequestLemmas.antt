@@ -31,30 +31,39 @@ module _ {X : Type 0} (m : Pending X) (key : Id) where
 -- a reading of tracked requests, one by one, against a map
 module _ {Y : Type 0} (read : Option TrackedRequest → Y) where
   -- a tracked request is added, and the map is set there
-  pub push_sets : (old : List TrackedRequest) (t : TrackedRequest) (f g : Id → Y) → ((id : Id) → f id ≡ read (item_at old id)) → Sets f g (nth_id (length old)) (read (Some t)) → (id : Id) → g id ≡ read (item_at (old ++ t ∷ []) id)
+  pub push_sets : (old : List TrackedRequest) (t : TrackedRequest) (f g : Id → Y) → ((id : Id) → f id
+      ≡ read (item_at old id)) → Sets f g (nth_id (length old)) (read (Some t)) → (id : Id) → g id
+      ≡ read (item_at (old ++ t ∷ []) id)
   push_sets old t f g was sets id =
       ⊎_elim
-      (λ here. subst (λ (n : Id). g n ≡ read (item_at (old ++ t ∷ []) n)) (sym here) (sets.here ∙ ap read (sym (get-push old t))))
+      (λ here. subst (λ (n : Id). g n ≡ read (item_at (old ++ t ∷ []) n)) (sym here) (sets.here
+      ∙ ap read (sym (get-push old t))))
       (λ other. sets.others id other ∙ was id ∙ ap read (sym (get-push_other old t id other)))
       (cases_id id (nth_id (length old)))
 
   -- a tracked request is added of which nothing is read
-  pub push_keeps : (old : List TrackedRequest) (t : TrackedRequest) → read (Some t) ≡ read None → (id : Id) → read (item_at old id) ≡ read (item_at (old ++ t ∷ []) id)
+  pub push_keeps : (old : List TrackedRequest) (t : TrackedRequest) → read (Some t) ≡ read None → (id : Id)
+      → read (item_at old id) ≡ read (item_at (old ++ t ∷ []) id)
   push_keeps old t same id =
       ⊎_elim
-      (λ here. subst (λ (n : Id). read (item_at old n) ≡ read (item_at (old ++ t ∷ []) n)) (sym here) (ap read (get-end old) ∙ sym same ∙ ap read (sym (get-push old t))))
+      (λ here. subst (λ (n : Id). read (item_at old n) ≡ read (item_at (old ++ t ∷ []) n)) (sym here)
+      (ap read (get-end old) ∙ sym same ∙ ap read (sym (get-push old t))))
       (λ other. ap read (sym (get-push_other old t id other)))
       (cases_id id (nth_id (length old)))
 
-  module _ {key : Id} {payload : ℕ} {from to : Place} {old new : List TrackedRequest} (goes : Goes key from to payload old new) where
+  module _ {key : Id} {payload : ℕ} {from to : Place} {old new : List TrackedRequest} (goes : Goes key from to payload
+      old new) where
     get_here : item_at new key ≡ Some (tracked_request payload to)
-    get_here = ap (λ (l : List TrackedRequest). item_at l key) goes.now ∙ get-set old key (tracked_request payload from) (tracked_request payload to) goes.was
+    get_here = ap (λ (l : List TrackedRequest). item_at l key) goes.now ∙ get-set old key (tracked_request payload from)
+        (tracked_request payload to) goes.was
 
     get_other : (id : Id) → id ≢ key → item_at new id ≡ item_at old id
-    get_other id other = ap (λ (l : List TrackedRequest). item_at l id) goes.now ∙ get-set_other old key id (tracked_request payload to) other
+    get_other id other = ap (λ (l : List TrackedRequest). item_at l id) goes.now ∙ get-set_other old key id
+        (tracked_request payload to) other
 
     -- the map is set where the tracked request goes
-    pub goes_sets : (f g : Id → Y) → ((id : Id) → f id ≡ read (item_at old id)) → Sets f g key (read (Some (tracked_request payload to))) → (id : Id) → g id ≡ read (item_at new id)
+    pub goes_sets : (f g : Id → Y) → ((id : Id) → f id ≡ read (item_at old id))
+        → Sets f g key (read (Some (tracked_request payload to))) → (id : Id) → g id ≡ read (item_at new id)
     goes_sets f g was sets id =
         ⊎_elim
         (λ here. subst (λ (n : Id). g n ≡ read (item_at new n)) (sym here) (sets.here ∙ ap read (sym get_here)))
@@ -62,12 +71,16 @@ module _ {Y : Type 0} (read : Option TrackedRequest → Y) where
         (cases_id id key)
 
     -- what is read doesn't change
-    pub goes_keeps : read (Some (tracked_request payload from)) ≡ read (Some (tracked_request payload to)) → (id : Id) → read (item_at old id) ≡ read (item_at new id)
+    pub goes_keeps : read (Some (tracked_request payload from)) ≡ read (Some (tracked_request payload to)) → (id : Id)
+        → read (item_at old id) ≡ read (item_at new id)
     goes_keeps same id =
         ⊎_elim
-        (λ here. subst (λ (n : Id). read (item_at old n) ≡ read (item_at new n)) (sym here) (ap read goes.was ∙ same ∙ ap read (sym get_here)))
+        (λ here. subst (λ (n : Id). read (item_at old n) ≡ read (item_at new n)) (sym here) (ap read goes.was ∙ same
+        ∙ ap read (sym get_here)))
         (λ other. ap read (sym (get_other id other)))
         (cases_id id key)
 
-pub goes-length : {key : Id} {payload : ℕ} {from to : Place} {old new : List TrackedRequest} → Goes key from to payload old new → length new ≡ length old
-goes-length {key} {payload} {from} {to} {old} {new} goes = ap (λ (l : List TrackedRequest). length l) goes.now ∙ length-with old key (tracked_request payload to)
+pub goes-length : {key : Id} {payload : ℕ} {from to : Place} {old new : List TrackedRequest} → Goes key from to payload
+    old new → length new ≡ length old
+goes-length {key} {payload} {from} {to} {old} {new} goes = ap (λ (l : List TrackedRequest). length l) goes.now
+    ∙ length-with old key (tracked_request payload to)

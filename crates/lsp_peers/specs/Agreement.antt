@@ -14,7 +14,8 @@ use Rattle.lsp_peers.specs.TrackedRequest.{TrackedRequest, owed, label_of}
 use Rattle.lsp_peers.specs.Post.{Carries}
 use Rattle.lsp_peers.specs.Steps.{Account, Accounts}
 
--- one side, with the messages that it handed out, its own tracked requests, the post to it, and the tracked requests of the other side
+-- one side, with the messages that it handed out, its own tracked requests, the post to it, and the tracked requests of
+-- the other side
 pub record PeerAgrees (peer : Peer) (handed : List Message) (account : Account)
     (others : List TrackedRequest) : Type 0 where
   -- the queue of its own requests holds exactly its tracked requests that aren't done, each payload under its id

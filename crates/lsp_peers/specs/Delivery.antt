@@ -1,5 +1,5 @@
--- Words for private contracts: what a message that was taken does to the queues, which frame has to be read back for a step,
--- which frame can't be, and which steps need no memory.
+-- Words for private contracts: what a message that was taken does to the queues, which frame has to be read back for a
+-- step, which frame can't be, and which steps need no memory.
 use Rattle.std.specs.FinMap as map
 use Rattle.std.specs.Prelude.{◌≡◌, ℕ, None, length}
 use Rattle.lsp_message.specs.Message.{Message, request, notification, response}

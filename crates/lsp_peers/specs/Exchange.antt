@@ -13,12 +13,14 @@ use Rattle.lsp_peers.specs.declared.step.Side.{Side}
 use Rattle.lsp_peers.specs.declared.step.Side.TheVariants.{A, B}
 use Rattle.lsp_peers.specs.declared.step.Step.{Step}
 use Rattle.lsp_peers.specs.declared.world.World.{World}
-use Rattle.lsp_peers.specs.History.{Entry, held, pending, payloads, passed_count, frames_taken, frames_left, entries_of, IsHistory}
+use Rattle.lsp_peers.specs.History.{Entry, held, pending, payloads, passed_count, frames_taken, frames_left, entries_of}
+use Rattle.lsp_peers.specs.History.{IsHistory}
 use Rattle.lsp_peers.specs.SentFrame.{messages, frames}
 use Rattle.lsp_peers.specs.Shallow.{TakesReadable, AllTakeReadable}
 use Rattle.lsp_peers.specs.Sides.{other}
 
--- one side: its queues, the bytes that have arrived there, those on the way to it, and the messages that it took and still has
+-- one side: its queues, the bytes that have arrived there, those on the way to it, and the messages that it took and
+-- still has
 pub record Seen : Type 0 where
   pub queue : ReqQueue ℕ ℕ
   pub arrived : List ℕ
@@ -56,8 +58,8 @@ pub record SideAfter (side : Seen) (handed : List plain.Message) (own others : L
   -- as many ids were given out as requests were registered
   pub count : count_of side.queue.outgoing ≡ length (payloads own)
 
--- A world after these entries of both sides, if each side handed out the first of the messages that it took. Each entry follows
--- those before it.
+-- A world after these entries of both sides, if each side handed out the first of the messages that it took. Each entry
+-- follows those before it.
 pub record WorldAfter (world : World) (handed : Side
     → List plain.Message) (history : List Entry) : Type 0 where
   pub lawful : IsHistory history
@@ -65,8 +67,8 @@ pub record WorldAfter (world : World) (handed : Side
       → SideAfter (seen_at side world) (handed side) (entries_of side history)
       (entries_of (other side) history)
 
--- The steps and outcomes are a history in which each message that is taken nests at most 127 levels, and the world is what it is after
--- it, with nothing handed out.
+-- The steps and outcomes are a history in which each message that is taken nests at most 127 levels, and the world is
+-- what it is after it, with nothing handed out.
 abbrev pub IsWholeRun : List Step → List Outcome → World → Type 0
 IsWholeRun steps outcomes world =
     (history : List Entry) × (each (λ entry. entry.step) history ≡ steps)

@@ -1,7 +1,8 @@
 -- What two peers do: the entries of a run, and what each of them comes to after those before it.
 use Rattle.std.specs.List.{flat_map}
 use Rattle.std.specs.Option.{option_map_or}
-use Rattle.std.specs.Prelude.{◌≡◌, ◌==◌, ℕ, ◌+◌, ◌-◌, List, [], ◌∷◌, ◌++◌, length, take, drop, min, Option, None, Some, Ok, if◌then◌else◌, string_bytes}
+use Rattle.std.specs.Prelude.{◌≡◌, ◌==◌, ℕ, ◌+◌, ◌-◌, List, [], ◌∷◌, ◌++◌, length, take, drop, min, Option, None, Some}
+use Rattle.std.specs.Prelude.{Ok, if◌then◌else◌, string_bytes}
 use Rattle.serde_json.specs.View.{view}
 use Rattle.lsp_message.specs.Id.{Id}
 use Rattle.lsp_message.specs.Message.{Message, request, notification, response}
@@ -11,7 +12,8 @@ use Rattle.lsp_peers.specs.declared.step.Side.TheVariants.{A, B}
 use Rattle.lsp_peers.specs.declared.step.Step.{Step}
 use Rattle.lsp_peers.specs.declared.step.Step.TheVariants.{Register, Tell, Pass, Take, Answer, Refuse, Cancel, GiveUp}
 use Rattle.lsp_peers.specs.declared.step.Outcome.{Outcome}
-use Rattle.lsp_peers.specs.declared.step.Outcome.TheVariants.{Registered, Spent, Told, Passed, Arrived, Returned, Notified, Waiting, Answered, Cancelled, GaveUp, Absent}
+use Rattle.lsp_peers.specs.declared.step.Outcome.TheVariants.{Registered, Spent, Told, Passed, Arrived, Returned}
+use Rattle.lsp_peers.specs.declared.step.Outcome.TheVariants.{Notified, Waiting, Answered, Cancelled, GaveUp, Absent}
 use Rattle.lsp_peers.specs.Ids.{nth_id, item_at, has}
 use Rattle.lsp_peers.specs.SentFrame.{SentFrame, refused, messages, frames, first_passed}
 use Rattle.lsp_peers.specs.Sides.{side_of, other}
@@ -76,7 +78,8 @@ bytes_in step outcome = 0
 abbrev pub payloads : List Entry → List ℕ
 payloads entries = flat_map (λ entry. payload_in entry.step entry.outcome) entries
 
--- The labels of the requests that it took. These have the ids 0, 1, 2, .. too: that is a law, `requests_arrive_in_order`.
+-- The labels of the requests that it took. These have the ids 0, 1, 2, .. too: that is a law,
+-- `requests_arrive_in_order`.
 abbrev pub labels : List Entry → List ℕ
 labels entries = flat_map (λ entry. arrival_in entry.step entry.outcome) entries
 
@@ -130,8 +133,8 @@ module _ (own others : List Entry) where
   abbrev pub next_sent : Option SentFrame
   next_sent = first_passed (length (frames frames_taken)) (passed_count own) frames_left
 
-  -- What comes of taking a message: a request arrives, a reply gives back the payload of its request. That no reply comes twice
-  -- is a law, `a_reply_gives_back_its_payload_once`.
+  -- What comes of taking a message: a request arrives, a reply gives back the payload of its request. That no reply
+  -- comes twice is a law, `a_reply_gives_back_its_payload_once`.
   abbrev pub outcome_of_taking : Message → Outcome
   outcome_of_taking (request id method params) = Arrived id
   outcome_of_taking (response id answer) = Returned id (item_at (payloads own) id)

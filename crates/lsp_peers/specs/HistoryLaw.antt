@@ -7,7 +7,8 @@ use Rattle.lsp_peers.specs.declared.step.Side.{Side}
 use Rattle.lsp_peers.specs.declared.step.Step.{Step}
 use Rattle.lsp_peers.specs.declared.step.Step.TheVariants.{Register, Take, Answer, Refuse, Cancel, GiveUp}
 use Rattle.lsp_peers.specs.declared.step.Outcome.{Outcome}
-use Rattle.lsp_peers.specs.declared.step.Outcome.TheVariants.{Registered, Spent, Passed, Arrived, Returned, Notified, Waiting, Answered, Cancelled, GaveUp, Absent}
+use Rattle.lsp_peers.specs.declared.step.Outcome.TheVariants.{Registered, Spent, Passed, Arrived, Returned, Notified}
+use Rattle.lsp_peers.specs.declared.step.Outcome.TheVariants.{Waiting, Answered, Cancelled, GaveUp, Absent}
 use Rattle.lsp_peers.specs.History.{Entry, written_in, payloads, labels, returned, held, where_held, entries_of}
 use Rattle.lsp_peers.specs.Ids.{nth_id, item_at, has}
 use Rattle.lsp_peers.specs.Sides.{side_of, other}
@@ -21,7 +22,8 @@ NeedsNoMemory (GaveUp label) = Unit {0}
 NeedsNoMemory Absent = Unit {0}
 NeedsNoMemory outcome = ⊥
 
--- What an outcome says, by the steps and outcomes before it: those of the side that takes the step, and those of the other side.
+-- What an outcome says, by the steps and outcomes before it: those of the side that takes the step, and those of the
+-- other side.
 abbrev pub IsFact : List Entry → List Entry → Step → Outcome → Type 0
 -- the requests of a side are registered as 0, 1, 2, ..
 IsFact own others (Register side method params payload) (Registered id) =
@@ -68,7 +70,8 @@ TakenAs Notified old new = (method : List ℕ) × (params : Data)
     × (new ≡ old ++ notification method params ∷ [])
 TakenAs outcome old new = new ≡ old
 
--- The side wrote this answer to the request of this id in one of the entries: it answered the request, refused it or cancelled it.
+-- The side wrote this answer to the request of this id in one of the entries: it answered the request, refused it or
+-- cancelled it.
 pub record AnsweredBy (side : Side) (id : Id) (answer : Result Data ErrorObject)
     (history : List Entry) : Type 0 where
   pub earlier : List Entry

@@ -1,5 +1,5 @@
--- Each tracked request is in one place: the requests and replies among the frames that wait are exactly those that are on the
--- way, and the replies to those that are coming back. A notification is not tracked.
+-- Each tracked request is in one place: the requests and replies among the frames that wait are exactly those that are
+-- on the way, and the replies to those that are coming back. A notification is not tracked.
 use Rattle.std.specs.Prelude.{◌≡◌, ℕ, ◌+◌, List, [], ◌∷◌, Option, None, Some, if◌then◌else◌}
 use Rattle.lsp_message.specs.Id.{Id, same_id}
 use Rattle.lsp_message.specs.Message.{Message, request, response}
@@ -48,8 +48,8 @@ abbrev pub returning : Option TrackedRequest → ℕ
 returning None = 0
 returning (Some t) = coming_back t.place
 
--- The tracked requests of a side match the frames that wait for the other side and those that wait for this one: a request for each
--- that is on the way, a reply for each that is coming back, once, and no other request or reply.
+-- The tracked requests of a side match the frames that wait for the other side and those that wait for this one: a
+-- request for each that is on the way, a reply for each that is coming back, once, and no other request or reply.
 pub record MatchFrames (tracked : List TrackedRequest) (outbound inbound : List SentFrame) :
     Type 0 where
   pub out : (id : Id) → requests outbound id ≡ going (item_at tracked id)

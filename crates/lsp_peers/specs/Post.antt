@@ -1,5 +1,6 @@
 -- The post of one direction: all frames that were written, in order, and how far they have come.
-use Rattle.std.specs.Prelude.{◌≡◌, ◌≤◌, ◌<◌, ℕ, ◌+◌, ◌-◌, List, [], ◌∷◌, ◌++◌, length, take, drop, Option, None, Some, if◌then◌else◌, min, IfSome, IsSomeAnd, is_some}
+use Rattle.std.specs.Prelude.{◌≡◌, ◌≤◌, ◌<◌, ℕ, ◌+◌, ◌-◌, List, [], ◌∷◌, ◌++◌, length, take, drop, Option, None, Some}
+use Rattle.std.specs.Prelude.{if◌then◌else◌, min, IfSome, IsSomeAnd, is_some}
 use Rattle.lsp_message.specs.Message.{Message}
 use Rattle.serde_json.specs.Read.{max_depth}
 use Rattle.lsp_message.specs.Ranges.{IsInRange, nesting}

@@ -1,6 +1,7 @@
 -- A sent frame: a message with the bytes of its frame.
 use Rattle.std.specs.List.{flat_map}
-use Rattle.std.specs.Prelude.{◌≤◌, ℕ, ℤ, ◌+◌, List, [], ◌∷◌, ◌++◌, length, Option, None, Some, Err, nat_le, if◌then◌else◌, map as each}
+use Rattle.std.specs.Prelude.{◌≤◌, ℕ, ℤ, ◌+◌, List, [], ◌∷◌, ◌++◌, length, Option, None, Some, Err, nat_le}
+use Rattle.std.specs.Prelude.{if◌then◌else◌, map as each}
 use Rattle.serde_json.specs.Read.{max_depth}
 use Rattle.lsp_message.specs.Frame.{no_limit}
 use Rattle.lsp_message.specs.Messages.{Begins}
@@ -10,8 +11,8 @@ use Rattle.lsp_message.specs.Ranges.{nesting}
 use Rattle.lsp_message.specs.Tree.{without_null_details}
 use Rattle.lsp_message.specs.Written.{IsFrameOf}
 
--- A message with a frame of it (LSP 3.17, "Base Protocol"). If the message nests at most 127 levels, it is read from the front of
--- the frame, whatever follows that. That is known when the frame is written, and used when it is taken.
+-- A message with a frame of it (LSP 3.17, "Base Protocol"). If the message nests at most 127 levels, it is read from
+-- the front of the frame, whatever follows that. That is known when the frame is written, and used when it is taken.
 pub record SentFrame : Type 0 where
   pub message : Message
   pub frame : List ℕ

@@ -1,5 +1,6 @@
 -- What a step does to tracked requests and posts, and its outcome.
-use Rattle.std.specs.Prelude.{◌≡◌, ◌==◌, ℕ, List, [], ◌∷◌, ◌++◌, length, Option, None, Some, Ok, MatchBool, MatchOption, min, string_bytes}
+use Rattle.std.specs.Prelude.{◌≡◌, ◌==◌, ℕ, List, [], ◌∷◌, ◌++◌, length, Option, None, Some, Ok, MatchBool, MatchOption}
+use Rattle.std.specs.Prelude.{min, string_bytes}
 use Rattle.serde_json.specs.Data.{Data}
 use Rattle.serde_json.specs.View.{view}
 use Rattle.lsp_message.specs.Id.{Id}
@@ -10,10 +11,12 @@ use Rattle.lsp_peers.specs.declared.step.Side.TheVariants.{A, B}
 use Rattle.lsp_peers.specs.declared.step.Step.{Step}
 use Rattle.lsp_peers.specs.declared.step.Step.TheVariants.{Register, Tell, Pass, Take, Answer, Refuse, Cancel, GiveUp}
 use Rattle.lsp_peers.specs.declared.step.Outcome.{Outcome}
-use Rattle.lsp_peers.specs.declared.step.Outcome.TheVariants.{Registered, Spent, Told, Passed, Arrived, Returned, Notified, Waiting, Answered, Cancelled, GaveUp, Absent}
+use Rattle.lsp_peers.specs.declared.step.Outcome.TheVariants.{Registered, Spent, Told, Passed, Arrived, Returned}
+use Rattle.lsp_peers.specs.declared.step.Outcome.TheVariants.{Notified, Waiting, Answered, Cancelled, GaveUp, Absent}
 use Rattle.lsp_peers.specs.Ids.{nth_id, item_at}
 pub use Rattle.lsp_peers.specs.Sides.{side_of}
-use Rattle.lsp_peers.specs.TrackedRequest.{OnTheWay, AtOther, ComingBack, Done, GivenUp, TrackedRequest, tracked_request, label_of, Goes}
+use Rattle.lsp_peers.specs.TrackedRequest.{OnTheWay, AtOther, ComingBack, Done, GivenUp, TrackedRequest}
+use Rattle.lsp_peers.specs.TrackedRequest.{tracked_request, label_of, Goes}
 use Rattle.lsp_peers.specs.SentFrame.{refused}
 use Rattle.lsp_peers.specs.Post.{SentFrame, Post, posted, passed_on, unpassed, next, one_taken, empty_post}
 
@@ -89,8 +92,8 @@ Takes label None old outcome new = (outcome ≡ Waiting) × (new ≡ old)
 Takes label (Some sent_frame) old outcome new =
     TakesMessage label sent_frame.message old outcome new
 
--- The side writes this reply to the request that it holds under the id, and the tracked request comes back. Where it holds none, nothing
--- happens.
+-- The side writes this reply to the request that it holds under the id, and the tracked request comes back. Where it
+-- holds none, nothing happens.
 abbrev pub Replies : Id → Message → (ℕ → Outcome) → Accounts → Outcome → Accounts → Type 0
 Replies id reply answered old outcome new =
     MatchOption (label_of (item_at old.there.tracked id))

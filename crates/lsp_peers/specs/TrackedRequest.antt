@@ -1,5 +1,5 @@
--- A registered request that is followed through, and its payload. Its owner is the side in whose list it is, and its id says its
--- place in that list.
+-- A registered request that is followed through, and its payload. Its owner is the side in whose list it is, and its id
+-- says its place in that list.
 use Rattle.std.specs.Prelude.{◌≡◌, ℕ, List, Option, None, Some}
 use Rattle.lsp_message.specs.Id.{Id}
 use Rattle.lsp_peers.specs.Ids.{item_at, with_item}

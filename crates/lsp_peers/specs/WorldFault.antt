@@ -14,7 +14,8 @@ abbrev pub world_fault_text : WorldFault → Option (List ℕ)
 world_fault_text NoMemory = Some (codes "out of memory")
 world_fault_text NotReadBack = Some (codes "body not read back")
 
--- The fault of a link that meets this one as it reads. Bytes in memory don't fail, so a reader's failure counts as want of memory.
+-- The fault of a link that meets this one as it reads. Bytes in memory don't fail, so a reader's failure counts as want
+-- of memory.
 abbrev pub fault_of : ReadFault → WorldFault
 fault_of (Input kind) = NoMemory
 fault_of Memory = NoMemory

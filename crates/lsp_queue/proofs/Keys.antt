@@ -1,9 +1,12 @@
 -- Laws of the finite map that a list of pairs stands for, under any order whose ties are equal.
-use Rattle.std.proofs.Common.{◌≡◌, refl, sym, ◌∙◌, ap, ℕ, zero, suc, ◌+◌, ◌<◌, ◌==◌, Bool, true, false, cond, not, is_some, length, List, [], ◌∷◌, Option, Some, None, arith}
+use Rattle.std.proofs.Common.{◌≡◌, refl, sym, ◌∙◌, ap, ℕ, zero, suc, ◌+◌, ◌<◌, ◌==◌, Bool, true, false, cond, not}
+use Rattle.std.proofs.Common.{is_some, length, List, [], ◌∷◌, Option, Some, None, arith}
 use Rattle.std.proofs.lemmas.Bool.Decides.{nat_tests}
 use Rattle.std.specs.BTreeMap.{is_at}
 use Rattle.std.specs.Cmp.{IsTotalOrder, eq_by_cmp_equiv}
-use Rattle.std.specs.FinMap.{FinMap, IsAntisymmetric, find, get, insert, remove, contains_key, len, from_entries, get-from_entries, get-insert, get-remove, get-empty, len-insert, len-empty, empty_of_len, same_map}
+use Rattle.std.specs.FinMap.{FinMap, IsAntisymmetric, find, get, insert, remove, contains_key, len, from_entries}
+use Rattle.std.specs.FinMap.{get-from_entries, get-insert, get-remove, get-empty, len-insert, len-empty, empty_of_len}
+use Rattle.std.specs.FinMap.{same_map}
 use Rattle.std.specs.Map.{lookup}
 use Rattle.std.specs.Ordering.{eq_by_cmp, is_eq}
 use Rattle.std.specs.declared.cmp.Ordering.{Ordering}
@@ -37,12 +40,14 @@ module _ {K X : Type 0} {R : K → K → Ordering} (o : IsTotalOrder R) (same : 
   get_at_key es q = get-from_entries o es q ∙ find_at_key es q
 
   -- pairs that differ at one key make maps that differ there
-  pub one_key_inserted : (es fs : List (K × X)) (k : K) (x : X) → ((q : K) → at_key fs q ≡ cond (is_at (R k) q) (Some x) (at_key es q)) → from_entries {R = R} fs ≡ insert (from_entries es) k x
+  pub one_key_inserted : (es fs : List (K × X)) (k : K) (x : X) → ((q : K) → at_key fs q ≡ cond (is_at (R k) q) (Some x)
+      (at_key es q)) → from_entries {R = R} fs ≡ insert (from_entries es) k x
   one_key_inserted es fs k x h = same_map o same _ _ (λ q.
       get_at_key fs q ∙ h q ∙ ap (λ b. cond b (Some x) (at_key es q)) ((eq_by_cmp_equiv o).symm k q)
       ∙ sym (get-insert o (from_entries es) k x q ∙ ap (cond (is_at (R q) k) (Some x)) (get_at_key es q)))
 
-  pub one_key_removed : (es fs : List (K × X)) (k : K) → ((q : K) → at_key fs q ≡ cond (is_at (R k) q) None (at_key es q)) → from_entries {R = R} fs ≡ remove (from_entries es) k
+  pub one_key_removed : (es fs : List (K × X)) (k : K) → ((q : K) → at_key fs q ≡ cond (is_at (R k) q) None
+      (at_key es q)) → from_entries {R = R} fs ≡ remove (from_entries es) k
   one_key_removed es fs k h = same_map o same _ _ (λ q.
       get_at_key fs q ∙ h q ∙ ap (λ b. cond b None (at_key es q)) ((eq_by_cmp_equiv o).symm k q)
       ∙ sym (get-remove o (from_entries es) k q ∙ ap (cond (is_at (R q) k) None) (get_at_key es q)))
@@ -66,4 +71,5 @@ module _ {K X : Type 0} {R : K → K → Ordering} (o : IsTotalOrder R) (same : 
   -- the map is empty if the list is
   pub none_pending : (es : List (K × X)) → (length es == 0) ≡ (len (from_entries {R = R} es) == 0)
   none_pending [] = rw (len-empty R X) refl
-  none_pending (e ∷ es) = not_zero (length (e ∷ es)) (omega arith) ∙ sym (rw (len-insert o (from_entries es) e.0 e.1) (one_more (from_entries es) e.0 (contains_key (from_entries es) e.0) refl))
+  none_pending (e ∷ es) = not_zero (length (e ∷ es)) (omega arith) ∙ sym (rw (len-insert o (from_entries es) e.0 e.1)
+      (one_more (from_entries es) e.0 (contains_key (from_entries es) e.0) refl))

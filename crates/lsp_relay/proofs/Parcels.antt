@@ -1,5 +1,6 @@
 -- Lists of parcels.
-use Rattle.std.proofs.Common.{◌≡◌, true, List, [], ◌∷◌, ◌++◌, ◌∙◌, ap, sym, refl, map, append_assoc, Option, Some, None, IfSome, IfNone}
+use Rattle.std.proofs.Common.{◌≡◌, true, List, [], ◌∷◌, ◌++◌, ◌∙◌, ap, sym, refl, map, append_assoc, Option, Some, None}
+use Rattle.std.proofs.Common.{IfSome, IfNone}
 use mathlib.Core.List.{IsPrefix}
 use Rattle.lsp_relay.specs.declared.ends.Parcel.{Parcel}
 use Rattle.lsp_relay.specs.declared.ends.Parcel.TheVariants as parcel
@@ -21,7 +22,8 @@ module _ {M : Type 0} where
   has_end_closed (parcel.Message n ∷ rest) = has_end_closed rest
   has_end_closed (parcel.End ∷ rest) = refl
 
-  pub has_end_messages : (taken : List (Parcel M)) (ms : List M) → has_end (taken ++ map parcel.Message ms) ≡ has_end taken
+  pub has_end_messages : (taken : List (Parcel M)) (ms : List M) → has_end (taken ++ map parcel.Message ms)
+      ≡ has_end taken
   has_end_messages [] [] = refl
   has_end_messages [] (m ∷ ms) = has_end_messages [] ms
   has_end_messages (parcel.Message n ∷ rest) ms = has_end_messages rest ms
@@ -33,7 +35,8 @@ module _ {M : Type 0} where
   ended_begins [] (n ∷ ns) more e = cc
   ended_begins (m ∷ ms) [] more e = cc
   ended_begins (m ∷ ms) (n ∷ ns) more e =
-      let first : m ≡ n = cc in let others : ended ms ++ more ≡ ended ns = cc in let rest = ended_begins ms ns more others in λ i. first i ∷ rest i
+      let first : m ≡ n = cc in let others : ended ms ++ more ≡ ended ns = cc in let rest = ended_begins ms ns more
+      others in λ i. first i ∷ rest i
 
   -- messages, and then more up to End
   pub ended_more : (ms more : List M) → map parcel.Message ms ++ ended more ≡ ended (ms ++ more)
@@ -41,10 +44,16 @@ module _ {M : Type 0} where
   ended_more (m ∷ ms) more = ap (λ l. parcel.Message m ∷ l) (ended_more ms more)
 
   -- what was taken before a take is a beginning of what it ends with
-  pub settled_before : (r : Option (Parcel M)) (old new sent : List (Parcel M)) → IfSome r (λ p. new ≡ old ++ p ∷ []) → IfNone r (new ≡ old) → IsPrefix new sent → IsPrefix old sent
+  pub settled_before : (r : Option (Parcel M)) (old new sent : List (Parcel M)) → IfSome r (λ p. new ≡ old ++ p ∷ [])
+      → IfNone r (new ≡ old) → IsPrefix new sent → IsPrefix old sent
   settled_before None old new sent some none h = (h.0, ap (λ l. l ++ h.0) (sym none) ∙ h.1)
-  settled_before (Some p) old new sent some none h = (p ∷ h.0, sym (append_assoc old (p ∷ []) h.0) ∙ ap (λ l. l ++ h.0) (sym some) ∙ h.1)
+  settled_before (Some p) old new sent some none h = (
+    p ∷ h.0,
+    sym (append_assoc old (p ∷ []) h.0) ∙ ap (λ l. l ++ h.0)
+        (sym some) ∙ h.1,
+  )
 
   -- if what was taken up to End is a beginning of what was sent up to End, it is the same messages
-  pub same_messages : (ms ns : List M) (taken sent : List (Parcel M)) → taken ≡ ended ms → sent ≡ ended ns → IsPrefix taken sent → ms ≡ ns
+  pub same_messages : (ms ns : List M) (taken sent : List (Parcel M)) → taken ≡ ended ms → sent ≡ ended ns
+      → IsPrefix taken sent → ms ≡ ns
   same_messages ms ns taken sent t s h = ended_begins ms ns h.0 (ap (λ l. l ++ h.0) (sym t) ∙ h.1 ∙ s)

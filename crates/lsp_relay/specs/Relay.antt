@@ -1,5 +1,5 @@
--- A relay between two threads: what was taken, and then the parcels that are held, is what was sent, and that follows a plan, if there is
--- one.
+-- A relay between two threads: what was taken, and then the parcels that are held, is what was sent, and that follows a
+-- plan, if there is one.
 use Rattle.std.specs.List.{filter_map}
 use Rattle.std.specs.Prelude.{◌≡◌, ℕ, ◌+◌, Bool, true, false, List, [], ◌∷◌, ◌++◌, map, Option, Some, None}
 use mathlib.Core.Option.{some}
@@ -116,7 +116,8 @@ module _ {M : Type 0} where
   wakes_with None count = count + 1
   wakes_with (Some parcel) count = count
 
-  -- Of a relay with a plan: these parcels were taken, which follow it, and so many wakes, of wakers that were made before.
+  -- Of a relay with a plan: these parcels were taken, which follow it, and so many wakes, of wakers that were made
+  -- before.
   abbrev pub IsLearned : (Source → List (Parcel M) → Type 0) → Option Source → Bool
       → List (Parcel M) → ℕ → Type 0
   IsLearned may_send source wakeable taken wakes = Follows may_send source taken
@@ -149,8 +150,9 @@ module _ {M : Type 0} where
   HoldsNoWake (None ∷ rest) = ⊥
   HoldsNoWake (Some parcel ∷ rest) = HoldsNoWake rest
 
-  -- One pass at most may send, and its account has what was sent, and whether a waker was made; the same for takes, and how many wakes
-  -- were taken. Both have the plan, and if there is one, both have whether a waker was made. A pass may wake only if a waker was made.
+  -- One pass at most may send, and its account has what was sent, and whether a waker was made; the same for takes, and
+  -- how many wakes were taken. Both have the plan, and if there is one, both have whether a waker was made. A pass may
+  -- wake only if a waker was made.
   abbrev pub Agrees : ℕ → ℕ → List (Parcel M) → List (Parcel M) → ℕ → Bool → Option Source → ℕ
       → Account M → Type 0
   Agrees sender receiver sent taken wakes wakeable source pass account =
@@ -161,9 +163,10 @@ module _ {M : Type 0} where
       × ((known : Source) → account.source ≡ Some known → account.wakeable ≡ wakeable))
       × (account.may_wake ≡ true → wakeable ≡ true)
 
-  -- The rule of a relay: what was taken, and then the parcels that are held, is what was sent. If no waker was made, no wake is held,
-  -- and none was taken.
-  pub record TakenThenHeldIsSent (may_send : Source → List (Parcel M) → Type 0) (held : List (Option (Parcel M))) (accounts : List (Account M)) :
+  -- The rule of a relay: what was taken, and then the parcels that are held, is what was sent. If no waker was made, no
+  -- wake is held, and none was taken.
+  pub record TakenThenHeldIsSent (may_send : Source → List (Parcel M) → Type 0) (held : List (Option (Parcel M)))
+      (accounts : List (Account M)) :
       Type 0 where
     pub sender : ℕ
     pub receiver : ℕ

@@ -1,5 +1,6 @@
 -- An option that asks for no channel is passed over.
-use Rattle.std.proofs.Common.{◌≡◌, ℕ, ◌-◌, ◌≤◌, true, false, List, [], ◌∷◌, map, length, string_bytes, codes, refl, ap, sym, ◌∙◌, arith, Global}
+use Rattle.std.proofs.Common.{◌≡◌, ℕ, ◌-◌, ◌≤◌, true, false, List, [], ◌∷◌, map, length, string_bytes, codes, refl, ap}
+use Rattle.std.proofs.Common.{sym, ◌∙◌, arith, Global}
 use Rattle.std.specs.Prelude.{String, take, drop, get_or}
 use Rattle.std.specs.Str.{bytes_eq}
 use Rattle.std.proofs.lemmas.Bool.{false_from_ne_true}
@@ -21,8 +22,10 @@ all : (words : List (String Global)) → take (length words) words ≡ words
 all [] = refl
 all (word ∷ rest) = ap (λ l. word ∷ l) (all rest)
 
-behind : (first : String Global) (rest : List (String Global)) → take (length (first ∷ rest) - 1) (drop 1 (first ∷ rest)) ≡ rest
-behind first rest = let count : length (first ∷ rest) - 1 ≡ length rest = omega arith in ap (λ n. take n rest) count ∙ all rest
+behind : (first : String Global) (rest : List (String Global)) → take (length (first ∷ rest) - 1) (drop 1 (first
+    ∷ rest)) ≡ rest
+behind first rest = let count : length (first ∷ rest) - 1 ≡ length rest = omega arith in ap (λ n. take n rest) count
+    ∙ all rest
 
 -- the same of the words as a function has them
 pub passed_words : (words : List (String Global)) (word : String Global) (text name : List ℕ) → 1 ≤ length words

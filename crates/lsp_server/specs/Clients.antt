@@ -1,10 +1,13 @@
--- The clients that a program serves: that of its standard input and output, those of a socket, or one that listens itself.
+-- The clients that a program serves: that of its standard input and output, those of a socket, or one that listens
+-- itself.
 use Rattle.std.specs.Prelude.{Option, Some, None}
 use Rattle.lsp_server.specs.Words.{Channel, standard, address, port, pipe, refused}
 use Rattle.lsp_server.specs.declared.clients.ClientReader.{ClientReader}
-use Rattle.lsp_server.specs.declared.clients.ClientReader.TheVariants.{Standard as ReaderStandard, Socket as ReaderSocket, Pipe as ReaderPipe}
+use Rattle.lsp_server.specs.declared.clients.ClientReader.TheVariants.{Standard as ReaderStandard}
+use Rattle.lsp_server.specs.declared.clients.ClientReader.TheVariants.{Socket as ReaderSocket, Pipe as ReaderPipe}
 use Rattle.lsp_server.specs.declared.clients.ClientWriter.{ClientWriter}
-use Rattle.lsp_server.specs.declared.clients.ClientWriter.TheVariants.{Standard as WriterStandard, Socket as WriterSocket, Pipe as WriterPipe}
+use Rattle.lsp_server.specs.declared.clients.ClientWriter.TheVariants.{Standard as WriterStandard}
+use Rattle.lsp_server.specs.declared.clients.ClientWriter.TheVariants.{Socket as WriterSocket, Pipe as WriterPipe}
 
 -- what a session is held over
 pub data Medium : Type 0 where

@@ -13,11 +13,13 @@ capped weight = min weight greatest
 abbrev pub newest : ℕ → List ℕ → List ℕ
 newest count weights = drop (length weights - count) weights
 
--- A message of this weight may be sent: nothing is unread, or with it all that is unread weighs no more than the bound. The greatest bound is none.
+-- A message of this weight may be sent: nothing is unread, or with it all that is unread weighs no more than the bound.
+-- The greatest bound is none.
 abbrev pub HasRoom : List ℕ → ℕ → ℕ → Type 0
 HasRoom weights weight bound = (weights ≡ []) ⊎ (sum weights + weight ≤ bound) ⊎ (greatest ≤ bound)
 
--- an estimate of the memory that the message of a content part takes: a byte for each byte, more if a list or an object opens, and for each further item
+-- an estimate of the memory that the message of a content part takes: a byte for each byte, more if a list or an object
+-- opens, and for each further item
 abbrev pub content_weight : List ℕ → ℕ
 content_weight content =
     length content

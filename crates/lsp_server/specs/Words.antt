@@ -1,12 +1,15 @@
 -- What the words of a command line ask for (LSP 3.17, "Implementation Considerations").
-use Rattle.std.specs.Prelude.{ℕ, List, [], ◌∷◌, Bool, true, false, not, ◌&&◌, ◌||◌, ◌==◌, Option, Some, None, length, if◌then◌else◌, codes}
+use Rattle.std.specs.Prelude.{ℕ, List, [], ◌∷◌, Bool, true, false, not, ◌&&◌, ◌||◌, ◌==◌, Option, Some, None, length}
+use Rattle.std.specs.Prelude.{if◌then◌else◌, codes}
 use Rattle.std.specs.List.{position_or_len, before_first, after_first, starts_with}
 use Rattle.std.specs.Str.{bytes_eq}
 use Rattle.lsp_server.specs.declared.words.Channel.{Channel as Asked}
-use Rattle.lsp_server.specs.declared.words.Channel.TheVariants.{Standard, Address as AskedAddress, Port as AskedPort, Pipe as AskedPipe, Refused}
+use Rattle.lsp_server.specs.declared.words.Channel.TheVariants.{Standard, Address as AskedAddress, Port as AskedPort}
+use Rattle.lsp_server.specs.declared.words.Channel.TheVariants.{Pipe as AskedPipe, Refused}
 
--- the way between a program and its client: standard input and output; an address, to which clients connect; a port of this machine or
--- a socket file, at which the client listens and to which the program connects; or none, since what the words ask for can't be had
+-- the way between a program and its client: standard input and output; an address, to which clients connect; a port of
+-- this machine or a socket file, at which the client listens and to which the program connects; or none, since what the
+-- words ask for can't be had
 pub data Channel : Type 0 where
   standard : Channel
   address : List ℕ → Channel
@@ -60,7 +63,8 @@ with_port (port text) = port text
 with_port (pipe name) = pipe name
 with_port refused = refused
 
--- at `--socket` and `--port`: the port behind `=`, else the next word, but for an option. Then those that follow name it
+-- at `--socket` and `--port`: the port behind `=`, else the next word, but for an option. Then those that follow name
+-- it
 abbrev pub asks_port : Option (List ℕ) → Option (List ℕ) → Channel → Channel
 asks_port (Some text) next later = port text
 asks_port None (Some text) later = if is_option text then with_port later else port text
@@ -71,7 +75,8 @@ abbrev pub passes_number : Option (List ℕ) → Channel → Channel → Channel
 passes_number (Some number) later later_still = later
 passes_number None later later_still = later_still
 
--- what a word asks for, where the next word is `next`, all words behind it ask for `later`, and those behind the next for `later_still`
+-- what a word asks for, where the next word is `next`, all words behind it ask for `later`, and those behind the next
+-- for `later_still`
 abbrev pub asks : List ℕ → Option (List ℕ) → Channel → Channel → Channel
 asks word next later later_still =
     if not (is_option word) then address word
@@ -92,7 +97,7 @@ asked_from skips [] = standard
 asked_from true (word ∷ rest) = asked_from false rest
 asked_from false (word ∷ rest) = asks word (first rest) (asked_from false rest) (asked_from true rest)
 
--- the first word that asks for a channel decides. `--stdio`, the number of the client's process and unknown options are passed over;
--- without a word that decides it is standard input and output
+-- the first word that asks for a channel decides. `--stdio`, the number of the client's process and unknown options are
+-- passed over; without a word that decides it is standard input and output
 abbrev pub channel_of : List (List ℕ) → Channel
 channel_of words = asked_from false words

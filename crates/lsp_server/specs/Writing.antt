@@ -10,8 +10,8 @@ use Rattle.lsp_server.specs.Taken.{Taken, TakesMore}
 use Rattle.lsp_server.specs.declared.io_fault.IoFault.{IoFault}
 use Rattle.lsp_server.specs.declared.io_fault.IoFault.TheVariants.{Read, Write, Closed, Start, Socket, Memory}
 
--- All messages that were taken are written in order, and the channel told that no more come. At a fault the first ones are written, and a
--- beginning of the next; or all but the last, for whose frame there was no memory.
+-- All messages that were taken are written in order, and the channel told that no more come. At a fault the first ones
+-- are written, and a beginning of the next; or all but the last, for whose frame there was no memory.
 abbrev pub WritesMessages : Taken → Option (List ℕ) → Result (Unit {0}) IoFault → Option (List ℕ)
     → Type 0
 WritesMessages taken old (Ok done) new = (taken.is_closed ≡ true) × GetsFrames taken.messages old new
@@ -24,8 +24,8 @@ WritesMessages taken old (Err Start) new = ⊥
 WritesMessages taken old (Err (Socket kind)) new = ⊥
 WritesMessages taken old (Err Memory) new = ⊥
 
--- A message is written, and others that were taken behind it; or a beginning of all that. If a frame could not be made, the messages before
--- that one were written.
+-- A message is written, and others that were taken behind it; or a beginning of all that. If a frame could not be made,
+-- the messages before that one were written.
 abbrev pub WritesFrom : Message → Taken → Option (List ℕ) → Result (Unit {0}) WriteFault → Taken
     → Option (List ℕ) → Type 0
 WritesFrom m before old (Ok done) after new = (behind : List Message) × TakesMore before behind after
@@ -40,8 +40,8 @@ WritesFrom m before old (Err NoMemory) after new = ((after ≡ before) × (new �
 abbrev pub IsBehind : List ℕ → List Message → List ℕ → Type 0
 IsBehind frame behind text = (frames : List ℕ) × AreFramesOf behind frames × (text ≡ frame ++ frames)
 
--- A frame is written, and frames of messages that were taken behind it; or a beginning of all that, if the writer fails, perhaps without
--- those of the last messages. Or there is no memory for the frame of the last one.
+-- A frame is written, and frames of messages that were taken behind it; or a beginning of all that, if the writer
+-- fails, perhaps without those of the last messages. Or there is no memory for the frame of the last one.
 abbrev pub WritesBehind : List ℕ → Taken → Option (List ℕ) → Result (Unit {0}) WriteFault → Taken
     → Option (List ℕ) → Type 0
 WritesBehind frame before old (Ok done) after new = (behind : List Message)

@@ -1,10 +1,11 @@
--- What a server does at a message, and what its queues make of that: the messages to send, and the two queues of requests
--- that have no reply yet (JSON-RPC 2.0, sections 4 and 5).
+-- What a server does at a message, and what its queues make of that: the messages to send, and the two queues of
+-- requests that have no reply yet (JSON-RPC 2.0, sections 4 and 5).
 use Rattle.serde_json.specs.Data.{Data, object, member, no_members}
 use Rattle.serde_json.specs.Data as tree
 use Rattle.serde_json.specs.Find.{of_integer}
 use Rattle.std.specs.FinMap as map
-use Rattle.std.specs.Prelude.{◌≡◌, ◌+◌, ◌==◌, ℕ, ℤ, pos, Bool, List, [], ◌∷◌, ◌++◌, map as map_list, fold, Option, Some, None, Result, Err, if◌then◌else◌, codes}
+use Rattle.std.specs.Prelude.{◌≡◌, ◌+◌, ◌==◌, ℕ, ℤ, pos, Bool, List, [], ◌∷◌, ◌++◌, map as map_list, fold, Option, Some}
+use Rattle.std.specs.Prelude.{None, Result, Err, if◌then◌else◌, codes}
 use Rattle.std.specs.Str.{bytes_eq}
 use Rattle.lsp_message.specs.ErrorCode.{number_of}
 use Rattle.lsp_message.specs.Id.{Id, number}
@@ -78,9 +79,9 @@ module _ {P : Type 0} where
     sent = d.sent ++ request (number (pos (count_of d.asked))) method params ∷ [];
   }
 
-  -- What an act makes of the queues. A request of the server's own is sent only if an id is left for it. An answer is sent only
-  -- if the request is held, and it is held no more. A request of the server's own is cancelled only if it has no reply
-  -- yet, and its reply is still awaited.
+  -- What an act makes of the queues. A request of the server's own is sent only if an id is left for it. An answer is
+  -- sent only if the request is held, and it is held no more. A request of the server's own is cancelled only if it has
+  -- no reply yet, and its reply is still awaited.
   abbrev pub does : Queues P → Act P → Queues P
   does d (tells method params) = with_message d (notification method params)
   does d (asks method params payload) = if is_spent (count_of d.asked) then d
@@ -162,7 +163,8 @@ module _ {S P : Type 0} (takes_back : S → P → S → Type 0) where
   TakesBack old (payload ∷ payloads) new = (mid : S) × takes_back old payload mid
       × TakesBack mid payloads new
 
-  -- What the server did takes it and its queues from old to new. What it was to keep for a request that found no id it takes back.
+  -- What the server did takes it and its queues from old to new. What it was to keep for a request that found no id it
+  -- takes back.
   abbrev pub Acts : (List (Act P) → S → Type 0) → Queues P → S × Queues P → Type 0
   Acts did d new = (acts : List (Act P)) × (mid : S) × did acts mid
       × TakesBack mid (unsent (count_of d.asked) acts) new.0 × (new.1 ≡ does_all d acts)

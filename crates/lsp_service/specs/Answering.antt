@@ -64,8 +64,8 @@ module _ {P : Type 0} where
   AnswersEither writes id found acts =
       MatchResult found (λ value. AnswersWith (writes value) id acts) (λ e. Refuses id e acts)
 
-  -- The notification with what the value is written as. If it can't be written, a line of the log that says so, with the
-  -- error's text.
+  -- The notification with what the value is written as. If it can't be written, a line of the log that says so, with
+  -- the error's text.
   abbrev pub Notifies : Writing → List ℕ → Act P → Type 0
   Notifies writes method act =
       (outcome : Result Data ErrorObject) × IsOutcomeOf writes outcome

@@ -3,7 +3,9 @@
 use Rattle.serde_json.specs.Data.{Data}
 use Rattle.std.specs.FinMap as map
 use Rattle.std.specs.Ordering.{eq_by_cmp}
-use Rattle.std.specs.Prelude.{◌≡◌, ◌≢◌, ◌≤◌, ◌⊎◌, ◌+◌, ◌||◌, ◌&&◌, ℕ, pos, Bool, true, false, List, [], ◌∷◌, ◌++◌, map as map_list, fold, Option, Some, None, is_some, IsSome, IsSomeAnd, Result, Ok, Err, IsErrAnd, if◌then◌else◌}
+use Rattle.std.specs.Prelude.{◌≡◌, ◌≢◌, ◌≤◌, ◌⊎◌, ◌+◌, ◌||◌, ◌&&◌, ℕ, pos, Bool, true, false, List, [], ◌∷◌, ◌++◌}
+use Rattle.std.specs.Prelude.{map as map_list, fold, Option, Some, None, is_some, IsSome, IsSomeAnd, Result, Ok, Err}
+use Rattle.std.specs.Prelude.{IsErrAnd, if◌then◌else◌}
 use Rattle.std.specs.Bool.{MatchBool}
 use Rattle.std.specs.List.{list_all}
 use Rattle.lsp_message.specs.Id.{Id, id_cmp, number}
@@ -13,9 +15,11 @@ use Rattle.lsp_queue.specs.Queue.{Pending}
 use Rattle.lsp_session.specs.Finish.{is_initialized}
 use Rattle.lsp_session.specs.ProtocolError.{ShowsUnallowed, is_disconnected}
 use Rattle.lsp_session.specs.Replies.{null_reply}
-use Rattle.lsp_session.specs.Session.{Exchange, came_of, messages_of, sends_of, SessionAnswer, SessionPart, Stop, decided, refused, exhausted, is_served}
+use Rattle.lsp_session.specs.Session.{Exchange, came_of, messages_of, sends_of, SessionAnswer, SessionPart, Stop}
+use Rattle.lsp_session.specs.Session.{decided, refused, exhausted, is_served}
 use Rattle.lsp_session.specs.SessionLaws.{EndsWithResult, KeepsOrder, AllRefused}
-use Rattle.lsp_service.specs.Acts.{Act, Queues, asks, cancelled_by, cleared, does_all, empty_queues, is_spent, ids_after, unsent, TakesBack}
+use Rattle.lsp_service.specs.Acts.{Act, Queues, asks, cancelled_by, cleared, does_all, empty_queues, is_spent}
+use Rattle.lsp_service.specs.Acts.{ids_after, unsent, TakesBack}
 use Rattle.lsp_service.specs.QueuedServer.{ServerSession, held_by}
 use Rattle.lsp_service.specs.SentByActs.{ActsAt, ActsAtShutdown, all_sends}
 pub use Rattle.lsp_service.specs.SentByActs.{Handed}
@@ -47,8 +51,8 @@ how_many p (m ∷ ms) = one_if (p m) + how_many p ms
 abbrev pub held_under : Id → Pending (Unit {0}) → ℕ
 held_under id held = one_if (is_some (map.get held id))
 
--- At no beginning of the session were more replies sent under this id than requests had come under it. If the outbox refused a
--- reply, that one counts as sent.
+-- At no beginning of the session were more replies sent under this id than requests had come under it. If the outbox
+-- refused a reply, that one counts as sent.
 abbrev pub NeverMore : Id → List Exchange → Type 0
 NeverMore id exchanges =
     (before : List Exchange) (after : List Exchange) → exchanges ≡ before ++ after
@@ -62,8 +66,8 @@ EndsAtRequest id exchanges stop answer =
     × IsSomeAnd last.came (λ m. is_request_under id m ≡ true))
     × (stop ≡ decided) × IsErrAnd answer ShowsUnallowed
 
--- Of exchanges in which one request came under this id: it has exactly one reply. Or it has none: it is still held, or the session
--- ended at it, since the lifecycle does not allow it.
+-- Of exchanges in which one request came under this id: it has exactly one reply. Or it has none: it is still held, or
+-- the session ended at it, since the lifecycle does not allow it.
 abbrev pub OnceOrEnded : Id → List Exchange → Stop → Pending (Unit {0}) → SessionAnswer → Type 0
 OnceOrEnded id exchanges stop held answer =
     (how_many (is_reply_under id) (sends_of exchanges) ≡ 1)
@@ -81,7 +85,8 @@ abbrev pub AnswersLast : Id → List Exchange → Stop → Pending (Unit {0}) �
 AnswersLast id exchanges stop held answer =
     SinceLast id (λ since. OnceOrEnded id since stop held answer) exchanges
 
--- The last request under this id has exactly one reply. Or it has none, and the session ended at it, since the lifecycle does not allow it.
+-- The last request under this id has exactly one reply. Or it has none, and the session ended at it, since the
+-- lifecycle does not allow it.
 abbrev pub AnswersLastInFull : Id → List Exchange → Stop → SessionAnswer → Type 0
 AnswersLastInFull id exchanges stop answer =
     SinceLast id (λ since.
@@ -94,8 +99,8 @@ abbrev pub Cancels : Id → Option Message → Type 0
 Cancels id (Some (notification method params)) = cancelled_by method params ≡ Some id
 Cancels id came = ⊥
 
--- When the last request under this id was cancelled, it has exactly one reply once that exchange is over. Or the session ended at the
--- cancellation, since the lifecycle does not allow it there.
+-- When the last request under this id was cancelled, it has exactly one reply once that exchange is over. Or the
+-- session ended at the cancellation, since the lifecycle does not allow it there.
 abbrev pub AnswersCancelled : Id → List Exchange → Stop → SessionAnswer → Type 0
 AnswersCancelled id exchanges stop answer =
     (earlier : List Exchange) (cancel : Exchange) (later : List Exchange)
@@ -104,8 +109,8 @@ AnswersCancelled id exchanges stop answer =
     (how_many (is_reply_under id) (sends_of (since ++ cancel ∷ [])) ≡ 1)
     ⊎ ((stop ≡ decided) × IsErrAnd answer ShowsUnallowed)) earlier
 
--- What was to be sent at these exchanges: what was sent. Or, if the outbox refused a message, that and what was to follow it for the same
--- message or wake, which was lost.
+-- What was to be sent at these exchanges: what was sent. Or, if the outbox refused a message, that and what was to
+-- follow it for the same message or wake, which was lost.
 abbrev pub WasToSend : Stop → List Exchange → List Exchange → Type 0
 WasToSend (refused fault) exchanges all =
     (earlier : List Exchange) × (came : Option Message) × (sent : List Message)
@@ -193,13 +198,13 @@ module _ {P : Type 0} where
   was_given id (call ∷ calls) =
       (is_some call.payload && came_with (is_reply_under id) call.came) || was_given id calls
 
-  -- What a reply under this id brings to the server, after these requests and calls: what was kept with the request that was sent
-  -- under its id. After a first reply it brings nothing, and reaches nobody.
+  -- What a reply under this id brings to the server, after these requests and calls: what was kept with the request
+  -- that was sent under its id. After a first reply it brings nothing, and reaches nobody.
   abbrev pub brings : Id → List (Sent P) → List (Call P) → Option P
   brings id sent before = if was_given id before then None else kept_under id sent
 
-  -- Of these calls, which follow what was done at `initialized`: each reply of the client comes to the server with the payload of
-  -- its own request, once. One to no such request, or not the first, reaches nobody.
+  -- Of these calls, which follow what was done at `initialized`: each reply of the client comes to the server with the
+  -- payload of its own request, once. One to no such request, or not the first, reaches nobody.
   abbrev pub GivesOwnPayloads : List (Act P) → List (Call P) → Type 0
   GivesOwnPayloads begun calls =
       (before after : List (Call P)) (call : Call P) (id : Id) → calls ≡ before ++ call ∷ after
@@ -225,8 +230,8 @@ module _ {S P : Type 0} (may : Stated S P) where
       × TakesBack may.takes_back did (unsent count call.acts) mid
       × TakesCalls (ids_after_all count call.acts) mid calls new
 
-  -- The calls take the server and its queues from old to new, each at its exchange: what its acts send, in their order, is all that is
-  -- sent there.
+  -- The calls take the server and its queues from old to new, each at its exchange: what its acts send, in their order,
+  -- is all that is sent there.
   abbrev pub SendsActs : S × Queues P → List (Call P) → List Exchange → S × Queues P → Type 0
   SendsActs old [] [] new = new ≡ old
   SendsActs old (call ∷ calls) (x ∷ exchanges) new =
@@ -235,8 +240,8 @@ module _ {S P : Type 0} (may : Stated S P) where
       × SendsActs mid calls exchanges new
   SendsActs old calls exchanges new = ⊥
 
-  -- At a message that is not served: at `shutdown` the server does these last acts, and what they send, and the answers to what is still held, is
-  -- all that is sent before the reply. At `exit` it does nothing.
+  -- At a message that is not served: at `shutdown` the server does these last acts, and what they send, and the answers
+  -- to what is still held, is all that is sent before the reply. At `exit` it does nothing.
   abbrev pub PartsAt : S × Queues P → Option Message → List Message → List (Act P) → S × Queues P → Type 0
   PartsAt old (Some (request id method params)) output acts new =
       (sent : List Message) × (at : ActsAtShutdown may old id sent new) × (acts ≡ at.acts)
@@ -248,9 +253,9 @@ module _ {S P : Type 0} (may : Stated S P) where
   PartsFirst old [] acts new = (acts ≡ []) × (new ≡ old)
   PartsFirst old (x ∷ rest) acts new = PartsAt old x.came x.sent acts new
 
-  -- The server's part of a session from `initialized` on, from its state at the result to its last: it did this, then took these calls
-  -- at what came up to `shutdown` or `exit`, and did its last acts at `shutdown`, by its stated meaning. What its acts send is all that is sent,
-  -- each in its place. These are the requests that it sent.
+  -- The server's part of a session from `initialized` on, from its state at the result to its last: it did this, then
+  -- took these calls at what came up to `shutdown` or `exit`, and did its last acts at `shutdown`, by its stated
+  -- meaning. What its acts send is all that is sent, each in its place. These are the requests that it sent.
   pub record TakesPart (start last : S) (opening : Exchange) (later : List Exchange) : Type 0 where
     pub begun : List (Act P)
     pub calls : List (Call P)
@@ -277,7 +282,8 @@ module _ {S P : Type 0} (may : Stated S P) where
         ≡ requests_in (sends_of (opening ∷ later))
     pub payloads : GivesOwnPayloads begun calls
 
-  -- What follows the result of `initialize`: `initialized`, and the server takes part from then on. Or nothing more is sent.
+  -- What follows the result of `initialize`: `initialized`, and the server takes part from then on. Or nothing more is
+  -- sent.
   abbrev pub GoesOn : S → S → List Exchange → Type 0
   GoesOn start last [] = last ≡ start
   GoesOn start last (x ∷ later) =
@@ -315,21 +321,22 @@ module _ {S P : Type 0} (may : Stated S P) where
   pub record KeepsLaws (first last : S) (held : Pending (Unit {0})) (exchanges : List Exchange)
       (stop : Stop) (shutdown_reply : Option Message) (answer : SessionAnswer)
       : Type 0 where
-    -- under no id are there ever more replies than requests that came before: no reply goes to anything else, and none comes twice
+    -- under no id are there ever more replies than requests that came before: no reply goes to anything else, and none
+    -- comes twice
     pub never_more : (id : Id) → NeverMore id exchanges
     -- before `initialized` nothing is sent but one reply for each request, and nothing follows the reply to `shutdown`
     pub order : KeepsOrder true true exchanges stop shutdown_reply answer
     -- these exchanges with all that was to be sent at them, of which the rest is said
     pub all : List Exchange
     pub to_send : WasToSend stop exchanges all
-    -- The last request under an id has one reply, or it is held or ended the session; it has one when it was cancelled. Once `shutdown` got
-    -- its reply none is held.
+    -- The last request under an id has one reply, or it is held or ended the session; it has one when it was cancelled.
+    -- Once `shutdown` got its reply none is held.
     pub once : stop ≢ exhausted → (id : Id) → AnswersLast id all stop held answer
     pub cancelled : (id : Id) → AnswersCancelled id all stop answer
     pub none_held : IsSome shutdown_reply → held ≡ map.empty
-    -- Each reply of the client comes to the server with the payload of its own request, once, and each act is sent in its place, from the
-    -- server's first state to the one after the last exchange. That is its last state, unless an allocation failed at the message that
-    -- came next.
+    -- Each reply of the client comes to the server with the payload of its own request, once, and each act is sent in
+    -- its place, from the server's first state to the one after the last exchange. That is its last state, unless an
+    -- allocation failed at the message that came next.
     pub after : S
     pub payloads : GivesPayloads first after all
     pub kept : (stop ≡ exhausted) ⊎ (last ≡ after)

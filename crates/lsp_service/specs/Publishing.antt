@@ -1,5 +1,6 @@
 -- What shows the client what is wrong with a document (LSP 3.17, "PublishDiagnostics Notification").
-use Rattle.serde_json.specs.Data.{Data, Items, Members, array, item, member, no_items, no_members, number, object, put, string}
+use Rattle.serde_json.specs.Data.{Data, Items, Members, array, item, member, no_items, no_members, number, object, put}
+use Rattle.serde_json.specs.Data.{string}
 use Rattle.serde_json.specs.Find.{of_integer}
 use Rattle.std.specs.Prelude.{◌≡◌, ◌++◌, ℕ, ℤ, List, [], ◌∷◌, ⊤, Option, Some, None, codes}
 use Rattle.std.specs.Prelude.{Result, Ok, Err, MatchResult}
@@ -41,8 +42,8 @@ abbrev pub AreOutcomeOf : {T : Type 0} → (T → Writing) → List T → Result
 AreOutcomeOf writes values (Ok tree) = IsListOf writes values tree
 AreOutcomeOf writes values (Err e) = IsFault InternalError e
 
--- The notification for this document, with all diagnostics in their order. If one can't be written, a line of the log that says
--- so, with the error's text.
+-- The notification for this document, with all diagnostics in their order. If one can't be written, a line of the log
+-- that says so, with the error's text.
 abbrev pub Publishes : {P T : Type 0} → (T → Writing) → List ℕ → Option ℤ → List T → Act P → Type 0
 Publishes writes uri version values act =
     (outcome : Result Data ErrorObject) × AreOutcomeOf writes values outcome

@@ -4,12 +4,14 @@ use Rattle.std.specs.Prelude.{◌≡◌, pos, List, [], ◌∷◌, ◌++◌, Opt
 use Rattle.lsp_message.specs.Id.{Id, number}
 use Rattle.lsp_message.specs.Message.{Message, request, notification, response}
 use Rattle.lsp_queue.specs.Queue.{pending_of, count_of}
-use Rattle.lsp_service.specs.Acts.{Act, tells, asks, replies, cancels, Queues, is_spent, does, does_all, unsent, holds, given, released, canceled, ends_all, cancelled_by, cancel_method, cancel_params, cleared, TakesBack}
+use Rattle.lsp_service.specs.Acts.{Act, tells, asks, replies, cancels, Queues, is_spent, does, does_all, unsent, holds}
+use Rattle.lsp_service.specs.Acts.{given, released, canceled, ends_all, cancelled_by, cancel_method, cancel_params}
+use Rattle.lsp_service.specs.Acts.{cleared, TakesBack}
 use Rattle.lsp_service.specs.Stated.{Stated}
 
 module _ {P : Type 0} where
-  -- What an act sends: a notification; a request, if an id is left, under the next id; the answer of a request that is held; the
-  -- cancellation of a request of the server's own that has no reply yet.
+  -- What an act sends: a notification; a request, if an id is left, under the next id; the answer of a request that is
+  -- held; the cancellation of a request of the server's own that has no reply yet.
   abbrev pub sends_by : Queues P → Act P → List Message
   sends_by d (tells method params) = notification method params ∷ []
   sends_by d (asks method params payload) = if is_spent (count_of d.asked) then []
@@ -58,8 +60,8 @@ module _ {S P : Type 0} (may : Stated S P) where
   Handed old (Some (response id outcome)) None acts new = (new ≡ old) × (acts ≡ [])
   Handed old None payload acts new = may.wakes old acts new × (payload ≡ None)
 
-  -- At a message or a wake the server, which stated what it may do, did this, and what these acts send is all that is sent. These are
-  -- the queues afterwards, and the server, which took back what found no id.
+  -- At a message or a wake the server, which stated what it may do, did this, and what these acts send is all that is
+  -- sent. These are the queues afterwards, and the server, which took back what found no id.
   pub record ActsAt (old : S × Queues P) (came : Option Message) (output : List Message) (new : S
       × Queues P) : Type 0 where
     pub payload : Option P
@@ -72,9 +74,9 @@ module _ {S P : Type 0} (may : Stated S P) where
         ++ all_sends (queues_at old.1 came payload) (acts_done_at came acts)
     pub queues : new.1 ≡ cleared (does_all (queues_at old.1 came payload) (acts_done_at came acts))
 
-  -- At `shutdown`, which came under this id, the server, which stated what it may do, did this last, and then the requests under these ids are
-  -- answered. What these acts send is all that is sent before the reply. These are the queues afterwards, in which nothing is held, and the
-  -- server, which took back what found no id.
+  -- At `shutdown`, which came under this id, the server, which stated what it may do, did this last, and then the
+  -- requests under these ids are answered. What these acts send is all that is sent before the reply. These are the
+  -- queues afterwards, in which nothing is held, and the server, which took back what found no id.
   pub record ActsAtShutdown (old : S × Queues P) (id : Id) (output : List Message) (new : S
       × Queues P) : Type 0 where
     pub acts : List (Act P)

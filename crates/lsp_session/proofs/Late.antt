@@ -9,7 +9,8 @@ use Rattle.lsp_session.specs.ProtocolError.{out_of_memory}
 use Rattle.lsp_session.specs.Session.{Behavior, Exchange, Phase, asked, sends_of, is_reply, Step, Steps}
 use Rattle.lsp_session.specs.Shutdown.{ShutdownAnswer, EventShutsDown}
 use Rattle.lsp_session.specs.TransportParts.{is_late, WaitsForExit}
-use Rattle.std.proofs.Common.{◌≡◌, refl, sym, ◌∙◌, ap, subst, ℕ, ◌+◌, ◌≤◌, Bool, true, false, ◌&&◌, List, [], ◌∷◌, ◌++◌, length, length-append, map, arith, Some}
+use Rattle.std.proofs.Common.{◌≡◌, refl, sym, ◌∙◌, ap, subst, ℕ, ◌+◌, ◌≤◌, Bool, true, false, ◌&&◌, List, [], ◌∷◌, ◌++◌}
+use Rattle.std.proofs.Common.{length, length-append, map, arith, Some}
 use Rattle.std.proofs.lemmas.Fn.{FoldsTo-push}
 use Rattle.std.proofs.lemmas.List.Folds.{list_all-append}
 use Rattle.std.specs.List.{FoldsTo, list_all}
@@ -39,12 +40,17 @@ module _ (passes : Bool) where
   none_late b e = never_both passes (and-true (passes && false) b e).0
 
   -- what was passed over are responses
-  pub late_messages : (late : List Event) → list_all lets_pass late ≡ true → (ms : List Message) × (late ≡ map message ms) × (list_all lets_over ms ≡ true)
+  pub late_messages : (late : List Event) → list_all lets_pass late ≡ true → (ms : List Message)
+      × (late ≡ map message ms) × (list_all lets_over ms ≡ true)
   late_messages [] all = ([], refl, refl)
   late_messages (message m ∷ late) all =
       let both = and-true (passes && is_reply m) (list_all lets_pass late) all in
-      let rest = late_messages late both.1 in
-      (m ∷ rest.0, ap (λ (es : List Event). message m ∷ es) rest.1, both_true (passes && is_reply m) (list_all lets_over rest.0) both.0 rest.2)
+      let rest = late_messages late both.1 in (
+        m ∷ rest.0,
+        ap (λ (es : List Event). message m ∷ es) rest.1,
+        both_true (passes && is_reply m) (list_all lets_over
+            rest.0) both.0 rest.2,
+      )
   late_messages (timeout ∷ late) all = absurd (none_late (list_all lets_pass late) all)
   late_messages (closed ∷ late) all = absurd (none_late (list_all lets_pass late) all)
   late_messages (woken ∷ late) all = absurd (none_late (list_all lets_pass late) all)
@@ -68,7 +74,8 @@ module _ (passes : Bool) where
     pub late_none : (old : L) → PassesLate 0 old old
     late_none old = record { late = []; many = refl; passed = refl; received = refl }
 
-    pub late_more : (count : ℕ) (event : Event) (old mid new : L) → PassesLate count old mid → receives mid event new → (passes && is_late event) ≡ true → PassesLate (count + 1) old new
+    pub late_more : (count : ℕ) (event : Event) (old mid new : L) → PassesLate count old mid → receives mid event new
+        → (passes && is_late event) ≡ true → PassesLate (count + 1) old new
     late_more count event old mid new so_far step is = record {
       late = so_far.late ++ event ∷ [];
       many = rw (length-append so_far.late (event ∷ [])) (omega (arith, so_far.many));
@@ -77,7 +84,8 @@ module _ (passes : Bool) where
     }
 
     -- another event decides
-    pub late_decides : (count : ℕ) (event : Event) (answer : ShutdownAnswer) (old mid new : L) → PassesLate count old mid → receives mid event new → (passes && is_late event) ≡ false
+    pub late_decides : (count : ℕ) (event : Event) (answer : ShutdownAnswer) (old mid new : L) → PassesLate count old
+        mid → receives mid event new → (passes && is_late event) ≡ false
         → EventShutsDown event answer → WaitsForExit receives passes old answer new
     late_decides count event answer old mid new so_far step is decides = record {
       late = so_far.late;
@@ -88,7 +96,8 @@ module _ (passes : Bool) where
     }
 
     -- as many came as are received at most
-    pub late_spent : (count : ℕ) (old new : L) → 1 ≤ count → PassesLate count old new → WaitsForExit receives passes old (Err out_of_memory) new
+    pub late_spent : (count : ℕ) (old new : L) → 1 ≤ count → PassesLate count old new → WaitsForExit receives passes old
+        (Err out_of_memory) new
     late_spent count old new some so_far = at so_far.late so_far.many so_far.passed so_far.received
       where
         at : (late : List Event) → length late ≡ count → list_all lets_pass late ≡ true → FoldsTo receives old late new
@@ -96,8 +105,10 @@ module _ (passes : Bool) where
         at [] many passed received = absurd (omega (arith, many, some))
         at (e ∷ es) many passed received =
             let cut = last_of e es in
-            let all : list_all lets_pass (cut.0 ++ cut.1 ∷ []) ≡ true = subst (λ (l : List Event). list_all lets_pass l ≡ true) cut.2 passed in
-            let both = and-true (list_all lets_pass cut.0) (list_all lets_pass (cut.1 ∷ [])) (sym (list_all-append lets_pass cut.0 (cut.1 ∷ [])) ∙ all) in
+            let all : list_all lets_pass (cut.0 ++ cut.1 ∷ []) ≡ true = subst (λ (l : List Event). list_all lets_pass l
+            ≡ true) cut.2 passed in
+            let both = and-true (list_all lets_pass cut.0) (list_all lets_pass (cut.1 ∷ []))
+            (sym (list_all-append lets_pass cut.0 (cut.1 ∷ [])) ∙ all) in
             let one = and-true (passes && is_late cut.1) true both.1 in
             record {
               late = cut.0;
@@ -110,12 +121,14 @@ module _ (passes : Bool) where
 -- ---- their steps
 
 module _ {S : Type 0} (may : Behavior S) where
-  late_step : (i : Id) (s : S) (m : Message) → (may.passes_late && is_reply m) ≡ true → Step may (asked i) s (Some m) [] (asked i) s
+  late_step : (i : Id) (s : S) (m : Message) → (may.passes_late && is_reply m) ≡ true → Step may (asked i) s (Some m) []
+      (asked i) s
   late_step i s (response j outcome) passes = (rw passes (refl, refl), refl)
   late_step i s (request j method params) passes = absurd (never_both may.passes_late passes)
   late_step i s (notification method params) passes = absurd (never_both may.passes_late passes)
 
-  pub late_steps : (i : Id) (s s' : S) (late : List Message) (later : List Exchange) (last : Phase) → list_all (lets_over may.passes_late) late ≡ true → Steps may (asked i) s later last s'
+  pub late_steps : (i : Id) (s s' : S) (late : List Message) (later : List Exchange) (last : Phase)
+      → list_all (lets_over may.passes_late) late ≡ true → Steps may (asked i) s later last s'
       → Steps may (asked i) s (map passed_over late ++ later) last s'
   late_steps i s s' [] later last all steps = steps
   late_steps i s s' (m ∷ late) later last all steps =
@@ -123,6 +136,7 @@ module _ {S : Type 0} (may : Behavior S) where
       (asked i, s, late_step i s m both.0, late_steps i s s' late later last both.1 steps)
 
 -- nothing is sent for them
-pub late_silent : (late : List Message) (later : List Exchange) → sends_of later ≡ [] → sends_of (map passed_over late ++ later) ≡ []
+pub late_silent : (late : List Message) (later : List Exchange) → sends_of later ≡ [] → sends_of (map passed_over late
+    ++ later) ≡ []
 late_silent [] later none = none
 late_silent (m ∷ late) later none = late_silent late later none

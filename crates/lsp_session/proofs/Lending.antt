@@ -2,13 +2,16 @@
 use Rattle.lsp_message.specs.Id.{Id}
 use Rattle.lsp_message.specs.Message.{Message, ErrorObject}
 use Rattle.lsp_message.specs.declared.frame.limits.Limits.{Limits}
-use Rattle.lsp_session.proofs.Ran.{StepCase, row, at_initialize, at_initialized, at_served, at_woken, at_shutdown, idle, Idle, early_request, early_note, unasked, uninvited, leaves, exits, late, stays}
+use Rattle.lsp_session.proofs.Ran.{StepCase, row, at_initialize, at_initialized, at_served, at_woken, at_shutdown, idle}
+use Rattle.lsp_session.proofs.Ran.{Idle, early_request, early_note, unasked, uninvited, leaves, exits, late, stays}
 use Rattle.lsp_session.specs.Boxes.{Sends, Receives}
 use Rattle.lsp_session.specs.Event.{Event}
 use Rattle.lsp_session.specs.HandlerService.{KeepsHandler, lent_handler}
 use Rattle.lsp_session.specs.HandlerSession.{initialize_result, of_handler}
 use Rattle.lsp_session.specs.Prompt.{Talks}
-use Rattle.lsp_session.specs.Session.{Behavior, SessionAnswer, Exchange, Stop, decided, timed_out, refused, exhausted, Phase, starting, replied, serving, asked, ended, phase_after, Step, Steps, Reaches, Stops, SessionOut, SessionPart}
+use Rattle.lsp_session.specs.Session.{Behavior, SessionAnswer, Exchange, Stop, decided, timed_out, refused, exhausted}
+use Rattle.lsp_session.specs.Session.{Phase, starting, replied, serving, asked, ended, phase_after, Step, Steps}
+use Rattle.lsp_session.specs.Session.{Reaches, Stops, SessionOut, SessionPart}
 use Rattle.lsp_session.specs.SessionBytes.{ReadsMessage, SessionOver, Gives}
 use Rattle.lsp_session.specs.SessionRun.{Runs}
 use Rattle.lsp_session.specs.declared.lifecycle.SendFault.{SendFault}
@@ -20,7 +23,8 @@ use Rattle.serde_json.specs.View.{view}
 use Rattle.std.proofs.Common.{◌≡◌, refl, ◌∙◌, ap, inl, inr, ◌⊎◌, ℕ, List, [], ◌∷◌, ◌++◌, Option, Some, None, IfSome}
 use Rattle.std.specs.Prelude.{Result, Ok}
 
-module _ {H : Type 0} (answers : H → Id → List ℕ → Data → Result Data ErrorObject → H → Type 0) (notes : H → List ℕ → Data → H → Type 0) (capabilities : Data) where
+module _ {H : Type 0} (answers : H → Id → List ℕ → Data → Result Data ErrorObject → H → Type 0) (notes : H → List ℕ
+    → Data → H → Type 0) (capabilities : Data) where
   abbrev lent : Behavior (HandlerService H)
   lent = lent_handler answers notes
 
@@ -33,8 +37,10 @@ module _ {H : Type 0} (answers : H → Id → List ℕ → Data → Result Data 
   Has phase s = Unit {0}
 
   -- one message, and the handler that was lent is still that one
-  has_idle : (p p' : Phase) (s s' : HandlerService H) (m : Message) (sent : List Message) → Has p s → s' ≡ s → Idle p m sent p' → Has p' s'
-  has_idle p p' s s' m sent has same (early_request i method params reply here is early output next) = rw (next, same) (rw here at has)
+  has_idle : (p p' : Phase) (s s' : HandlerService H) (m : Message) (sent : List Message) → Has p s → s' ≡ s
+      → Idle p m sent p' → Has p' s'
+  has_idle p p' s s' m sent has same (early_request i method params reply here is early output next) = rw (next, same)
+      (rw here at has)
   has_idle p p' s s' m sent has same (early_note here mute early output next) = rw (next, same) (rw here at has)
   has_idle p p' s s' m sent has same (unasked shown here mute other output next) = rw next tt
   has_idle p p' s s' m sent has same (uninvited shown here other output next) = rw next tt
@@ -43,15 +49,35 @@ module _ {H : Type 0} (answers : H → Id → List ℕ → Data → Result Data 
   has_idle p p' s s' m sent has same (late i here is output next) = rw next tt
   has_idle p p' s s' m sent has same (stays i shown here other output next) = rw next tt
 
-  step_case_as : (p p' : Phase) (s s' : HandlerService H) (came : Option Message) (sent : List Message) → Has p s → StepCase lent p s came sent p' s'
-      → Step plain p s.handler.now came sent p' s'.handler.now × Has p' s' × (s'.handler.ghost_name ≡ s.handler.ghost_name)
+  step_case_as : (p p' : Phase) (s s' : HandlerService H) (came : Option Message) (sent : List Message) → Has p s
+      → StepCase lent p s came sent p' s'
+      → Step plain p s.handler.now came sent p' s'.handler.now × Has p' s' × (s'.handler.ghost_name
+      ≡ s.handler.ghost_name)
   step_case_as p p' s s' came sent has (at_initialize i method params outcome here is asks given output next) =
       let last : p' ≡ replied = next ∙ ap (λ (x : Result Data ErrorObject). phase_after x) given.0 in
       let outcome_is = given.0 ∙ ap (λ (x : Data). Ok (initialize_result x)) (rw here at has) in
       (rw (here, is, asks) (outcome, (outcome_is, given.1.0), output, next), rw last tt, given.1.1)
-  step_case_as p p' s s' came sent has (at_initialized m here there is given next) = (rw (here, there, is) ((given.0, given.1.0), next), rw next tt, given.1.1)
-  step_case_as p p' s s' came sent has (at_served m here there is given next) = (rw (here, there, is) (given.0, next), rw next tt, given.1)
-  step_case_as p p' s s' came sent has (at_woken here none given next) = (rw (here, none) ((given.0, given.1.0), next), rw next tt, given.1.1)
+  step_case_as p p' s s' came sent has (at_initialized m here there is given next) = (
+    rw (here, there, is) (
+      (
+        given.0,
+        given.1.0,
+      ),
+      next,
+    ),
+    rw next tt,
+    given.1.1,
+  )
+  step_case_as p p' s s' came sent has (at_served m here there is given next) = (
+    rw (here, there, is) (given.0, next),
+    rw next tt,
+    given.1,
+  )
+  step_case_as p p' s s' came sent has (at_woken here none given next) = (
+    rw (here, none) ((given.0, given.1.0), next),
+    rw next tt,
+    given.1.1,
+  )
   step_case_as p p' s s' came sent has (at_shutdown i method params parting here is asks given output next) =
       (rw (here, is, asks) (parting, (given.0, given.1.0), output, next), rw next tt, given.1.1)
   step_case_as p p' s s' came sent has (idle m there same step row) = (
@@ -68,16 +94,19 @@ module _ {H : Type 0} (answers : H → Id → List ℕ → Data → Result Data 
     ap (λ (x : HandlerService H). x.handler.ghost_name) steps.1,
   )
   steps_as p p' s s' (x ∷ xs) has steps =
-      let one = step_case_as p steps.0 s steps.1 x.came x.sent has (row lent p steps.0 s steps.1 x.came x.sent steps.2) in
+      let one = step_case_as p steps.0 s steps.1 x.came x.sent has (row lent p steps.0 s steps.1 x.came x.sent
+      steps.2) in
       let more = steps_as steps.0 p' steps.1 s' xs one.1 steps.3 in
       ((steps.0, steps.1.handler.now, one.0, more.0), more.1, more.2 ∙ one.2)
 
-  to_as : (stop : Stop) (p p' : Phase) (s s' : HandlerService H) (xs : List Exchange) → Has p s → Reaches lent stop p s xs p' s'
+  to_as : (stop : Stop) (p p' : Phase) (s s' : HandlerService H) (xs : List Exchange) → Has p s → Reaches lent stop p s
+      xs p' s'
       → Reaches plain stop p s.handler.now xs p' s'.handler.now × (s'.handler.ghost_name ≡ s.handler.ghost_name)
   to_as (refused fault) p p' s s' xs has broken =
       let before = steps_as p broken.next s broken.mid broken.earlier has broken.steps in
       let full = broken.part ++ broken.not_sent ∷ broken.more in
-      let one = step_case_as broken.next p' broken.mid s' broken.came full before.1 (row lent broken.next p' broken.mid s' broken.came full broken.step) in (
+      let one = step_case_as broken.next p' broken.mid s' broken.came full before.1 (row lent broken.next p' broken.mid
+      s' broken.came full broken.step) in (
         record {
           earlier = broken.earlier;
           came = broken.came;
@@ -95,17 +124,22 @@ module _ {H : Type 0} (answers : H → Id → List ℕ → Data → Result Data 
       )
   to_as stop p p' s s' xs has steps = let all = steps_as p p' s s' xs has steps in (all.0, all.2)
 
-  module _ (s s' : HandlerService H) (h' : H) (back : s'.handler.ghost_name ≡ s.handler.ghost_name → h' ≡ s'.handler.now) where
-    same : (after : HandlerService H) → after.handler.ghost_name ≡ s.handler.ghost_name → s' ≡ after → h' ≡ after.handler.now
-    same after name e = back (ap (λ (x : HandlerService H). x.handler.ghost_name) e ∙ name) ∙ ap (λ (x : HandlerService H). x.handler.now) e
+  module _ (s s' : HandlerService H) (h' : H) (back : s'.handler.ghost_name ≡ s.handler.ghost_name → h'
+      ≡ s'.handler.now) where
+    same : (after : HandlerService H) → after.handler.ghost_name ≡ s.handler.ghost_name → s' ≡ after → h'
+        ≡ after.handler.now
+    same after name e = back (ap (λ (x : HandlerService H). x.handler.ghost_name) e ∙ name)
+        ∙ ap (λ (x : HandlerService H). x.handler.now) e
 
-    unserved : (after : HandlerService H) → after.handler.ghost_name ≡ s.handler.ghost_name → (s' ≡ after) ⊎ KeepsHandler after s' → (h' ≡ after.handler.now) ⊎ (h' ≡ after.handler.now)
+    unserved : (after : HandlerService H) → after.handler.ghost_name ≡ s.handler.ghost_name → (s' ≡ after)
+        ⊎ KeepsHandler after s' → (h' ≡ after.handler.now) ⊎ (h' ≡ after.handler.now)
     unserved after name left = elim left [
       | inl e ↦ inl (same after name e)
       | inr keeps ↦ inr (back (keeps.1 ∙ name) ∙ keeps.0)
     ]
 
-    left_as : (p : Phase) (stop : Stop) (answer : SessionAnswer) (after : HandlerService H) → after.handler.ghost_name ≡ s.handler.ghost_name
+    left_as : (p : Phase) (stop : Stop) (answer : SessionAnswer) (after : HandlerService H) → after.handler.ghost_name
+        ≡ s.handler.ghost_name
         → Stops lent p after stop answer s' → Stops plain p after.handler.now stop answer h'
     left_as (ended shutdown_reply by) decided answer after name stops = (stops.0, same after name stops.1)
     left_as (ended shutdown_reply by) stop answer after name stops = absurd stops
@@ -131,10 +165,13 @@ module _ {H : Type 0} (answers : H → Id → List ℕ → Data → Result Data 
 
 -- A session that is described otherwise.
 module _ (P Q : SessionPart)
-    (to : (xs : List Exchange) (stop : Stop) (shutdown_reply : Option Message) (answer : SessionAnswer) → P xs stop shutdown_reply answer → Q xs stop shutdown_reply answer) where
+    (to : (xs : List Exchange) (stop : Stop) (shutdown_reply : Option Message) (answer : SessionAnswer)
+    → P xs stop shutdown_reply answer → Q xs stop shutdown_reply answer) where
   -- over boxes
-  pub runs_as : {I O : Type 0} (receives : I → Event → I → Type 0) (sends : O → Message → Result (Unit {0}) SendFault → O → Type 0)
-      (old new : I × O) (answer : SessionAnswer) → Runs receives sends P old answer new → Runs receives sends Q old answer new
+  pub runs_as : {I O : Type 0} (receives : I → Event → I → Type 0) (sends : O → Message → Result (Unit {0}) SendFault
+      → O → Type 0)
+      (old new : I × O) (answer : SessionAnswer) → Runs receives sends P old answer new → Runs receives sends Q old
+      answer new
   runs_as receives sends old new answer run = record {
     events = run.events;
     received = run.received;
@@ -150,7 +187,8 @@ module _ (P Q : SessionPart)
   }
 
   -- over one value with both ends
-  pub talks_as : {L : Type 0} (receives listens : Receives L) (sends : Sends L) (phase : Phase) (old new : L) (answer : SessionAnswer)
+  pub talks_as : {L : Type 0} (receives listens : Receives L) (sends : Sends L) (phase : Phase) (old new : L)
+      (answer : SessionAnswer)
       → Talks receives listens sends phase P old answer new → Talks receives listens sends phase Q old answer new
   talks_as receives listens sends phase old new answer talks = record {
     whole = talks.whole;
@@ -165,8 +203,10 @@ module _ (P Q : SessionPart)
   }
 
   -- over a text, however it is read, and whatever is said of its end and of what was written
-  pub over_as : {At : Type 0} (reads : At → Option Message → At → Type 0) (text : At) (Ends : SessionAnswer → Stop → Option Message → At → Type 0)
-      (Wrote : Stop → Option Message → List Message → Type 0) → SessionOver reads P text Ends Wrote → SessionOver reads Q text Ends Wrote
+  pub over_as : {At : Type 0} (reads : At → Option Message → At → Type 0) (text : At) (Ends : SessionAnswer → Stop
+      → Option Message → At → Type 0)
+      (Wrote : Stop → Option Message → List Message → Type 0) → SessionOver reads P text Ends Wrote → SessionOver reads
+      Q text Ends Wrote
   over_as reads text Ends Wrote g = record {
     exchanges = g.exchanges;
     at = g.at;
@@ -180,7 +220,8 @@ module _ (P Q : SessionPart)
   }
 
   -- if the bytes are known
-  pub known_as : (limit : Limits) (known left old new : Option (List ℕ)) (answer : Result SessionEnd SessionFault) → IfSome known (λ text. Gives limit P text left old new answer)
+  pub known_as : (limit : Limits) (known left old new : Option (List ℕ)) (answer : Result SessionEnd SessionFault)
+      → IfSome known (λ text. Gives limit P text left old new answer)
       → IfSome known (λ text. Gives limit Q text left old new answer)
   known_as limit None left old new answer gives = tt
   known_as limit (Some text) left old new answer gives = over_as (ReadsMessage limit) text _ _ gives

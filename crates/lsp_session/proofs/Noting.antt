@@ -12,5 +12,7 @@ pub acts_grown : (old new : List Note) (note : Note) → new ≡ old ++ note ∷
 acts_grown old new note grown = ap (λ notes. acts_in notes) grown ∙ acts_append old (note ∷ [])
 
 -- a send, as it is added to a transcript
-pub sent_noted : (old new : List Note) (act : Act) (note : Note) (given parts : Parts) → new ≡ old ++ note ∷ [] → note ≡ (act, given) → given ≡ parts → new ≡ old ++ (act, parts) ∷ []
-sent_noted old new act note given parts grown is added = grown ∙ ap (λ (n : Note). old ++ n ∷ []) (is ∙ ap (λ (p : Parts). (act, p)) added)
+pub sent_noted : (old new : List Note) (act : Act) (note : Note) (given parts : Parts) → new ≡ old ++ note ∷ [] → note
+    ≡ (act, given) → given ≡ parts → new ≡ old ++ (act, parts) ∷ []
+sent_noted old new act note given parts grown is added = grown ∙ ap (λ (n : Note). old ++ n ∷ []) (is
+    ∙ ap (λ (p : Parts). (act, p)) added)

@@ -6,15 +6,20 @@ use Rattle.lsp_message.specs.Methods.{is_initialize, is_exit}
 use Rattle.lsp_message.specs.declared.msg.code.ErrorCode.TheVariants.{ServerNotInitialized}
 use Rattle.lsp_session.specs.ProtocolError.{expected_initialized, fault_of_refusal}
 use Rattle.lsp_session.specs.Replies.{null_reply}
-use Rattle.lsp_session.specs.Session.{Exchange, messages_of, sends_of, SessionAnswer, Stop, decided, no_more, timed_out, refused as cut_off, exhausted, Phase, starting, replied as awaiting, serving, asked as shut, is_reply, is_served}
+use Rattle.lsp_session.specs.Session.{Exchange, messages_of, sends_of, SessionAnswer, Stop, decided, no_more, timed_out}
+use Rattle.lsp_session.specs.Session.{refused as cut_off, exhausted, Phase, starting, replied as awaiting, serving}
+use Rattle.lsp_session.specs.Session.{asked as shut, is_reply, is_served}
 use Rattle.lsp_session.specs.SessionBytes.{ReadsMessage, Ends, Wrote, GetsAllButLast}
 use Rattle.lsp_session.specs.declared.loops.stream_session.SessionFault.TheVariants.{Write, Memory as NoMemory}
 use Rattle.lsp_message.specs.declared.frame.WriteFault.{WriteFault}
 use Rattle.lsp_message.specs.Written.{GetsFrames}
 use Rattle.lsp_message.specs.declared.frame.limits.Limits.{Limits}
-use Rattle.lsp_session.specs.SessionLaws.{IsInvited, IsUnopened, AfterShutdown, EndsWithShutdown, HasNoShutdown, KeepsOrder, IsOpened, IsUnstarted, StopsAt, comes_early, AllEarly, IsRefusedEarly, is_refusal, AllRefused}
+use Rattle.lsp_session.specs.SessionLaws.{IsInvited, IsUnopened, AfterShutdown, EndsWithShutdown, HasNoShutdown}
+use Rattle.lsp_session.specs.SessionLaws.{KeepsOrder, IsOpened, IsUnstarted, StopsAt, comes_early, AllEarly}
+use Rattle.lsp_session.specs.SessionLaws.{IsRefusedEarly, is_refusal, AllRefused}
 use Rattle.serde_json.specs.Data.{Data, null as null_data}
-use Rattle.std.proofs.Common.{◌≡◌, refl, sym, ◌∙◌, ap, subst, inl, inr, ◌⊎◌, ℕ, Bool, true, false, List, [], ◌∷◌, ◌++◌, Option, Some, None}
+use Rattle.std.proofs.Common.{◌≡◌, refl, sym, ◌∙◌, ap, subst, inl, inr, ◌⊎◌, ℕ, Bool, true, false, List, [], ◌∷◌, ◌++◌}
+use Rattle.std.proofs.Common.{Option, Some, None}
 use Rattle.std.proofs.lemmas.List.Folds.{list_all-append}
 use Rattle.std.specs.List.{FoldsTo, list_all}
 use Rattle.std.specs.Prelude.{Ok, Err, IsSomeAnd, codes, is_some, ◌&&◌}
@@ -48,7 +53,8 @@ abbrev leaving : Data → List Message → Exchange
 leaving params output = record { came = Some (notification (codes "exit") params); sent = output }
 
 -- a session ends well only while it serves, or by a message
-none_ends_well : (p : Phase) (stop : Stop) (end : SessionEnd) → (p ≡ starting) ⊎ (p ≡ awaiting) → StopsAt p stop (Ok end) → ⊥
+none_ends_well : (p : Phase) (stop : Stop) (end : SessionEnd) → (p ≡ starting) ⊎ (p ≡ awaiting)
+    → StopsAt p stop (Ok end) → ⊥
 none_ends_well starting decided end is stops = stops
 none_ends_well starting no_more end is stops = cc (stops)
 none_ends_well starting timed_out end is stops = stops
@@ -64,12 +70,17 @@ none_ends_well (shut i) stop end is stops = elim is [ inl e ↦ cc (e) | inr e �
 none_ends_well p stop end is stops = elim is [ inl e ↦ cc (e) | inr e ↦ cc (e) ]
 
 -- while it serves no message is awaited in the place of `initialized`, and it is not shut down
-serves_on : (stop : Stop) (answer : SessionAnswer) (shown : List ℕ) → (answer ≡ Ok ShutDown) ⊎ (answer ≡ Err (expected_initialized shown)) → StopsAt serving stop answer → ⊥
+serves_on : (stop : Stop) (answer : SessionAnswer) (shown : List ℕ) → (answer ≡ Ok ShutDown)
+    ⊎ (answer ≡ Err (expected_initialized shown)) → StopsAt serving stop answer → ⊥
 serves_on decided answer shown is stops = stops
 serves_on no_more answer shown is stops = elim is [ inl e ↦ cc (sym e ∙ stops) | inr e ↦ cc (sym e ∙ stops) ]
 serves_on timed_out answer shown is stops = stops
 serves_on (cut_off (Lost m)) answer shown is stops = elim is [ inl e ↦ cc (sym e ∙ stops) | inr e ↦ cc (sym e ∙ stops) ]
-serves_on (cut_off (Memory m)) answer shown is stops = elim is [ inl e ↦ cc (sym e ∙ stops) | inr e ↦ cc (sym e ∙ stops) ]
+serves_on (cut_off (Memory m)) answer shown is stops = elim is [
+  | inl e ↦ cc (sym e ∙ stops)
+  | inr e ↦ cc (sym e
+      ∙ stops)
+]
 serves_on exhausted answer shown is stops = elim is [ inl e ↦ cc (sym e ∙ stops) | inr e ↦ cc (sym e ∙ stops) ]
 
 -- after the reply to `shutdown` it is shut down by a message alone
@@ -93,14 +104,17 @@ no_message (n ∷ part) m e = cc (e)
 -- not all are errors
 mixed : (x : Exchange) (xs : List Exchange) → list_all is_refusal x.sent ≡ false → AllRefused (x ∷ xs) → ⊥
 mixed x xs served all =
-    let both : (list_all is_refusal x.sent && list_all is_refusal (sends_of xs)) ≡ true = sym (list_all-append is_refusal x.sent (sends_of xs)) ∙ all in
+    let both : (list_all is_refusal x.sent && list_all is_refusal (sends_of xs))
+    ≡ true = sym (list_all-append is_refusal x.sent (sends_of xs)) ∙ all in
     let e = (rw served at both) in
     cc (e)
 
 module _ (passes_late speaks_last : Bool) (stop : Stop) (shutdown_reply : Option Message) (answer : SessionAnswer) where
   -- what is sent after the result of `initialize`
   abbrev Later : List Exchange → Type 0
-  Later more = (IsInvited more × (HasNoShutdown passes_late speaks_last more stop shutdown_reply answer ⊎ EndsWithShutdown passes_late speaks_last more stop shutdown_reply answer)) ⊎ (IsUnopened more stop answer × (shutdown_reply ≡ None))
+  Later more = (IsInvited more × (HasNoShutdown passes_late speaks_last more stop shutdown_reply answer
+      ⊎ EndsWithShutdown passes_late speaks_last more stop shutdown_reply answer)) ⊎ (IsUnopened more stop answer
+      × (shutdown_reply ≡ None))
 
   -- If more than errors is sent for the first message, it is `initialize`.
   record Starts (x : Exchange) (more : List Exchange) : Type 0 where
@@ -111,11 +125,14 @@ module _ (passes_late speaks_last : Bool) (stop : Stop) (shutdown_reply : Option
     came : x.came ≡ Some (request id method params)
     later : Later more
 
-  starts : (x : Exchange) (more : List Exchange) → list_all is_refusal x.sent ≡ false → KeepsOrder passes_late speaks_last (x ∷ more) stop shutdown_reply answer → Starts x more
+  starts : (x : Exchange) (more : List Exchange) → list_all is_refusal x.sent ≡ false → KeepsOrder passes_late
+      speaks_last (x ∷ more) stop shutdown_reply answer → Starts x more
   starts x more served order = at order.early order.rest order.cut order.opened
     where
-      last : (e : Exchange) (early rest before : List Exchange) (i : Id) (method : List ℕ) (params result : Data) → x ≡ e → more ≡ early ++ rest
-          → is_initialize (request i method params) ≡ true → e ∷ early ≡ before ++ granted i method params result ∷ [] → AllRefused before → Later rest → Starts x more
+      last : (e : Exchange) (early rest before : List Exchange) (i : Id) (method : List ℕ) (params result : Data) → x
+          ≡ e → more ≡ early ++ rest
+          → is_initialize (request i method params) ≡ true → e ∷ early ≡ before ++ granted i method params result ∷ []
+          → AllRefused before → Later rest → Starts x more
       last e early rest [] i method params result same tail asks cut refused later =
           let is : e ≡ granted i method params result = cc (cut) in
           let none : early ≡ [] = cc (cut) in
@@ -132,23 +149,28 @@ module _ (passes_late speaks_last : Bool) (stop : Stop) (shutdown_reply : Option
           let is : e ≡ b = cc (cut) in
           absurd (mixed b before (ap (λ (y : Exchange). list_all is_refusal y.sent) (sym (same ∙ is)) ∙ served) refused)
 
-      at : (early rest : List Exchange) → x ∷ more ≡ early ++ rest → IsOpened passes_late speaks_last early rest stop shutdown_reply answer ⊎ (AllRefused early × AllEarly early × IsUnstarted rest stop answer × (shutdown_reply ≡ None)) → Starts x more
+      at : (early rest : List Exchange) → x ∷ more ≡ early ++ rest → IsOpened passes_late speaks_last early rest stop
+          shutdown_reply answer ⊎ (AllRefused early × AllEarly early × IsUnstarted rest stop answer × (shutdown_reply
+          ≡ None)) → Starts x more
       at [] rest cut (inl opened) = absurd (never_last opened.ends.before _ opened.ends.cut)
       at [] rest cut (inr unopened) =
-          let unstarted : IsUnstarted (x ∷ more) stop answer = subst (λ (xs : List Exchange). IsUnstarted xs stop answer) (sym cut) unopened.2 in
+          let unstarted : IsUnstarted (x ∷ more) stop answer = subst (λ (xs : List Exchange). IsUnstarted xs stop
+          answer) (sym cut) unopened.2 in
           let e : true ≡ false = (rw unstarted.2 at served) in
           absurd (cc (e))
       at (e ∷ early) rest cut (inl opened) =
           let same : x ≡ e = cc (cut) in
           let tail : more ≡ early ++ rest = cc (cut) in
           let ends = opened.ends in
-          last e early rest ends.before ends.id ends.method ends.params ends.result same tail ends.asks ends.cut opened.refused opened.later
+          last e early rest ends.before ends.id ends.method ends.params ends.result same tail ends.asks ends.cut
+          opened.refused opened.later
       at (e ∷ early) rest cut (inr unopened) =
           let same : x ≡ e = cc (cut) in
           absurd (mixed e early (ap (λ (y : Exchange). list_all is_refusal y.sent) (sym same) ∙ served) unopened.0)
 
   -- a request but `initialize` gets a result first: a hover, or the reply to `shutdown`
-  pub served_first : (i : Id) (method : List ℕ) (params result : Data) (more : List Exchange) → is_initialize (request i method params) ≡ false
+  pub served_first : (i : Id) (method : List ℕ) (params result : Data) (more : List Exchange)
+      → is_initialize (request i method params) ≡ false
       → KeepsOrder passes_late speaks_last (granted i method params result ∷ more) stop shutdown_reply answer → ⊥
   served_first i method params result more other order =
       let begins = starts (granted i method params result) more refl order in
@@ -157,25 +179,38 @@ module _ (passes_late speaks_last : Bool) (stop : Stop) (shutdown_reply : Option
       cc (both)
 
   -- Between the result of `initialize` and `initialized` a request is answered: a hover, or a second `initialize`.
-  pub served_uninvited : (i j : Id) (params result given : Data) (method : List ℕ) (reply : Message) (others : List Message) (more : List Exchange)
-      → KeepsOrder passes_late speaks_last (begun i params result ∷ record { came = Some (request j method given); sent = reply ∷ others } ∷ more) stop shutdown_reply answer → ⊥
-  served_uninvited i j params result given method reply others more order = at (starts (begun i params result) _ refl order).later
+  pub served_uninvited : (i j : Id) (params result given : Data) (method : List ℕ) (reply : Message) (others : List
+      Message) (more : List Exchange)
+      → KeepsOrder passes_late speaks_last (begun i params result ∷ record {
+        came = Some (request j method given);
+        sent = reply ∷ others;
+      } ∷ more) stop shutdown_reply answer → ⊥
+  served_uninvited i j params result given method reply others more order = at (starts (begun i params result) _ refl
+      order).later
     where
       at : Later (record { came = Some (request j method given); sent = reply ∷ others } ∷ more) → ⊥
       at (inl invites) = let e : false ≡ true = invites.0 in cc (e)
       at (inr unopened) = let e : reply ∷ others ≡ [] = unopened.0.2 in cc (e)
 
-  -- What a `shutdown` that comes first after `initialized` gets, and what follows. Or a message was refused there, and it is the last.
+  -- What a `shutdown` that comes first after `initialized` gets, and what follows. Or a message was refused there, and
+  -- it is the last.
   abbrev Shuts : Id → List Message → List Exchange → Type 0
-  Shuts k output more = ((parting : List Message) × (output ≡ parting ++ null_reply k ∷ []) × (speaks_last ≡ false → parting ≡ []) × AfterShutdown passes_late speaks_last k more stop answer)
-      ⊎ ((more ≡ []) × (speaks_last ≡ true) × (shutdown_reply ≡ None) × (fault : SendFault) × (answer ≡ Err (fault_of_refusal fault)))
+  Shuts k output more = ((parting : List Message) × (output ≡ parting ++ null_reply k ∷ []) × (speaks_last ≡ false
+      → parting ≡ []) × AfterShutdown passes_late speaks_last k more stop answer)
+      ⊎ ((more ≡ []) × (speaks_last ≡ true) × (shutdown_reply ≡ None) × (fault : SendFault)
+      × (answer ≡ Err (fault_of_refusal fault)))
 
-  shuts : (k : Id) (given asked : Data) (opening output : List Message) (more : List Exchange) → Later (invited given opening ∷ shutting k asked output ∷ more) → Shuts k output more
-  shuts k given asked opening output more (inr unopened) = let e : shutting k asked output ∷ more ≡ [] = unopened.0.0 in absurd (cc (e))
-  shuts k given asked opening output more (inl (invites, inl (inl all, rest))) = let e : false ≡ true = all.0 in absurd (cc (e))
-  shuts k given asked opening output more (inl (invites, inl (inr (inl left), rest))) = absurd (at left.before left.last left.cut left.none_before left.leaves)
+  shuts : (k : Id) (given asked : Data) (opening output : List Message) (more : List Exchange)
+      → Later (invited given opening ∷ shutting k asked output ∷ more) → Shuts k output more
+  shuts k given asked opening output more (inr unopened) = let e : shutting k asked output ∷ more ≡ [] = unopened.0.0 in
+      absurd (cc (e))
+  shuts k given asked opening output more (inl (invites, inl (inl all, rest))) = let e : false ≡ true = all.0 in absurd
+      (cc (e))
+  shuts k given asked opening output more (inl (invites, inl (inr (inl left), rest))) = absurd (at left.before left.last
+      left.cut left.none_before left.leaves)
     where
-      at : (before : List Exchange) (last : Message) → invited given opening ∷ shutting k asked output ∷ more ≡ before ++ record { came = Some last; sent = [] } ∷ []
+      at : (before : List Exchange) (last : Message) → invited given opening ∷ shutting k asked output ∷ more ≡ before
+          ++ record { came = Some last; sent = [] } ∷ []
           → list_all is_served (messages_of before) ≡ true → is_exit last ≡ true → ⊥
       at [] last cut passed leaves = let e : shutting k asked output ∷ more ≡ [] = cc (cut) in cc (e)
       at (a ∷ []) last cut passed leaves =
@@ -189,9 +224,17 @@ module _ (passes_late speaks_last : Bool) (stop : Stop) (shutdown_reply : Option
           let second : b ≡ shutting k asked output = cc (cut) in
           let e : false ≡ true = (rw (first, second) at passed) in
           cc (e)
-  shuts k given asked opening output more (inl (invites, inl (inr (inr broken), none))) = inr (at broken.before broken.cut broken.none_before, broken.speaks, none, broken.fault, broken.fails)
+  shuts k given asked opening output more (inl (invites, inl (inr (inr broken), none))) = inr (
+    at broken.before
+        broken.cut broken.none_before,
+    broken.speaks,
+    none,
+    broken.fault,
+    broken.fails,
+  )
     where
-      at : (before : List Exchange) → invited given opening ∷ shutting k asked output ∷ more ≡ before ++ record { came = Some broken.last; sent = broken.sent } ∷ []
+      at : (before : List Exchange) → invited given opening ∷ shutting k asked output ∷ more ≡ before
+          ++ record { came = Some broken.last; sent = broken.sent } ∷ []
           → list_all is_served (messages_of before) ≡ true → more ≡ []
       at [] cut passed = let e : shutting k asked output ∷ more ≡ [] = cc (cut) in absurd (cc (e))
       at (a ∷ []) cut passed = cc (cut)
@@ -200,20 +243,33 @@ module _ (passes_late speaks_last : Bool) (stop : Stop) (shutdown_reply : Option
           let second : b ≡ shutting k asked output = cc (cut) in
           let e : false ≡ true = (rw (first, second) at passed) in
           absurd (cc (e))
-  shuts k given asked opening output more (inl (invites, inr last)) = inl (at last.before last.id last.method last.params last.after last.cut last.none_before last.after_shutdown)
+  shuts k given asked opening output more (inl (invites, inr last)) = inl (at last.before last.id last.method
+      last.params last.after last.cut last.none_before last.after_shutdown)
     where
       at : (before : List Exchange) (id : Id) (method : List ℕ) (params : Data) (after : List Exchange)
-          → invited given opening ∷ shutting k asked output ∷ more ≡ before ++ record { came = Some (request id method params); sent = last.parting ++ null_reply id ∷ [] } ∷ after
+          → invited given opening ∷ shutting k asked output ∷ more ≡ before
+          ++ record { came = Some (request id method params); sent = last.parting ++ null_reply id ∷ [] } ∷ after
           → list_all is_served (messages_of before) ≡ true → AfterShutdown passes_late speaks_last id after stop answer
-          → (parting : List Message) × (output ≡ parting ++ null_reply k ∷ []) × (speaks_last ≡ false → parting ≡ []) × AfterShutdown passes_late speaks_last k more stop answer
+          → (parting : List Message) × (output ≡ parting ++ null_reply k ∷ []) × (speaks_last ≡ false → parting ≡ [])
+          × AfterShutdown passes_late speaks_last k more stop answer
       at [] id method params after cut passed follows =
-          let first : invited given opening ≡ record { came = Some (request id method params); sent = last.parting ++ null_reply id ∷ [] } = cc (cut) in
-          let came : Some (notification (codes "initialized") given) ≡ Some (request id method params) = ap (λ (x : Exchange). x.came) first in
+          let first : invited given opening ≡ record {
+            came = Some (request id method params);
+            sent = last.parting
+                ++ null_reply id ∷ [];
+          } = cc (cut) in
+          let came : Some (notification (codes "initialized") given) ≡ Some (request id method params) = ap
+          (λ (x : Exchange). x.came) first in
           absurd (cc (came))
       at (a ∷ []) id method params after cut passed follows =
-          let second : shutting k asked output ≡ record { came = Some (request id method params); sent = last.parting ++ null_reply id ∷ [] } = cc (cut) in
+          let second : shutting k asked output ≡ record {
+            came = Some (request id method params);
+            sent = last.parting
+                ++ null_reply id ∷ [];
+          } = cc (cut) in
           let tail : more ≡ after = cc (cut) in
-          let came : Some (request k (codes "shutdown") asked) ≡ Some (request id method params) = ap (λ (x : Exchange). x.came) second in
+          let came : Some (request k (codes "shutdown") asked) ≡ Some (request id method params) = ap
+          (λ (x : Exchange). x.came) second in
           let named : k ≡ id = cc (came) in
           (last.parting, rw named (ap (λ (x : Exchange). x.sent) second), last.silent, rw (named, tail) follows)
       at (a ∷ b ∷ before) id method params after cut passed follows =
@@ -223,58 +279,77 @@ module _ (passes_late speaks_last : Bool) (stop : Stop) (shutdown_reply : Option
           absurd (cc (e))
 
   -- if something came after it, no message was refused
-  shuts_on : (k : Id) (output : List Message) (y : Exchange) (more : List Exchange) → Shuts k output (y ∷ more) → AfterShutdown passes_late speaks_last k (y ∷ more) stop answer
+  shuts_on : (k : Id) (output : List Message) (y : Exchange) (more : List Exchange) → Shuts k output (y ∷ more)
+      → AfterShutdown passes_late speaks_last k (y ∷ more) stop answer
   shuts_on k output y more (inl gone) = gone.3
   shuts_on k output y more (inr broken) = absurd (cc (broken.0))
 
   -- The first `shutdown` does not get null last: an error, or nothing, or a message comes after it.
-  pub shut_otherwise : (i k : Id) (params result given asked : Data) (opening output : List Message) (more : List Exchange) (reply : Message) → shutdown_reply ≡ Some reply
+  pub shut_otherwise : (i k : Id) (params result given asked : Data) (opening output : List Message)
+      (more : List Exchange) (reply : Message) → shutdown_reply ≡ Some reply
       → ((parting : List Message) → output ≡ parting ++ null_reply k ∷ [] → ⊥)
-      → KeepsOrder passes_late speaks_last (begun i params result ∷ invited given opening ∷ shutting k asked output ∷ more) stop shutdown_reply answer → ⊥
-  shut_otherwise i k params result given asked opening output more reply replied other order = at (shuts k given asked opening output more (starts (begun i params result) _ refl order).later)
+      → KeepsOrder passes_late speaks_last (begun i params result ∷ invited given opening ∷ shutting k asked output
+      ∷ more) stop shutdown_reply answer → ⊥
+  shut_otherwise i k params result given asked opening output more reply replied other order = at (shuts k given asked
+      opening output more (starts (begun i params result) _ refl order).later)
     where
       at : Shuts k output more → ⊥
       at (inl gone) = other gone.0 gone.1
       at (inr broken) = cc (sym replied ∙ broken.2)
 
-  -- Of a service that is silent there the first `shutdown` gets something else than null: an error, nothing, or two messages.
-  pub handler_shut_otherwise : (i k : Id) (params result given asked : Data) (opening output : List Message) (more : List Exchange) → speaks_last ≡ false → (output ≡ null_reply k ∷ [] → ⊥)
-      → KeepsOrder passes_late speaks_last (begun i params result ∷ invited given opening ∷ shutting k asked output ∷ more) stop shutdown_reply answer → ⊥
-  handler_shut_otherwise i k params result given asked opening output more silent other order = at (shuts k given asked opening output more (starts (begun i params result) _ refl order).later)
+  -- Of a service that is silent there the first `shutdown` gets something else than null: an error, nothing, or two
+  -- messages.
+  pub handler_shut_otherwise : (i k : Id) (params result given asked : Data) (opening output : List Message)
+      (more : List Exchange) → speaks_last ≡ false → (output ≡ null_reply k ∷ [] → ⊥)
+      → KeepsOrder passes_late speaks_last (begun i params result ∷ invited given opening ∷ shutting k asked output
+      ∷ more) stop shutdown_reply answer → ⊥
+  handler_shut_otherwise i k params result given asked opening output more silent other order = at (shuts k given asked
+      opening output more (starts (begun i params result) _ refl order).later)
     where
       at : Shuts k output more → ⊥
       at (inl gone) = other (gone.1 ∙ ap (λ (ms : List Message). ms ++ null_reply k ∷ []) (gone.2 silent))
       at (inr broken) = cc (sym silent ∙ broken.1)
 
   -- After the reply to `shutdown` a message is sent: a result, a second reply to `shutdown`, or a whole second session.
-  pub speaks_after_shutdown : (i k : Id) (params result given asked : Data) (opening output : List Message) (arrived : Option Message) (sent : Message)
+  pub speaks_after_shutdown : (i k : Id) (params result given asked : Data) (opening output : List Message)
+      (arrived : Option Message) (sent : Message)
       (others : List Message) (more : List Exchange)
-      → KeepsOrder passes_late speaks_last (begun i params result ∷ invited given opening ∷ shutting k asked output ∷ record { came = arrived; sent = sent ∷ others } ∷ more) stop shutdown_reply answer
+      → KeepsOrder passes_late speaks_last (begun i params result ∷ invited given opening ∷ shutting k asked output
+      ∷ record { came = arrived; sent = sent ∷ others } ∷ more) stop shutdown_reply answer
       → ⊥
   speaks_after_shutdown i k params result given asked opening output arrived sent others more order =
-      let follows = shuts_on k output _ more (shuts k given asked opening output _ (starts (begun i params result) _ refl order).later) in
+      let follows = shuts_on k output _ more (shuts k given asked opening output _ (starts (begun i params result) _
+      refl order).later) in
       let e : sent ∷ others ≡ [] = follows.0 in
       cc (e)
 
-  -- After the reply to `shutdown` a message is passed over that is no response, or a response where none is passed over.
-  pub passes_over_after_shutdown : (i k : Id) (params result given asked : Data) (opening output : List Message) (m : Message) (y : Exchange) (more : List Exchange)
+  -- After the reply to `shutdown` a message is passed over that is no response, or a response where none is passed
+  -- over.
+  pub passes_over_after_shutdown : (i k : Id) (params result given asked : Data) (opening output : List Message)
+      (m : Message) (y : Exchange) (more : List Exchange)
       → (passes_late && is_reply m) ≡ false
-      → KeepsOrder passes_late speaks_last (begun i params result ∷ invited given opening ∷ shutting k asked output ∷ record { came = Some m; sent = [] } ∷ y ∷ more) stop shutdown_reply answer
+      → KeepsOrder passes_late speaks_last (begun i params result ∷ invited given opening ∷ shutting k asked output
+      ∷ record { came = Some m; sent = [] } ∷ y ∷ more) stop shutdown_reply answer
       → ⊥
   passes_over_after_shutdown i k params result given asked opening output m y more other order =
-      let follows = shuts_on k output _ (y ∷ more) (shuts k given asked opening output _ (starts (begun i params result) _ refl order).later) in
+      let follows = shuts_on k output _ (y ∷ more) (shuts k given asked opening output _ (starts (begun i params result)
+      _ refl order).later) in
       elim follows.1 [
         | inl passed ↦ (let e : true ≡ false = sym passed.0 ∙ other in cc (e))
         | inr last ↦ (let e : y ∷ more ≡ [] = last.0 in cc (e))
       ]
 
   -- a message comes after `exit`
-  pub goes_on_after_exit : (i : Id) (params result given asked : Data) (opening output : List Message) (x : Exchange) (more : List Exchange)
-      → KeepsOrder passes_late speaks_last (begun i params result ∷ invited given opening ∷ leaving asked output ∷ x ∷ more) stop shutdown_reply answer
+  pub goes_on_after_exit : (i : Id) (params result given asked : Data) (opening output : List Message) (x : Exchange)
+      (more : List Exchange)
+      → KeepsOrder passes_late speaks_last (begun i params result ∷ invited given opening ∷ leaving asked output ∷ x
+      ∷ more) stop shutdown_reply answer
       → ⊥
-  goes_on_after_exit i params result given asked opening output x more order = at (starts (begun i params result) _ refl order).later
+  goes_on_after_exit i params result given asked opening output x more order = at (starts (begun i params result) _ refl
+      order).later
     where
-      left : (before : List Exchange) (last : Message) (sent : List Message) → invited given opening ∷ leaving asked output ∷ x ∷ more ≡ before ++ record { came = Some last; sent = sent } ∷ []
+      left : (before : List Exchange) (last : Message) (sent : List Message) → invited given opening
+          ∷ leaving asked output ∷ x ∷ more ≡ before ++ record { came = Some last; sent = sent } ∷ []
           → list_all is_served (messages_of before) ≡ true → ⊥
       left [] last sent cut passed = let e : leaving asked output ∷ x ∷ more ≡ [] = cc (cut) in cc (e)
       left (a ∷ []) last sent cut passed = let e : x ∷ more ≡ [] = cc (cut) in cc (e)
@@ -284,16 +359,22 @@ module _ (passes_late speaks_last : Bool) (stop : Stop) (shutdown_reply : Option
           let e : false ≡ true = (rw (first, second) at passed) in
           cc (e)
 
-      after_reply : (before : List Exchange) (id : Id) (method : List ℕ) (params : Data) (sent : List Message) (after : List Exchange)
-          → invited given opening ∷ leaving asked output ∷ x ∷ more ≡ before ++ record { came = Some (request id method params); sent = sent } ∷ after
+      after_reply : (before : List Exchange) (id : Id) (method : List ℕ) (params : Data) (sent : List Message)
+          (after : List Exchange)
+          → invited given opening ∷ leaving asked output ∷ x ∷ more ≡ before
+          ++ record { came = Some (request id method params); sent = sent } ∷ after
           → list_all is_served (messages_of before) ≡ true → ⊥
       after_reply [] id method params sent after cut passed =
-          let first : invited given opening ≡ record { came = Some (request id method params); sent = sent } = cc (cut) in
-          let came : Some (notification (codes "initialized") given) ≡ Some (request id method params) = ap (λ (y : Exchange). y.came) first in
+          let first : invited given opening ≡ record { came = Some (request id method params); sent = sent } = cc
+          (cut) in
+          let came : Some (notification (codes "initialized") given) ≡ Some (request id method params) = ap
+          (λ (y : Exchange). y.came) first in
           cc (came)
       after_reply (a ∷ []) id method params sent after cut passed =
-          let second : leaving asked output ≡ record { came = Some (request id method params); sent = sent } = cc (cut) in
-          let came : Some (notification (codes "exit") asked) ≡ Some (request id method params) = ap (λ (y : Exchange). y.came) second in
+          let second : leaving asked output ≡ record { came = Some (request id method params); sent = sent } = cc
+          (cut) in
+          let came : Some (notification (codes "exit") asked) ≡ Some (request id method params) = ap
+          (λ (y : Exchange). y.came) second in
           cc (came)
       after_reply (a ∷ b ∷ before) id method params sent after cut passed =
           let first : a ≡ invited given opening = cc (cut) in
@@ -304,13 +385,17 @@ module _ (passes_late speaks_last : Bool) (stop : Stop) (shutdown_reply : Option
       at : Later (invited given opening ∷ leaving asked output ∷ x ∷ more) → ⊥
       at (inl (invites, inl (inl all, rest))) = let e : false ≡ true = all.0 in cc (e)
       at (inl (invites, inl (inr (inl last), rest))) = left last.before last.last [] last.cut last.none_before
-      at (inl (invites, inl (inr (inr broken), rest))) = left broken.before broken.last broken.sent broken.cut broken.none_before
-      at (inl (invites, inr last)) = after_reply last.before last.id last.method last.params _ last.after last.cut last.none_before
+      at (inl (invites, inl (inr (inr broken), rest))) = left broken.before broken.last broken.sent broken.cut
+          broken.none_before
+      at (inl (invites, inr last)) = after_reply last.before last.id last.method last.params _ last.after last.cut
+          last.none_before
       at (inr unopened) = let e : leaving asked output ∷ x ∷ more ≡ [] = unopened.0.0 in cc (e)
 
   -- after the reply to `shutdown` the session is shut down without an `exit`
-  pub shut_down_without_exit : (i k : Id) (params result given asked : Data) (opening output : List Message) → answer ≡ Ok ShutDown
-      → KeepsOrder passes_late speaks_last (begun i params result ∷ invited given opening ∷ shutting k asked output ∷ []) stop shutdown_reply answer → ⊥
+  pub shut_down_without_exit : (i k : Id) (params result given asked : Data) (opening output : List Message) → answer
+      ≡ Ok ShutDown
+      → KeepsOrder passes_late speaks_last (begun i params result ∷ invited given opening ∷ shutting k asked output
+      ∷ []) stop shutdown_reply answer → ⊥
   shut_down_without_exit i k params result given asked opening output is order =
       at (shuts k given asked opening output [] (starts (begun i params result) _ refl order).later)
     where
@@ -322,11 +407,14 @@ module _ (passes_late speaks_last : Bool) (stop : Stop) (shutdown_reply : Option
   abbrev Begins : Exchange → List Exchange → Type 0
   Begins x more = IsSomeAnd x.came (λ m. comes_early m ≡ true) ⊎ IsUnstarted (x ∷ more) stop answer
 
-  begins : (x : Exchange) (more : List Exchange) → KeepsOrder passes_late speaks_last (x ∷ more) stop shutdown_reply answer → Begins x more
+  begins : (x : Exchange) (more : List Exchange) → KeepsOrder passes_late speaks_last (x ∷ more) stop shutdown_reply
+      answer → Begins x more
   begins x more order = at order.early order.rest order.cut order.opened
     where
-      early_one : (e : Exchange) (early before : List Exchange) (i : Id) (method : List ℕ) (params result : Data) → x ≡ e
-          → e ∷ early ≡ before ++ granted i method params result ∷ [] → AllEarly before → IsSomeAnd x.came (λ m. comes_early m ≡ true)
+      early_one : (e : Exchange) (early before : List Exchange) (i : Id) (method : List ℕ) (params result :
+          Data) → x ≡ e
+          → e ∷ early ≡ before ++ granted i method params result ∷ [] → AllEarly before → IsSomeAnd x.came
+          (λ m. comes_early m ≡ true)
       early_one e early [] i method params result same cut came =
           let is : e ≡ granted i method params result = cc (cut) in
           subst (λ (y : Exchange). IsSomeAnd y.came (λ m. comes_early m ≡ true)) (sym (same ∙ is)) refl
@@ -335,9 +423,11 @@ module _ (passes_late speaks_last : Bool) (stop : Stop) (shutdown_reply : Option
           subst (λ (y : Exchange). IsSomeAnd y.came (λ m. comes_early m ≡ true)) (sym (same ∙ is)) came.0
 
       at : (early rest : List Exchange) → x ∷ more ≡ early ++ rest
-          → IsOpened passes_late speaks_last early rest stop shutdown_reply answer ⊎ (AllRefused early × AllEarly early × IsUnstarted rest stop answer × (shutdown_reply ≡ None)) → Begins x more
+          → IsOpened passes_late speaks_last early rest stop shutdown_reply answer ⊎ (AllRefused early × AllEarly early
+          × IsUnstarted rest stop answer × (shutdown_reply ≡ None)) → Begins x more
       at [] rest cut (inl opened) = absurd (never_last opened.ends.before _ opened.ends.cut)
-      at [] rest cut (inr unopened) = inr (subst (λ (xs : List Exchange). IsUnstarted xs stop answer) (sym cut) unopened.2)
+      at [] rest cut (inr unopened) = inr (subst (λ (xs : List Exchange). IsUnstarted xs stop answer) (sym cut)
+          unopened.2)
       at (e ∷ early) rest cut (inl opened) =
           let same : x ≡ e = cc (cut) in
           let ends = opened.ends in
@@ -347,16 +437,20 @@ module _ (passes_late speaks_last : Bool) (stop : Stop) (shutdown_reply : Option
           inl (subst (λ (y : Exchange). IsSomeAnd y.came (λ m. comes_early m ≡ true)) (sym same) unopened.1.0)
 
   -- a message comes after an `exit` or a response that came first
-  pub goes_on_after_early : (m : Message) (output : List Message) (x : Exchange) (more : List Exchange) → comes_early m ≡ false
-      → KeepsOrder passes_late speaks_last (record { came = Some m; sent = output } ∷ x ∷ more) stop shutdown_reply answer → ⊥
-  goes_on_after_early m output x more late order = at (begins (record { came = Some m; sent = output }) (x ∷ more) order)
+  pub goes_on_after_early : (m : Message) (output : List Message) (x : Exchange) (more : List Exchange)
+      → comes_early m ≡ false
+      → KeepsOrder passes_late speaks_last (record { came = Some m; sent = output } ∷ x ∷ more) stop shutdown_reply
+      answer → ⊥
+  goes_on_after_early m output x more late order = at (begins (record { came = Some m; sent = output }) (x
+      ∷ more) order)
     where
       at : Begins (record { came = Some m; sent = output }) (x ∷ more) → ⊥
       at (inl early) = let e : true ≡ false = sym early ∙ late in cc (e)
       at (inr unstarted) = let e : x ∷ more ≡ [] = unstarted.0 in cc (e)
 
   -- a request that comes before `initialize` gets an error with another code than -32002
-  pub refused_otherwise : (i : Id) (method : List ℕ) (params : Data) (error : ErrorObject) (more : List Exchange) → is_initialize (request i method params) ≡ false
+  pub refused_otherwise : (i : Id) (method : List ℕ) (params : Data) (error : ErrorObject) (more : List Exchange)
+      → is_initialize (request i method params) ≡ false
       → (error.code ≡ number_of ServerNotInitialized → ⊥)
       → KeepsOrder passes_late speaks_last (turned i method params error ∷ more) stop shutdown_reply answer → ⊥
   refused_otherwise i method params error more other wrong order = at order.early order.rest order.cut order.opened
@@ -364,21 +458,25 @@ module _ (passes_late speaks_last : Bool) (stop : Stop) (shutdown_reply : Option
       coded : (e : Exchange) → turned i method params error ≡ e → IsRefusedEarly e.came e.sent → ⊥
       coded e same early = wrong ((subst (λ (y : Exchange). IsRefusedEarly y.came y.sent) (sym same) early) other).0
 
-      early_one : (e : Exchange) (early before : List Exchange) (j : Id) (asked : List ℕ) (given result : Data) → turned i method params error ≡ e
+      early_one : (e : Exchange) (early before : List Exchange) (j : Id) (asked : List ℕ) (given result : Data)
+          → turned i method params error ≡ e
           → e ∷ early ≡ before ++ granted j asked given result ∷ [] → AllEarly before → ⊥
       early_one e early [] j asked given result same cut came =
           let is : e ≡ granted j asked given result = cc (cut) in
-          let sent : response i (Err error) ∷ [] ≡ response j (Ok result) ∷ [] = ap (λ (y : Exchange). y.sent) (same ∙ is) in
+          let sent : response i (Err error) ∷ [] ≡ response j (Ok result) ∷ [] = ap (λ (y : Exchange). y.sent) (same
+          ∙ is) in
           cc (sent)
       early_one e early (b ∷ before) j asked given result same cut came =
           let is : e ≡ b = cc (cut) in
           coded b (same ∙ is) came.1
 
       at : (early rest : List Exchange) → turned i method params error ∷ more ≡ early ++ rest
-          → IsOpened passes_late speaks_last early rest stop shutdown_reply answer ⊎ (AllRefused early × AllEarly early × IsUnstarted rest stop answer × (shutdown_reply ≡ None)) → ⊥
+          → IsOpened passes_late speaks_last early rest stop shutdown_reply answer ⊎ (AllRefused early × AllEarly early
+          × IsUnstarted rest stop answer × (shutdown_reply ≡ None)) → ⊥
       at [] rest cut (inl opened) = never_last opened.ends.before _ opened.ends.cut
       at [] rest cut (inr unopened) =
-          let unstarted : IsUnstarted (turned i method params error ∷ more) stop answer = subst (λ (xs : List Exchange). IsUnstarted xs stop answer) (sym cut) unopened.2 in
+          let unstarted : IsUnstarted (turned i method params error ∷ more) stop answer = subst
+          (λ (xs : List Exchange). IsUnstarted xs stop answer) (sym cut) unopened.2 in
           let e : response i (Err error) ∷ [] ≡ [] = unstarted.2 in
           cc (e)
       at (e ∷ early) rest cut (inl opened) =
@@ -390,7 +488,8 @@ module _ (passes_late speaks_last : Bool) (stop : Stop) (shutdown_reply : Option
           coded e same unopened.1.1
 
   -- a wake comes first
-  pub woken_first : (output : List Message) (more : List Exchange) → KeepsOrder passes_late speaks_last (record { came = None; sent = output } ∷ more) stop shutdown_reply answer → ⊥
+  pub woken_first : (output : List Message) (more : List Exchange) → KeepsOrder passes_late speaks_last
+      (record { came = None; sent = output } ∷ more) stop shutdown_reply answer → ⊥
   woken_first output more order = at (begins (record { came = None; sent = output }) more order)
     where
       at : Begins (record { came = None; sent = output }) more → ⊥
@@ -402,7 +501,8 @@ module _ (passes_late speaks_last : Bool) (stop : Stop) (shutdown_reply : Option
   unstarted_at order = at order.early order.rest order.cut order.opened
     where
       at : (early rest : List Exchange) → [] ≡ early ++ rest
-          → IsOpened passes_late speaks_last early rest stop shutdown_reply answer ⊎ (AllRefused early × AllEarly early × IsUnstarted rest stop answer × (shutdown_reply ≡ None)) → StopsAt starting stop answer
+          → IsOpened passes_late speaks_last early rest stop shutdown_reply answer ⊎ (AllRefused early × AllEarly early
+          × IsUnstarted rest stop answer × (shutdown_reply ≡ None)) → StopsAt starting stop answer
       at [] rest cut (inl opened) = absurd (never_last opened.ends.before _ opened.ends.cut)
       at [] rest cut (inr unopened) = subst (λ (xs : List Exchange). IsUnstarted xs stop answer) (sym cut) unopened.2
       at (e ∷ early) rest cut opened = absurd (cc (cut))
@@ -412,27 +512,34 @@ module _ (passes_late speaks_last : Bool) (stop : Stop) (shutdown_reply : Option
   decides_unasked is order = subst (λ (s : Stop). StopsAt starting s answer) is (unstarted_at order)
 
   -- no message came, and the session ended well
-  pub ends_unopened : (end : SessionEnd) → answer ≡ Ok end → KeepsOrder passes_late speaks_last [] stop shutdown_reply answer → ⊥
-  ends_unopened end is order = none_ends_well starting stop end (inl refl) (subst (λ (a : SessionAnswer). StopsAt starting stop a) is (unstarted_at order))
+  pub ends_unopened : (end : SessionEnd) → answer ≡ Ok end → KeepsOrder passes_late speaks_last [] stop shutdown_reply
+      answer → ⊥
+  ends_unopened end is order = none_ends_well starting stop end (inl refl) (subst (λ (a : SessionAnswer). StopsAt
+      starting stop a) is (unstarted_at order))
 
   -- `initialize` came alone, and the session ended well
-  pub ends_uninvited : (i : Id) (params result : Data) (end : SessionEnd) → answer ≡ Ok end → KeepsOrder passes_late speaks_last (begun i params result ∷ []) stop shutdown_reply answer → ⊥
+  pub ends_uninvited : (i : Id) (params result : Data) (end : SessionEnd) → answer ≡ Ok end → KeepsOrder passes_late
+      speaks_last (begun i params result ∷ []) stop shutdown_reply answer → ⊥
   ends_uninvited i params result end is order = at (starts (begun i params result) [] refl order).later
     where
       at : Later [] → ⊥
       at (inl invites) = invites.0
-      at (inr unopened) = none_ends_well awaiting stop end (inr refl) (subst (λ (a : SessionAnswer). StopsAt awaiting stop a) is unopened.0)
+      at (inr unopened) = none_ends_well awaiting stop end (inr refl) (subst (λ (a : SessionAnswer). StopsAt awaiting
+          stop a) is unopened.0)
 
   -- the session is shut down, and no reply to `shutdown` was sent: no `shutdown` came
-  pub shut_down_unasked : (xs : List Exchange) → shutdown_reply ≡ None → answer ≡ Ok ShutDown → KeepsOrder passes_late speaks_last xs stop shutdown_reply answer → ⊥
+  pub shut_down_unasked : (xs : List Exchange) → shutdown_reply ≡ None → answer ≡ Ok ShutDown → KeepsOrder passes_late
+      speaks_last xs stop shutdown_reply answer → ⊥
   shut_down_unasked xs none is order = at order.rest order.opened
     where
       unstarted : (rest : List Exchange) → IsUnstarted rest stop answer → ⊥
-      unstarted [] stops = none_ends_well starting stop ShutDown (inl refl) (subst (λ (a : SessionAnswer). StopsAt starting stop a) is stops)
+      unstarted [] stops = none_ends_well starting stop ShutDown (inl refl) (subst (λ (a : SessionAnswer). StopsAt
+          starting stop a) is stops)
       unstarted (x ∷ rest) stops = (rw is at stops.4)
 
       unopened : (rest : List Exchange) → IsUnopened rest stop answer → ⊥
-      unopened [] stops = none_ends_well awaiting stop ShutDown (inr refl) (subst (λ (a : SessionAnswer). StopsAt awaiting stop a) is stops)
+      unopened [] stops = none_ends_well awaiting stop ShutDown (inr refl) (subst (λ (a : SessionAnswer). StopsAt
+          awaiting stop a) is stops)
       unopened (x ∷ rest) stops = (rw is at stops.4)
 
       later : (rest : List Exchange) → Later rest → ⊥
@@ -448,38 +555,61 @@ module _ (passes_late speaks_last : Bool) (stop : Stop) (shutdown_reply : Option
       at rest (inr stops) = unstarted rest stops.2
 
 -- a refusal shows no message
-refusal_shows : (fault : SendFault) (shown : List ℕ) → ◌≡◌ {A = SessionAnswer} (Err (expected_initialized shown)) (Err (fault_of_refusal fault)) → ⊥
+refusal_shows : (fault : SendFault) (shown : List ℕ) → ◌≡◌ {A = SessionAnswer} (Err (expected_initialized shown))
+    (Err (fault_of_refusal fault)) → ⊥
 refusal_shows (Lost m) shown e = cc (e)
 refusal_shows (Memory m) shown e = cc (e)
 
 -- The answer is that the outbox refused a message, and the last exchange was offered none: a request was dropped.
-pub drops_request : (passes_late speaks_last : Bool) (before : List Exchange) (came : Option Message) (fault : SendFault) (shutdown_reply : Option Message) (answer : SessionAnswer)
-    → KeepsOrder passes_late speaks_last (before ++ record { came = came; sent = [] } ∷ []) (cut_off fault) shutdown_reply answer → ⊥
+pub drops_request : (passes_late speaks_last : Bool) (before : List Exchange) (came : Option Message)
+    (fault : SendFault) (shutdown_reply : Option Message) (answer : SessionAnswer)
+    → KeepsOrder passes_late speaks_last (before ++ record { came = came; sent = [] } ∷ []) (cut_off fault)
+    shutdown_reply answer → ⊥
 drops_request passes_late speaks_last before came fault shutdown_reply answer order =
     let off = order.offered in
     offered_one before off.0 off.2 off.1 off.3 off.4
   where
     offered_one : (xs ys : List Exchange) (part : List Message) (arrived : Option Message) (not_sent : Message)
-        → xs ++ record { came = came; sent = [] } ∷ [] ≡ ys ++ record { came = arrived; sent = part ++ not_sent ∷ [] } ∷ [] → ⊥
+        → xs ++ record { came = came; sent = [] } ∷ [] ≡ ys ++ record { came = arrived; sent = part ++ not_sent ∷ [] }
+        ∷ [] → ⊥
     offered_one [] [] part arrived not_sent e =
-        let one : ◌≡◌ {A = Exchange} (record { came = came; sent = [] }) (record { came = arrived; sent = part ++ not_sent ∷ [] }) = cc (e) in
+        let one : ◌≡◌ {A = Exchange} (record { came = came; sent = [] }) (record {
+          came = arrived;
+          sent = part
+              ++ not_sent ∷ [];
+        }) = cc (e) in
         no_message part not_sent (ap (λ (x : Exchange). x.sent) one)
-    offered_one [] (y ∷ ys) part arrived not_sent e = let rest : [] ≡ ys ++ record { came = arrived; sent = part ++ not_sent ∷ [] } ∷ [] = cc (e) in never_last ys _ rest
+    offered_one [] (y ∷ ys) part arrived not_sent e = let rest : [] ≡ ys ++ record {
+      came = arrived;
+      sent = part
+          ++ not_sent ∷ [];
+    } ∷ [] = cc (e) in never_last ys _ rest
     offered_one (x ∷ xs) [] part arrived not_sent e =
         let rest : xs ++ record { came = came; sent = [] } ∷ [] ≡ [] = cc (e) in
         never_last xs _ (sym rest)
     offered_one (x ∷ xs) (y ∷ ys) part arrived not_sent e =
-        let rest : xs ++ record { came = came; sent = [] } ∷ [] ≡ ys ++ record { came = arrived; sent = part ++ not_sent ∷ [] } ∷ [] = cc (e) in
+        let rest : xs ++ record { came = came; sent = [] } ∷ [] ≡ ys ++ record {
+          came = arrived;
+          sent = part ++ not_sent
+              ∷ [];
+        } ∷ [] = cc (e) in
         offered_one xs ys part arrived not_sent rest
 
--- After a whole handshake a request that the lifecycle allows gets no reply, and the answer is that it came in the place of `initialized`.
-pub refuses_allowed : (passes_late speaks_last : Bool) (i k : Id) (params result given asked : Data) (method : List ℕ) (opening : List Message) (stop : Stop) (shutdown_reply : Option Message) (shown : List ℕ)
+-- After a whole handshake a request that the lifecycle allows gets no reply, and the answer is that it came in the
+-- place of `initialized`.
+pub refuses_allowed : (passes_late speaks_last : Bool) (i k : Id) (params result given asked : Data) (method : List ℕ)
+    (opening : List Message) (stop : Stop) (shutdown_reply : Option Message) (shown : List ℕ)
     → shutdown_reply ≡ None
-    → KeepsOrder passes_late speaks_last (begun i params result ∷ invited given opening ∷ record { came = Some (request k method asked); sent = [] } ∷ []) stop shutdown_reply (Err (expected_initialized shown)) → ⊥
-refuses_allowed passes_late speaks_last i k params result given asked method opening stop shutdown_reply shown none order =
-    at (starts passes_late speaks_last stop shutdown_reply (Err (expected_initialized shown)) (begun i params result) _ refl order).later
+    → KeepsOrder passes_late speaks_last (begun i params result ∷ invited given opening
+    ∷ record { came = Some (request k method asked); sent = [] } ∷ []) stop shutdown_reply
+    (Err (expected_initialized shown)) → ⊥
+refuses_allowed passes_late speaks_last i k params result given asked method opening stop shutdown_reply shown
+    none order =
+    at (starts passes_late speaks_last stop shutdown_reply (Err (expected_initialized shown)) (begun i params result) _
+    refl order).later
   where
-    at : Later passes_late speaks_last stop shutdown_reply (Err (expected_initialized shown)) (invited given opening ∷ record { came = Some (request k method asked); sent = [] } ∷ []) → ⊥
+    at : Later passes_late speaks_last stop shutdown_reply (Err (expected_initialized shown)) (invited given opening
+        ∷ record { came = Some (request k method asked); sent = [] } ∷ []) → ⊥
     at (inl (invites, inl (inl all, rest))) = serves_on stop _ shown (inr refl) all.1
     at (inl (invites, inl (inr (inl left), rest))) = let e = left.closes in cc (e)
     at (inl (invites, inl (inr (inr broken), rest))) = refusal_shows broken.fault shown broken.fails
@@ -487,21 +617,29 @@ refuses_allowed passes_late speaks_last i k params result given asked method ope
     at (inr unopened) = let e = unopened.0.0 in cc (e)
 
 -- no `initialize` comes; `shutdown` gets its reply, then a request gets a result and another `shutdown` another reply
-pub goes_on_after_shutdown : (passes_late speaks_last : Bool) (i j k : Id) (asked given result : Data) (method : List ℕ) (stop : Stop) (sent : Option Message) (answer : SessionAnswer)
-    → KeepsOrder passes_late speaks_last (shutting i asked (null_reply i ∷ []) ∷ granted j method given result ∷ shutting k asked (null_reply k ∷ []) ∷ []) stop sent answer → ⊥
+pub goes_on_after_shutdown : (passes_late speaks_last : Bool) (i j k : Id) (asked given result : Data) (method : List ℕ)
+    (stop : Stop) (sent : Option Message) (answer : SessionAnswer)
+    → KeepsOrder passes_late speaks_last (shutting i asked (null_reply i ∷ []) ∷ granted j method given result
+    ∷ shutting k asked (null_reply k ∷ []) ∷ []) stop sent answer → ⊥
 goes_on_after_shutdown passes_late speaks_last i j k asked given result method stop sent answer order =
-    served_first passes_late speaks_last stop sent answer i (codes "shutdown") asked null_data (granted j method given result ∷ shutting k asked (null_reply k ∷ []) ∷ []) refl order
+    served_first passes_late speaks_last stop sent answer i (codes "shutdown") asked null_data (granted j method given
+    result ∷ shutting k asked (null_reply k ∷ []) ∷ []) refl order
 
 -- a whole session comes before the `initialize` of another
-pub second_session : (passes_late speaks_last : Bool) (i j k : Id) (params result given asked : Data) (stop : Stop) (sent : Option Message) (answer : SessionAnswer) (more : List Exchange)
-    → KeepsOrder passes_late speaks_last (begun i params result ∷ invited given [] ∷ shutting k asked (null_reply k ∷ []) ∷ begun j params result ∷ more) stop sent answer → ⊥
+pub second_session : (passes_late speaks_last : Bool) (i j k : Id) (params result given asked : Data) (stop : Stop)
+    (sent : Option Message) (answer : SessionAnswer) (more : List Exchange)
+    → KeepsOrder passes_late speaks_last (begun i params result ∷ invited given [] ∷ shutting k asked (null_reply k
+    ∷ []) ∷ begun j params result ∷ more) stop sent answer → ⊥
 second_session passes_late speaks_last i j k params result given asked stop sent answer more order =
-    speaks_after_shutdown passes_late speaks_last stop sent answer i k params result given asked [] (null_reply k ∷ []) _ (response j (Ok result)) [] more order
+    speaks_after_shutdown passes_late speaks_last stop sent answer i k params result given asked [] (null_reply k ∷ [])
+    _ (response j (Ok result)) [] more order
 
--- The write of the last message failed, the session was decided, and something behind the message that decided was taken; the same
--- if memory ran out.
-pub eats_past_exit : (limit : Limits) (fault : WriteFault) (answer : SessionAnswer) (sent : Option Message) (at rest : List ℕ) → (rest ≡ at → ⊥)
-    → Ends limit (Some rest) (Err (Write fault)) answer decided sent at ⊎ Ends limit (Some rest) (Err NoMemory) answer decided sent at → ⊥
+-- The write of the last message failed, the session was decided, and something behind the message that decided was
+-- taken; the same if memory ran out.
+pub eats_past_exit : (limit : Limits) (fault : WriteFault) (answer : SessionAnswer) (sent : Option Message)
+    (at rest : List ℕ) → (rest ≡ at → ⊥)
+    → Ends limit (Some rest) (Err (Write fault)) answer decided sent at ⊎ Ends limit (Some rest) (Err NoMemory) answer
+    decided sent at → ⊥
 eats_past_exit limit fault answer sent at rest other (inl left) = let same : rest ≡ at = cc (left) in other same
 eats_past_exit limit fault answer sent at rest other (inr left) = let same : rest ≡ at = cc (left) in other same
 
@@ -512,12 +650,14 @@ loses_two a b stop sent sends lost (inl all) = lost.0 all
 loses_two a b stop sent sends lost (inr most) = lost.1 most.1
 
 -- memory ran out for a reply that the outbox took, and no reply to `shutdown` was sent
-pub loses_a_reply : (a b : Option (List ℕ)) (sends : List Message) → (GetsFrames sends a b → ⊥) → Wrote a b (Err NoMemory) decided None sends → ⊥
+pub loses_a_reply : (a b : Option (List ℕ)) (sends : List Message) → (GetsFrames sends a b → ⊥)
+    → Wrote a b (Err NoMemory) decided None sends → ⊥
 loses_a_reply a b sends lost (inl all) = lost all
 loses_a_reply a b sends lost (inr most) = most.0
 
 -- a wake among what was read of a text
-pub woken_by_nobody : (limit : Limits) (came : List (Option Message)) (text at : List ℕ) → FoldsTo (ReadsMessage limit) text came at
+pub woken_by_nobody : (limit : Limits) (came : List (Option Message)) (text at : List ℕ) → FoldsTo (ReadsMessage limit)
+    text came at
     → list_all (λ (c : Option Message). is_some c) came ≡ false → ⊥
 woken_by_nobody limit [] text at run woken = cc (woken)
 woken_by_nobody limit (Some m ∷ came) text at run woken = woken_by_nobody limit came run.0 at run.2 woken

@@ -8,7 +8,8 @@ use Rattle.lsp_session.specs.Dialog.{Client, NeverBothWait, WaitsForReplies}
 use Rattle.lsp_session.specs.Event.{Event, message, timeout, closed, woken}
 use Rattle.lsp_session.specs.Session.{Exchange, request_id}
 use Rattle.serde_json.specs.Data.{Data}
-use Rattle.std.proofs.Common.{◌≡◌, refl, sym, ◌∙◌, ap, ◌+◌, suc, ℕ, Bool, true, false, true≢false, List, [], ◌∷◌, ◌++◌, length, length-append, map, arith, Some}
+use Rattle.std.proofs.Common.{◌≡◌, refl, sym, ◌∙◌, ap, ◌+◌, suc, ℕ, Bool, true, false, true≢false, List, [], ◌∷◌, ◌++◌}
+use Rattle.std.proofs.Common.{length, length-append, map, arith, Some}
 use Rattle.std.proofs.lemmas.Bool.{eqb-true, eq-eqb}
 use Rattle.std.proofs.lemmas.List.Elements.{filter_map-append}
 use Rattle.std.specs.List.{AllZip, list_all}
@@ -26,7 +27,8 @@ same_length (i ∷ is) (m ∷ ms) all = ap suc (same_length is ms all.1)
 
 -- it waits for nothing but its replies
 pub patient_waits : WaitsForReplies patient
-patient_waits sent got replies = eq-eqb (length (requests_of sent)) (length got) (same_length (requests_of sent) got replies)
+patient_waits sent got replies = eq-eqb (length (requests_of sent)) (length got) (same_length (requests_of sent) got
+    replies)
 
 -- the transport took whatever was sent
 abbrev is_kept : Act → Bool
@@ -43,42 +45,57 @@ module _ (i : Id) (method : List ℕ) (params : Data) where
   never_both : (sent got : List Message) → patient sent got ≡ true → patient (sent ++ ask ∷ []) got ≡ true → ⊥
   never_both sent got first second =
       let a : length (requests_of sent) ≡ length got = eqb-true (length (requests_of sent)) (length got) first in
-      let b : length (requests_of (sent ++ ask ∷ [])) ≡ length got = eqb-true (length (requests_of (sent ++ ask ∷ []))) (length got) second in
+      let b : length (requests_of (sent ++ ask ∷ [])) ≡ length got = eqb-true (length (requests_of (sent ++ ask ∷ [])))
+      (length got) second in
       let c : length (requests_of sent) + 1 ≡ length got = sym (one_more sent) ∙ b in
       omega (arith, a, c)
 
-  -- A reply is held back: the request is read, and something else is awaited before its reply is sent. The client waits for ever.
-  pub holds_a_reply_back : (sent got : List Message) (before : List Act) (event : Event) (after : List Act) → list_all is_kept before ≡ true
+  -- A reply is held back: the request is read, and something else is awaited before its reply is sent. The client waits
+  -- for ever.
+  pub holds_a_reply_back : (sent got : List Message) (before : List Act) (event : Event) (after : List Act)
+      → list_all is_kept before ≡ true
       → NeverBothWait patient sent got (before ++ gave (message ask) ∷ gave event ∷ after) → ⊥
   holds_a_reply_back sent got [] (message m) after kept never = never_both sent got never.0 never.1.0
   holds_a_reply_back sent got [] timeout after kept never = never_both sent got never.0 never.1.0
   holds_a_reply_back sent got [] closed after kept never = never_both sent got never.0 never.1.0
   holds_a_reply_back sent got [] woken after kept never = never_both sent got never.0 never.1.0
-  holds_a_reply_back sent got (gave (message m) ∷ before) event after kept never = holds_a_reply_back (sent ++ m ∷ []) got before event after kept never.1
-  holds_a_reply_back sent got (gave timeout ∷ before) event after kept never = holds_a_reply_back sent got before event after kept never.1
-  holds_a_reply_back sent got (gave closed ∷ before) event after kept never = holds_a_reply_back sent got before event after kept never.1
-  holds_a_reply_back sent got (gave woken ∷ before) event after kept never = holds_a_reply_back sent got before event after kept never.1
-  holds_a_reply_back sent got (took m ∷ before) event after kept never = holds_a_reply_back sent (got ++ m ∷ []) before event after kept never
+  holds_a_reply_back sent got (gave (message m) ∷ before) event after kept never = holds_a_reply_back (sent ++ m ∷ [])
+      got before event after kept never.1
+  holds_a_reply_back sent got (gave timeout ∷ before) event after kept never = holds_a_reply_back sent got before event
+      after kept never.1
+  holds_a_reply_back sent got (gave closed ∷ before) event after kept never = holds_a_reply_back sent got before event
+      after kept never.1
+  holds_a_reply_back sent got (gave woken ∷ before) event after kept never = holds_a_reply_back sent got before event
+      after kept never.1
+  holds_a_reply_back sent got (took m ∷ before) event after kept never = holds_a_reply_back sent (got ++ m ∷ []) before
+      event after kept never
   holds_a_reply_back sent got (lost m ∷ before) event after kept never = true≢false (sym kept)
 
 -- the result of `initialize` is held back until `initialized` comes
 pub holds_the_result_back : (i : Id) (params given : Data) (result : Message) (after : List Act)
-    → NeverBothWait patient [] [] (gave (message (request i (codes "initialize") params)) ∷ gave (message (notification (codes "initialized") given)) ∷ took result ∷ after) → ⊥
+    → NeverBothWait patient [] [] (gave (message (request i (codes "initialize") params))
+    ∷ gave (message (notification (codes "initialized") given)) ∷ took result ∷ after) → ⊥
 holds_the_result_back i params given result after never =
-    holds_a_reply_back i (codes "initialize") params [] [] [] (message (notification (codes "initialized") given)) (took result ∷ after) refl never
+    holds_a_reply_back i (codes "initialize") params [] [] [] (message (notification (codes "initialized") given))
+    (took result ∷ after) refl never
 
 -- the reply to `shutdown` is held back until `exit` comes
-pub holds_the_shutdown_reply_back : (sent got : List Message) (before : List Act) (i : Id) (params given : Data) (shutdown_reply : Message) (after : List Act) → list_all is_kept before ≡ true
-    → NeverBothWait patient sent got (before ++ gave (message (request i (codes "shutdown") params)) ∷ gave (message (notification (codes "exit") given)) ∷ took shutdown_reply ∷ after) → ⊥
+pub holds_the_shutdown_reply_back : (sent got : List Message) (before : List Act) (i : Id) (params given : Data)
+    (shutdown_reply : Message) (after : List Act) → list_all is_kept before ≡ true
+    → NeverBothWait patient sent got (before ++ gave (message (request i (codes "shutdown") params))
+    ∷ gave (message (notification (codes "exit") given)) ∷ took shutdown_reply ∷ after) → ⊥
 holds_the_shutdown_reply_back sent got before i params given shutdown_reply after kept never =
-    holds_a_reply_back i (codes "shutdown") params sent got before (message (notification (codes "exit") given)) (took shutdown_reply ∷ after) kept never
+    holds_a_reply_back i (codes "shutdown") params sent got before (message (notification (codes "exit") given))
+    (took shutdown_reply ∷ after) kept never
 
 -- ---- acts in order
 
-no_such : (passed : List Event) (m : Message) (event : Event) (reply : Message) (output more after : List Act) → list_all is_timeout passed ≡ true
+no_such : (passed : List Event) (m : Message) (event : Event) (reply : Message) (output more after : List Act)
+    → list_all is_timeout passed ≡ true
     → gave (message m) ∷ gave event ∷ after ≡ (map gave (passed ++ message m ∷ []) ++ took reply ∷ output) ++ more → ⊥
 no_such [] m event reply output more after only same = let e : gave event ≡ took reply = cc (same) in cc (e)
-no_such (timeout ∷ passed) m event reply output more after only same = let e : gave (message m) ≡ gave timeout = cc (same) in cc (e)
+no_such (timeout ∷ passed) m event reply output more after only same = let e : gave (message m) ≡ gave timeout = cc
+    (same) in cc (e)
 no_such (message o ∷ passed) m event reply output more after only same = absurd (cc (only))
 no_such (closed ∷ passed) m event reply output more after only same = absurd (cc (only))
 no_such (woken ∷ passed) m event reply output more after only same = absurd (cc (only))
@@ -87,5 +104,7 @@ no_such (woken ∷ passed) m event reply output more after only same = absurd (c
 pub reads_on_first : (m reply : Message) (output : List Message) (xs : List Exchange) (event : Event) (after : List Act)
     → AreActsOf (record { came = Some m; sent = reply ∷ output } ∷ xs) (gave (message m) ∷ gave event ∷ after) → ⊥
 reads_on_first m reply output xs event after exchanged =
-    no_such exchanged.2.awaited.passed m event reply (map took output) exchanged.1 after exchanged.2.awaited.only_timeouts
-    (exchanged.4 ∙ ap (λ (acts : List Act). acts ++ exchanged.1) (exchanged.2.are ∙ ap (λ (acts : List Act). acts ++ took reply ∷ map took output) exchanged.2.awaited.are))
+    no_such exchanged.2.awaited.passed m event reply (map took output) exchanged.1 after
+    exchanged.2.awaited.only_timeouts
+    (exchanged.4 ∙ ap (λ (acts : List Act). acts ++ exchanged.1) (exchanged.2.are ∙ ap (λ (acts : List Act). acts
+    ++ took reply ∷ map took output) exchanged.2.awaited.are))

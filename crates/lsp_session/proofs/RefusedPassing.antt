@@ -17,7 +17,8 @@ module _ {L : Type 0} (hears : L → ReadFault → L → Type 0) (limit : Limits
   outcome_at text = (reading_within limit text).outcome
 
   -- if nothing that is no message stands, none is passed over
-  passed : (text rest : List ℕ) (old new : L) → PassesOver hears limit (text, old) (rest, new) → (fault : ReadFault) × (is_of_body fault ≡ true) × (outcome_at text ≡ Err fault)
+  passed : (text rest : List ℕ) (old new : L) → PassesOver hears limit (text, old) (rest, new) → (fault : ReadFault)
+      × (is_of_body fault ≡ true) × (outcome_at text ≡ Err fault)
   passed text rest old new passes = (passes.0, passes.1, ap (λ (r : Reading Message). r.outcome) passes.2)
 
   -- a message is passed over
@@ -29,7 +30,8 @@ module _ {L : Type 0} (hears : L → ReadFault → L → Type 0) (limit : Limits
       cc (e)
 
   -- the session is woken, and the text has ended
-  pub woken_at_the_end : (text : List ℕ) (old : L) (came : List (Option Message)) (at : List ℕ × L) → outcome_at text ≡ Ok None
+  pub woken_at_the_end : (text : List ℕ) (old : L) (came : List (Option Message)) (at : List ℕ × L) → outcome_at text
+      ≡ Ok None
       → FoldsTo (ReadsFrame hears limit) (text, old) (None ∷ came) at → ⊥
   woken_at_the_end text old came at ended run =
       let seen = passed text run.0.0 old run.0.1 run.1 in
@@ -37,7 +39,8 @@ module _ {L : Type 0} (hears : L → ReadFault → L → Type 0) (limit : Limits
       cc (e)
 
   -- a fault of another kind is passed over: a header that is none, or a content part that is too long
-  pub passes_a_header : (text rest : List ℕ) (fault : ReadFault) (old new : L) → outcome_at text ≡ Err fault → is_of_body fault ≡ false
+  pub passes_a_header : (text rest : List ℕ) (fault : ReadFault) (old new : L) → outcome_at text ≡ Err fault
+      → is_of_body fault ≡ false
       → PassesOver hears limit (text, old) (rest, new) → ⊥
   passes_a_header text rest fault old new came other passes =
       let seen = passed text rest old new passes in
@@ -47,14 +50,16 @@ module _ {L : Type 0} (hears : L → ReadFault → L → Type 0) (limit : Limits
       cc (e)
 
   -- what is no message is read as one
-  pub reads_no_message : (text rest : List ℕ) (m : Message) (fault : ReadFault) (old new : L) → outcome_at text ≡ Err fault
+  pub reads_no_message : (text rest : List ℕ) (m : Message) (fault : ReadFault) (old new : L) → outcome_at text
+      ≡ Err fault
       → ReadsFrame hears limit (text, old) (Some m) (rest, new) → ⊥
   reads_no_message text rest m fault old new came read =
       let e : Err fault ≡ Ok (Some m) = sym came ∙ ap (λ (r : Reading Message). r.outcome) read.0 in
       cc (e)
 
   -- the listener hears something of a message
-  pub hears_a_message : (text rest : List ℕ) (m : Message) (old new : L) → (new ≡ old → ⊥) → ReadsFrame hears limit (text, old) (Some m) (rest, new) → ⊥
+  pub hears_a_message : (text rest : List ℕ) (m : Message) (old new : L) → (new ≡ old → ⊥) → ReadsFrame hears limit
+      (text, old) (Some m) (rest, new) → ⊥
   hears_a_message text rest m old new other read = other read.1
 
   -- the listener hears more after the text has ended

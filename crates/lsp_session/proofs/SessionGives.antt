@@ -35,8 +35,10 @@ use Rattle.std.specs.Prelude.{Result, Ok, Err, MatchOption}
 
 module _ {R : Type 0} (remaining : R → Option (List ℕ)) (limit : Limits) where
   -- receives from an inbox over a reader, as they are seen, and the reader that it was lent
-  pub streams_of : (events : List Event) (old new : StreamInbox R) → old.limits ≡ limit → FoldsTo (StreamInboxGives remaining) old events new
-      → FoldsTo (StreamGives limit) (stream_of remaining old) events (stream_of remaining new) × (new.reader.ghost_name ≡ old.reader.ghost_name)
+  pub streams_of : (events : List Event) (old new : StreamInbox R) → old.limits ≡ limit
+      → FoldsTo (StreamInboxGives remaining) old events new
+      → FoldsTo (StreamGives limit) (stream_of remaining old) events (stream_of remaining new) × (new.reader.ghost_name
+      ≡ old.reader.ghost_name)
   streams_of [] old new limited run = (ap (λ (s : StreamInbox R). stream_of remaining s) run, rw run refl)
   streams_of (event ∷ events) old new limited run =
       let rest = streams_of events run.0 new (run.1.2 ∙ limited) run.2 in
@@ -44,13 +46,29 @@ module _ {R : Type 0} (remaining : R → Option (List ℕ)) (limit : Limits) whe
       ((stream_of remaining run.0, first, rest.0), rest.1 ∙ run.1.1)
 
   module _ {O : Type 0} (sends : Sends O) (first last : R) (old new : StreamInbox R) (before after : O)
-      (limited : old.limits ≡ limit) (same : old.reader.now ≡ first) (named : new.reader.ghost_name ≡ old.reader.ghost_name → last ≡ new.reader.now) where
-    pub finishes_over : (reply : Message) (answer : FinishAnswer) → FinishesAt (StreamInboxGives remaining) sends reply (old, before) answer (new, after)
-        → (end : Option ReadEnd) × FinishesAt (StreamGives limit) sends reply (record { remaining = remaining first; end = old.end }, before) answer (record { remaining = remaining last; end = end }, after)
+      (limited : old.limits ≡ limit) (same : old.reader.now ≡ first) (named : new.reader.ghost_name
+      ≡ old.reader.ghost_name → last ≡ new.reader.now) where
+    pub finishes_over : (reply : Message) (answer : FinishAnswer) → FinishesAt (StreamInboxGives remaining) sends reply
+        (old, before) answer (new, after)
+        → (end : Option ReadEnd) × FinishesAt (StreamGives limit) sends reply (
+          record {
+            remaining = remaining first;
+            end = old.end;
+          },
+          before,
+        ) answer (record { remaining = remaining last; end = end }, after)
     finishes_over reply answer (inl sent) =
         let waits = sent.2 in
         let run = streams_of (waits.passed ++ sent.1 ∷ []) old new limited waits.received in
-        rw (named run.1, ← same) (new.end, inl (sent.0, sent.1, record { passed = waits.passed; only_timeouts = waits.only_timeouts; received = run.0 }, sent.3))
+        rw (named run.1, ← same) (
+          new.end,
+          inl (
+            sent.0,
+            sent.1,
+            record { passed = waits.passed; only_timeouts = waits.only_timeouts; received = run.0 },
+            sent.3,
+          ),
+        )
     finishes_over reply answer (inr lost) =
         rw (named (ap (λ (s : StreamInbox R). s.reader.ghost_name) lost.3), ← same)
         (new.end, inr (lost.0, lost.1, lost.2, ap (λ (s : StreamInbox R). stream_of remaining s) lost.3))
@@ -59,13 +77,15 @@ module _ {R : Type 0} (remaining : R → Option (List ℕ)) (limit : Limits) whe
 pub no_timeout : (limit : Limits) (old new : Stream) → StreamGives limit old timeout new → ⊥
 no_timeout limit old new gives = at old.end gives
   where
-    at : (end : Option ReadEnd) → MatchOption end (StreamReads limit old.remaining timeout new.end new.remaining) (λ end. (timeout ≡ closed) × (new.end ≡ Some end) × Keeps old.remaining new.remaining) → ⊥
+    at : (end : Option ReadEnd) → MatchOption end (StreamReads limit old.remaining timeout new.end new.remaining)
+        (λ end. (timeout ≡ closed) × (new.end ≡ Some end) × Keeps old.remaining new.remaining) → ⊥
     at None gives = gives
     at (Some end) gives = cc (gives.0)
 
 -- what is written of messages if the write of the last one failed
 abbrev pub GetsPart : WriteFault → List Message → Option (List ℕ) → Option (List ℕ) → Type 0
-GetsPart (Output kind) ms old new = (whole : List Message) × (last : Message) × (ms ≡ whole ++ last ∷ []) × GetsFramesAndPart whole last old new
+GetsPart (Output kind) ms old new = (whole : List Message) × (last : Message) × (ms ≡ whole ++ last ∷ [])
+    × GetsFramesAndPart whole last old new
 GetsPart NoMemory ms old new = GetsAllButLast ms old new
 
 -- the outbox refused no reply
@@ -78,18 +98,43 @@ module _ {W : Type 0} (contents : W → Option (List ℕ)) where
   at outbox = contents outbox.writer.now
 
   -- a message offered after those whose frames were written
-  offered : (ms : List Message) (m : Message) (a b c : Option (List ℕ)) (outcome : Result (Unit {0}) SendFault) (fault : Option WriteFault) → GetsFrames ms a b
+  offered : (ms : List Message) (m : Message) (a b c : Option (List ℕ)) (outcome : Result (Unit {0}) SendFault)
+      (fault : Option WriteFault) → GetsFrames ms a b
       → Writes m b (kept_write fault) c → Told outcome fault
       → MatchOption fault ((outcome ≡ Ok tt) × GetsFrames (ms ++ m ∷ []) a c) (λ f. GetsPart f (ms ++ m ∷ []) a c)
-  offered ms m a b c (Ok done) None got writes told =
-      (refl, (got.0 ++ writes.0, AreFramesOf-push ms got.0 m writes.0 got.1 writes.1, Appends-trans a b c got.0 writes.0 got.2 writes.2))
+  offered ms m a b c (Ok done) None got writes told = (
+    refl,
+    (
+      got.0 ++ writes.0,
+      AreFramesOf-push ms got.0 m writes.0 got.1 writes.1,
+      Appends-trans a b c got.0 writes.0
+          got.2 writes.2,
+    ),
+  )
   offered ms m a b c (Err (Shut back)) None got writes told = absurd told
   offered ms m a b c (Err (Full back)) None got writes told = absurd told
-  offered ms m a b c outcome (Some (Output kind)) got writes told = (ms, m, refl, breaks_off ms m (Output kind) a b c got writes)
-  offered ms m a b c outcome (Some NoMemory) got writes told = (ms, m, refl, (got.0, got.1, Appends-Keeps a b c got.0 got.2 writes))
+  offered ms m a b c outcome (Some (Output kind)) got writes told = (
+    ms,
+    m,
+    refl,
+    breaks_off ms m (Output kind) a b c
+        got writes,
+  )
+  offered ms m a b c outcome (Some NoMemory) got writes told = (
+    ms,
+    m,
+    refl,
+    (
+      got.0,
+      got.1,
+      Appends-Keeps a b c got.0
+          got.2 writes,
+    ),
+  )
 
   -- the same, of an outbox that no write has failed in, and what follows
-  sent_after : {A B : Type 0} (ms : List Message) (m : Message) (a b : Option (List ℕ)) (mid new : FrameOutbox W) (outcome : Result (Unit {0}) SendFault)
+  sent_after : {A B : Type 0} (ms : List Message) (m : Message) (a b : Option (List ℕ)) (mid new : FrameOutbox W)
+      (outcome : Result (Unit {0}) SendFault)
       → mid.fault ≡ None
       → b ≡ at mid → GetsFrames ms a b → FrameOutboxSends contents mid m outcome new → (outcome ≡ Ok tt → A) → B
       → MatchOption new.fault (A × GetsFrames (ms ++ m ∷ []) a (at new)) (λ f. B × GetsPart f (ms ++ m ∷ []) a (at new))
@@ -98,94 +143,131 @@ module _ {W : Type 0} (contents : W → Option (List ℕ)) where
       pick new.fault (offered ms m a (at mid) (at new) outcome new.fault (rw is at got) writes.0 writes.1)
     where
       pick : (fault : Option WriteFault)
-          → MatchOption fault ((outcome ≡ Ok tt) × GetsFrames (ms ++ m ∷ []) a (at new)) (λ f. GetsPart f (ms ++ m ∷ []) a (at new))
+          → MatchOption fault ((outcome ≡ Ok tt) × GetsFrames (ms ++ m ∷ []) a (at new)) (λ f. GetsPart f (ms ++ m ∷ [])
+          a (at new))
           → MatchOption fault (A × GetsFrames (ms ++ m ∷ []) a (at new)) (λ f. B × GetsPart f (ms ++ m ∷ []) a (at new))
       pick None both = (took both.0, both.1)
       pick (Some f) part = (lost, part)
 
-  module _ (old new : FrameOutbox W) (output : List Message) (shutdown_reply : Option Message) (unfailed : old.fault ≡ None) where
+  module _ (old new : FrameOutbox W) (output : List Message) (shutdown_reply : Option Message) (unfailed : old.fault
+      ≡ None) where
     -- the output is written, or a part of it if a write failed
     abbrev pub IsWritten : Stop → Type 0
     IsWritten stop =
-        MatchOption new.fault (NotRefused stop × GetsFrames (all_of output shutdown_reply) (at old) (at new)) (λ f. IsUnsent stop shutdown_reply × GetsPart f (all_of output shutdown_reply) (at old) (at new))
+        MatchOption new.fault (NotRefused stop × GetsFrames (all_of output shutdown_reply) (at old) (at new))
+        (λ f. IsUnsent stop shutdown_reply × GetsPart f (all_of output shutdown_reply) (at old) (at new))
 
-    taken_written : (stop : Stop) (mid : FrameOutbox W) → FoldsTo (Takes (FrameOutboxSends contents)) old output mid → OffersLast (FrameOutboxSends contents) mid shutdown_reply new
-        → MatchOption new.fault (Unit {0} × GetsFrames (all_of output shutdown_reply) (at old) (at new)) (λ f. IsUnsent stop shutdown_reply × GetsPart f (all_of output shutdown_reply) (at old) (at new))
+    taken_written : (stop : Stop) (mid : FrameOutbox W) → FoldsTo (Takes (FrameOutboxSends contents)) old output mid
+        → OffersLast (FrameOutboxSends contents) mid shutdown_reply new
+        → MatchOption new.fault (Unit {0} × GetsFrames (all_of output shutdown_reply) (at old) (at new)) (λ f. IsUnsent
+        stop shutdown_reply × GetsPart f (all_of output shutdown_reply) (at old) (at new))
     taken_written stop mid taken offers = last shutdown_reply offers
       where
         frames : (mid.fault ≡ None) × GetsFrames output (at old) (at mid)
         frames = taken_frames contents old output mid unfailed taken
 
         last : (shutdown_reply : Option Message) → OffersLast (FrameOutboxSends contents) mid shutdown_reply new
-            → MatchOption new.fault (Unit {0} × GetsFrames (all_of output shutdown_reply) (at old) (at new)) (λ f. IsUnsent stop shutdown_reply × GetsPart f (all_of output shutdown_reply) (at old) (at new))
+            → MatchOption new.fault (Unit {0} × GetsFrames (all_of output shutdown_reply) (at old) (at new))
+            (λ f. IsUnsent stop shutdown_reply × GetsPart f (all_of output shutdown_reply) (at old) (at new))
         last None same = rw (same, frames.0) (tt, frames.1)
-        last (Some shutdown_reply) offers = sent_after output shutdown_reply (at old) (at mid) mid new offers.outcome frames.0 refl frames.1 offers.sent (λ e. tt) tt
+        last (Some shutdown_reply) offers = sent_after output shutdown_reply (at old) (at mid) mid new offers.outcome
+            frames.0 refl frames.1 offers.sent (λ e. tt) tt
 
-    refused_written : (fault : SendFault) → RefusesLast (FrameOutboxSends contents) old output fault new → shutdown_reply ≡ None → IsWritten (refused fault)
+    refused_written : (fault : SendFault) → RefusesLast (FrameOutboxSends contents) old output fault new
+        → shutdown_reply ≡ None → IsWritten (refused fault)
     refused_written fault last none =
         let frames = taken_frames contents old last.0 last.2 unfailed last.4 in
-        rw (none, last.3) (sent_after last.0 last.1 (at old) (at last.2) last.2 new (Err fault) frames.0 refl frames.1 last.5 (λ e. cc (e)) tt)
+        rw (none, last.3) (sent_after last.0 last.1 (at old) (at last.2) last.2 new (Err fault) frames.0 refl frames.1
+        last.5 (λ e. cc (e)) tt)
 
-    pub gets_written : (stop : Stop) → Gets (FrameOutboxSends contents) old output shutdown_reply stop new → IsWritten stop
+    pub gets_written : (stop : Stop) → Gets (FrameOutboxSends contents) old output shutdown_reply stop new
+        → IsWritten stop
     gets_written (refused fault) got = refused_written fault got.0 got.1
     gets_written stop got = taken_written stop got.0 got.1 got.2
 
-  last_keeps : (shutdown_reply : Option Message) (mid new : FrameOutbox W) → OffersLast (FrameOutboxSends contents) mid shutdown_reply new → new.writer.ghost_name ≡ mid.writer.ghost_name
+  last_keeps : (shutdown_reply : Option Message) (mid new : FrameOutbox W) → OffersLast (FrameOutboxSends contents) mid
+      shutdown_reply new → new.writer.ghost_name ≡ mid.writer.ghost_name
   last_keeps None mid new same = ap (λ (o : FrameOutbox W). o.writer.ghost_name) same
   last_keeps (Some shutdown_reply) mid new offers = offers.sent.1
 
   -- an outbox keeps the writer that it was lent
-  pub gets_keeps : (old new : FrameOutbox W) (output : List Message) (shutdown_reply : Option Message) (stop : Stop) → Gets (FrameOutboxSends contents) old output shutdown_reply stop new
+  pub gets_keeps : (old new : FrameOutbox W) (output : List Message) (shutdown_reply : Option Message) (stop : Stop)
+      → Gets (FrameOutboxSends contents) old output shutdown_reply stop new
       → new.writer.ghost_name ≡ old.writer.ghost_name
-  gets_keeps old new output shutdown_reply (refused fault) got = got.0.5.1 ∙ taken_keeps contents old got.0.0 got.0.2 got.0.4
-  gets_keeps old new output shutdown_reply stop got = last_keeps shutdown_reply got.0 new got.2 ∙ taken_keeps contents old output got.0 got.1
+  gets_keeps old new output shutdown_reply (refused fault) got = got.0.5.1 ∙ taken_keeps contents old got.0.0
+      got.0.2 got.0.4
+  gets_keeps old new output shutdown_reply stop got = last_keeps shutdown_reply got.0 new got.2 ∙ taken_keeps contents
+      old output got.0 got.1
 
 module _ (limit : Limits) where
   -- a reading that failed
-  unread_at : (fault : ReadFault) (at : List ℕ) → (reading_within limit at).outcome ≡ Err fault → reading_within limit at ≡ record { outcome = Err fault; rest = (reading_within limit at).rest }
+  unread_at : (fault : ReadFault) (at : List ℕ) → (reading_within limit at).outcome ≡ Err fault → reading_within limit
+      at ≡ record { outcome = Err fault; rest = (reading_within limit at).rest }
   unread_at fault at is = ap (λ o. record { outcome = o; rest = (reading_within limit at).rest }) is
 
-  -- What is left, and what was written, of a session that stopped so, whose messages ended so, and of which no write failed.
-  module _ (shutdown_reply : Option Message) (answer : SessionAnswer) (sends : List Message) (a b : Option (List ℕ)) (wrote : GetsFrames sends a b) where
+  -- What is left, and what was written, of a session that stopped so, whose messages ended so, and of which no write
+  -- failed.
+  module _ (shutdown_reply : Option Message) (answer : SessionAnswer) (sends : List Message) (a b : Option (List ℕ))
+      (wrote : GetsFrames sends a b) where
     abbrev pub EndsSo : Stop → Option ReadEnd → Option (List ℕ) → List ℕ → Type 0
     EndsSo stop end left at =
-        Ends limit left (session_answer (reason_of stop) answer end None) answer stop shutdown_reply at × Wrote a b (session_answer (reason_of stop) answer end None) stop shutdown_reply sends
+        Ends limit left (session_answer (reason_of stop) answer end None) answer stop shutdown_reply at
+        × Wrote a b (session_answer (reason_of stop) answer end None) stop shutdown_reply sends
 
-    fault_ends : (fault : ReadFault) (left : Option (List ℕ)) (at : List ℕ) → Answers (λ (m : Message). m) (Err fault) left (reading_within limit at)
+    fault_ends : (fault : ReadFault) (left : Option (List ℕ)) (at : List ℕ) → Answers (λ (m : Message). m) (Err fault)
+        left (reading_within limit at)
         → EndsSo no_more (Some (Fault fault)) left at
     fault_ends (Input kind) left at answers = ((refl, answers), wrote)
     fault_ends NoMemoryToRead left at answers = (answers, inl wrote)
-    fault_ends fault left at answers = ((refl, (reading_within limit at).rest, unread_at fault at answers.0, answers.1), wrote)
+    fault_ends fault left at answers = (
+      (
+        refl,
+        (reading_within limit at).rest,
+        unread_at fault at answers.0,
+        answers.1,
+      ),
+      wrote,
+    )
 
     -- no more came
-    pub closed_ends : (end : Option ReadEnd) (left : Option (List ℕ)) (at : List ℕ) → StreamReads limit (Some at) closed end left → EndsSo no_more end left at
+    pub closed_ends : (end : Option ReadEnd) (left : Option (List ℕ)) (at : List ℕ) → StreamReads limit (Some at) closed
+        end left → EndsSo no_more end left at
     closed_ends None left at reads = absurd reads
     closed_ends (Some End) left at reads =
-        by_answer answer ((reading_within limit at).rest, ap (λ o. record { outcome = o; rest = (reading_within limit at).rest }) reads.0.0, reads.0.1)
+        by_answer answer (
+          (reading_within limit at).rest,
+          ap (λ o. record { outcome = o; rest = (reading_within limit at).rest }) reads.0.0,
+          reads.0.1,
+        )
       where
         by_answer : (answer : SessionAnswer) → LeftAfter limit no_more at left
-            → Ends limit left (session_answer NoMore answer (Some End) None) answer no_more shutdown_reply at × Wrote a b (session_answer NoMore answer (Some End) None) no_more shutdown_reply sends
+            → Ends limit left (session_answer NoMore answer (Some End) None) answer no_more shutdown_reply at
+            × Wrote a b (session_answer NoMore answer (Some End) None) no_more shutdown_reply sends
         by_answer (Ok end) after = ((refl, after), wrote)
         by_answer (Err fault) after = ((refl, after), wrote)
     closed_ends (Some (Fault fault)) left at reads = fault_ends fault left at reads.0
     closed_ends (Some end) left at reads = absurd reads
 
     -- a message decided
-    pub decided_ends : (end : Option ReadEnd) (left : Option (List ℕ)) (at : List ℕ) → left ≡ Some at → EndsSo decided end left at
+    pub decided_ends : (end : Option ReadEnd) (left : Option (List ℕ)) (at : List ℕ) → left ≡ Some at
+        → EndsSo decided end left at
     decided_ends end left at after = by_answer answer
       where
         by_answer : (answer : SessionAnswer)
-            → Ends limit left (session_answer Decided answer end None) answer decided shutdown_reply at × Wrote a b (session_answer Decided answer end None) decided shutdown_reply sends
+            → Ends limit left (session_answer Decided answer end None) answer decided shutdown_reply at
+            × Wrote a b (session_answer Decided answer end None) decided shutdown_reply sends
         by_answer (Ok end) = ((refl, after), wrote)
         by_answer (Err fault) = ((refl, after), wrote)
 
   -- no byte after the message that was read last was taken
-  pub reads_within : (at : List ℕ) (end : Option ReadEnd) (left : Option (List ℕ)) → StreamReads limit (Some at) closed end left → StopsWithin left (reading_within limit at)
+  pub reads_within : (at : List ℕ) (end : Option ReadEnd) (left : Option (List ℕ)) → StreamReads limit (Some at) closed
+      end left → StopsWithin left (reading_within limit at)
   reads_within at None left reads = absurd reads
   reads_within at (Some End) left reads = ([], reads.0.1)
   reads_within at (Some (Fault fault)) left reads = fault_within fault reads.0
     where
-      fault_within : (fault : ReadFault) → Answers (λ (m : Message). m) (Err fault) left (reading_within limit at) → StopsWithin left (reading_within limit at)
+      fault_within : (fault : ReadFault) → Answers (λ (m : Message). m) (Err fault) left (reading_within limit at)
+          → StopsWithin left (reading_within limit at)
       fault_within (Input kind) answers = answers
       fault_within NoMemoryToRead answers = answers
       fault_within fault answers = ([], answers.1)

@@ -17,7 +17,8 @@ use Rattle.lsp_session.specs.Served.{StopsFor}
 use Rattle.lsp_session.specs.SessionFault.{session_answer}
 use Rattle.lsp_session.specs.SessionLaws.{Both}
 use Rattle.lsp_session.specs.SessionRun.{Runs}
-use Rattle.lsp_session.specs.StreamTransports.{account_of, inbox_of, outbox_of, IsUnused, KeepsEnds, StreamTransportGives, StreamTransportSends, GivesInOrder}
+use Rattle.lsp_session.specs.StreamTransports.{account_of, inbox_of, outbox_of, IsUnused, KeepsEnds}
+use Rattle.lsp_session.specs.StreamTransports.{StreamTransportGives, StreamTransportSends, GivesInOrder}
 use Rattle.lsp_session.proofs.Noting.{acts_grown}
 use Rattle.lsp_session.specs.declared.loops.frame_outbox.FrameOutbox.{FrameOutbox}
 use Rattle.lsp_session.specs.declared.loops.served.StopReason.{StopReason}
@@ -25,9 +26,11 @@ use Rattle.lsp_session.specs.declared.loops.stream_transport.StreamTransport.{St
 use Rattle.lsp_session.specs.declared.loops.tolerant_inbox.TolerantInbox.{TolerantInbox}
 use Rattle.std.proofs.Common.{◌≡◌, refl, sym, ◌∙◌, ap, subst, ℕ, List, ◌++◌, Option, IfSome}
 
-module _ {R W L : Type 0} (remaining : R → Option (List ℕ)) (hears : L → ReadFault → L → Type 0) (contents : W → Option (List ℕ)) where
+module _ {R W L : Type 0} (remaining : R → Option (List ℕ)) (hears : L → ReadFault → L → Type 0) (contents : W
+    → Option (List ℕ)) where
   -- the transport adds each act to its transcript when it is done
-  pub keeps_account : KeepsAccount {L = StreamTransport R W L} (StreamTransportGives remaining hears) (StreamTransportSends contents) (λ t. account_of t)
+  pub keeps_account : KeepsAccount {L = StreamTransport R W L} (StreamTransportGives remaining hears)
+      (StreamTransportSends contents) (λ t. account_of t)
   keeps_account = record {
     receiving = λ old event new gives. acts_grown _ _ _ gives.3.1;
     offering = λ old m outcome new sends. acts_grown _ _ _ sends.3.1;
@@ -40,43 +43,90 @@ module _ {R W L : Type 0} (remaining : R → Option (List ℕ)) (hears : L → R
   abbrev names : StreamTransport R W L → ℕ × ℕ × ℕ × ℕ
   names t = (t.reader.ghost_name, t.writer.ghost_name, t.listener.ghost_name, t.transcript.ghost_name)
 
-  module _ {S : Type 0} (may : Behavior S) (listens : Receives (StreamTransport R W L)) (s s' : S) (old new : StreamTransport R W L) (unused : IsUnused old) (reason : StopReason) (answer : SessionAnswer)
-      (talks : Talks (StreamTransportGives remaining hears) listens (StreamTransportSends contents) starting (Both (SessionOut may s s') (StopsFor reason)) old answer new) where
+  module _ {S : Type 0} (may : Behavior S) (listens : Receives (StreamTransport R W L)) (s s' : S)
+      (old new : StreamTransport R W L) (unused : IsUnused old) (reason : StopReason) (answer : SessionAnswer)
+      (talks : Talks (StreamTransportGives remaining hears) listens (StreamTransportSends contents) starting
+      (Both (SessionOut may s s') (StopsFor reason)) old answer new) where
     -- of the acts of the session, which are all of the transcript
     abbrev Turns : List Act → SessionPart
     Turns acts = Both (Both (SessionOut may s s') (StopsFor reason)) (InOrder acts)
 
-    in_order : Talks (StreamTransportGives remaining hears) listens (StreamTransportSends contents) starting (Turns (account_of new)) old answer new
+    in_order : Talks (StreamTransportGives remaining hears) listens (StreamTransportSends contents) starting
+        (Turns (account_of new)) old answer new
     in_order =
-        let t = talks_in_order (StreamTransportGives remaining hears) listens (StreamTransportSends contents) (λ (t : StreamTransport R W L). account_of t) keeps_account starting (Both (SessionOut may s s') (StopsFor reason)) old new answer talks in
+        let t = talks_in_order (StreamTransportGives remaining hears) listens (StreamTransportSends contents)
+        (λ (t : StreamTransport R W L). account_of t) keeps_account starting (Both (SessionOut may s s')
+        (StopsFor reason)) old new answer talks in
         let all : account_of new ≡ t.0 = t.1 ∙ ap (λ (notes : List Note). acts_in notes ++ t.0) unused.2 in
-        subst (λ (acts : List Act). Talks (StreamTransportGives remaining hears) listens (StreamTransportSends contents) starting (Turns acts) old answer new) (sym all) t.2
+        subst (λ (acts : List Act). Talks (StreamTransportGives remaining hears) listens (StreamTransportSends contents)
+        starting (Turns acts) old answer new) (sym all) t.2
 
-    ran : Runs (TolerantInboxGives remaining hears) (FrameOutboxSends contents) (Turns (account_of new)) (ends old) answer (ends new) × (names new ≡ names old)
-    ran = transport_runs (TolerantInboxGives remaining hears) (FrameOutboxSends contents) (StreamTransportGives remaining hears) listens (StreamTransportSends contents) ends names
-        (λ a event b gives. (gives.0, gives.1, rw (gives.0.1.0, gives.0.1.1, ap (λ (o : FrameOutbox W). o.writer.ghost_name) gives.1, gives.2) refl))
-        (λ a m outcome b takes. (takes.0, takes.1, rw (takes.0.1, ap (λ (i : TolerantInbox R L). i.reader.ghost_name) takes.1, ap (λ (i : TolerantInbox R L). i.listener.ghost_name) takes.1, takes.2) refl))
+    ran : Runs (TolerantInboxGives remaining hears) (FrameOutboxSends contents) (Turns (account_of new)) (ends old)
+        answer (ends new) × (names new ≡ names old)
+    ran = transport_runs (TolerantInboxGives remaining hears) (FrameOutboxSends contents) (StreamTransportGives
+        remaining hears) listens (StreamTransportSends contents) ends names
+        (λ a event b gives. (
+          gives.0,
+          gives.1,
+          rw (
+            gives.0.1.0,
+            gives.0.1.1,
+            ap (λ (o : FrameOutbox W). o.writer.ghost_name) gives.1,
+            gives.2,
+          ) refl,
+        ))
+        (λ a m outcome b takes. (
+          takes.0,
+          takes.1,
+          rw (
+            takes.0.1,
+            ap (λ (i : TolerantInbox R L). i.reader.ghost_name)
+                takes.1,
+            ap (λ (i : TolerantInbox R L). i.listener.ghost_name) takes.1,
+            takes.2,
+          ) refl,
+        ))
         starting (Turns (account_of new)) old answer new in_order
 
     -- a session over a transport, in bytes
-    pub gives_in_order : GivesInOrder remaining hears contents (SessionOut may s s') old (session_answer reason answer new.end new.fault) new
-    gives_in_order = session_gives hears old.limits remaining contents (Turns (account_of new)) (Both (SessionOut may s s') (InOrder (account_of new))) reason
-        (λ xs stop shutdown_reply answer both. ((both.0.0, both.1), both.0.1, session_facts may starting s s' refl xs stop shutdown_reply answer both.0.0))
+    pub gives_in_order : GivesInOrder remaining hears contents (SessionOut may s s') old (session_answer reason answer
+        new.end new.fault) new
+    gives_in_order = session_gives hears old.limits remaining contents (Turns (account_of new))
+        (Both (SessionOut may s s') (InOrder (account_of new))) reason
+        (λ xs stop shutdown_reply answer both. (
+          (both.0.0, both.1),
+          both.0.1,
+          session_facts may starting s s' refl xs
+              stop shutdown_reply answer both.0.0,
+        ))
         (inbox_of old) (inbox_of new) (outbox_of old) (outbox_of new) unused.0 refl unused.1 answer ran.0
         old.reader.now new.reader.now old.writer.now new.writer.now old.listener.now new.listener.now
         refl refl refl (λ same. refl) (λ same. refl) (λ same. refl)
 
     -- the same of the reader, the writer and the listener that were lent
-    pub lent_gives : (limit : Limits) → old.limits ≡ limit → (first last : R) (first' last' : W) (heard heard' : L) → old.reader.now ≡ first → old.writer.now ≡ first'
+    pub lent_gives : (limit : Limits) → old.limits ≡ limit → (first last : R) (first' last' : W) (heard heard' : L)
+        → old.reader.now ≡ first → old.writer.now ≡ first'
         → old.listener.now ≡ heard
         → (new.reader.ghost_name ≡ old.reader.ghost_name → last ≡ new.reader.now)
         → (new.listener.ghost_name ≡ old.listener.ghost_name → heard' ≡ new.listener.now)
         → (new.writer.ghost_name ≡ old.writer.ghost_name → last' ≡ new.writer.now)
-        → IfSome (remaining first) (λ text. GivesAndTells hears limit (SessionOut may s s') text (remaining last) heard heard' (contents first') (contents last')
+        → IfSome (remaining first) (λ text. GivesAndTells hears limit (SessionOut may s s') text (remaining last) heard
+        heard' (contents first') (contents last')
         (session_answer reason answer new.end new.fault))
-    lent_gives limit limited = session_gives hears limit remaining contents (Turns (account_of new)) (SessionOut may s s') reason
-        (λ xs stop shutdown_reply answer both. (both.0.0, both.0.1, session_facts may starting s s' refl xs stop shutdown_reply answer both.0.0))
+    lent_gives limit limited = session_gives hears limit remaining contents (Turns (account_of new)) (SessionOut may s
+        s') reason
+        (λ xs stop shutdown_reply answer both. (
+          both.0.0,
+          both.0.1,
+          session_facts may starting s s' refl xs stop
+              shutdown_reply answer both.0.0,
+        ))
         (inbox_of old) (inbox_of new) (outbox_of old) (outbox_of new) unused.0 limited unused.1 answer ran.0
 
     pub keeps_ends : KeepsEnds old new
-    keeps_ends = (ap (λ (n : ℕ × ℕ × ℕ × ℕ). n.0) ran.1, ap (λ (n : ℕ × ℕ × ℕ × ℕ). n.1) ran.1, ap (λ (n : ℕ × ℕ × ℕ × ℕ). n.2) ran.1, ap (λ (n : ℕ × ℕ × ℕ × ℕ). n.3) ran.1)
+    keeps_ends = (
+      ap (λ (n : ℕ × ℕ × ℕ × ℕ). n.0) ran.1,
+      ap (λ (n : ℕ × ℕ × ℕ × ℕ). n.1) ran.1,
+      ap (λ (n : ℕ × ℕ × ℕ × ℕ). n.2) ran.1,
+      ap (λ (n : ℕ × ℕ × ℕ × ℕ). n.3) ran.1,
+    )

@@ -1,11 +1,14 @@
--- What a transport did in a session, act after act: it reads a message, takes all that is to be sent for it, and only then reads again.
+-- What a transport did in a session, act after act: it reads a message, takes all that is to be sent for it, and only
+-- then reads again.
 use Rattle.std.specs.List.{list_all}
-use Rattle.std.specs.Prelude.{◌≡◌, ◌≤◌, ◌-◌, ◌^◌, ◌⊎◌, ℕ, true, List, [], ◌∷◌, ◌++◌, length, map, Option, Some, None, Result, Ok, Err}
+use Rattle.std.specs.Prelude.{◌≡◌, ◌≤◌, ◌-◌, ◌^◌, ◌⊎◌, ℕ, true, List, [], ◌∷◌, ◌++◌, length, map, Option, Some, None}
+use Rattle.std.specs.Prelude.{Result, Ok, Err}
 use Rattle.lsp_message.specs.Message.{Message}
 use Rattle.lsp_session.specs.Boxes.{Sends, Receives, is_timeout}
 use Rattle.lsp_session.specs.Event.{Event, message, closed}
 use Rattle.lsp_session.specs.Prompt.{event_of, passed_over, behind, StopsAfterShutdown}
-use Rattle.lsp_session.specs.Session.{Exchange, SessionPart, is_shutdown, is_reply, Stop, decided, no_more, timed_out, refused, exhausted}
+use Rattle.lsp_session.specs.Session.{Exchange, SessionPart, is_shutdown, is_reply, Stop, decided, no_more, timed_out}
+use Rattle.lsp_session.specs.Session.{refused, exhausted}
 use Rattle.lsp_session.specs.declared.lifecycle.SendFault.{SendFault}
 
 -- one act of a transport
@@ -36,7 +39,8 @@ pub record Awaited (event : Event) (acts : List Act) : Type 0 where
   pub only_timeouts : list_all is_timeout passed ≡ true
   pub are : acts ≡ map gave (passed ++ event ∷ [])
 
--- A message or a wake came, and then the transport took all that was to be sent for it, in order. Nothing else was awaited in between.
+-- A message or a wake came, and then the transport took all that was to be sent for it, in order. Nothing else was
+-- awaited in between.
 pub record AreActsOfOne (x : Exchange) (acts : List Act) : Type 0 where
   pub waits : List Act
   pub awaited : Awaited (event_of x.came) waits
@@ -48,7 +52,8 @@ AreActsOf [] acts = acts ≡ []
 AreActsOf (x ∷ xs) acts = (first : List Act) × (more : List Act) × AreActsOfOne x first
     × AreActsOf xs more × (acts ≡ first ++ more)
 
--- A last message or wake came, and the transport took what was to be sent for it up to a message that it refused. Nothing more was done.
+-- A last message or wake came, and the transport took what was to be sent for it up to a message that it refused.
+-- Nothing more was done.
 pub record BreaksActs (last : List Exchange) (acts : List Act) : Type 0 where
   pub came : Option Message
   pub part : List Message
@@ -58,8 +63,8 @@ pub record BreaksActs (last : List Exchange) (acts : List Act) : Type 0 where
   pub awaited : Awaited (event_of came) waits
   pub are : acts ≡ waits ++ (map took part ++ lost not_sent ∷ [])
 
--- `shutdown` came. The transport took what the service gave then, and the reply was sent, whatever the transport answered, and only then
--- something was awaited: responses that were passed over, and one event, the last one.
+-- `shutdown` came. The transport took what the service gave then, and the reply was sent, whatever the transport
+-- answered, and only then something was awaited: responses that were passed over, and one event, the last one.
 pub record ShutdownReplyInOrder (shutdown_reply : Message) (stop : Stop) (last : List Exchange)
     (acts : List Act) : Type 0 where
   pub ask : Message
@@ -78,8 +83,9 @@ pub record ShutdownReplyInOrder (shutdown_reply : Message) (stop : Stop) (last :
   pub is : last
       ≡ record { came = Some ask; sent = parting ++ shutdown_reply ∷ [] } ∷ (map passed_over late ++ later)
 
--- The acts at the end of a session after so many whole exchanges, and its last exchanges. If a message decided, nothing else was
--- awaited. If no more came, that was the event, or 2^64 - 1 exchanges were all. If an allocation failed, one more message or wake came.
+-- The acts at the end of a session after so many whole exchanges, and its last exchanges. If a message decided, nothing
+-- else was awaited. If no more came, that was the event, or 2^64 - 1 exchanges were all. If an allocation failed, one
+-- more message or wake came.
 abbrev pub EndsInOrder : ℕ → Stop → Option Message → List Exchange → List Act → Type 0
 EndsInOrder count stop (Some shutdown_reply) last acts =
     ShutdownReplyInOrder shutdown_reply stop last acts

@@ -1,8 +1,9 @@
--- The bytes of what a transport does, of whatever reader and writer: what it took for an event, and what it gave for a message; and those of
--- a whole session.
+-- The bytes of what a transport does, of whatever reader and writer: what it took for an event, and what it gave for a
+-- message; and those of a whole session.
 use Rattle.std.specs.List.{concat}
 use Rattle.lsp_message.specs.Methods.{is_exit}
-use Rattle.std.specs.Prelude.{◌≡◌, ℕ, true, if◌then◌else◌, List, [], ◌∷◌, ◌++◌, map, Option, Some, None, Result, Ok, Err}
+use Rattle.std.specs.Prelude.{◌≡◌, ℕ, true, if◌then◌else◌, List, [], ◌∷◌, ◌++◌, map, Option, Some, None, Result, Ok}
+use Rattle.std.specs.Prelude.{Err}
 use Rattle.lsp_message.specs.Frame.{reading_within}
 use Rattle.lsp_message.specs.Message.{Message}
 use Rattle.lsp_message.specs.Told.{Parts, IsOfParts, WritesParts}
@@ -29,8 +30,8 @@ use Rattle.lsp_session.specs.declared.loops.ReadEnd.TheVariants.{Exit, End, Faul
 abbrev pub Note : Type 0
 Note = Act × Parts
 
--- The parts that were given for a message, before and after which the writes had failed so: a frame of it; if it was refused, a beginning of one.
--- Once a write has failed, each message is refused, and nothing is given.
+-- The parts that were given for a message, before and after which the writes had failed so: a frame of it; if it was
+-- refused, a beginning of one. Once a write has failed, each message is refused, and nothing is given.
 abbrev pub SentParts : Option WriteFault → Act → Option WriteFault → Parts → Type 0
 SentParts None (took m) new parts = IsFrameOf m (concat parts) × (new ≡ None)
 SentParts None (lost m) (Some fault) parts = WritesParts m (Err fault) parts
@@ -43,16 +44,17 @@ module _ (limit : Limits) where
   abbrev pub AreOf : Result (Option Message) ReadFault → Parts → Type 0
   AreOf outcome parts = IsOfParts (λ m. m) (reading_within limit) outcome parts
 
-  -- The parts that were taken in one read of a message, before and after which the messages had these ends. Once they have ended nothing is
-  -- taken. For a private clause.
+  -- The parts that were taken in one read of a message, before and after which the messages had these ends. Once they
+  -- have ended nothing is taken. For a private clause.
   abbrev pub ReadParts : Option ReadEnd → Result (Option msg.Message) ReadFault → Option ReadEnd → Parts
       → Type 0
   ReadParts None (Ok None) new parts = (new ≡ Some End) × AreOf (Ok None) parts
   ReadParts None outcome new parts = IsOfParts message_view (reading_within limit) outcome parts
   ReadParts (Some end) outcome new parts = (outcome ≡ Ok None) × (new ≡ Some end) × (parts ≡ [])
 
-  -- The parts that were taken for an event, before and after which the messages had these ends: those of a message, of a content part that
-  -- was passed over, of the end of the input or of a fault. Once the messages have ended nothing is taken.
+  -- The parts that were taken for an event, before and after which the messages had these ends: those of a message, of
+  -- a content part that was passed over, of the end of the input or of a fault. Once the messages have ended nothing is
+  -- taken.
   abbrev pub EventParts : Option ReadEnd → Event → Option ReadEnd → Parts → Type 0
   EventParts None (message m) new parts = AreOf (Ok (Some m)) parts
   EventParts None woken new parts = (fault : ReadFault) × (is_of_body fault ≡ true) × AreOf (Err fault) parts
@@ -68,7 +70,8 @@ module _ (limit : Limits) where
   EndsAfter None event new = Unit {0}
   EndsAfter (Some end) event new = new ≡ Some end
 
-  -- What the parts of the acts are, one after another, from what had ended the messages and the writes before them to what had after them.
+  -- What the parts of the acts are, one after another, from what had ended the messages and the writes before them to
+  -- what had after them.
   abbrev pub TellsActs : Option ReadEnd × Option WriteFault → List Note → Option ReadEnd × Option WriteFault → Type 0
   TellsActs old [] new = new ≡ old
   TellsActs old ((gave event, parts) ∷ notes) new = (end : Option ReadEnd) × EventParts old.0 event end parts
@@ -92,9 +95,10 @@ bytes_given [] = []
 bytes_given ((gave event, parts) ∷ notes) = bytes_given notes
 bytes_given ((act, parts) ∷ notes) = concat parts ++ bytes_given notes
 
--- A session in the bytes that passed: the acts are those of the session's exchanges, in order, and the bytes of each are told. It is
--- answered by why it stopped, and by what ended the messages and the writes.
-pub record ToldSession (limit : Limits) (P : SessionPart) (notes : List Note) (result : Result SessionEnd SessionFault) : Type 0 where
+-- A session in the bytes that passed: the acts are those of the session's exchanges, in order, and the bytes of each
+-- are told. It is answered by why it stopped, and by what ended the messages and the writes.
+pub record ToldSession (limit : Limits) (P : SessionPart) (notes : List Note) (result : Result SessionEnd
+    SessionFault) : Type 0 where
   pub exchanges : List Exchange
   pub stop : Stop
   pub shutdown_reply : Option Message
@@ -108,7 +112,7 @@ pub record ToldSession (limit : Limits) (P : SessionPart) (notes : List Note) (r
   pub stops : StopsFor reason exchanges stop shutdown_reply answer
   pub is : result ≡ session_answer reason answer end fault
 
--- These are all bytes that passed: the reader gave those that were taken, and the writer got those that were given, as far as their bytes are
--- known.
+-- These are all bytes that passed: the reader gave those that were taken, and the writer got those that were given, as
+-- far as their bytes are known.
 abbrev pub Passes : List Note → Option (List ℕ) → Option (List ℕ) → Option (List ℕ) → Option (List ℕ) → Type 0
 Passes notes text left before after = Consumes text left (bytes_taken notes) × Appends before after (bytes_given notes)

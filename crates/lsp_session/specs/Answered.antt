@@ -40,7 +40,8 @@ pub record LastUnanswered (exchanges : List Exchange) (stop : Stop) (answer : Se
   pub decides : stop ≡ decided
   pub unallowed : IsErrAnd answer ShowsUnallowed
 
--- Each request gets exactly one reply, under its id, and nothing else is sent, but that a last request may be unanswered.
+-- Each request gets exactly one reply, under its id, and nothing else is sent, but that a last request may be
+-- unanswered.
 abbrev pub AnswersRequests : SessionPart
 AnswersRequests exchanges stop shutdown_reply answer = AllReplied exchanges
     ⊎ LastUnanswered exchanges stop answer

@@ -13,8 +13,8 @@ IsUnwritten (Err (Write fault)) = Unit {0}
 IsUnwritten (Err Memory) = Unit {0}
 IsUnwritten result = ⊥
 
--- Who reads what was written gets the messages that were sent, in order. Only the last one may be missing, if a write or an
--- allocation failed.
+-- Who reads what was written gets the messages that were sent, in order. Only the last one may be missing, if a write
+-- or an allocation failed.
 abbrev pub ClientReads : List ℕ → Result SessionEnd SessionFault → SessionPart
 ClientReads written result exchanges stop shutdown_reply answer =
     (whole : List Message) × (missing : List Message) × (sends_of exchanges ≡ whole ++ missing)

@@ -6,13 +6,14 @@ use Rattle.lsp_session.specs.Answered.{RepliesToEach, requests_of}
 use Rattle.lsp_session.specs.Event.{message}
 use Rattle.lsp_session.specs.Session.{Behavior, Exchange, messages_of, sends_of, Phase, starting, ended, Steps}
 
--- A client by its own rule: whether it sends on, or closes, after it sent these messages and got those. Otherwise it waits for more.
+-- A client by its own rule: whether it sends on, or closes, after it sent these messages and got those. Otherwise it
+-- waits for more.
 abbrev pub Client : Type 0
 Client = List Message → List Message → Bool
 
--- Each time that the session awaited something, the client was not waiting, if it had sent the messages that the session had read, and got
--- those that the session had sent. So the two never wait for each other; what the client sent besides is under way. It ends at a message
--- that the transport refused: after one the client gets nothing more.
+-- Each time that the session awaited something, the client was not waiting, if it had sent the messages that the
+-- session had read, and got those that the session had sent. So the two never wait for each other; what the client sent
+-- besides is under way. It ends at a message that the transport refused: after one the client gets nothing more.
 abbrev pub NeverBothWait : Client → List Message → List Message → List Act → Type 0
 NeverBothWait goes_on sent got [] = Unit {0}
 NeverBothWait goes_on sent got (gave (message m) ∷ acts) = (goes_on sent got ≡ true)
@@ -32,7 +33,8 @@ abbrev pub awaits : Phase → Type 0
 awaits (ended shutdown_reply answer) = ⊥
 awaits phase = Unit {0}
 
--- The client waits for what the session sends for its messages, and for nothing else: once it got all of that, it goes on.
+-- The client waits for what the session sends for its messages, and for nothing else: once it got all of that, it goes
+-- on.
 abbrev pub WaitsForItsDue : {S : Type 0} → Behavior S → S → Client → Type 0
 WaitsForItsDue may s goes_on = (exchanges : List Exchange) (phase : Phase) (s' : _)
     → Steps may starting s exchanges phase s' → awaits phase

@@ -1,13 +1,15 @@
--- The end of the handshake (LSP 3.17, "Server lifecycle"): the result of `initialize` is sent, and the client answers with the
--- notification `initialized`.
+-- The end of the handshake (LSP 3.17, "Server lifecycle"): the result of `initialize` is sent, and the client answers
+-- with the notification `initialized`.
 use Rattle.std.specs.Bool.{MatchBool}
 use Rattle.std.specs.List.{FoldsTo, list_all}
-use Rattle.std.specs.Prelude.{◌≡◌, ◌≤◌, ◌⊎◌, ℕ, Bool, true, false, List, [], ◌∷◌, ◌++◌, length, Option, Some, IsNone, MatchOption, Result, Ok, Err, IsErrAnd}
+use Rattle.std.specs.Prelude.{◌≡◌, ◌≤◌, ◌⊎◌, ℕ, Bool, true, false, List, [], ◌∷◌, ◌++◌, length, Option, Some, IsNone}
+use Rattle.std.specs.Prelude.{MatchOption, Result, Ok, Err, IsErrAnd}
 use Rattle.lsp_message.specs.Message.{Message}
 pub use Rattle.lsp_message.specs.Methods.{is_initialized}
 use Rattle.lsp_session.specs.Boxes.{Sends, Receives, Takes, WaitsFor}
 use Rattle.lsp_session.specs.Event.{Event, message, timeout, closed}
-use Rattle.lsp_session.specs.ProtocolError.{ProtocolFault, disconnected, expected_initialized, aborted, out_of_memory, Shows}
+use Rattle.lsp_session.specs.ProtocolError.{ProtocolFault, disconnected, expected_initialized, aborted, out_of_memory}
+use Rattle.lsp_session.specs.ProtocolError.{Shows}
 use Rattle.lsp_session.specs.Start.{fault_of_refusal}
 use Rattle.lsp_session.specs.Turns.{Turn, stopped, got, TakesTurn}
 use Rattle.lsp_session.specs.declared.lifecycle.SendFault.{SendFault}

@@ -20,8 +20,9 @@ module _ {H : Type 0} (answers : H → Id → List ℕ → Data → Result Data 
       × (replies ≡ [])
   Handles old (response i outcome) replies new = (new ≡ old) × (replies ≡ [])
 
-  -- `initialize` is answered with the capabilities, and nothing is sent at `initialized`, at a wake, or at `shutdown` but its reply. These leave the handler alone.
-  -- After `shutdown` nothing is passed over: it asks nothing, so no response is owed to it.
+  -- `initialize` is answered with the capabilities, and nothing is sent at `initialized`, at a wake, or at `shutdown`
+  -- but its reply. These leave the handler alone. After `shutdown` nothing is passed over: it asks nothing, so no
+  -- response is owed to it.
   abbrev pub of_handler : Data → Behavior H
   of_handler capabilities = record {
     initializes = λ old params outcome new. (outcome ≡ Ok (initialize_result capabilities))

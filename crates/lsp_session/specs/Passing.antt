@@ -22,8 +22,9 @@ ended_at_body (Some (Fault fault)) = is_of_body fault
 ended_at_body end = false
 
 module _ {L : Type 0} (hears : L → ReadFault → L → Type 0) (limit : Limits) where
-  -- What one receive gives. For a wake the bytes begin with a content part that is no message, the listener hears its fault, and
-  -- what follows it is left. Each other event is that of an inbox which passes over nothing, and the listener hears nothing.
+  -- What one receive gives. For a wake the bytes begin with a content part that is no message, the listener hears its
+  -- fault, and what follows it is left. Each other event is that of an inbox which passes over nothing, and the
+  -- listener hears nothing.
   abbrev pub TolerantGives : Stream × L → Event → Stream × L → Type 0
   TolerantGives old woken new =
       (fault : ReadFault) × (is_of_body fault ≡ true)

@@ -41,7 +41,8 @@ module _ {R L : Type 0} (remaining : R → Option (List ℕ)) where
       (new.reader.ghost_name ≡ old.reader.ghost_name)
       × (new.listener.ghost_name ≡ old.listener.ghost_name) × (new.limits ≡ old.limits)
 
-  -- One read gives a message, or that no more come, or a fault that ends nothing yet. The listener hears nothing. For a private clause.
+  -- One read gives a message, or that no more come, or a fault that ends nothing yet. The listener hears nothing. For a
+  -- private clause.
   abbrev pub ReadsNext : TolerantInbox R L → Result (Option msg.Message) ReadFault
       → TolerantInbox R L → Type 0
   ReadsNext old (Ok next) new =

@@ -1,5 +1,5 @@
--- A session that asks a listener at content parts which are no messages: bytes in to bytes out (LSP 3.17, "Base Protocol" and "Server
--- lifecycle").
+-- A session that asks a listener at content parts which are no messages: bytes in to bytes out (LSP 3.17, "Base
+-- Protocol" and "Server lifecycle").
 use Rattle.std.specs.Prelude.{◌≡◌, ◌⊎◌, ℕ, true, List, Option, Some, None, Result, Err}
 use Rattle.lsp_message.specs.Frame.{Begins, reading_within}
 use Rattle.lsp_message.specs.Message.{Message}
@@ -24,7 +24,8 @@ module _ {L : Type 0} (hears : L → ReadFault → L → Type 0) (limit : Limits
       × (reading_within limit old.0 ≡ record { outcome = Err fault; rest = new.0 })
       × hears old.1 fault new.1
 
-  -- The first frame of the text is this message, and the listener hears nothing; or it is passed over, and the session is woken.
+  -- The first frame of the text is this message, and the listener hears nothing; or it is passed over, and the session
+  -- is woken.
   abbrev pub ReadsFrame : List ℕ × L → Option Message → List ℕ × L → Type 0
   ReadsFrame old (Some m) new = Begins limit old.0 m new.0 × (new.1 ≡ old.1)
   ReadsFrame old None new = PassesOver old new
@@ -34,8 +35,8 @@ module _ {L : Type 0} (hears : L → ReadFault → L → Type 0) (limit : Limits
   HearsLast exhausted now last = (last ≡ now.1) ⊎ ((rest : List ℕ) × PassesOver now (rest, last))
   HearsLast stop now last = last ≡ now.1
 
-  -- A session whose messages and wakes are the first frames of a text. Of its end, of what is left of the text and of what was written
-  -- the same is said as of a session that passes over nothing.
+  -- A session whose messages and wakes are the first frames of a text. Of its end, of what is left of the text and of
+  -- what was written the same is said as of a session that passes over nothing.
   abbrev pub GivesAndTells : SessionPart → List ℕ → Option (List ℕ) → L → L → Option (List ℕ)
       → Option (List ℕ) → Result SessionEnd SessionFault → Type 0
   GivesAndTells P text left first last before after result =

@@ -1,13 +1,17 @@
--- A session over one value with both ends: all that is to be sent for a message is sent before anything else is awaited. So a client may
--- wait for it before it sends on. Of `initialize`, of each request before it and of `shutdown` it is the reply; of a request in between
--- it is the reply if the service answers at once, as `AnswersRequests` says. From `initialized` up to `shutdown` the session waits
--- for wakes too, as its transport says. Of two values, each with one end, this says neither.
+-- A session over one value with both ends: all that is to be sent for a message is sent before anything else is
+-- awaited. So a client may wait for it before it sends on. Of `initialize`, of each request before it and of `shutdown`
+-- it is the reply; of a request in between it is the reply if the service answers at once, as `AnswersRequests` says.
+-- From `initialized` up to `shutdown` the session waits for wakes too, as its transport says. Of two values, each with
+-- one end, this says neither.
 use Rattle.std.specs.List.{FoldsTo, list_all}
-use Rattle.std.specs.Prelude.{◌≡◌, ◌≤◌, ◌-◌, ◌^◌, ◌⊎◌, ◌&&◌, if◌then◌else◌, ℕ, Bool, true, false, List, [], ◌∷◌, ◌++◌, length, map, Option, Some, None, Ok, Err}
+use Rattle.std.specs.Prelude.{◌≡◌, ◌≤◌, ◌-◌, ◌^◌, ◌⊎◌, ◌&&◌, if◌then◌else◌, ℕ, Bool, true, false, List, [], ◌∷◌, ◌++◌}
+use Rattle.std.specs.Prelude.{length, map, Option, Some, None, Ok, Err}
 use Rattle.lsp_message.specs.Message.{Message, response}
 use Rattle.lsp_session.specs.Boxes.{Sends, Receives, Offers, Takes, WaitsFor}
 use Rattle.lsp_session.specs.Event.{Event, message, timeout, closed, woken}
-use Rattle.lsp_session.specs.Session.{SessionAnswer, SessionPart, Exchange, is_initialize, is_shutdown, is_reply, Stop, decided, no_more, timed_out, refused, exhausted, Phase, starting, replied, serving}
+use Rattle.lsp_session.specs.Session.{SessionAnswer, SessionPart, Exchange, is_initialize, is_shutdown, is_reply, Stop}
+use Rattle.lsp_session.specs.Session.{decided, no_more, timed_out, refused, exhausted, Phase, starting, replied}
+use Rattle.lsp_session.specs.Session.{serving}
 use Rattle.lsp_session.specs.declared.lifecycle.SendFault.{SendFault}
 
 -- the event that brings a message, or that wakes the service
@@ -23,8 +27,8 @@ passed_over m = record { came = Some m; sent = [] }
 abbrev pub behind : List Message → Event → List Event
 behind late event = map message late ++ event ∷ []
 
--- After the reply to `shutdown`, and behind responses that are passed over, one event comes. A message decides, and nothing is sent for it, or an
--- allocation fails at it; nothing comes in time; or no more comes.
+-- After the reply to `shutdown`, and behind responses that are passed over, one event comes. A message decides, and
+-- nothing is sent for it, or an allocation fails at it; nothing comes in time; or no more comes.
 abbrev pub StopsAfterShutdown : Event → Stop → List Exchange → Type 0
 StopsAfterShutdown (message m) decided later = later ≡ record { came = Some m; sent = [] } ∷ []
 StopsAfterShutdown (message m) exhausted later = later ≡ []
@@ -42,8 +46,8 @@ abbrev pub is_granted : Option Message → List Message → Bool
 is_granted (Some m) (reply ∷ []) = is_initialize m && is_result reply
 is_granted came sent = false
 
--- The phase after an exchange that a session goes on from, as the exchange itself tells: `initialize` gets a result, and then one more
--- message comes, which is `initialized`, since a session goes on from no other there.
+-- The phase after an exchange that a session goes on from, as the exchange itself tells: `initialize` gets a result,
+-- and then one more message comes, which is `initialized`, since a session goes on from no other there.
 abbrev pub next_phase : Phase → Exchange → Phase
 next_phase starting x = if is_granted x.came x.sent then replied else starting
 next_phase replied x = serving
@@ -60,15 +64,16 @@ module _ {L : Type 0} (receives listens : Receives L) where
   WaitsIn phase old event new = WaitsFor receives old event new × ListensIn phase old event new
 
   module _ (sends : Sends L) where
-    -- In this phase a message or a wake comes, and then all that is to be sent for it is sent, in order, and taken. Nothing else is awaited
-    -- in between. Then it is the next phase.
+    -- In this phase a message or a wake comes, and then all that is to be sent for it is sent, in order, and taken.
+    -- Nothing else is awaited in between. Then it is the next phase.
     pub record Meets (old : Phase × L) (x : Exchange) (new : Phase × L) : Type 0 where
       pub met : L
       pub waited : WaitsIn old.0 old.1 (event_of x.came) met
       pub taken : FoldsTo (Takes sends) met x.sent new.1
       pub next : new.0 ≡ next_phase old.0 x
 
-    -- A last message or wake comes, and what is to be sent for it is sent up to a message that is refused. Nothing is awaited after that.
+    -- A last message or wake comes, and what is to be sent for it is sent up to a message that is refused. Nothing is
+    -- awaited after that.
     pub record BreaksOff (phase : Phase) (fault : SendFault) (last : List Exchange)
         (old new : L) : Type 0 where
       pub came : Option Message
@@ -81,8 +86,8 @@ module _ {L : Type 0} (receives listens : Receives L) where
       pub taken : FoldsTo (Takes sends) met part mid
       pub refuses : sends mid not_sent (Err fault) new
 
-    -- `shutdown` comes. What the service gives then is taken, and the reply is sent, whatever the transport answers, and only then something
-    -- is received: responses that are passed over, and one event, the last one.
+    -- `shutdown` comes. What the service gives then is taken, and the reply is sent, whatever the transport answers,
+    -- and only then something is received: responses that are passed over, and one event, the last one.
     pub record OffersShutdownReplyFirst (phase : Phase) (shutdown_reply : Message) (stop : Stop)
         (last : List Exchange) (old new : L) : Type 0 where
       pub ask : Message
@@ -103,9 +108,9 @@ module _ {L : Type 0} (receives listens : Receives L) where
       pub is : last
           ≡ record { came = Some ask; sent = parting ++ shutdown_reply ∷ [] } ∷ (map passed_over late ++ later)
 
-    -- How a session ends in this phase, after so many whole exchanges, and the exchanges of that end. If a message decided, nothing
-    -- else is awaited. If no more comes, that is the event, or 2^64 - 1 exchanges were all. If an allocation fails, one more
-    -- message or wake came.
+    -- How a session ends in this phase, after so many whole exchanges, and the exchanges of that end. If a message
+    -- decided, nothing else is awaited. If no more comes, that is the event, or 2^64 - 1 exchanges were all. If an
+    -- allocation fails, one more message or wake came.
     abbrev pub EndsTalk : Phase → ℕ → Stop → Option Message → List Exchange → L → L → Type 0
     EndsTalk phase count stop (Some shutdown_reply) last old new =
         OffersShutdownReplyFirst phase shutdown_reply stop last old new

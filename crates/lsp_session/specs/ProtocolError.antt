@@ -77,8 +77,8 @@ fault_kept variant.RefusedMemory = refused_memory
 abbrev pub Shows : (List ℕ → ProtocolFault) → ProtocolFault → Type 0
 Shows fault answer = (shown : List ℕ) × (answer ≡ fault shown)
 
--- The fault shows a message that the lifecycle does not allow where it came: in the place of `initialized`, or of `exit` after
--- `shutdown`.
+-- The fault shows a message that the lifecycle does not allow where it came: in the place of `initialized`, or of
+-- `exit` after `shutdown`.
 abbrev pub ShowsUnallowed : ProtocolFault → Type 0
 ShowsUnallowed fault = Shows expected_initialized fault ⊎ Shows unexpected_in_shutdown fault
 

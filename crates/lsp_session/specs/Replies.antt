@@ -14,7 +14,8 @@ ok_reply i result = response i (Ok result)
 abbrev pub null_reply : Id → Message
 null_reply i = response i (Ok null)
 
--- The reply to a request that comes before `initialize`, under its id: the error ServerNotInitialized, with a text that begins so.
+-- The reply to a request that comes before `initialize`, under its id: the error ServerNotInitialized, with a text that
+-- begins so.
 pub record IsEarlyReply (id : Id) (reply : Message) : Type 0 where
   pub shown : List ℕ
   pub is : reply ≡ response id (Err (record {

@@ -1,10 +1,12 @@
 -- Why a session stopped, as its result tells it.
 use Rattle.std.specs.Prelude.{◌≡◌, Result, Ok, Err}
-use Rattle.lsp_session.specs.ProtocolError.{ProtocolFault, disconnected, shutdown_timeout, shutdown_disconnected, out_of_memory, refused_closed, refused_memory}
+use Rattle.lsp_session.specs.ProtocolError.{ProtocolFault, disconnected, shutdown_timeout, shutdown_disconnected}
+use Rattle.lsp_session.specs.ProtocolError.{out_of_memory, refused_closed, refused_memory}
 use Rattle.lsp_session.specs.Session.{SessionPart, Stop, decided, no_more, timed_out, refused, exhausted}
 use Rattle.lsp_session.specs.declared.loops.served.Served.{Served}
 use Rattle.lsp_session.specs.declared.loops.served.StopReason.{StopReason}
-use Rattle.lsp_session.specs.declared.loops.served.StopReason.TheVariants.{Decided, NoMore, TimedOut, Refused, Exhausted}
+use Rattle.lsp_session.specs.declared.loops.served.StopReason.TheVariants.{Decided, NoMore, TimedOut, Refused}
+use Rattle.lsp_session.specs.declared.loops.served.StopReason.TheVariants.{Exhausted}
 
 abbrev pub reason_of : Stop → StopReason
 reason_of decided = Decided

@@ -2,12 +2,15 @@
 use Rattle.serde_json.specs.Data.{Data}
 use Rattle.std.specs.Bool.{MatchBool}
 use Rattle.std.specs.List.{filter_map}
-use Rattle.std.specs.Prelude.{◌≡◌, ◌⊎◌, ℕ, Bool, true, false, not, ◌&&◌, List, [], ◌∷◌, ◌++◌, map, Option, Some, None, Result, Ok, Err}
+use Rattle.std.specs.Prelude.{◌≡◌, ◌⊎◌, ℕ, Bool, true, false, not, ◌&&◌, List, [], ◌∷◌, ◌++◌, map, Option, Some, None}
+use Rattle.std.specs.Prelude.{Result, Ok, Err}
 use Rattle.lsp_message.specs.Id.{Id}
 use Rattle.lsp_message.specs.Message.{Message, ErrorObject, request, response}
 use Rattle.lsp_message.specs.Methods.{is_early, is_initialized, is_exit}
 pub use Rattle.lsp_message.specs.Methods.{request_id, is_initialize, is_shutdown}
-use Rattle.lsp_session.specs.ProtocolError.{ProtocolFault, disconnected, expected_initialize, expected_initialized, unexpected_in_shutdown, shutdown_timeout, shutdown_disconnected, out_of_memory, fault_of_refusal}
+use Rattle.lsp_session.specs.ProtocolError.{ProtocolFault, disconnected, expected_initialize, expected_initialized}
+use Rattle.lsp_session.specs.ProtocolError.{unexpected_in_shutdown, shutdown_timeout, shutdown_disconnected}
+use Rattle.lsp_session.specs.ProtocolError.{out_of_memory, fault_of_refusal}
 use Rattle.lsp_session.specs.Replies.{null_reply, IsEarlyReply}
 use Rattle.lsp_session.specs.declared.lifecycle.SendFault.{SendFault}
 use Rattle.lsp_session.specs.declared.loops.handler.SessionEnd.{SessionEnd}
@@ -30,8 +33,9 @@ pub record Behavior (S : Type 0) : Type 1 where
   -- whether a response that comes after `shutdown` is passed over
   pub passes_late : Bool
 
--- A message that came, or none if the service was woken, and what the outbox was offered for it, in order. It took all of that,
--- unless the session stopped there since the outbox refused the last one, or that one is the reply to `shutdown`, which may get lost.
+-- A message that came, or none if the service was woken, and what the outbox was offered for it, in order. It took all
+-- of that, unless the session stopped there since the outbox refused the last one, or that one is the reply to
+-- `shutdown`, which may get lost.
 pub record Exchange : Type 0 where
   pub came : Option Message
   pub sent : List Message
@@ -63,8 +67,8 @@ pub data Stop : Type 0 where
   -- an allocation failed at the message that came next, or at a wake
   exhausted : Stop
 
--- What is said of a session: its exchanges, where it stopped, the reply to `shutdown`, which is the last message that is sent, and
--- its answer. Two things that are said of a session are said of the same exchanges.
+-- What is said of a session: its exchanges, where it stopped, the reply to `shutdown`, which is the last message that
+-- is sent, and its answer. Two things that are said of a session are said of the same exchanges.
 abbrev pub SessionPart : Type 1
 SessionPart = List Exchange → Stop → Option Message → SessionAnswer → Type 0
 
@@ -85,7 +89,8 @@ pub data Phase : Type 0 where
   replied : Phase
   -- `initialized` came
   serving : Phase
-  -- `shutdown` came under this id and got its reply, and `exit` is awaited; or the outbox refused a message before that reply
+  -- `shutdown` came under this id and got its reply, and `exit` is awaited; or the outbox refused a message before that
+  -- reply
   asked : Id → Phase
   -- A message decided, and this is the answer. Before it `shutdown` had got this reply, or had not come.
   ended : Option Message → SessionAnswer → Phase
@@ -118,9 +123,10 @@ module _ {S : Type 0} (may : Behavior S) where
       × may.at_shutdown s i parting s' × (sent ≡ parting ++ null_reply i ∷ []) × (next ≡ asked i)
   Leaves s m sent next s' = (sent ≡ []) × (next ≡ ended None (Ok Closed)) × (s' ≡ s)
 
-  -- In this phase this message comes; this is sent for it; this is the next phase, and the service then. Before `initialize`
-  -- each other request is answered with an error, and a notification but `exit` is dropped. With no message the service is woken:
-  -- from `initialized` up to `shutdown`, and nowhere else. After `shutdown` a response is passed over, if the service says so.
+  -- In this phase this message comes; this is sent for it; this is the next phase, and the service then. Before
+  -- `initialize` each other request is answered with an error, and a notification but `exit` is dropped. With no
+  -- message the service is woken: from `initialized` up to `shutdown`, and nowhere else. After `shutdown` a response is
+  -- passed over, if the service says so.
   abbrev pub Step : Phase → S → Option Message → List Message → Phase → S → Type 0
   Step starting s (Some (request i method params)) sent next s' =
       MatchBool (is_initialize (request i method params))
@@ -150,8 +156,8 @@ module _ {S : Type 0} (may : Behavior S) where
   Steps phase s (x ∷ xs) phase' s' = (next : Phase) × (mid : S)
       × Step phase s x.came x.sent next mid × Steps next mid xs phase' s'
 
-  -- The outbox refused what was offered last, and what was to follow it for the same message was not offered. If nothing was to follow,
-  -- it was not the reply to `shutdown`: that one may get lost.
+  -- The outbox refused what was offered last, and what was to follow it for the same message was not offered. If
+  -- nothing was to follow, it was not the reply to `shutdown`: that one may get lost.
   pub record CutsOff (phase : Phase) (s : S) (exchanges : List Exchange) (phase' : Phase)
       (s' : S) : Type 0 where
     pub earlier : List Exchange
@@ -170,8 +176,9 @@ module _ {S : Type 0} (may : Behavior S) where
   Reaches (refused fault) phase s exchanges phase' s' = CutsOff phase s exchanges phase' s'
   Reaches stop phase s exchanges phase' s' = Steps phase s exchanges phase' s'
 
-  -- In this phase, with this service, a session may stop so, give this answer, and leave the service as this. That the reply to `shutdown` is
-  -- refused is no matter. If an allocation failed, the service may have been called for the message or the wake that came next.
+  -- In this phase, with this service, a session may stop so, give this answer, and leave the service as this. That the
+  -- reply to `shutdown` is refused is no matter. If an allocation failed, the service may have been called for the
+  -- message or the wake that came next.
   abbrev pub Stops : Phase → S → Stop → SessionAnswer → S → Type 0
   Stops (ended shutdown_reply by) s decided answer s' = (answer ≡ by) × (s' ≡ s)
   Stops (ended shutdown_reply by) s stop answer s' = ⊥

@@ -7,13 +7,14 @@ use Rattle.lsp_message.specs.Reading.{StopsWithin}
 use Rattle.lsp_message.specs.Written.{GetsFrames, GetsFramesAndPart, IsOutput}
 use Rattle.lsp_message.specs.declared.frame.ReadFault.TheVariants.{Input, Memory as NoMemoryToRead}
 use Rattle.lsp_message.specs.declared.frame.limits.Limits.{Limits}
-use Rattle.lsp_session.specs.Session.{SessionAnswer, SessionPart, Exchange, came_of, sends_of, Stop, decided, no_more, timed_out, refused}
+use Rattle.lsp_session.specs.Session.{SessionAnswer, SessionPart, Exchange, came_of, sends_of, Stop, decided, no_more}
+use Rattle.lsp_session.specs.Session.{timed_out, refused}
 use Rattle.lsp_session.specs.declared.loops.handler.SessionEnd.{SessionEnd}
 use Rattle.lsp_session.specs.declared.loops.stream_session.SessionFault.{SessionFault}
 use Rattle.lsp_session.specs.declared.loops.stream_session.SessionFault.TheVariants.{Protocol, Read, Write, Memory}
 
--- The first frame of the text, whose parts have at most so many bytes, is this message, and the rest follows it. A reader
--- brings no wake.
+-- The first frame of the text, whose parts have at most so many bytes, is this message, and the rest follows it. A
+-- reader brings no wake.
 abbrev pub ReadsMessage : Limits → List ℕ → Option Message → List ℕ → Type 0
 ReadsMessage limit text (Some m) rest = Begins limit text m rest
 ReadsMessage limit text None rest = ⊥
@@ -29,8 +30,9 @@ IsUnsent stop (Some shutdown_reply) = Unit {0}
 IsUnsent (refused fault) None = Unit {0}
 IsUnsent stop None = ⊥
 
--- A session whose messages and wakes are read from a text, one after another, as `reads` says of each. `Ends` is said of its end and
--- of the rest of the text, `Wrote` of what was written. A session in threads has three tables of its own for this record.
+-- A session whose messages and wakes are read from a text, one after another, as `reads` says of each. `Ends` is said
+-- of its end and of the rest of the text, `Wrote` of what was written. A session in threads has three tables of its own
+-- for this record.
 pub record SessionOver {At : Type 0} (reads : At → Option Message → At
     → Type 0) (P : SessionPart) (text : At)
     (Ends : SessionAnswer → Stop → Option Message → At → Type 0) (Wrote : Stop → Option Message
@@ -53,16 +55,16 @@ LeftAfter limit no_more at left = (rest : List ℕ)
     × (reading_within limit at ≡ record { outcome = Ok None; rest = rest }) × (left ≡ Some rest)
 LeftAfter limit stop at left = ⊥
 
--- What is left if a write or an allocation failed. If the last message decided, or the outbox refused what was sent for it, all
--- that follows that message is left. Elsewhere a part of what came next may be taken, and nothing behind it.
+-- What is left if a write or an allocation failed. If the last message decided, or the outbox refused what was sent for
+-- it, all that follows that message is left. Elsewhere a part of what came next may be taken, and nothing behind it.
 abbrev pub LeftWithin : Limits → Stop → List ℕ → Option (List ℕ) → Type 0
 LeftWithin limit decided at left = left ≡ Some at
 LeftWithin limit (refused refusal) at left = left ≡ Some at
 LeftWithin limit timed_out at left = ⊥
 LeftWithin limit stop at left = StopsWithin left (reading_within limit at)
 
--- For what a session over bytes answers: the answer by the lifecycle, and what is left of the text, of which `at` follows the last
--- message that was used. The first row that fits counts.
+-- For what a session over bytes answers: the answer by the lifecycle, and what is left of the text, of which `at`
+-- follows the last message that was used. The first row that fits counts.
 abbrev pub Ends : Limits → Option (List ℕ) → Result SessionEnd SessionFault → SessionAnswer → Stop
     → Option Message → List ℕ → Type 0
 Ends limit left (Ok end) answer stop shutdown_reply at = (answer ≡ Ok end)
@@ -79,9 +81,9 @@ Ends limit left (Err (Read fault)) answer stop shutdown_reply at =
 Ends limit left (Err (Write fault)) answer stop shutdown_reply at = LeftWithin limit stop at left
 Ends limit left (Err Memory) answer stop shutdown_reply at = LeftWithin limit stop at left
 
--- What the writer got of all that was sent: frames of it; or, if a write failed, frames of all but the last message, which was
--- not sent, and a beginning of a frame of that one; or, if an allocation failed, frames of all, or of all but the last message,
--- which was not sent.
+-- What the writer got of all that was sent: frames of it; or, if a write failed, frames of all but the last message,
+-- which was not sent, and a beginning of a frame of that one; or, if an allocation failed, frames of all, or of all but
+-- the last message, which was not sent.
 abbrev pub Wrote : Option (List ℕ) → Option (List ℕ) → Result SessionEnd SessionFault → Stop
     → Option Message → List Message → Type 0
 Wrote old new (Err (Write fault)) stop shutdown_reply sends =

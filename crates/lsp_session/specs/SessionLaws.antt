@@ -1,17 +1,23 @@
--- What holds of the exchanges of every session, whatever its service gives (LSP 3.17, "Server lifecycle"; JSON-RPC 2.0, section 5).
+-- What holds of the exchanges of every session, whatever its service gives (LSP 3.17, "Server lifecycle"; JSON-RPC 2.0,
+-- section 5).
 use Rattle.serde_json.specs.Data.{Data}
 use Rattle.std.specs.Bool.{MatchBool}
 use Rattle.std.specs.List.{list_all}
-use Rattle.std.specs.Prelude.{◌≡◌, ◌⊎◌, ℕ, Bool, true, false, not, List, [], ◌∷◌, ◌++◌, ◌&&◌, Option, Some, None, IsSomeAnd, Ok, Err, IsErrAnd}
+use Rattle.std.specs.Prelude.{◌≡◌, ◌⊎◌, ℕ, Bool, true, false, not, List, [], ◌∷◌, ◌++◌, ◌&&◌, Option, Some, None}
+use Rattle.std.specs.Prelude.{IsSomeAnd, Ok, Err, IsErrAnd}
 use Rattle.lsp_message.specs.ErrorCode.{number_of}
 use Rattle.lsp_message.specs.Id.{Id}
 use Rattle.lsp_message.specs.Message.{Message, request, notification, response}
 use Rattle.lsp_message.specs.Methods.{is_initialize, is_initialized, is_shutdown, is_exit}
 use Rattle.lsp_message.specs.declared.msg.code.ErrorCode.TheVariants.{ServerNotInitialized}
 use Rattle.lsp_session.specs.Answered.{AllReplied}
-use Rattle.lsp_session.specs.ProtocolError.{ProtocolFault, Shows, disconnected, expected_initialize, expected_initialized, unexpected_in_shutdown, shutdown_timeout, shutdown_disconnected, out_of_memory, fault_of_refusal}
+use Rattle.lsp_session.specs.ProtocolError.{ProtocolFault, Shows, disconnected, expected_initialize}
+use Rattle.lsp_session.specs.ProtocolError.{expected_initialized, unexpected_in_shutdown, shutdown_timeout}
+use Rattle.lsp_session.specs.ProtocolError.{shutdown_disconnected, out_of_memory, fault_of_refusal}
 use Rattle.lsp_session.specs.Replies.{null_reply}
-use Rattle.lsp_session.specs.Session.{Exchange, messages_of, sends_of, SessionAnswer, SessionPart, Stop, decided, no_more, timed_out, refused, exhausted, Phase, starting, replied as awaiting, serving, asked, ended, is_served}
+use Rattle.lsp_session.specs.Session.{Exchange, messages_of, sends_of, SessionAnswer, SessionPart, Stop, decided}
+use Rattle.lsp_session.specs.Session.{no_more, timed_out, refused, exhausted, Phase, starting, replied as awaiting}
+use Rattle.lsp_session.specs.Session.{serving, asked, ended, is_served}
 use Rattle.lsp_session.specs.declared.lifecycle.SendFault.{SendFault}
 use Rattle.lsp_session.specs.declared.loops.handler.SessionEnd.TheVariants.{Closed, ShutDown}
 pub use Rattle.lsp_session.specs.Session.{is_reply}
@@ -72,8 +78,8 @@ StopsAt (asked i) (refused fault) answer = ⊥
 StopsAt phase (refused fault) answer = answer ≡ Err (fault_of_refusal fault)
 StopsAt phase exhausted answer = answer ≡ Err out_of_memory
 
--- No message is left, and the session stopped in this phase; or one is left that is none of those awaited: it decided, nothing is sent
--- for it, and the fault shows it.
+-- No message is left, and the session stopped in this phase; or one is left that is none of those awaited: it decided,
+-- nothing is sent for it, and the fault shows it.
 abbrev pub StopsBefore : Phase → (Message → Bool) → (List ℕ → ProtocolFault) → List Exchange → Stop
     → SessionAnswer → Type 0
 StopsBefore phase is_awaited fault [] stop answer = StopsAt phase stop answer
@@ -134,18 +140,19 @@ WasOffered (refused fault) exchanges =
     × (exchanges ≡ earlier ++ record { came = came; sent = part ++ not_sent ∷ [] } ∷ [])
 WasOffered stop exchanges = Unit {0}
 
--- Of a session that passes over responses after `shutdown`, or not, and whose service may speak before the reply to it, or not.
+-- Of a session that passes over responses after `shutdown`, or not, and whose service may speak before the reply to it,
+-- or not.
 module _ (passes_late speaks_last : Bool) where
-  -- After the reply to `shutdown`, which went out under this id, nothing is sent. Responses come that are passed over, if any are; then no message
-  -- comes, or one that decides.
+  -- After the reply to `shutdown`, which went out under this id, nothing is sent. Responses come that are passed over,
+  -- if any are; then no message comes, or one that decides.
   abbrev pub AfterShutdown : Id → List Exchange → Stop → SessionAnswer → Type 0
   AfterShutdown id [] stop answer = StopsAt (asked id) stop answer
   AfterShutdown id (x ∷ rest) stop answer = (x.sent ≡ [])
       × ((IsSomeAnd x.came (λ m. (passes_late && is_reply m) ≡ true) × AfterShutdown id rest stop answer)
       ⊎ DecidesExit x.came rest stop answer)
 
-  -- The first `shutdown` gets null, under its id, and that is the last message that is sent. What is sent for it before is the service's. No `exit`
-  -- comes before it.
+  -- The first `shutdown` gets null, under its id, and that is the last message that is sent. What is sent for it before
+  -- is the service's. No `exit` comes before it.
   pub record EndsWithShutdown (exchanges : List Exchange) (stop : Stop)
       (shutdown_reply : Option Message) (answer : SessionAnswer) : Type 0 where
     pub before : List Exchange
@@ -165,7 +172,8 @@ module _ (passes_late speaks_last : Bool) where
     pub is_null_reply : shutdown_reply ≡ Some (null_reply id)
     pub after_shutdown : AfterShutdown id after stop answer
 
-  -- The first `shutdown` is the last of these messages, and no `exit` comes before it: the outbox refused a message that the service gave for it.
+  -- The first `shutdown` is the last of these messages, and no `exit` comes before it: the outbox refused a message
+  -- that the service gave for it.
   pub record BreaksAtShutdown (exchanges : List Exchange) (stop : Stop) (answer : SessionAnswer) :
       Type 0 where
     pub before : List Exchange
@@ -179,16 +187,16 @@ module _ (passes_late speaks_last : Bool) where
     pub refuses : stop ≡ refused fault
     pub fails : answer ≡ Err (fault_of_refusal fault)
 
-  -- No reply to `shutdown` is sent. No `shutdown` comes, and no message after `exit`, and where no `exit` comes the session stopped as it does
-  -- while it serves. Or it stopped at the first `shutdown`.
+  -- No reply to `shutdown` is sent. No `shutdown` comes, and no message after `exit`, and where no `exit` comes the
+  -- session stopped as it does while it serves. Or it stopped at the first `shutdown`.
   abbrev pub HasNoShutdown : List Exchange → Stop → Option Message → SessionAnswer → Type 0
   HasNoShutdown exchanges stop shutdown_reply answer =
       (((list_all is_served (messages_of exchanges) ≡ true) × StopsAt serving stop answer)
       ⊎ (EndsWithExit exchanges stop answer ⊎ BreaksAtShutdown exchanges stop answer))
       × (shutdown_reply ≡ None)
 
-  -- `initialize` got its result, and errors alone came before it. Then `initialized` comes, and from there on `shutdown` gets the reply
-  -- that is the last message sent. If `initialized` does not come, nothing more is sent.
+  -- `initialize` got its result, and errors alone came before it. Then `initialized` comes, and from there on
+  -- `shutdown` gets the reply that is the last message sent. If `initialized` does not come, nothing more is sent.
   pub record IsOpened (early rest : List Exchange) (stop : Stop) (shutdown_reply : Option Message)
       (answer : SessionAnswer) : Type 0 where
     pub ends : EndsWithResult early
@@ -199,9 +207,9 @@ module _ (passes_late speaks_last : Bool) where
         ⊎ EndsWithShutdown rest stop shutdown_reply answer))
         ⊎ (IsUnopened rest stop answer × (shutdown_reply ≡ None))
 
-  -- Up to and with `initialize` each request gets one reply, and nothing else is sent: errors, and last its result. The errors of other
-  -- requests have the code -32002. Neither `exit` nor a response comes before that result, unless it is the last message and decides. Each
-  -- end has the answer of its phase. If a message was refused, one was offered.
+  -- Up to and with `initialize` each request gets one reply, and nothing else is sent: errors, and last its result. The
+  -- errors of other requests have the code -32002. Neither `exit` nor a response comes before that result, unless it is
+  -- the last message and decides. Each end has the answer of its phase. If a message was refused, one was offered.
   pub record KeepsOrder (exchanges : List Exchange) (stop : Stop) (shutdown_reply : Option Message)
       (answer : SessionAnswer) : Type 0 where
     pub early : List Exchange
@@ -212,7 +220,8 @@ module _ (passes_late speaks_last : Bool) where
         ⊎ (AllRefused early × AllEarly early × IsUnstarted rest stop answer × (shutdown_reply ≡ None))
     pub offered : WasOffered stop exchanges
 
--- `initialize` came and then `initialized`, and these messages, which were sent, hold all that was sent up to the result of `initialize`.
+-- `initialize` came and then `initialized`, and these messages, which were sent, hold all that was sent up to the
+-- result of `initialize`.
 abbrev pub OpenedBy : List Exchange → List Message → Type 0
 OpenedBy exchanges sent =
     (early : List Exchange) × (rest : List Exchange) × (later : List Message)

@@ -1,11 +1,14 @@
--- A session over boxes: what was received are the messages and wakes of its exchanges, and what the outbox got is all that it sent.
+-- A session over boxes: what was received are the messages and wakes of its exchanges, and what the outbox got is all
+-- that it sent.
 use Rattle.std.specs.List.{FoldsTo, list_all, filter_map}
-use Rattle.std.specs.Prelude.{◌≡◌, ◌≤◌, ◌-◌, ◌^◌, ◌⊎◌, Bool, true, false, List, [], ◌∷◌, ◌++◌, length, map, Option, Some, None, Err}
+use Rattle.std.specs.Prelude.{◌≡◌, ◌≤◌, ◌-◌, ◌^◌, ◌⊎◌, Bool, true, false, List, [], ◌∷◌, ◌++◌, length, map, Option}
+use Rattle.std.specs.Prelude.{Some, None, Err}
 use Rattle.lsp_message.specs.Message.{Message}
 use Rattle.lsp_session.specs.Boxes.{Sends, Receives, Offers, Takes}
 use Rattle.lsp_session.specs.Event.{Event, message, timeout, closed, woken}
 use Rattle.lsp_session.specs.Prompt.{passed_over, behind, StopsAfterShutdown}
-use Rattle.lsp_session.specs.Session.{SessionAnswer, SessionPart, Exchange, came_of, sends_of, is_shutdown, is_reply, Stop, decided, no_more, timed_out, refused, exhausted}
+use Rattle.lsp_session.specs.Session.{SessionAnswer, SessionPart, Exchange, came_of, sends_of, is_shutdown, is_reply}
+use Rattle.lsp_session.specs.Session.{Stop, decided, no_more, timed_out, refused, exhausted}
 use Rattle.lsp_session.specs.declared.lifecycle.SendFault.{SendFault}
 
 -- what an event brings to a session: a message, or none if it is a wake
@@ -19,8 +22,8 @@ abbrev pub is_open : Event → Bool
 is_open closed = false
 is_open event = true
 
--- The events brought these messages and wakes, in order, and no other, and ended as these did. At a failed allocation one more
--- message or wake came. After 2^64 - 1 events or more a session may end as if no more came.
+-- The events brought these messages and wakes, in order, and no other, and ended as these did. At a failed allocation
+-- one more message or wake came. After 2^64 - 1 events or more a session may end as if no more came.
 abbrev pub Brings : List Event → List (Option Message) → Stop → Type 0
 Brings events came decided = (filter_map came_in events ≡ came) × (list_all is_open events ≡ true)
 Brings events came no_more =
@@ -37,8 +40,8 @@ Brings events came (refused fault) = (filter_map came_in events ≡ came)
 Brings events came exhausted = (next : Option Message)
     × (filter_map came_in events ≡ came ++ next ∷ []) × (list_all is_open events ≡ true)
 
--- `shutdown` came. After its reply responses came that were passed over, each an exchange for which nothing was sent. Then exactly one
--- event was awaited, the last one.
+-- `shutdown` came. After its reply responses came that were passed over, each an exchange for which nothing was sent.
+-- Then exactly one event was awaited, the last one.
 pub record AwaitsLast (events : List Event) (shutdown_reply : Message) (stop : Stop)
     (exchanges : List Exchange) : Type 0 where
   pub earlier : List Event
@@ -88,7 +91,8 @@ module _ {O : Type 0} (sends : Sends O) where
 
 module _ {I O : Type 0} (receives : Receives I) (sends : Sends O) where
   -- The boxes went from old to new in a part of a session that P describes, in which events were awaited so.
-  pub record RunsAwaiting (Awaits : List Event → Option Message → Stop → List Exchange → Type 0) (P : SessionPart) (old : I
+  pub record RunsAwaiting (Awaits : List Event → Option Message → Stop → List Exchange → Type 0) (P : SessionPart)
+      (old : I
       × O) (answer : SessionAnswer) (new : I × O) : Type 0 where
     pub events : List Event
     pub received : FoldsTo receives old.0 events new.0

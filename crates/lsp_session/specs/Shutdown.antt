@@ -7,7 +7,8 @@ use Rattle.lsp_message.specs.Message.{Message, request}
 use Rattle.lsp_message.specs.Methods.{is_exit}
 use Rattle.lsp_session.specs.Boxes.{Sends, Receives, Offers}
 use Rattle.lsp_session.specs.Event.{Event, message, timeout, closed, woken}
-use Rattle.lsp_session.specs.ProtocolError.{ProtocolFault, unexpected_in_shutdown, shutdown_timeout, shutdown_disconnected, out_of_memory, Shows}
+use Rattle.lsp_session.specs.ProtocolError.{ProtocolFault, unexpected_in_shutdown, shutdown_timeout}
+use Rattle.lsp_session.specs.ProtocolError.{shutdown_disconnected, out_of_memory, Shows}
 use Rattle.lsp_session.specs.Replies.{null_reply}
 
 abbrev pub ShutdownAnswer : Type 0

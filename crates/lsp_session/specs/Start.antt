@@ -4,7 +4,8 @@ use Rattle.serde_json.specs.Data.{Data}
 use Rattle.serde_json.specs.View.{view}
 use Rattle.serde_json.specs.declared.value.Value.{Value}
 use Rattle.std.specs.List.{FoldsTo, AllZip, list_all, filter_map}
-use Rattle.std.specs.Prelude.{◌≡◌, ◌≤◌, length, IsNone, ℕ, Bool, true, false, List, [], ◌∷◌, ◌++◌, Option, Some, None, Result, Ok, Err, ◌⊎◌, codes, MatchOption, IsErrAnd}
+use Rattle.std.specs.Prelude.{◌≡◌, ◌≤◌, length, IsNone, ℕ, Bool, true, false, List, [], ◌∷◌, ◌++◌, Option, Some, None}
+use Rattle.std.specs.Prelude.{Result, Ok, Err, ◌⊎◌, codes, MatchOption, IsErrAnd}
 use Rattle.std.specs.Str.{bytes_eq}
 use Rattle.lsp_message.specs.Id.{Id}
 use Rattle.lsp_message.specs.Message.{Message, request, notification, response}
@@ -12,7 +13,8 @@ use Rattle.lsp_message.specs.Methods.{request_id, is_shown}
 pub use Rattle.lsp_message.specs.Methods.{is_early}
 use Rattle.lsp_session.specs.Boxes.{Sends, Receives, Takes}
 use Rattle.lsp_session.specs.Event.{message, timeout, closed}
-use Rattle.lsp_session.specs.ProtocolError.{ProtocolFault, disconnected, expected_initialize, aborted, out_of_memory, Shows}
+use Rattle.lsp_session.specs.ProtocolError.{ProtocolFault, disconnected, expected_initialize, aborted, out_of_memory}
+use Rattle.lsp_session.specs.ProtocolError.{Shows}
 pub use Rattle.lsp_session.specs.ProtocolError.{fault_of_refusal}
 pub use Rattle.lsp_session.specs.Replies.{IsEarlyReply}
 use Rattle.lsp_session.specs.Turns.{Turn, stopped, got, TakesTurn}
@@ -53,7 +55,8 @@ request_of (got (message m)) = request_id m
 request_of turn = None
 
 module _ {O : Type 0} (sends : Sends O) where
-  -- These turns leave the handshake undecided. The requests among them, in order, give the replies that the outbox takes.
+  -- These turns leave the handshake undecided. The requests among them, in order, give the replies that the outbox
+  -- takes.
   pub record PassesOver (old : O) (turns : List Turn) (replies : List Message)
       (new : O) : Type 0 where
     pub undecided : list_all is_undecided turns ≡ true
@@ -69,8 +72,8 @@ module _ {O : Type 0} (sends : Sends O) where
     pub replies : IsEarlyReply id reply
     pub refuses : sends old reply (Err fault) new
 
-  -- A turn ends the handshake. It decides; or the outbox refuses the reply to it; or an allocation failed in the place of
-  -- the text that shows its message.
+  -- A turn ends the handshake. It decides; or the outbox refuses the reply to it; or an allocation failed in the place
+  -- of the text that shows its message.
   abbrev pub Ends : O → Turn → StartAnswer → O → Type 0
   Ends old turn answer new =
       (Decides turn answer × (new ≡ old))
@@ -90,7 +93,8 @@ module _ {O : Type 0} (sends : Sends O) where
 
 module _ {G I O : Type 0} (asks : G → Bool → G
     → Type 0) (receives : Receives I) (sends : Sends O) where
-  -- At most so many turns took the contents of the boxes from old to new, and gave this answer. None comes only after all of them.
+  -- At most so many turns took the contents of the boxes from old to new, and gave this answer. None comes only after
+  -- all of them.
   pub record StartsWithin (limit : ℕ) (old : G × I × O) (answer : Option StartAnswer) (new : G × I
       × O) : Type 0 where
     pub turns : List Turn

@@ -43,7 +43,8 @@ module _ {R W L : Type 0} where
       × (new.listener.ghost_name ≡ old.listener.ghost_name)
       × (new.transcript.ghost_name ≡ old.transcript.ghost_name)
 
-  -- One receive reads as an inbox over the reader does, writes nothing, and is added to the transcript with the bytes that were taken for it.
+  -- One receive reads as an inbox over the reader does, writes nothing, and is added to the transcript with the bytes
+  -- that were taken for it.
   abbrev pub StreamTransportGives : (R → Option (List ℕ)) → (L → ReadFault → L → Type 0)
       → StreamTransport R W L → Event → StreamTransport R W L → Type 0
   StreamTransportGives remaining hears old event new =
@@ -53,22 +54,28 @@ module _ {R W L : Type 0} where
       × Takes parts [] parts (remaining old.reader.now) (remaining new.reader.now)
       × EventParts old.limits old.end event new.end parts)
 
-  -- A wait that also gives wakes ended the messages at a content part that is no message only if the listener may end them.
+  -- A wait that also gives wakes ended the messages at a content part that is no message only if the listener may end
+  -- them.
   abbrev pub StreamTransportListens : (L → ReadFault → Type 0) → StreamTransport R W L → Event
       → StreamTransport R W L → Type 0
   StreamTransportListens ends old event new = EndsAtBody ends (inbox_of old) (inbox_of new)
 
-  -- One send writes as an outbox over the writer does, reads nothing, and is added to the transcript with the bytes that were given for it.
+  -- One send writes as an outbox over the writer does, reads nothing, and is added to the transcript with the bytes
+  -- that were given for it.
   abbrev pub StreamTransportSends : (W → Option (List ℕ)) → StreamTransport R W L → Message
       → Result (Unit {0}) SendFault → StreamTransport R W L → Type 0
   StreamTransportSends contents old m outcome new =
       FrameOutboxSends contents (outbox_of old) m outcome (outbox_of new)
       × (inbox_of new ≡ inbox_of old) × (new.transcript.ghost_name ≡ old.transcript.ghost_name)
-      × ((parts : Parts) × (notes_of new.transcript.now ≡ notes_of old.transcript.now ++ (sending m outcome, parts) ∷ [])
+      × ((parts : Parts) × (notes_of new.transcript.now ≡ notes_of old.transcript.now ++ (
+        sending m outcome,
+        parts,
+      ) ∷ [])
       × Gives parts [] parts (contents old.writer.now) (contents new.writer.now)
       × SentParts old.fault (sending m outcome) new.fault parts)
 
-  -- A session over a transport that was not used yet: the transcript tells it, byte for byte, and the transport has the ends that it had.
+  -- A session over a transport that was not used yet: the transcript tells it, byte for byte, and the transport has the
+  -- ends that it had.
   pub record Serves (P : SessionPart) (old : StreamTransport R W L) (result : Result SessionEnd SessionFault)
       (new : StreamTransport R W L) : Type 0 where
     pub told : ToldSession old.limits P (notes_of new.transcript.now) result
@@ -78,7 +85,8 @@ module _ {R W L : Type 0} where
   abbrev pub PassesBetween : (R → Option (List ℕ)) → (W → Option (List ℕ)) → List Note → StreamTransport R W L
       → StreamTransport R W L → Type 0
   PassesBetween remaining contents notes old new =
-      Passes notes (remaining old.reader.now) (remaining new.reader.now) (contents old.writer.now) (contents new.writer.now)
+      Passes notes (remaining old.reader.now) (remaining new.reader.now) (contents old.writer.now)
+      (contents new.writer.now)
 
   -- A session over a transport, bytes in to bytes out; and what the transport did is in order, for the same exchanges.
   abbrev pub GivesInOrder : (R → Option (List ℕ)) → (L → ReadFault → L → Type 0)

@@ -19,8 +19,8 @@ pub record Stream : Type 0 where
 
 -- the parts of a frame have at most so many bytes
 module _ (limit : Limits) where
-  -- One read of a message: what the bytes begin with, and what follows it is left. A reader that fails and an allocation that
-  -- fails stop within the message.
+  -- One read of a message: what the bytes begin with, and what follows it is left. A reader that fails and an
+  -- allocation that fails stop within the message.
   abbrev pub Reads : Option (List ℕ) → Result (Option Message) ReadFault → Option (List ℕ) → Type 0
   Reads known outcome rest =
       IfSome known (λ text. Answers (λ m. m) outcome rest (reading_within limit text))

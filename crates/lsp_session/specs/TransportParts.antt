@@ -1,7 +1,8 @@
 -- What the parts of a session over one value do. For private clauses.
 use Rattle.std.specs.Bool.{MatchBool}
 use Rattle.std.specs.List.{FoldsTo, list_all}
-use Rattle.std.specs.Prelude.{◌≡◌, ◌⊎◌, ◌&&◌, Bool, true, false, List, [], ◌∷◌, ◌++◌, Result, Ok, Err, MatchResult, codes}
+use Rattle.std.specs.Prelude.{◌≡◌, ◌⊎◌, ◌&&◌, Bool, true, false, List, [], ◌∷◌, ◌++◌, Result, Ok, Err, MatchResult}
+use Rattle.std.specs.Prelude.{codes}
 use Rattle.std.specs.Str.{bytes_eq}
 use Rattle.lsp_message.specs.Id.{Id}
 use Rattle.lsp_message.specs.Message.{Message, request}
@@ -20,8 +21,8 @@ abbrev pub is_late : Event → Bool
 is_late (message m) = is_reply m
 is_late event = false
 
--- The event after the reply to `shutdown` gives the answer. A response that is to be passed over decides only as the last of 2^64 - 1: as
--- memory that ran out.
+-- The event after the reply to `shutdown` gives the answer. A response that is to be passed over decides only as the
+-- last of 2^64 - 1: as memory that ran out.
 abbrev pub DecidesWait : Bool → Event → ShutdownAnswer → Type 0
 DecidesWait passes_late event answer = MatchBool (passes_late && is_late event) (answer ≡ Err out_of_memory)
     (EventShutsDown event answer)
@@ -36,7 +37,8 @@ pub record WaitsForExit {L : Type 0} (receives : Receives L) (passes_late : Bool
   pub decides : DecidesWait passes_late event answer
 
 -- what the service gives at `shutdown`, which came under this id, is sent
-abbrev pub PartsOn : {O S : Type 0} → Sends O → Behavior S → Id → O × S → Result (Unit {0}) ProtocolFault → O × S → Type 0
+abbrev pub PartsOn : {O S : Type 0} → Sends O → Behavior S → Id → O × S → Result (Unit {0}) ProtocolFault → O × S
+    → Type 0
 PartsOn sends may id old result new =
     ((parting : List Message) × may.at_shutdown old.1 id parting new.1
     × SendsAll sends old.0 parting result new.0)
@@ -59,7 +61,8 @@ module _ {L : Type 0} (receives : Receives L) (sends : Sends L) where
     pub awaited : WaitsForExit receives passes_late mid answer new
 
   module _ {S : Type 0} (may : Behavior S) where
-    -- What the service gives is sent, up to a message that is refused. Then the reply is offered, and `exit` is awaited.
+    -- What the service gives is sent, up to a message that is refused. Then the reply is offered, and `exit` is
+    -- awaited.
     pub record LeavesOn (id : Id) (old : L × S) (answer : ShutdownAnswer) (new : L × S) : Type 0 where
       pub sent : Result (Unit {0}) ProtocolFault
       pub mid : L

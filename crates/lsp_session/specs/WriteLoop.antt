@@ -24,14 +24,16 @@ module _ {I : Type 0} (receives : Receives I) where
 abbrev pub OffersAll : {O : Type 0} → Sends O → O → List Message → O → Type 0
 OffersAll sends = FoldsTo (λ old m new. Offers sends m old new)
 
--- The writer got frames of these messages, in order, and of one more, whose write failed so, a beginning of its frame or nothing.
+-- The writer got frames of these messages, in order, and of one more, whose write failed so, a beginning of its frame
+-- or nothing.
 abbrev pub BreaksOffAt : List Message → Message → WriteFault → Option (List ℕ) → Option (List ℕ)
     → Type 0
 BreaksOffAt ms m (Output kind) old new = GetsFramesAndPart ms m old new
 BreaksOffAt ms m Memory old new = GetsFrames ms old new
 
 module _ {I O : Type 0} (receives : Receives I) (sends : Sends O) where
-  -- All that was received was written and offered; at a fault the last message was offered too, and its write is the one that failed.
+  -- All that was received was written and offered; at a fault the last message was offered too, and its write is the
+  -- one that failed.
   abbrev pub WritesOut : I × Option (List ℕ) × O → WriteEnd → I × Option (List ℕ) × O → Type 0
   WritesOut old Closed new =
       (ms : List Message) × GivesToEnd receives old.0 ms new.0 × GetsFrames ms old.1 new.1

@@ -1,4 +1,5 @@
--- The units of an encoding, counted by characters (LSP 3.17, "PositionEncodingKind"). A character is a Unicode scalar value.
+-- The units of an encoding, counted by characters (LSP 3.17, "PositionEncodingKind"). A character is a Unicode scalar
+-- value.
 use Rattle.std.specs.Prelude.{ℕ, ◌+◌, ◌-◌, cond, ◌||◌, nat_lt, List, [], ◌∷◌, length, codes}
 use Rattle.std.specs.Char.{encode_utf8}
 use Rattle.std.specs.Char.Escape.{encode_utf16}

@@ -1,4 +1,5 @@
--- A document that a client has opened, and a change of it (LSP 3.17, "TextDocumentItem" and "TextDocumentContentChangeEvent").
+-- A document that a client has opened, and a change of it (LSP 3.17, "TextDocumentItem" and
+-- "TextDocumentContentChangeEvent").
 use Rattle.std.specs.Prelude.{ℕ, ℤ, List, Option}
 use Rattle.lsp_text.specs.declared.position.Range.{Range}
 use Rattle.lsp_text.specs.Lines.{LinedText}

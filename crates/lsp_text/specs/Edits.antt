@@ -1,5 +1,6 @@
 -- What edits make of a text (LSP 3.17, "TextDocumentContentChangeEvent" and "DidChangeTextDocumentParams").
-use Rattle.std.specs.Prelude.{ℕ, Bool, false, cond, ◌||◌, nat_lt, Option, Some, None, List, [], ◌∷◌, length, drop, slice_index, min, max}
+use Rattle.std.specs.Prelude.{ℕ, Bool, false, cond, ◌||◌, nat_lt, Option, Some, None, List, [], ◌∷◌, length, drop}
+use Rattle.std.specs.Prelude.{slice_index, min, max}
 use Rattle.std.specs.List.{replace_range}
 use Rattle.lsp_text.specs.declared.position.PositionEncoding.{PositionEncoding}
 use Rattle.lsp_text.specs.declared.position.Range.{Range}
@@ -8,8 +9,8 @@ use Rattle.lsp_text.specs.Lines.{LinedText, lined, starts_of}
 use Rattle.lsp_text.specs.Columns.{offset_of, width}
 use Rattle.lsp_text.specs.Documents.{Change}
 
--- the beginning up to the range, the new text, and the rest from the range's end on; with no range, the new text. A range whose
--- end stands before its start is taken the other way round
+-- the beginning up to the range, the new text, and the rest from the range's end on; with no range, the new text. A
+-- range whose end stands before its start is taken the other way round
 abbrev pub edited : PositionEncoding → LinedText → Option Range → List ℕ → LinedText
 edited e t None new = lined t.ends new
 edited e t (Some range) new =

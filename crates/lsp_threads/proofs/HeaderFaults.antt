@@ -1,13 +1,18 @@
--- A frame that can't be read has a fault of its header part, or its content part is short or too long: it is no fault of a body.
-use Rattle.std.proofs.Common.{◌≡◌, refl, subst, ℕ, ◌+◌, ◌-◌, Bool, true, false, not, cond, List, [], ◌∷◌, length, take, drop, nat_eq, nat_lt, codes, Option, Some, None, option_map, Result, Ok, Err}
+-- A frame that can't be read has a fault of its header part, or its content part is short or too long: it is no fault
+-- of a body.
+use Rattle.std.proofs.Common.{◌≡◌, refl, subst, ℕ, ◌+◌, ◌-◌, Bool, true, false, not, cond, List, [], ◌∷◌, length, take}
+use Rattle.std.proofs.Common.{drop, nat_eq, nat_lt, codes, Option, Some, None, option_map, Result, Ok, Err}
 use Rattle.std.specs.List.{ends_with}
 use Rattle.std.specs.Option.{ok_or}
 use Rattle.std.specs.Str.{is_utf8}
 use Rattle.lsp_message.specs.Frame.{body_of, content_of, content_within, header_under}
-use Rattle.lsp_message.specs.HeaderPart.{after_fields, at_last_line, content_length, field, fields, header_end, header_line, header_of, header_text, lines, name_and_value, number, parted, same_name}
+use Rattle.lsp_message.specs.HeaderPart.{after_fields, at_last_line, content_length, field, fields, header_end}
+use Rattle.lsp_message.specs.HeaderPart.{header_line, header_of, header_text, lines, name_and_value, number, parted}
+use Rattle.lsp_message.specs.HeaderPart.{same_name}
 use Rattle.lsp_message.specs.Reading.{Reading}
 use Rattle.lsp_message.specs.declared.frame.ReadFault.{ReadFault}
-use Rattle.lsp_message.specs.declared.frame.ReadFault.TheVariants.{BadLength, HeaderTooLong, LineEnd, LineNotText, ShortBody, TooLong}
+use Rattle.lsp_message.specs.declared.frame.ReadFault.TheVariants.{BadLength, HeaderTooLong, LineEnd, LineNotText}
+use Rattle.lsp_message.specs.declared.frame.ReadFault.TheVariants.{ShortBody, TooLong}
 use Rattle.lsp_message.specs.declared.frame.header.HeaderLine.{HeaderLine}
 use Rattle.lsp_message.specs.declared.frame.header.HeaderLine.TheVariants.{Length, Other}
 use Rattle.lsp_message.specs.declared.frame.limits.Limits.{Limits}
@@ -37,7 +42,8 @@ text_of (c ∷ text) = at (name_and_value (c ∷ text))
 line_of : (line : List ℕ) → OfNoBody (header_line line)
 line_of line = at (not (is_utf8 line)) (not (ends_with nat_eq line (13 ∷ 10 ∷ [])))
   where
-    at : (s t : Bool) → OfNoBody (cond s (Err LineNotText) (cond t (Err LineEnd) (header_text (take (length line - 2) line))))
+    at : (s t : Bool) → OfNoBody (cond s (Err LineNotText) (cond t (Err LineEnd) (header_text (take (length line - 2)
+        line))))
     at true t = refl
     at false true = refl
     at false false = text_of (take (length line - 2) line)
@@ -56,29 +62,36 @@ header_of_none text = at (content_length (fields (lines text))) (after_fields (l
 
 header_under_none : (bound : Option ℕ) (text : List ℕ) → OfNoBody (header_under bound text).outcome
 header_under_none None text = header_of_none text
-header_under_none (Some bound) text = at (nat_lt bound (length text - length (header_of text).rest)) (header_of_none text)
+header_under_none (Some bound) text = at (nat_lt bound (length text - length (header_of text).rest))
+    (header_of_none text)
   where
-    at : (t : Bool) → OfNoBody (header_of text).outcome → OfNoBody (cond {A = Reading ℕ} t (record { outcome = Err HeaderTooLong; rest = drop (bound + 1) text }) (header_of text)).outcome
+    at : (t : Bool) → OfNoBody (header_of text).outcome → OfNoBody (cond {A = Reading ℕ} t
+        (record { outcome = Err HeaderTooLong; rest = drop (bound + 1) text }) (header_of text)).outcome
     at true known = refl
     at false known = known
 
 content_of_none : (limit : Limits) (text : List ℕ) → OfNoBody (content_within limit text).outcome
-content_of_none limit text = at (header_under limit.header text).outcome (header_under limit.header text).rest (header_under_none limit.header text)
+content_of_none limit text = at (header_under limit.header text).outcome (header_under limit.header text).rest
+    (header_under_none limit.header text)
   where
     part : (s : Bool) (n : ℕ) (rest : List ℕ)
-        → OfNoBody (cond {A = Reading (List ℕ)} s (record { outcome = Err ShortBody; rest = [] }) (record { outcome = Ok (Some (take n rest)); rest = drop n rest })).outcome
+        → OfNoBody (cond {A = Reading (List ℕ)} s (record { outcome = Err ShortBody; rest = [] })
+        (record { outcome = Ok (Some (take n rest)); rest = drop n rest })).outcome
     part true n rest = refl
     part false n rest = tt
 
     whole : (t : Bool) (n : ℕ) (rest : List ℕ)
-        → OfNoBody (cond {A = Reading (List ℕ)} t (record { outcome = Err TooLong; rest = rest }) (body_of Ok n rest)).outcome
+        → OfNoBody (cond {A = Reading (List ℕ)} t (record { outcome = Err TooLong; rest = rest })
+        (body_of Ok n rest)).outcome
     whole true n rest = refl
     whole false n rest = part (nat_lt (length rest) n) n rest
 
-    at : (count : Result (Option ℕ) ReadFault) (rest : List ℕ) → OfNoBody count → OfNoBody (content_of Ok limit.content count rest).outcome
+    at : (count : Result (Option ℕ) ReadFault) (rest : List ℕ) → OfNoBody count → OfNoBody (content_of Ok limit.content
+        count rest).outcome
     at (Err fault) rest known = known
     at (Ok None) rest known = tt
     at (Ok (Some n)) rest known = whole (nat_lt limit.content n) n rest
 
-pub is_of_no_body : (limit : Limits) (text : List ℕ) (fault : ReadFault) → (content_within limit text).outcome ≡ Err fault → is_of_body fault ≡ false
+pub is_of_no_body : (limit : Limits) (text : List ℕ) (fault : ReadFault) → (content_within limit text).outcome
+    ≡ Err fault → is_of_body fault ≡ false
 is_of_no_body limit text fault is = subst OfNoBody is (content_of_none limit text)

@@ -12,7 +12,8 @@ use Rattle.lsp_relay.specs.declared.ends.Parcel.TheVariants as parcel
 use Rattle.lsp_session.specs.declared.loops.ReadEnd.{ReadEnd}
 use Rattle.lsp_session.specs.declared.loops.ReadEnd.TheVariants.{Fault}
 use Rattle.lsp_threads.proofs.ContentReads.{contents_of-end, ended_parcels, reads_begin}
-use Rattle.lsp_threads.specs.Contents.{Contents, contents_of, BeginsSource, HandsWhole, LeavesReading, parts_of, ReadsContents, Taking, TellsContents, source_of}
+use Rattle.lsp_threads.specs.Contents.{Contents, contents_of, BeginsSource, HandsWhole, LeavesReading, parts_of}
+use Rattle.lsp_threads.specs.Contents.{ReadsContents, Taking, TellsContents, source_of}
 use Rattle.lsp_threads.specs.Passing.{OfTaken}
 
 pub open_taken : (taken : List (Parcel Contents)) → has_end taken ≡ false → IsOpen taken
@@ -27,24 +28,42 @@ end_in_more (parcel.End ∷ rest) more e = refl
 
 module _ (limit : Limits) (tx : Sending Contents) (parts : Taking) where
   -- all was taken, and the thread was joined
-  pub joined_reading : (known : Option (List ℕ)) (back : Sending Contents) (end : ReadEnd) (taken : Parts) → has_end parts.taken ≡ true → IsPrefix parts.taken back.sent
-      → (back.wakeable ≡ false → parts.wakes ≡ 0) → TellsContents limit known tx end taken back → LeavesReading parts limit tx known taken end
+  pub joined_reading : (known : Option (List ℕ)) (back : Sending Contents) (end : ReadEnd) (taken : Parts)
+      → has_end parts.taken ≡ true → IsPrefix parts.taken back.sent
+      → (back.wakeable ≡ false → parts.wakes ≡ 0) → TellsContents limit known tx end taken back → LeavesReading parts
+      limit tx known taken end
   joined_reading known back end taken is settled silent tells =
       let all = tells.2 (subst (λ l. has_end l ≡ true) settled.1 (end_in_more parts.taken settled.0 is)) in
       (back, parts.taken, rw is refl, settled, silent, (λ rest ends. (all.0, all.1 rest ends, tells.0)), tells.1)
 
   -- not all was taken, and the thread was left to itself
-  pub left_reading : (known : Option (List ℕ)) (taken : Parts) → has_end parts.taken ≡ false → parts.relay.2 ≡ tx.wakeable → taken ≡ parts_of parts.taken
-      → BeginsSource (source_of known limit) (contents_of parts.taken) (parts_of parts.taken) → (parts.relay.2 ≡ false → parts.wakes ≡ 0) → LeavesReading parts limit tx known taken (Fault (Input Other))
-  left_reading known taken is woken same begins silent =
-      (back, parts.taken ++ parcel.End ∷ [], rw is ([], refl), ([], append-nil (parts.taken ++ parcel.End ∷ [])), silent, rw same whole, rw same begins.1)
+  pub left_reading : (known : Option (List ℕ)) (taken : Parts) → has_end parts.taken ≡ false → parts.relay.2
+      ≡ tx.wakeable → taken ≡ parts_of parts.taken
+      → BeginsSource (source_of known limit) (contents_of parts.taken) (parts_of parts.taken) → (parts.relay.2 ≡ false
+      → parts.wakes ≡ 0) → LeavesReading parts limit tx known taken (Fault (Input Other))
+  left_reading known taken is woken same begins silent = (
+    back,
+    parts.taken ++ parcel.End ∷ [],
+    rw is ([], refl),
+    ([], append-nil (parts.taken ++ parcel.End ∷ [])),
+    silent,
+    rw same whole,
+    rw same begins.1,
+  )
     where
       back : Sending Contents
-      back = record { relay = parts.relay.0; sent = parts.taken ++ parcel.End ∷ []; wakeable = parts.relay.2; source = parts.relay.1 }
+      back = record {
+        relay = parts.relay.0;
+        sent = parts.taken ++ parcel.End ∷ [];
+        wakeable = parts.relay.2;
+        source = parts.relay.1;
+      }
 
       whole : OfTaken (parts_of parts.taken) (λ text. HandsWhole limit text tx (Fault (Input Other)) back)
       whole rest ends = (
         ended_parcels parts.taken (open_taken parts.taken is),
-        subst (ReadsContents limit (concat (parts_of parts.taken) ++ rest) (Fault (Input Other))) (sym (contents_of-end parts.taken)) (reads_begin limit (contents_of parts.taken) (parts_of parts.taken) begins.0 rest),
+        subst (ReadsContents limit (concat (parts_of parts.taken) ++ rest) (Fault (Input Other)))
+            (sym (contents_of-end parts.taken)) (reads_begin limit (contents_of parts.taken) (parts_of parts.taken)
+            begins.0 rest),
         woken,
       )

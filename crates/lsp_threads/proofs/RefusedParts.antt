@@ -13,7 +13,8 @@ use Rattle.lsp_session.specs.declared.loops.ReadEnd.TheVariants.{Fault}
 use Rattle.lsp_threads.specs.Contents.{ContentsListen, OpenGives, PassesPart, Receiving, StopsAt}
 
 -- the thread that reads keeps a content part back that is no message, and ends as it would have ended the session
-pub keeps_a_bad_part_back : (limit : Limits) (text : List ℕ) (fault : ReadFault) → is_of_body fault ≡ true → StopsAt limit text (Fault fault) → ⊥
+pub keeps_a_bad_part_back : (limit : Limits) (text : List ℕ) (fault : ReadFault) → is_of_body fault ≡ true
+    → StopsAt limit text (Fault fault) → ⊥
 keeps_a_bad_part_back limit text BodyNotText is stops = true≢false stops.0
 keeps_a_bad_part_back limit text NoJson is stops = true≢false stops.0
 keeps_a_bad_part_back limit text NoMessage is stops = true≢false stops.0
@@ -42,7 +43,8 @@ module _ {L : Type 0} (hears : L → ReadFault → L → Type 0) (old new : Rece
 
 -- if it is to be asked, the messages end at a content part that is no message though the listener never ends them
 pub ends_without_leave : {L : Type 0} (ends : L → ReadFault → Type 0) (event : Event) (old new : Receiving × L)
-    → ((fault : ReadFault) → ends old.1 fault → ⊥) → ContentsListen ends old event new → ended_at_body new.0.end ≡ true → new.0.end ≡ old.0.end
+    → ((fault : ReadFault) → ends old.1 fault → ⊥) → ContentsListen ends old event new → ended_at_body new.0.end ≡ true
+    → new.0.end ≡ old.0.end
 ends_without_leave ends event old new never listens at_body = elim (listens.1 at_body) [
   | inl same ↦ same
   | inr may ↦ absurd (none new.0.end may)

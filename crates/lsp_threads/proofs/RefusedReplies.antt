@@ -8,21 +8,26 @@ use Rattle.lsp_session.specs.declared.lifecycle.SendFault.TheVariants.{Closed, M
 use Rattle.lsp_threads.specs.Replies.{Replying, RepliesSend, reply_fault, WritesReplies}
 
 -- a frame of a message is sent though an earlier one was refused
-pub refuses_a_send_after_a_refusal : (old new : Replying) (m : Message) → old.failed ≡ true → RepliesSend old m (Ok tt) new → ⊥
+pub refuses_a_send_after_a_refusal : (old new : Replying) (m : Message) → old.failed ≡ true → RepliesSend old m
+    (Ok tt) new → ⊥
 refuses_a_send_after_a_refusal old new m failed sent = true≢false (sym failed ∙ sent.1)
 
 -- a message is refused, and the outbox does not say so
-pub refuses_a_silent_refusal : (old new : Replying) (m : Message) (fault : SendFault) → new.failed ≡ false → RepliesSend old m (Err fault) new → ⊥
+pub refuses_a_silent_refusal : (old new : Replying) (m : Message) (fault : SendFault) → new.failed ≡ false
+    → RepliesSend old m (Err fault) new → ⊥
 refuses_a_silent_refusal old new m (Closed back) silent sent = sent
-refuses_a_silent_refusal old new m (Memory back) silent sent = true≢false (sym (ap (λ (r : Replying). r.failed) sent) ∙ silent)
+refuses_a_silent_refusal old new m (Memory back) silent sent = true≢false (sym (ap (λ (r : Replying). r.failed) sent)
+    ∙ silent)
 
 -- a part of a frame that was refused is not sent
-pub refusal_sends_nothing : (old new : Replying) (m : Message) (fault : SendFault) → RepliesSend old m (Err fault) new → new.bytes ≡ old.bytes
+pub refusal_sends_nothing : (old new : Replying) (m : Message) (fault : SendFault) → RepliesSend old m (Err fault) new
+    → new.bytes ≡ old.bytes
 refusal_sends_nothing old new m (Closed back) sent = absurd sent
 refusal_sends_nothing old new m (Memory back) sent = ap (λ (r : Replying). r.bytes) sent
 
 -- a session stopped at a refusal, and its output is told to be whole
-pub refuses_a_whole_output : (fault : SendFault) (sends : List Message) (a b : Option (List ℕ)) → WritesReplies (refused fault) sends None a b → ⊥
+pub refuses_a_whole_output : (fault : SendFault) (sends : List Message) (a b : Option (List ℕ))
+    → WritesReplies (refused fault) sends None a b → ⊥
 refuses_a_whole_output fault sends a b written = written.0
 
 -- no refusal is lost

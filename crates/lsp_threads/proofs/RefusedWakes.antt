@@ -1,6 +1,7 @@
--- Wakes that nobody gave: a session in threads that nobody can wake and whose listener passes over nothing tells of none, and what came to
--- it is what it read. And what a listener may not hear.
-use Rattle.std.proofs.Common.{◌≡◌, refl, Bool, true, false, ap, sym, ◌∙◌, subst, inl, inr, ℕ, List, [], ◌∷◌, ◌++◌, Option, Some, None, Result, Ok, Err}
+-- Wakes that nobody gave: a session in threads that nobody can wake and whose listener passes over nothing tells of
+-- none, and what came to it is what it read. And what a listener may not hear.
+use Rattle.std.proofs.Common.{◌≡◌, refl, Bool, true, false, ap, sym, ◌∙◌, subst, inl, inr, ℕ, List, [], ◌∷◌, ◌++◌}
+use Rattle.std.proofs.Common.{Option, Some, None, Result, Ok, Err}
 use Rattle.std.specs.List.{FoldsTo}
 use Rattle.lsp_message.specs.Frame.{Begins, reading_within}
 use Rattle.lsp_message.specs.Message.{Message}
@@ -20,23 +21,28 @@ use Rattle.lsp_threads.specs.Threads.{ReadsFrameOrWakes, ReadsOrWakes, ThreadsGi
 -- at some place the session answered a wake
 abbrev pub TellsAWake : SessionPart
 TellsAWake exchanges stop shutdown_reply answer =
-    (earlier : List Exchange) × (sent : List Message) × (later : List Exchange) × (exchanges ≡ earlier ++ record { came = None; sent = sent } ∷ later)
+    (earlier : List Exchange) × (sent : List Message) × (later : List Exchange) × (exchanges ≡ earlier
+    ++ record { came = None; sent = sent } ∷ later)
 
 module _ (limit : Limits) where
   tells_none : (sent : List Message) (earlier later : List Exchange) (text at : List ℕ)
-      → FoldsTo (ReadsOrWakes false limit) text (came_of (earlier ++ record { came = None; sent = sent } ∷ later)) at → ⊥
+      → FoldsTo (ReadsOrWakes false limit) text (came_of (earlier ++ record { came = None; sent = sent }
+      ∷ later)) at → ⊥
   tells_none sent [] later text at run = let e : false ≡ true = run.1.0 in absurd (cc (e))
   tells_none sent (x ∷ earlier) later text at run = tells_none sent earlier later run.0 at run.2
 
   -- nobody can wake the session, and it answers a wake
-  pub refuses_a_wake : (P : SessionPart) (text : List ℕ) (before after : Option (List ℕ)) (result : Result SessionEnd SessionFault)
+  pub refuses_a_wake : (P : SessionPart) (text : List ℕ) (before after : Option (List ℕ)) (result : Result SessionEnd
+      SessionFault)
       → ThreadsGive limit (Both P TellsAWake) text before after result → ⊥
   refuses_a_wake P text before after result gives =
       let (earlier, sent, later, are) = gives.part.1 in
-      tells_none sent earlier later text gives.at (subst (λ xs. FoldsTo (ReadsOrWakes false limit) text (came_of xs) gives.at) are gives.read)
+      tells_none sent earlier later text gives.at (subst (λ xs. FoldsTo (ReadsOrWakes false limit) text (came_of xs)
+      gives.at) are gives.read)
 
   -- what came to it is what one thread would have read
-  pub reads_messages : (came : List (Option Message)) (text at : List ℕ) → FoldsTo (ReadsOrWakes false limit) text came at → FoldsTo (ReadsMessage limit) text came at
+  pub reads_messages : (came : List (Option Message)) (text at : List ℕ) → FoldsTo (ReadsOrWakes false limit) text came
+      at → FoldsTo (ReadsMessage limit) text came at
   reads_messages [] text at run = run
   reads_messages (Some m ∷ came) text at run = (run.0, run.1, reads_messages came run.0 at run.2)
   reads_messages (None ∷ came) text at run = let e : false ≡ true = run.1.0 in absurd (cc (e))
@@ -55,31 +61,38 @@ module _ (limit : Limits) where
     outcome_at text = (reading_within limit text).outcome
 
     -- its listener passes over nothing, as `EndSession`, nobody can wake it, and it answers a wake
-    pub passes_with_no_leave : PassesNothingOver hears → (P : SessionPart) (text : List ℕ) (first last : L) (before after : Option (List ℕ)) (result : Result SessionEnd SessionFault)
+    pub passes_with_no_leave : PassesNothingOver hears → (P : SessionPart) (text : List ℕ) (first last : L)
+        (before after : Option (List ℕ)) (result : Result SessionEnd SessionFault)
         → ThreadsTell hears limit (Both P TellsAWake) text first last before after result → ⊥
     passes_with_no_leave never P text first last before after result tells =
-        refuses_a_wake P text before after result (none_passed false hears limit first last never (Both P TellsAWake) text before after result tells)
+        refuses_a_wake P text before after result (none_passed false hears limit first last never (Both P TellsAWake)
+        text before after result tells)
 
     -- nobody can wake it, a message comes next, and it answers a wake
-    pub wakes_at_a_message : (text rest : List ℕ) (m : Message) (first : L) (new : List ℕ × L) → Begins limit text m rest
+    pub wakes_at_a_message : (text rest : List ℕ) (m : Message) (first : L) (new : List ℕ × L)
+        → Begins limit text m rest
         → ReadsFrameOrWakes false hears limit (text, first) None new → ⊥
     wakes_at_a_message text rest m first new begins (inl others) = let e : false ≡ true = others.0 in cc (e)
     wakes_at_a_message text rest m first new begins (inr passes) =
-        let e : Ok (Some m) ≡ Err passes.0 = sym (ap (λ (r : Reading Message). r.outcome) begins) ∙ ap (λ (r : Reading Message). r.outcome) passes.2 in
+        let e : Ok (Some m) ≡ Err passes.0 = sym (ap (λ (r : Reading Message). r.outcome) begins)
+        ∙ ap (λ (r : Reading Message). r.outcome) passes.2 in
         cc (e)
 
     -- nobody can wake it, the text has ended, and it answers a wake
-    pub wakes_at_the_end : (text : List ℕ) (first : L) (new : List ℕ × L) → outcome_at text ≡ Ok None → ReadsFrameOrWakes false hears limit (text, first) None new → ⊥
+    pub wakes_at_the_end : (text : List ℕ) (first : L) (new : List ℕ × L) → outcome_at text ≡ Ok None
+        → ReadsFrameOrWakes false hears limit (text, first) None new → ⊥
     wakes_at_the_end text first new ended (inl others) = let e : false ≡ true = others.0 in cc (e)
     wakes_at_the_end text first new ended (inr passes) =
         let e : Ok None ≡ Err passes.0 = sym ended ∙ ap (λ (r : Reading Message). r.outcome) passes.2 in
         cc (e)
 
     -- others wake it, and bytes are read; or no part is passed over, and its listener hears something
-    pub wake_takes_nothing : (text : List ℕ) (first : L) (new : List ℕ × L) → ((fault : ReadFault) → is_of_body fault ≡ true → outcome_at text ≡ Err fault → ⊥)
+    pub wake_takes_nothing : (text : List ℕ) (first : L) (new : List ℕ × L) → ((fault : ReadFault) → is_of_body fault
+        ≡ true → outcome_at text ≡ Err fault → ⊥)
         → ReadsFrameOrWakes true hears limit (text, first) None new → new ≡ (text, first)
     wake_takes_nothing text first new no_bad_part (inl others) = others.1
-    wake_takes_nothing text first new no_bad_part (inr passes) = absurd (no_bad_part passes.0 passes.1 (ap (λ (r : Reading Message). r.outcome) passes.2))
+    wake_takes_nothing text first new no_bad_part (inr passes) = absurd (no_bad_part passes.0 passes.1
+        (ap (λ (r : Reading Message). r.outcome) passes.2))
 
     -- the listener hears something of a message
     pub hears_a_message : (wakeable : Bool) (text rest : List ℕ) (m : Message) (old new : L) → (new ≡ old → ⊥)

@@ -1,5 +1,7 @@
--- Replies that an outbox made frames of, and what is written of all that it was offered. A session over such an outbox, as its contract says it.
-use Rattle.std.proofs.Common.{◌≡◌, refl, sym, ◌∙◌, ap, inl, inr, append-nil, append_assoc, ℕ, Bool, true, false, true≢false, List, [], ◌∷◌, ◌++◌, Some, None, Option, Result, Ok, Err, String, Global}
+-- Replies that an outbox made frames of, and what is written of all that it was offered. A session over such an outbox,
+-- as its contract says it.
+use Rattle.std.proofs.Common.{◌≡◌, refl, sym, ◌∙◌, ap, inl, inr, append-nil, append_assoc, ℕ, Bool, true, false}
+use Rattle.std.proofs.Common.{true≢false, List, [], ◌∷◌, ◌++◌, Some, None, Option, Result, Ok, Err, String, Global}
 use Rattle.std.specs.List.{FoldsTo}
 use mathlib.Core.List.{IsPrefix}
 use Rattle.lsp_message.specs.Message.{Message}
@@ -15,7 +17,8 @@ use Rattle.lsp_session.proofs.Passing.{frames_end, GivesOr, left_after, ReadsFra
 use Rattle.lsp_session.proofs.SessionGives.{NotRefused}
 use Rattle.lsp_session.specs.Boxes.{Sends, Receives, Takes}
 use Rattle.lsp_session.specs.PassingBytes.{HearsLast}
-use Rattle.lsp_session.specs.Session.{came_of, messages_of, sends_of, Exchange, SessionAnswer, SessionPart, Stop, refused}
+use Rattle.lsp_session.specs.Session.{came_of, messages_of, sends_of, Exchange, SessionAnswer, SessionPart, Stop}
+use Rattle.lsp_session.specs.Session.{refused}
 use Rattle.lsp_session.specs.SessionBytes.{LeftWithin, Wrote}
 use Rattle.lsp_session.specs.Served.{reason_of, StopsFor}
 use Rattle.lsp_session.specs.SessionFault.{session_answer}
@@ -36,8 +39,15 @@ use Rattle.lsp_threads.specs.Threads.{EndsInThreads, ReadsFrameOrWakes, ThreadsT
 -- messages that an outbox took added their frames
 taken_frames : (old new : Replying) (ms : List Message) → FoldsTo (Takes RepliesSend) old ms new
     → (new.relay ≡ old.relay) × ((text : List ℕ) × AreFramesOf ms text × (new.bytes ≡ old.bytes ++ text))
-taken_frames old new [] run =
-    (sym (ap (λ (r : Replying). r.relay) run), ([], refl, sym (ap (λ (r : Replying). r.bytes) run) ∙ sym (append-nil old.bytes)))
+taken_frames old new [] run = (
+  sym (ap (λ (r : Replying). r.relay) run),
+  (
+    [],
+    refl,
+    sym (ap (λ (r : Replying). r.bytes) run)
+        ∙ sym (append-nil old.bytes),
+  ),
+)
 taken_frames old new (m ∷ ms) run =
     let later = taken_frames run.0 new ms run.2 in
     let frame = run.1.3 in
@@ -50,7 +60,8 @@ taken_frames old new (m ∷ ms) run =
       ),
     )
 
--- Of these messages the first ones were sent as frames: all of them, and no message was refused, unless the outbox says that one was.
+-- Of these messages the first ones were sent as frames: all of them, and no message was refused, unless the outbox says
+-- that one was.
 pub record Replied (old new : Replying) (stop : Stop) (ms : List Message) : Type 0 where
   pub same_relay : new.relay ≡ old.relay
   pub sent : List Message
@@ -63,7 +74,8 @@ pub record Replied (old new : Replying) (stop : Stop) (ms : List Message) : Type
 
 module _ (old mid new : Replying) (ms : List Message) (run : FoldsTo (Takes RepliesSend) old ms mid) where
   -- one message more was refused
-  one_refused : (m : Message) (stop : Stop) (fault : SendFault) → RepliesSend mid m (Err fault) new → Replied old new stop (ms ++ m ∷ [])
+  one_refused : (m : Message) (stop : Stop) (fault : SendFault) → RepliesSend mid m (Err fault) new
+      → Replied old new stop (ms ++ m ∷ [])
   one_refused m stop (Shut back) refuses = absurd refuses
   one_refused m stop (IsFull back) refuses =
       let first = taken_frames old mid ms run in
@@ -94,7 +106,8 @@ module _ (old mid new : Replying) (ms : List Message) (run : FoldsTo (Takes Repl
       }
 
   -- one message more was offered
-  one_offered : (m : Message) (stop : Stop) → IsWhole stop → (outcome : Result (Unit {0}) SendFault) → RepliesSend mid m outcome new → Replied old new stop (ms ++ m ∷ [])
+  one_offered : (m : Message) (stop : Stop) → IsWhole stop → (outcome : Result (Unit {0}) SendFault) → RepliesSend mid m
+      outcome new → Replied old new stop (ms ++ m ∷ [])
   one_offered m stop whole (Err fault) sent = one_refused m stop fault sent
   one_offered m stop whole (Ok done) (same, before, after, (frame, is, more)) =
       let first = taken_frames old mid ms run in
@@ -109,24 +122,33 @@ module _ (old mid new : Replying) (ms : List Message) (run : FoldsTo (Takes Repl
         whole = λ none. (refl, whole);
       }
 
-  last_replied : (stop : Stop) → IsWhole stop → (shutdown_reply : Option Message) → OffersLast RepliesSend mid shutdown_reply new → Replied old new stop (all_of ms shutdown_reply)
+  last_replied : (stop : Stop) → IsWhole stop → (shutdown_reply : Option Message) → OffersLast RepliesSend mid
+      shutdown_reply new → Replied old new stop (all_of ms shutdown_reply)
   last_replied stop whole None same = all_taken stop whole same
-  last_replied stop whole (Some shutdown_reply) offers = one_offered shutdown_reply stop whole offers.outcome offers.sent
+  last_replied stop whole (Some shutdown_reply) offers = one_offered shutdown_reply stop whole offers.outcome
+      offers.sent
 
-refused_replied : (old new : Replying) (output : List Message) (fault : SendFault) (shutdown_reply : Option Message) → RefusesLast RepliesSend old output fault new → shutdown_reply ≡ None
+refused_replied : (old new : Replying) (output : List Message) (fault : SendFault) (shutdown_reply : Option Message)
+    → RefusesLast RepliesSend old output fault new → shutdown_reply ≡ None
     → Replied old new (refused fault) (all_of output shutdown_reply)
-refused_replied old new output fault shutdown_reply last none = rw (none, last.3) (one_refused old last.2 new last.0 last.4 last.1 (refused fault) fault last.5)
+refused_replied old new output fault shutdown_reply last none = rw (none, last.3) (one_refused old last.2 new last.0
+    last.4 last.1 (refused fault) fault last.5)
 
-pub all_replied : (old new : Replying) (output : List Message) (shutdown_reply : Option Message) (stop : Stop) → Gets RepliesSend old output shutdown_reply stop new
+pub all_replied : (old new : Replying) (output : List Message) (shutdown_reply : Option Message) (stop : Stop)
+    → Gets RepliesSend old output shutdown_reply stop new
     → Replied old new stop (all_of output shutdown_reply)
-all_replied old new output shutdown_reply (refused fault) got = refused_replied old new output fault shutdown_reply got.0 got.1
-all_replied old new output shutdown_reply stop got = last_replied old got.0 new output got.1 stop tt shutdown_reply got.2
+all_replied old new output shutdown_reply (refused fault) got = refused_replied old new output fault shutdown_reply
+    got.0 got.1
+all_replied old new output shutdown_reply stop got = last_replied old got.0 new output got.1 stop tt
+    shutdown_reply got.2
 
 -- ---- what was written
 module _ (stop : Stop) (ms : List Message) (a b : Option (List ℕ)) where
-  module _ (sent unsent : List Message) (cut : ms ≡ sent ++ unsent) (text : List ℕ) (frames : AreFramesOf sent text) where
+  module _ (sent unsent : List Message) (cut : ms ≡ sent ++ unsent) (text : List ℕ) (frames : AreFramesOf sent
+      text) where
     -- the thread that writes had no fault
-    all_written : (failed : Bool) → (failed ≡ false → (unsent ≡ []) × IsWhole stop) → WritesBytes text None a b → WritesReplies stop ms (reply_fault None failed) a b
+    all_written : (failed : Bool) → (failed ≡ false → (unsent ≡ []) × IsWhole stop) → WritesBytes text None a b
+        → WritesReplies stop ms (reply_fault None failed) a b
     all_written true whole written = (sent, unsent, cut, (text, frames, written))
     all_written false whole written =
         let all : ms ≡ sent = cut ∙ ap (λ l. sent ++ l) (whole refl).0 ∙ append-nil sent in
@@ -135,27 +157,39 @@ module _ (stop : Stop) (ms : List Message) (a b : Option (List ℕ)) where
     -- or it had one
     some_written : (fault : WriteFault) → WritesBytes text (Some fault) a b → WritesReplies stop ms (Some fault) a b
     some_written (Output kind) (output, some, begun) =
-        let broken = breaks sent text a b frames some begun in
-        (broken.0, broken.1, broken.2 ++ unsent, cut ∙ ap (λ l. l ++ unsent) broken.3 ∙ append_assoc broken.0 (broken.1 ∷ broken.2) unsent, broken.4)
+        let broken = breaks sent text a b frames some begun in (
+          broken.0,
+          broken.1,
+          broken.2 ++ unsent,
+          cut ∙ ap (λ l. l ++ unsent) broken.3 ∙ append_assoc broken.0 (broken.1
+              ∷ broken.2) unsent,
+          broken.4,
+        )
     some_written NoMemory (output, some, begun) = absurd output
 
-    bytes_written : (fault : Option WriteFault) (failed : Bool) → (failed ≡ false → (unsent ≡ []) × IsWhole stop) → WritesBytes text fault a b
+    bytes_written : (fault : Option WriteFault) (failed : Bool) → (failed ≡ false → (unsent ≡ []) × IsWhole stop)
+        → WritesBytes text fault a b
         → WritesReplies stop ms (reply_fault fault failed) a b
     bytes_written None failed whole written = all_written failed whole written
     bytes_written (Some fault) failed whole written = some_written fault written
 
-  module _ (old new : Replying) (unsent : old.bytes ≡ []) (replied : Replied old new stop ms) (taken sent : List (Parcel (String Global)))
+  module _ (old new : Replying) (unsent : old.bytes ≡ []) (replied : Replied old new stop ms) (taken sent : List
+      (Parcel (String Global)))
       (all : parcel_bytes sent ≡ new.bytes) (ended : AreEnded sent) (settled : IsPrefix taken sent) where
     -- the output was written: the first fault is that of the thread that writes, or of the outbox
-    pub replies_written : (fault : Option WriteFault) → WritesParcels taken fault a b → WritesReplies stop ms (reply_fault fault new.failed) a b
+    pub replies_written : (fault : Option WriteFault) → WritesParcels taken fault a b → WritesReplies stop ms
+        (reply_fault fault new.failed) a b
     replies_written fault written =
         let same : parcel_bytes taken ≡ replied.text =
-        ap parcel_bytes (sym (same_parcels taken sent written.0 ended settled)) ∙ all ∙ replied.bytes ∙ ap (λ l. l ++ replied.text) unsent in
-        bytes_written replied.sent replied.unsent replied.cut replied.text replied.frames fault new.failed replied.whole (rw same at written.1)
+        ap parcel_bytes (sym (same_parcels taken sent written.0 ended settled)) ∙ all ∙ replied.bytes
+        ∙ ap (λ l. l ++ replied.text) unsent in
+        bytes_written replied.sent replied.unsent replied.cut replied.text replied.frames fault new.failed replied.whole
+        (rw same at written.1)
 
 -- ---- a session over such an outbox
 -- what was written of a session over bytes, as one in threads says it
-wrote_so : (a b : Option (List ℕ)) (result : Result SessionEnd SessionFault) (stop : Stop) (shutdown_reply : Option Message) (sends : List Message) → Wrote a b result stop shutdown_reply sends
+wrote_so : (a b : Option (List ℕ)) (result : Result SessionEnd SessionFault) (stop : Stop) (shutdown_reply : Option
+    Message) (sends : List Message) → Wrote a b result stop shutdown_reply sends
     → WroteInThreads a b result stop shutdown_reply sends
 wrote_so a b (Err (Write fault)) stop shutdown_reply sends (output, unsent, whole, last, cut, got) =
     (output, (whole, last, [], cut, got))
@@ -167,11 +201,15 @@ not_refused : (stop : Stop) → IsWhole stop → NotRefused stop
 not_refused (refused fault) whole = absurd whole
 not_refused stop whole = tt
 
-module _ {I O L : Type 0} (receives : Receives I) (sends : Sends O) (wakeable : Bool) (hears : L → ReadFault → L → Type 0) (limit : Limits) (P Q : SessionPart) (reason : StopReason)
-    (knows : (xs : List Exchange) (stop : Stop) (shutdown_reply : Option Message) (answer : SessionAnswer) → P xs stop shutdown_reply answer
+module _ {I O L : Type 0} (receives : Receives I) (sends : Sends O) (wakeable : Bool) (hears : L → ReadFault → L
+    → Type 0) (limit : Limits) (P Q : SessionPart) (reason : StopReason)
+    (knows : (xs : List Exchange) (stop : Stop) (shutdown_reply : Option Message) (answer : SessionAnswer)
+    → P xs stop shutdown_reply answer
     → Q xs stop shutdown_reply answer × StopsFor reason xs stop shutdown_reply answer × Facts stop (messages_of xs))
-    (a b : Option (List ℕ)) (old new : I × O) (answer : SessionAnswer) (runs : Runs receives sends P old answer new) where
-  known_of : Q runs.exchanges runs.stop runs.shutdown_reply answer × StopsFor reason runs.exchanges runs.stop runs.shutdown_reply answer × Facts runs.stop (messages_of runs.exchanges)
+    (a b : Option (List ℕ)) (old new : I × O) (answer : SessionAnswer) (runs : Runs receives sends P old answer
+    new) where
+  known_of : Q runs.exchanges runs.stop runs.shutdown_reply answer × StopsFor reason runs.exchanges runs.stop
+      runs.shutdown_reply answer × Facts runs.stop (messages_of runs.exchanges)
   known_of = knows runs.exchanges runs.stop runs.shutdown_reply answer runs.part
 
   -- others wake it only if they can
@@ -179,20 +217,24 @@ module _ {I O L : Type 0} (receives : Receives I) (sends : Sends O) (wakeable : 
   Others = wakeable ≡ true
 
   -- what was read of a text
-  reads_all : (came : List (Option Message)) (from to : List ℕ × L) → ReadsFrames Others hears limit from came to → FoldsTo (ReadsFrameOrWakes wakeable hears limit) from came to
+  reads_all : (came : List (Option Message)) (from to : List ℕ × L) → ReadsFrames Others hears limit from came to
+      → FoldsTo (ReadsFrameOrWakes wakeable hears limit) from came to
   reads_all [] from to run = run
   reads_all (Some m ∷ came) from to run = (run.0, run.1, reads_all came run.0 to run.2)
   reads_all (None ∷ came) from to run = (run.0, run.1, reads_all came run.0 to run.2)
 
   -- what came in, as an inbox over the text brings it
   module _ (text : List ℕ) (first : L) (s : Stream × L)
-      (run : FoldsTo (GivesOr Others hears limit) (record { remaining = Some text; end = None }, first) runs.events s) where
+      (run : FoldsTo (GivesOr Others hears limit) (record { remaining = Some text; end = None }, first) runs.events
+      s) where
     abbrev start : Stream × L
     start = (record { remaining = Some text; end = None }, first)
 
-    over : (result : Result SessionEnd SessionFault) (at : List ℕ × L) → ReadsFrames Others hears limit (text, first) (came_of runs.exchanges) at
+    over : (result : Result SessionEnd SessionFault) (at : List ℕ × L) → ReadsFrames Others hears limit (text, first)
+        (came_of runs.exchanges) at
         → HearsLast hears limit runs.stop at s.1 → EndsInThreads limit result answer runs.stop runs.shutdown_reply at.0
-        → WroteInThreads a b result runs.stop runs.shutdown_reply (sends_of runs.exchanges) → ThreadsTellOver wakeable hears limit Q text first s.1 a b result
+        → WroteInThreads a b result runs.stop runs.shutdown_reply (sends_of runs.exchanges) → ThreadsTellOver wakeable
+        hears limit Q text first s.1 a b result
     over result at read heard ends wrote = record {
       exchanges = runs.exchanges;
       at = at;
@@ -205,16 +247,23 @@ module _ {I O L : Type 0} (receives : Receives I) (sends : Sends O) (wakeable : 
       wrote = wrote;
     }
 
-    read : (at : List ℕ × L) × ReadsFrames Others hears limit (text, first) (came_of runs.exchanges) at × HearsLast hears limit runs.stop at s.1
+    read : (at : List ℕ × L) × ReadsFrames Others hears limit (text, first) (came_of runs.exchanges) at
+        × HearsLast hears limit runs.stop at s.1
         × LeftWithin limit runs.stop at.0 s.0.remaining
-    read = left_after Others hears limit text start s refl refl runs.events run (came_of runs.exchanges) runs.stop runs.brought known_of.2
+    read = left_after Others hears limit text start s refl refl runs.events run (came_of runs.exchanges) runs.stop
+        runs.brought known_of.2
 
     pub session_gives : (fault : Option WriteFault) → WritesReplies runs.stop (sends_of runs.exchanges) fault a b
         → ThreadsTellOver wakeable hears limit Q text first s.1 a b (session_answer reason answer s.0.end fault)
     session_gives None (whole, written) =
-        let all = frames_end Others hears limit text start s refl refl runs.events run (came_of runs.exchanges) runs.shutdown_reply answer (sends_of runs.exchanges) a b written
+        let all = frames_end Others hears limit text start s refl refl runs.events run (came_of runs.exchanges)
+        runs.shutdown_reply answer (sends_of runs.exchanges) a b written
         runs.stop runs.brought (not_refused runs.stop whole) known_of.2 in
         let result = session_answer (reason_of runs.stop) answer s.0.end None in
-        rw known_of.1 (over result all.0 all.1 all.2 (s.0.remaining, all.3.0) (wrote_so a b result runs.stop runs.shutdown_reply (sends_of runs.exchanges) all.3.1))
-    session_gives (Some (Output kind)) broken = over (Err (Write (Output kind))) read.0 read.1 read.2 (s.0.remaining, read.3) (tt, broken)
+        rw known_of.1 (over result all.0 all.1 all.2 (s.0.remaining, all.3.0) (wrote_so a b result runs.stop
+        runs.shutdown_reply (sends_of runs.exchanges) all.3.1))
+    session_gives (Some (Output kind)) broken = over (Err (Write (Output kind))) read.0 read.1 read.2 (
+      s.0.remaining,
+      read.3,
+    ) (tt, broken)
     session_gives (Some NoMemory) first' = over (Err Memory) read.0 read.1 read.2 (s.0.remaining, read.3) first'

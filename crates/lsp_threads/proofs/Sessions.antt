@@ -1,5 +1,6 @@
 -- A session over relays, as its contract says it: it is one over bytes, but what is left of them is not known.
-use Rattle.std.proofs.Common.{arith, ◌≡◌, ◌≤◌, refl, ◌∙◌, ap, subst, inl, inr, ℕ, Bool, true, false, List, [], ◌∷◌, ◌++◌, Some, None, Option, IfSome, String, Global}
+use Rattle.std.proofs.Common.{arith, ◌≡◌, ◌≤◌, refl, ◌∙◌, ap, subst, inl, inr, ℕ, Bool, true, false, List, [], ◌∷◌}
+use Rattle.std.proofs.Common.{◌++◌, Some, None, Option, IfSome, String, Global}
 use Rattle.std.specs.Bool.{MatchBool}
 use Rattle.std.specs.List.{concat, FoldsTo}
 use Rattle.std.specs.Prelude.{Result, Ok, Err, IfOk, OnErr}
@@ -35,7 +36,8 @@ use Rattle.lsp_threads.specs.Threads.{ReadsFrameOrWakes, ReadsOrWakes, session_e
 use Rattle.lsp_threads.specs.declared.content_inbox.ContentInbox.{ContentInbox}
 
 -- what an inbox gave, as it is seen; and what it was lent is kept
-pub seen_all : {R L : Type 0} (hears : L → ReadFault → L → Type 0) (events : List Event) (old new : ContentInbox R L) → FoldsTo (InboxGives hears) old events new
+pub seen_all : {R L : Type 0} (hears : L → ReadFault → L → Type 0) (events : List Event) (old new : ContentInbox R L)
+    → FoldsTo (InboxGives hears) old events new
     → FoldsTo (ContentsGive hears) (seen_of old) events (seen_of new) × KeepsLent old new
 seen_all hears [] old new run = (ap seen_of run, (rw run refl, rw run refl))
 seen_all hears (event ∷ events) old new run =
@@ -43,48 +45,65 @@ seen_all hears (event ∷ events) old new run =
     ((seen_of run.0, run.1.0, rest.0), (rest.1.0 ∙ run.1.1.0, rest.1.1 ∙ run.1.1.1))
 
 module _ {L : Type 0} (hears : L → ReadFault → L → Type 0) (limit : Limits) (P Q : SessionPart) (reason : StopReason)
-    (knows : (xs : List Exchange) (stop : Stop) (shutdown_reply : Option Sent) (answer : SessionAnswer) → P xs stop shutdown_reply answer
+    (knows : (xs : List Exchange) (stop : Stop) (shutdown_reply : Option Sent) (answer : SessionAnswer)
+    → P xs stop shutdown_reply answer
     → Q xs stop shutdown_reply answer × StopsFor reason xs stop shutdown_reply answer × Facts stop (messages_of xs))
-    (a b : Option (List ℕ)) {R : Type 0} (inbox inbox' : ContentInbox R L) (outbox outbox' : Replying) (answer : SessionAnswer)
+    (a b : Option (List ℕ)) {R : Type 0} (inbox inbox' : ContentInbox R L) (outbox outbox' : Replying)
+    (answer : SessionAnswer)
     (runs : Runs (InboxGives hears) RepliesSend P (inbox, outbox) answer (inbox', outbox')) where
   -- what the threads of a session come to in bytes
-  module _ (none : (seen_of inbox).0.taken ≡ []) (all_given : (seen_of inbox).0.waiting ≡ []) (unended : (seen_of inbox).0.end ≡ None) (unsent : outbox.bytes ≡ [])
+  module _ (none : (seen_of inbox).0.taken ≡ []) (all_given : (seen_of inbox).0.waiting ≡ [])
+      (unended : (seen_of inbox).0.end ≡ None) (unsent : outbox.bytes ≡ [])
       (taken : List (Parcel Contents)) (back : Sending Contents)
-      (drained : MatchBool (has_end (seen_of inbox').0.taken) (taken ≡ (seen_of inbox').0.taken) ((more : List Contents) × (taken ≡ (seen_of inbox').0.taken ++ ended more)))
-      (settled : IsPrefix taken back.sent) (silent : back.wakeable ≡ false → (seen_of inbox').0.wakes ≡ 0) (tx : Sending Contents) (read : ReadEnd)
-      (replies_taken replies : List (Parcel (String Global))) (all : parcel_bytes replies ≡ outbox'.bytes) (finished : AreEnded replies) (fault : Option WriteFault)
+      (drained : MatchBool (has_end (seen_of inbox').0.taken) (taken ≡ (seen_of inbox').0.taken) ((more : List Contents)
+      × (taken ≡ (seen_of inbox').0.taken ++ ended more)))
+      (settled : IsPrefix taken back.sent) (silent : back.wakeable ≡ false → (seen_of inbox').0.wakes ≡ 0)
+      (tx : Sending Contents) (read : ReadEnd)
+      (replies_taken replies : List (Parcel (String Global))) (all : parcel_bytes replies ≡ outbox'.bytes)
+      (finished : AreEnded replies) (fault : Option WriteFault)
       (written : WritesParcels replies_taken fault a b) (replies_settled : IsPrefix replies_taken replies) where
     -- the output was written
     output_written : WritesReplies runs.stop (sends_of runs.exchanges) (reply_fault fault outbox'.failed) a b
     output_written =
         subst (λ ms. WritesReplies runs.stop ms (reply_fault fault outbox'.failed) a b) runs.all
-        (replies_written runs.stop _ a b outbox outbox' unsent (all_replied outbox outbox' runs.output runs.shutdown_reply runs.stop runs.got) replies_taken replies all finished replies_settled fault written)
+        (replies_written runs.stop _ a b outbox outbox' unsent (all_replied outbox outbox' runs.output
+        runs.shutdown_reply runs.stop runs.got) replies_taken replies all finished replies_settled fault written)
 
     -- a wake that was taken was given by others
-    woke : (wakeable : Bool) → (wakeable ≡ false → (seen_of inbox').0.wakes ≡ 0) → 1 ≤ (seen_of inbox').0.wakes → wakeable ≡ true
+    woke : (wakeable : Bool) → (wakeable ≡ false → (seen_of inbox').0.wakes ≡ 0) → 1 ≤ (seen_of inbox').0.wakes
+        → wakeable ≡ true
     woke true silent' some = refl
     woke false silent' some = absurd (omega (arith, silent' refl, some))
 
     pub threads_tell : (known : Option (List ℕ)) → IfSome known (λ text. HandsWhole limit text tx read back)
         → IfSome known (λ text. ThreadsTellOver tx.wakeable hears limit Q text (seen_of inbox).1 (seen_of inbox').1 a b
-        (session_answer reason answer (session_end (seen_of inbox').0.end (has_end (seen_of inbox').0.taken) read) (reply_fault fault outbox'.failed)))
+        (session_answer reason answer (session_end (seen_of inbox').0.end (has_end (seen_of inbox').0.taken) read)
+        (reply_fault fault outbox'.failed)))
     threads_tell None handed = tt
     threads_tell (Some text) handed =
-        let s = as_stream limit hears (tx.wakeable ≡ true) (seen_of inbox) (seen_of inbox') none all_given unended runs.events (seen_all hears runs.events inbox inbox' runs.received).0
+        let s = as_stream limit hears (tx.wakeable ≡ true) (seen_of inbox) (seen_of inbox') none all_given unended
+        runs.events (seen_all hears runs.events inbox inbox' runs.received).0
         (woke tx.wakeable (λ e. silent (handed.2 ∙ e))) taken tx back drained settled read text handed in
         subst (λ heard. ThreadsTellOver tx.wakeable hears limit Q text (seen_of inbox).1 heard a b
-        (session_answer reason answer (session_end (seen_of inbox').0.end (has_end (seen_of inbox').0.taken) read) (reply_fault fault outbox'.failed))) s.1.2
-        (subst (λ end. ThreadsTellOver tx.wakeable hears limit Q text (seen_of inbox).1 s.0.1 a b (session_answer reason answer end (reply_fault fault outbox'.failed))) s.1.1
-        (session_gives (InboxGives hears) RepliesSend tx.wakeable hears limit P Q reason knows a b (inbox, outbox) (inbox', outbox') answer runs
+        (session_answer reason answer (session_end (seen_of inbox').0.end (has_end (seen_of inbox').0.taken) read)
+        (reply_fault fault outbox'.failed))) s.1.2
+        (subst (λ end. ThreadsTellOver tx.wakeable hears limit Q text (seen_of inbox).1 s.0.1 a b (session_answer reason
+        answer end (reply_fault fault outbox'.failed))) s.1.1
+        (session_gives (InboxGives hears) RepliesSend tx.wakeable hears limit P Q reason knows a b (inbox, outbox)
+        (inbox', outbox') answer runs
         text (seen_of inbox).1 s.0 s.1.0 (reply_fault fault outbox'.failed) output_written))
 
 -- A session in threads that is described otherwise.
 module _ (P Q : SessionPart)
-    (to : (xs : List Exchange) (stop : Stop) (shutdown_reply : Option Sent) (answer : SessionAnswer) → P xs stop shutdown_reply answer → Q xs stop shutdown_reply answer) (wakeable : Bool) (limit : Limits) where
+    (to : (xs : List Exchange) (stop : Stop) (shutdown_reply : Option Sent) (answer : SessionAnswer)
+    → P xs stop shutdown_reply answer → Q xs stop shutdown_reply answer) (wakeable : Bool) (limit : Limits) where
   -- if the bytes are known, and both threads were started
-  pub started_as : {T F : Type 0} (contents : T → Option (List ℕ)) (answer_of : T → Result SessionEnd SessionFault) (known old : Option (List ℕ)) (result : Result T F)
-      → IfSome known (λ text. IfOk result (λ done. ThreadsGiveOver wakeable limit P text old (contents done) (answer_of done)))
-      → IfSome known (λ text. IfOk result (λ done. ThreadsGiveOver wakeable limit Q text old (contents done) (answer_of done)))
+  pub started_as : {T F : Type 0} (contents : T → Option (List ℕ)) (answer_of : T → Result SessionEnd SessionFault)
+      (known old : Option (List ℕ)) (result : Result T F)
+      → IfSome known (λ text. IfOk result (λ done. ThreadsGiveOver wakeable limit P text old (contents done)
+      (answer_of done)))
+      → IfSome known (λ text. IfOk result (λ done. ThreadsGiveOver wakeable limit Q text old (contents done)
+      (answer_of done)))
   started_as contents answer_of None old result gives = tt
   started_as contents answer_of (Some text) old (Ok done) gives = over_as P Q to _ text _ _ gives
   started_as contents answer_of (Some text) old (Err fault) gives = tt
@@ -92,26 +111,39 @@ module _ (P Q : SessionPart)
 -- The same of one that asks a listener.
 module _ (wakeable : Bool) {L : Type 0} (hears : L → ReadFault → L → Type 0) (limit : Limits) (first last : L) where
   pub started_told_as : (P Q : SessionPart)
-      (to : (xs : List Exchange) (stop : Stop) (shutdown_reply : Option Sent) (answer : SessionAnswer) → P xs stop shutdown_reply answer → Q xs stop shutdown_reply answer)
-      {T F : Type 0} (contents : T → Option (List ℕ)) (answer_of : T → Result SessionEnd SessionFault) (known old : Option (List ℕ)) (result : Result T F)
-      → IfSome known (λ text. IfOk result (λ done. ThreadsTellOver wakeable hears limit P text first last old (contents done) (answer_of done)))
-      → IfSome known (λ text. IfOk result (λ done. ThreadsTellOver wakeable hears limit Q text first last old (contents done) (answer_of done)))
+      (to : (xs : List Exchange) (stop : Stop) (shutdown_reply : Option Sent) (answer : SessionAnswer)
+      → P xs stop shutdown_reply answer → Q xs stop shutdown_reply answer)
+      {T F : Type 0} (contents : T → Option (List ℕ)) (answer_of : T → Result SessionEnd SessionFault)
+      (known old : Option (List ℕ)) (result : Result T F)
+      → IfSome known (λ text. IfOk result (λ done. ThreadsTellOver wakeable hears limit P text first last old
+      (contents done) (answer_of done)))
+      → IfSome known (λ text. IfOk result (λ done. ThreadsTellOver wakeable hears limit Q text first last old
+      (contents done) (answer_of done)))
   started_told_as P Q to contents answer_of None old result tells = tt
   started_told_as P Q to contents answer_of (Some text) old (Ok done) tells = over_as P Q to _ (text, first) _ _ tells
   started_told_as P Q to contents answer_of (Some text) old (Err fault) tells = tt
 
   -- the same of the bytes that were taken
   pub taken_told_as : (P Q : SessionPart)
-      (to : (xs : List Exchange) (stop : Stop) (shutdown_reply : Option Sent) (answer : SessionAnswer) → P xs stop shutdown_reply answer → Q xs stop shutdown_reply answer)
-      {T F : Type 0} (taken : T → Parts) (given : T → Option (List ℕ)) (answer_of : T → Result SessionEnd SessionFault) (result : Result T F)
-      → IfOk result (λ done. OfTaken (taken done) (λ text. ThreadsTellOver wakeable hears limit P text first last (Some []) (given done) (answer_of done)))
-      → IfOk result (λ done. OfTaken (taken done) (λ text. ThreadsTellOver wakeable hears limit Q text first last (Some []) (given done) (answer_of done)))
-  taken_told_as P Q to taken given answer_of (Ok done) tells = λ rest ends. over_as P Q to _ (concat (taken done) ++ rest, first) _ _ (tells rest ends)
+      (to : (xs : List Exchange) (stop : Stop) (shutdown_reply : Option Sent) (answer : SessionAnswer)
+      → P xs stop shutdown_reply answer → Q xs stop shutdown_reply answer)
+      {T F : Type 0} (taken : T → Parts) (given : T → Option (List ℕ)) (answer_of : T → Result SessionEnd SessionFault)
+      (result : Result T F)
+      → IfOk result (λ done. OfTaken (taken done) (λ text. ThreadsTellOver wakeable hears limit P text first last
+      (Some []) (given done) (answer_of done)))
+      → IfOk result (λ done. OfTaken (taken done) (λ text. ThreadsTellOver wakeable hears limit Q text first last
+      (Some []) (given done) (answer_of done)))
+  taken_told_as P Q to taken given answer_of (Ok done) tells = λ rest ends. over_as P Q to _ (
+    concat (taken done)
+        ++ rest,
+    first,
+  ) _ _ (tells rest ends)
   taken_told_as P Q to taken given answer_of (Err fault) tells = tt
 
   -- A listener that passes over nothing: each frame is a message, and each wake is given by others.
   module _ (never : PassesNothingOver hears) where
-    reads_or_wakes : (came : List (Option Sent)) (from to : List ℕ × L) → FoldsTo (ReadsFrameOrWakes wakeable hears limit) from came to
+    reads_or_wakes : (came : List (Option Sent)) (from to : List ℕ × L) → FoldsTo (ReadsFrameOrWakes wakeable hears
+        limit) from came to
         → FoldsTo (ReadsOrWakes wakeable limit) from.0 came to.0
     reads_or_wakes [] from to run = ap (λ (at : List ℕ × L). at.0) run
     reads_or_wakes (Some m ∷ came) from to run = (run.0.0, run.1.0, reads_or_wakes came run.0 to run.2)
@@ -120,8 +152,10 @@ module _ (wakeable : Bool) {L : Type 0} (hears : L → ReadFault → L → Type 
       | inr passes ↦ absurd (never from.1 passes.0 run.0.1 passes.3)
     ]
 
-    pub none_passed : (P : SessionPart) (text : List ℕ) (old new : Option (List ℕ)) (result : Result SessionEnd SessionFault)
-        → ThreadsTellOver wakeable hears limit P text first last old new result → ThreadsGiveOver wakeable limit P text old new result
+    pub none_passed : (P : SessionPart) (text : List ℕ) (old new : Option (List ℕ)) (result : Result SessionEnd
+        SessionFault)
+        → ThreadsTellOver wakeable hears limit P text first last old new result → ThreadsGiveOver wakeable limit P text
+        old new result
     none_passed P text old new result tells = record {
       exchanges = tells.exchanges;
       at = tells.at.0;
@@ -135,26 +169,38 @@ module _ (wakeable : Bool) {L : Type 0} (hears : L → ReadFault → L → Type 
     }
 
     -- if the bytes are known, and both threads were started
-    pub started_untold : (P : SessionPart) {T F : Type 0} (contents : T → Option (List ℕ)) (answer_of : T → Result SessionEnd SessionFault) (known old : Option (List ℕ)) (result : Result T F)
-        → IfSome known (λ text. IfOk result (λ done. ThreadsTellOver wakeable hears limit P text first last old (contents done) (answer_of done)))
-        → IfSome known (λ text. IfOk result (λ done. ThreadsGiveOver wakeable limit P text old (contents done) (answer_of done)))
+    pub started_untold : (P : SessionPart) {T F : Type 0} (contents : T → Option (List ℕ)) (answer_of : T
+        → Result SessionEnd SessionFault) (known old : Option (List ℕ)) (result : Result T F)
+        → IfSome known (λ text. IfOk result (λ done. ThreadsTellOver wakeable hears limit P text first last old
+        (contents done) (answer_of done)))
+        → IfSome known (λ text. IfOk result (λ done. ThreadsGiveOver wakeable limit P text old (contents done)
+        (answer_of done)))
     started_untold P contents answer_of None old result tells = tt
-    started_untold P contents answer_of (Some text) old (Ok done) tells = none_passed P text old (contents done) (answer_of done) tells
+    started_untold P contents answer_of (Some text) old (Ok done) tells = none_passed P text old (contents done)
+        (answer_of done) tells
     started_untold P contents answer_of (Some text) old (Err fault) tells = tt
 
     -- the same of the bytes that were taken, if it is described otherwise
     pub started_told : (P Q : SessionPart)
-        (to : (xs : List Exchange) (stop : Stop) (shutdown_reply : Option Sent) (answer : SessionAnswer) → P xs stop shutdown_reply answer → Q xs stop shutdown_reply answer)
-        {T F : Type 0} (taken : T → Parts) (given : T → Option (List ℕ)) (answer_of : T → Result SessionEnd SessionFault) (result : Result T F)
-        → IfOk result (λ done. OfTaken (taken done) (λ text. ThreadsTellOver wakeable hears limit P text first last (Some []) (given done) (answer_of done)))
-        → IfOk result (λ done. OfTaken (taken done) (λ text. ThreadsGiveOver wakeable limit Q text (Some []) (given done) (answer_of done)))
+        (to : (xs : List Exchange) (stop : Stop) (shutdown_reply : Option Sent) (answer : SessionAnswer)
+        → P xs stop shutdown_reply answer → Q xs stop shutdown_reply answer)
+        {T F : Type 0} (taken : T → Parts) (given : T → Option (List ℕ)) (answer_of : T → Result SessionEnd
+        SessionFault) (result : Result T F)
+        → IfOk result (λ done. OfTaken (taken done) (λ text. ThreadsTellOver wakeable hears limit P text first last
+        (Some []) (given done) (answer_of done)))
+        → IfOk result (λ done. OfTaken (taken done) (λ text. ThreadsGiveOver wakeable limit Q text (Some [])
+        (given done) (answer_of done)))
     started_told P Q to taken given answer_of (Ok done) tells =
-        λ rest ends. let text = concat (taken done) ++ rest in over_as P Q to _ text _ _ (none_passed P text (Some []) (given done) (answer_of done) (tells rest ends))
+        λ rest ends. let text = concat (taken done) ++ rest in over_as P Q to _ text _ _ (none_passed P text (Some [])
+        (given done) (answer_of done) (tells rest ends))
     started_told P Q to taken given answer_of (Err fault) tells = tt
 
 -- a handler that was lent to a session which did not start is as it was
-pub unstarted_handler : {H T F : Type 0} (old new : HandlerService H) (first last : H) → (new.handler.ghost_name ≡ old.handler.ghost_name → last ≡ new.handler.now)
-    → old.handler.now ≡ first → (X : Type 0) (result : Result T F) → OnErr result ((new ≡ old) × X) → OnErr result (last ≡ first)
+pub unstarted_handler : {H T F : Type 0} (old new : HandlerService H) (first last : H) → (new.handler.ghost_name
+    ≡ old.handler.ghost_name → last ≡ new.handler.now)
+    → old.handler.now ≡ first → (X : Type 0) (result : Result T F) → OnErr result ((new ≡ old) × X) → OnErr result (last
+    ≡ first)
 unstarted_handler old new first last same unchanged X (Ok done) kept = tt
 unstarted_handler old new first last same unchanged X (Err fault) kept =
-    same (ap (λ (s : HandlerService _). s.handler.ghost_name) kept.0) ∙ ap (λ (s : HandlerService _). s.handler.now) kept.0 ∙ unchanged
+    same (ap (λ (s : HandlerService _). s.handler.ghost_name) kept.0) ∙ ap (λ (s : HandlerService _). s.handler.now)
+    kept.0 ∙ unchanged

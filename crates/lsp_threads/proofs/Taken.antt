@@ -1,5 +1,8 @@
--- What was taken from a reader and given to a writer, of whatever reader and writer, and what follows where their bytes are known.
-use Rattle.std.proofs.Common.{◌≡◌, ℕ, ◌<◌, Bool, true, List, [], ◌∷◌, ◌++◌, length, Option, Some, None, IfSome, Result, Ok, Err, IfErr, refl, sym, ap, subst, ◌∙◌, append-nil, append_assoc, inl, inr, arith, false, ◌==◌}
+-- What was taken from a reader and given to a writer, of whatever reader and writer, and what follows where their bytes
+-- are known.
+use Rattle.std.proofs.Common.{◌≡◌, ℕ, ◌<◌, Bool, true, List, [], ◌∷◌, ◌++◌, length, Option, Some, None, IfSome, Result}
+use Rattle.std.proofs.Common.{Ok, Err, IfErr, refl, sym, ap, subst, ◌∙◌, append-nil, append_assoc, inl, inr, arith}
+use Rattle.std.proofs.Common.{false, ◌==◌}
 use Rattle.std.proofs.KnownBytes.{Appends-nil, Appends-trans}
 use Rattle.std.proofs.lemmas.List.Folds.{concat-append}
 use Rattle.std.specs.Io.KnownBytes.{Appends, Keeps}
@@ -20,7 +23,8 @@ use Rattle.lsp_session.specs.ReadLoop.{Extent, ReadsOver}
 use Rattle.lsp_session.specs.Session.{SessionPart, Stop}
 use Rattle.lsp_session.specs.declared.loops.handler.SessionEnd.{SessionEnd}
 use Rattle.lsp_session.specs.declared.loops.stream_session.SessionFault.{SessionFault}
-use Rattle.lsp_session.specs.declared.loops.stream_session.SessionFault.TheVariants.{Write as WriteFailed, Memory as Full}
+use Rattle.lsp_session.specs.declared.loops.stream_session.SessionFault.TheVariants.{Write as WriteFailed}
+use Rattle.lsp_session.specs.declared.loops.stream_session.SessionFault.TheVariants.{Memory as Full}
 use Rattle.lsp_threads.specs.Framing.{WritesBytes}
 use Rattle.lsp_threads.specs.Passing.{OfTaken, TakenFrom, GivenTo, GivesMore, noted}
 use Rattle.lsp_threads.specs.Pump.{Pumps}
@@ -39,14 +43,16 @@ nothing_taken known = Takes-none [] known known (keeps known)
 -- more was taken
 module _ (t u : Parts) (a b c : Option (List ℕ)) where
   pub takes_more : {P : Parts → Type 0} → Takes t [] t a b → Told P t u b c → Takes u [] u a c
-  takes_more so_far told = subst (λ parts. Takes parts [] u a c) (sym told.1.added) (Takes-trans t told.0 [] t u a b c so_far told.1)
+  takes_more so_far told = subst (λ parts. Takes parts [] u a c) (sym told.1.added) (Takes-trans t told.0 [] t u a b c
+      so_far told.1)
 
   pub taken_more : {P : Parts → Type 0} → Takes t [] t a b → Told P t u b c → TakenFrom a u
   taken_more so_far told = (c, takes_more so_far told)
 
 -- a look at the reader takes nothing
 pub takes_kept : (t : Parts) (a b c : Option (List ℕ)) → Takes t [] t a b → Keeps b c → Takes t [] t a c
-takes_kept t a b c so_far kept = subst (λ parts. Takes parts [] t a c) (append-nil t) (Takes-trans t [] [] t t a b c so_far (Takes-none t b c kept))
+takes_kept t a b c so_far kept = subst (λ parts. Takes parts [] t a c) (append-nil t) (Takes-trans t [] [] t t a b c
+    so_far (Takes-none t b c kept))
 
 -- what a read tells of a text that begins with all that was taken
 module _ {X A : Type 0} (view : X → A) (reading : List ℕ → Reading A) (t u : Parts) (a b : Option (List ℕ)) where
@@ -54,13 +60,20 @@ module _ {X A : Type 0} (view : X → A) (reading : List ℕ → Reading A) (t u
   abbrev pub At : Result (Option X) ReadFault → List ℕ → Type 0
   At r rest = (at : List ℕ) × (concat u ++ rest ≡ concat t ++ at) × Answers view r (Some rest) (reading at)
 
-  at_parts : (r : Result (Option X) ReadFault) (told : Told (IsOfParts view reading r) t u a b) (rest : List ℕ) → MayFollow r told.0 rest → At r rest
-  at_parts r told rest follows = (concat told.0 ++ rest, ap (λ l. concat l ++ rest) told.1.added ∙ joined t told.0 rest, told.2 rest follows)
+  at_parts : (r : Result (Option X) ReadFault) (told : Told (IsOfParts view reading r) t u a b) (rest : List ℕ)
+      → MayFollow r told.0 rest → At r rest
+  at_parts r told rest follows = (
+    concat told.0 ++ rest,
+    ap (λ l. concat l ++ rest) told.1.added ∙ joined t told.0 rest,
+    told.2 rest follows,
+  )
 
-  pub told_next : (x : X) → Told (IsOfParts view reading (Ok (Some x))) t u a b → (rest : List ℕ) → At (Ok (Some x)) rest
+  pub told_next : (x : X) → Told (IsOfParts view reading (Ok (Some x))) t u a b → (rest : List ℕ)
+      → At (Ok (Some x)) rest
   told_next x told rest = at_parts (Ok (Some x)) told rest tt
 
-  pub told_last : (r : Result (Option X) ReadFault) → Told (IsOfParts view reading r) t u a b → (rest : List ℕ) → (shows_end u ≡ true → rest ≡ []) → At r rest
+  pub told_last : (r : Result (Option X) ReadFault) → Told (IsOfParts view reading r) t u a b → (rest : List ℕ)
+      → (shows_end u ≡ true → rest ≡ []) → At r rest
   told_last r told rest ends = at_parts r told rest (follows r)
     where
       shown : shows_end told.0 ≡ true → rest ≡ []
@@ -72,7 +85,8 @@ module _ {X A : Type 0} (view : X → A) (reading : List ℕ → Reading A) (t u
       follows (Err fault) = shown
 
 -- If the bytes are known, what holds of each text that begins with what was taken holds of them.
-pub of_known : (known : Option (List ℕ)) (taken : Parts) (F : List ℕ → Type 0) → OfTaken taken F → TakenFrom known taken → IfSome known F
+pub of_known : (known : Option (List ℕ)) (taken : Parts) (F : List ℕ → Type 0) → OfTaken taken F → TakenFrom known taken
+    → IfSome known F
 of_known None taken F of from = tt
 of_known (Some text) taken F of (None, takes) = absurd takes.consumed
 of_known (Some text) taken F of (Some left, takes) = subst F (sym takes.consumed) (of left takes.at_end)
@@ -92,7 +106,11 @@ gives_then t u v a b c (ps, first) (qs, second) = (
 
 -- an account that began empty
 pub given_whole : (t u : Parts) (a b : Option (List ℕ)) → t ≡ [] → GivesMore t u a b → GivenTo a u b
-given_whole t u a b none (parts, gives) = record { added = refl; appended = subst (λ l. Appends a b (concat l)) (sym (gives.added ∙ ap (λ l. l ++ parts) none)) gives.appended }
+given_whole t u a b none (parts, gives) = record {
+  added = refl;
+  appended = subst (λ l. Appends a b (concat l))
+      (sym (gives.added ∙ ap (λ l. l ++ parts) none)) gives.appended;
+}
 
 pub some_bytes : (text : List ℕ) → (length text == 0) ≡ false → 0 < length text
 some_bytes [] none = absurd (cc (none))
@@ -103,10 +121,20 @@ module _ (text : List ℕ) (old new : Passed) (a b : Option (List ℕ)) (some : 
   grown : (parts : Parts) → new.parts ≡ old.parts ++ parts → concat new.parts ≡ concat old.parts ++ concat parts
   grown parts added = ap concat added ∙ concat-append old.parts parts
 
-  pub text_noted : (r : Result (Unit {0}) WriteFault) → IfErr r IsOutput → Given (WritesText text r) old.parts new.parts a b
+  pub text_noted : (r : Result (Unit {0}) WriteFault) → IfErr r IsOutput → Given (WritesText text r) old.parts
+      new.parts a b
       → WritesBytes text (result_err r) (noted old) (noted new)
   text_noted (Ok done) output given = grown given.0 given.1.added ∙ ap (λ l. concat old.parts ++ l) (sym given.2)
-  text_noted (Err (Output kind)) output given = (tt, some, (concat given.0, given.2.0, given.2.1, grown given.0 given.1.added))
+  text_noted (Err (Output kind)) output given = (
+    tt,
+    some,
+    (
+      concat given.0,
+      given.2.0,
+      given.2.1,
+      grown given.0 given.1.added,
+    ),
+  )
   text_noted (Err NoMemory) output given = absurd output
 
 -- What was given to a writer that began empty, given to another one.
@@ -114,7 +142,8 @@ module _ (all : List ℕ) (old new : Option (List ℕ)) (given : Appends old new
   gets_known : (ms : List Message) → GetsFrames ms (Some []) (Some all) → GetsFrames ms old new
   gets_known ms (text, are, got) = (text, are, subst (Appends old new) got given)
 
-  part_known : (ms : List Message) (next : Message) → GetsFramesAndPart ms next (Some []) (Some all) → GetsFramesAndPart ms next old new
+  part_known : (ms : List Message) (next : Message) → GetsFramesAndPart ms next (Some []) (Some all) → GetsFramesAndPart
+      ms next old new
   part_known ms next gets = record {
     frames = gets.frames;
     frames_of_whole = gets.frames_of_whole;
@@ -126,14 +155,27 @@ module _ (all : List ℕ) (old new : Option (List ℕ)) (given : Appends old new
     got = subst (Appends old new) gets.got given;
   }
 
-  wrote_known : (result : Result SessionEnd SessionFault) (stop : Stop) (shutdown_reply : Option Message) (sends : List Message)
-      → WroteInThreads (Some []) (Some all) result stop shutdown_reply sends → WroteInThreads old new result stop shutdown_reply sends
-  wrote_known (Err (WriteFailed fault)) stop shutdown_reply sends (output, begun) = (output, (begun.0, begun.1, begun.2, begun.3, part_known begun.0 begun.1 begun.4))
+  wrote_known : (result : Result SessionEnd SessionFault) (stop : Stop) (shutdown_reply : Option Message)
+      (sends : List Message)
+      → WroteInThreads (Some []) (Some all) result stop shutdown_reply sends → WroteInThreads old new result stop
+      shutdown_reply sends
+  wrote_known (Err (WriteFailed fault)) stop shutdown_reply sends (output, begun) = (
+    output,
+    (
+      begun.0,
+      begun.1,
+      begun.2,
+      begun.3,
+      part_known begun.0 begun.1 begun.4,
+    ),
+  )
   wrote_known (Err Full) stop shutdown_reply sends first = (first.0, first.1, first.2, gets_known first.0 first.3)
   wrote_known result stop shutdown_reply sends gets = gets_known sends gets
 
-  pub session_known : (wakeable : Bool) {L : Type 0} (hears : L → ReadFault → L → Type 0) (limit : Limits) (P : SessionPart) (first last : L) (result : Result SessionEnd SessionFault) (text : List ℕ)
-      → ThreadsTellOver wakeable hears limit P text first last (Some []) (Some all) result → ThreadsTellOver wakeable hears limit P text first last old new result
+  pub session_known : (wakeable : Bool) {L : Type 0} (hears : L → ReadFault → L → Type 0) (limit : Limits)
+      (P : SessionPart) (first last : L) (result : Result SessionEnd SessionFault) (text : List ℕ)
+      → ThreadsTellOver wakeable hears limit P text first last (Some []) (Some all) result → ThreadsTellOver wakeable
+      hears limit P text first last old new result
   session_known wakeable hears limit P first last result text tells = record {
     exchanges = tells.exchanges;
     at = tells.at;
@@ -147,8 +189,16 @@ module _ (all : List ℕ) (old new : Option (List ℕ)) (given : Appends old new
   }
 
   module _ (limit : Limits) (text : List ℕ) where
-    over_known : (extent : Extent) {G H : List Message → Type 0} → ((ms : List Message) → G ms → H ms) → ReadsOver limit extent text G (λ rest. Unit {0}) → ReadsOver limit extent text H (λ rest. Unit {0})
-    over_known extent to reads = record { messages = reads.messages; rest = reads.rest; read = reads.read; got = to reads.messages reads.got; left = tt }
+    over_known : (extent : Extent) {G H : List Message → Type 0} → ((ms : List Message) → G ms → H ms)
+        → ReadsOver limit extent text G (λ rest. Unit {0}) → ReadsOver limit extent text H (λ rest. Unit {0})
+    over_known extent to reads = record {
+      messages = reads.messages;
+      rest = reads.rest;
+      read = reads.read;
+      got = to
+          reads.messages reads.got;
+      left = tt;
+    }
 
     kept_known : Keeps (Some []) (Some all) → Keeps old new
     kept_known none = keeps old new (subst (Appends old new) none given)
@@ -158,27 +208,38 @@ module _ (all : List ℕ) (old new : Option (List ℕ)) (given : Appends old new
         keeps (Some x) None given = absurd given
         keeps (Some x) (Some y) given = given ∙ append-nil x
 
-    pub pump_known : (result : Result (Unit {0}) PumpFault) → Pumps limit text (Some []) (Some all) result → Pumps limit text old new result
+    pub pump_known : (result : Result (Unit {0}) PumpFault) → Pumps limit text (Some []) (Some all) result
+        → Pumps limit text old new result
     pump_known (Ok done) (inl passes) = inl (over_known _ gets_known passes)
     pump_known (Ok done) (inr passes) = inr (over_known _ gets_known passes)
     pump_known (Err (Read (Input kind))) passes = over_known _ gets_known passes
     pump_known (Err (Read NoMemoryToRead)) passes = over_known _ gets_known passes
     pump_known (Err (Read fault)) passes = over_known _ gets_known passes
-    pump_known (Err (Write (Output kind))) (next, breaks) = (next, over_known _ (λ ms gets. part_known ms next gets) breaks)
+    pump_known (Err (Write (Output kind))) (next, breaks) = (
+      next,
+      over_known _ (λ ms gets. part_known ms next
+          gets) breaks,
+    )
     pump_known (Err (Write NoMemory)) passes = over_known _ gets_known passes
     pump_known (Err (Start fault)) kept = kept_known kept
 
 -- What a pump says of all bytes, at those that are known.
-pub pumped_known : (limit : Limits) (known : Option (List ℕ)) (taken : Parts) (given : Passed) (old new : Option (List ℕ)) (answer : Result (Unit {0}) PumpFault)
-    → OfTaken taken (λ text. Pumps limit text (Some []) (noted given) answer) → TakenFrom known taken → GivenTo old given.parts new → IfSome known (λ text. Pumps limit text old new answer)
+pub pumped_known : (limit : Limits) (known : Option (List ℕ)) (taken : Parts) (given : Passed) (old new : Option
+    (List ℕ)) (answer : Result (Unit {0}) PumpFault)
+    → OfTaken taken (λ text. Pumps limit text (Some []) (noted given) answer) → TakenFrom known taken
+    → GivenTo old given.parts new → IfSome known (λ text. Pumps limit text old new answer)
 pumped_known limit known taken given old new answer told from to =
-    of_known known taken (λ text. Pumps limit text old new answer) (λ rest ends. pump_known (concat given.parts) old new to.appended limit (concat taken ++ rest) answer (told rest ends)) from
+    of_known known taken (λ text. Pumps limit text old new answer) (λ rest ends. pump_known (concat given.parts) old new
+    to.appended limit (concat taken ++ rest) answer (told rest ends)) from
 
 -- What a session says of all bytes, at those that are known.
-pub told_known : (wakeable : Bool) {L : Type 0} (hears : L → ReadFault → L → Type 0) (limit : Limits) (P : SessionPart) (first last : L) (answer : Result SessionEnd SessionFault)
+pub told_known : (wakeable : Bool) {L : Type 0} (hears : L → ReadFault → L → Type 0) (limit : Limits) (P : SessionPart)
+    (first last : L) (answer : Result SessionEnd SessionFault)
     (known : Option (List ℕ)) (taken : Parts) (given : Passed) (old new : Option (List ℕ))
-    → OfTaken taken (λ text. ThreadsTellOver wakeable hears limit P text first last (Some []) (noted given) answer) → TakenFrom known taken → GivenTo old given.parts new
+    → OfTaken taken (λ text. ThreadsTellOver wakeable hears limit P text first last (Some []) (noted given) answer)
+    → TakenFrom known taken → GivenTo old given.parts new
     → IfSome known (λ text. ThreadsTellOver wakeable hears limit P text first last old new answer)
 told_known wakeable hears limit P first last answer known taken given old new told from to =
     of_known known taken (λ text. ThreadsTellOver wakeable hears limit P text first last old new answer)
-    (λ rest ends. session_known (concat given.parts) old new to.appended wakeable hears limit P first last answer (concat taken ++ rest) (told rest ends)) from
+    (λ rest ends. session_known (concat given.parts) old new to.appended wakeable hears limit P first last answer
+    (concat taken ++ rest) (told rest ends)) from

@@ -1,6 +1,7 @@
 -- Content parts that a relay carries as bytes, several in one parcel (LSP 3.17, "Content Part").
 use Rattle.std.specs.Bool.{MatchBool}
-use Rattle.std.specs.Prelude.{◌≡◌, ◌≤◌, ◌+◌, ◌⊎◌, ◌||◌, ℕ, Bool, true, false, List, [], ◌∷◌, ◌++◌, map, Option, Some, None, is_some, Result, Ok, Err, Vec, if◌then◌else◌}
+use Rattle.std.specs.Prelude.{◌≡◌, ◌≤◌, ◌+◌, ◌⊎◌, ◌||◌, ℕ, Bool, true, false, List, [], ◌∷◌, ◌++◌, map, Option, Some}
+use Rattle.std.specs.Prelude.{None, is_some, Result, Ok, Err, Vec, if◌then◌else◌}
 use Rattle.std.specs.List.{concat, FoldsTo}
 use Rattle.std.specs.declared.alloc.Global.{Global}
 use mathlib.Core.List.{IsPrefix}
@@ -54,9 +55,10 @@ parts_of parcels = parts_after [] parcels
 
 -- the parts of a frame have at most so many bytes
 module _ (limit : Limits) where
-  -- Reading may stop so at this text: at its end, or at a frame that can't be read. At a content part that was read to its end and is no
-  -- message it may not: that one is handed on, and the session finds what it is. A reader that fails and an allocation that fails may stop
-  -- reading anywhere, and so may a session that takes no more, which stops it as a reader that fails does.
+  -- Reading may stop so at this text: at its end, or at a frame that can't be read. At a content part that was read to
+  -- its end and is no message it may not: that one is handed on, and the session finds what it is. A reader that fails
+  -- and an allocation that fails may stop reading anywhere, and so may a session that takes no more, which stops it as
+  -- a reader that fails does.
   abbrev pub StopsAt : List ℕ → ReadEnd → Type 0
   StopsAt text End = (rest : List ℕ)
       × (reading_within limit text ≡ record { outcome = Ok None; rest = rest })
@@ -78,15 +80,15 @@ module _ (limit : Limits) where
   ReadsContents text end (content ∷ more) =
       (rest : List ℕ) × BeginsWithContent text content rest × ReadsContents rest end more
 
-  -- For private clauses: what was sent on a relay is the content parts of the text, up to where reading stopped so, and then End. No
-  -- waker was made.
+  -- For private clauses: what was sent on a relay is the content parts of the text, up to where reading stopped so, and
+  -- then End. No waker was made.
   abbrev pub HandsWhole : List ℕ → Sending Contents → ReadEnd → Sending Contents → Type 0
   HandsWhole text old end new =
       ((parcels : List Contents) × (new.sent ≡ ended parcels))
       × ReadsContents text end (contents_of new.sent) × (new.wakeable ≡ old.wakeable)
 
-  -- No waker was made. If End was sent on a relay, what was sent before it is the content parts of the bytes that were taken, up to where
-  -- reading stopped so.
+  -- No waker was made. If End was sent on a relay, what was sent before it is the content parts of the bytes that were
+  -- taken, up to where reading stopped so.
   abbrev pub TellsContents : Option (List ℕ) → Sending Contents → ReadEnd → Parts
       → Sending Contents → Type 0
   TellsContents known old end taken new =
@@ -129,7 +131,8 @@ pub record Gathering : Type 0 where
   pub wakeable : Bool
   pub closed : Bool
 
--- Unless the outbox is closed now, it was open, and has these content parts now; and it is an end of the same relay in any case.
+-- Unless the outbox is closed now, it was open, and has these content parts now; and it is an end of the same relay in
+-- any case.
 abbrev pub Stays : Gathering → List (List ℕ) → Gathering → Type 0
 Stays old contents new = (new.relay ≡ old.relay) × (new.wakeable ≡ old.wakeable)
     × (new.closed ≡ false → (old.closed ≡ false) × (new.contents ≡ contents))
@@ -140,16 +143,16 @@ Stays old contents new = (new.relay ≡ old.relay) × (new.wakeable ≡ old.wake
 abbrev pub Lent : Type 0
 Lent = Relay Contents × Option Source × Bool
 
--- The receiver's end of a relay, as callers see it: the parcels that were taken, the content parts of them that were not given yet, and
--- how many wakes were taken.
+-- The receiver's end of a relay, as callers see it: the parcels that were taken, the content parts of them that were
+-- not given yet, and how many wakes were taken.
 pub record Taking : Type 0 where
   pub relay : Lent
   pub taken : List (Parcel Contents)
   pub waiting : List (List ℕ)
   pub wakes : ℕ
 
--- For private clauses: how a session that takes no more leaves the thread that reads. What was taken is a beginning of what would be sent if
--- reading stopped so.
+-- For private clauses: how a session that takes no more leaves the thread that reads. What was taken is a beginning of
+-- what would be sent if reading stopped so.
 abbrev pub LeavesReading : Taking → Limits → Sending Contents → Option (List ℕ) → Parts → ReadEnd → Type 0
 LeavesReading parts limit tx known taken end =
     (back : Sending Contents) × (parcels : List (Parcel Contents))
@@ -188,8 +191,8 @@ NextIs old_taken old_waiting old_wakes next.Wake taken waiting wakes =
 NextIs old_taken old_waiting old_wakes next.End taken waiting wakes =
     Collects old_taken old_waiting taken [] × (has_end taken ≡ true) × (wakes ≡ old_wakes)
 
--- For private clauses: a content part gives a message, and `exit` is the last one; or it is none, or an allocation failed at it, and no
--- more come.
+-- For private clauses: a content part gives a message, and `exit` is the last one; or it is none, or an allocation
+-- failed at it, and no more come.
 abbrev pub ArrivesAs : List ℕ → Event → Option ReadEnd → Type 0
 ArrivesAs content (message m) end = (body_means content ≡ Ok m)
     × (end ≡ (if is_exit m then Some Exit else None))
@@ -219,16 +222,17 @@ module _ (old new : Receiving) where
 
 -- of an inbox and its listener
 module _ {L : Type 0} (hears : L → ReadFault → L → Type 0) where
-  -- The next content part is no message. The listener heard of it, and the messages go on. No wake of the relay was taken.
+  -- The next content part is no message. The listener heard of it, and the messages go on. No wake of the relay was
+  -- taken.
   abbrev pub PassesPart : Receiving × L → Receiving × L → Type 0
   PassesPart old new =
       (content : List ℕ) × (fault : ReadFault) × TakesContent old.0 new.0 content
       × (new.0.end ≡ None) × (new.0.wakes ≡ old.0.wakes)
       × (is_of_body fault ≡ true) × (body_means content ≡ Err fault) × hears old.1 fault new.1
 
-  -- Of an open inbox: it gives the message that the next content part is. It gives a wake for one of the relay, or for a content part that
-  -- was passed over, and the listener hears nothing but of such a part. After `exit`, after a content part that is no message and was not
-  -- passed over, and once End was taken it is over.
+  -- Of an open inbox: it gives the message that the next content part is. It gives a wake for one of the relay, or for
+  -- a content part that was passed over, and the listener hears nothing but of such a part. After `exit`, after a
+  -- content part that is no message and was not passed over, and once End was taken it is over.
   abbrev pub OpenGives : Receiving × L → Event → Receiving × L → Type 0
   OpenGives old (message m) new = GivesContent old.0 new.0 (message m) × (new.1 ≡ old.1)
   OpenGives old closed new = (Drains old.0 new.0 ⊎ GivesContent old.0 new.0 closed)
@@ -236,7 +240,8 @@ module _ {L : Type 0} (hears : L → ReadFault → L → Type 0) where
   OpenGives old woken new = (TakesWake old.0 new.0 × (new.1 ≡ old.1)) ⊎ PassesPart old new
   OpenGives old event new = ⊥
 
-  -- Once it is over it gives `closed`, and nothing changes. Wakes of the relay may be passed over before an event that is none.
+  -- Once it is over it gives `closed`, and nothing changes. Wakes of the relay may be passed over before an event that
+  -- is none.
   abbrev pub ContentsGive : Receiving × L → Event → Receiving × L → Type 0
   ContentsGive old event new =
       (new.0.relay ≡ old.0.relay) × (old.0.wakes ≤ new.0.wakes)
@@ -247,7 +252,8 @@ abbrev pub CountsWakes : Event → ℕ → ℕ → Type 0
 CountsWakes woken old new = new ≤ old + 1
 CountsWakes event old new = new ≡ old
 
--- A wait for wakes too passes over none, and the messages end at a content part that is no message only if the listener may end them.
+-- A wait for wakes too passes over none, and the messages end at a content part that is no message only if the listener
+-- may end them.
 abbrev pub ContentsListen : {L : Type 0} → (L → ReadFault → Type 0) → Receiving × L → Event
     → Receiving × L → Type 0
 ContentsListen ends old event new =
@@ -258,8 +264,8 @@ ContentsListen ends old event new =
 abbrev pub HearsNothing : {L : Type 0} → L → ReadFault → L → Type 0
 HearsNothing old fault new = ⊥
 
--- For private clauses: what comes next, before the listener is asked. At a fault a content part came that is no message, or an allocation
--- failed at it, and nothing has ended yet.
+-- For private clauses: what comes next, before the listener is asked. At a fault a content part came that is no
+-- message, or an allocation failed at it, and nothing has ended yet.
 abbrev pub ComesNext : {L : Type 0} → Receiving × L → Result Event ReadFault → Receiving × L
     → Type 0
 ComesNext old (Ok event) new =

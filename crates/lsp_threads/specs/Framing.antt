@@ -1,5 +1,6 @@
 -- Frames that a relay carries as texts, several in one parcel.
-use Rattle.std.specs.Prelude.{◌≡◌, ◌<◌, ℕ, List, [], ◌∷◌, ◌++◌, length, Option, Some, None, Result, Ok, Err, String, string_bytes}
+use Rattle.std.specs.Prelude.{◌≡◌, ◌<◌, ℕ, List, [], ◌∷◌, ◌++◌, length, Option, Some, None, Result, Ok, Err, String}
+use Rattle.std.specs.Prelude.{string_bytes}
 use Rattle.std.specs.Io.KnownBytes.{Appends}
 use Rattle.std.specs.declared.alloc.Global.{Global}
 use Rattle.lsp_message.specs.Message as plain
@@ -68,7 +69,8 @@ abbrev pub WritesUnlessFailed : Option WriteFault → List ℕ → Option WriteF
 WritesUnlessFailed None bytes fault old new = WritesBytes bytes fault old new
 WritesUnlessFailed (Some before) bytes fault old new = (fault ≡ Some before) × (new ≡ old)
 
--- For private clauses: the first of these bytes were written, unless a write had failed before, and the last ones are left.
+-- For private clauses: the first of these bytes were written, unless a write had failed before, and the last ones are
+-- left.
 abbrev pub Gathers : Option WriteFault → List ℕ → List ℕ → Option WriteFault → Option (List ℕ)
     → Option (List ℕ) → Type 0
 Gathers before bytes left fault old new = (done : List ℕ) × (bytes ≡ done ++ left)

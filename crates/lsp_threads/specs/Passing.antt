@@ -8,7 +8,8 @@ use Rattle.lsp_message.specs.declared.frame.passed.Passed.{Passed}
 abbrev pub OfTaken : Parts → (List ℕ → Type 0) → Type 0
 OfTaken taken F = (rest : List ℕ) → (shows_end taken ≡ true → rest ≡ []) → F (concat taken ++ rest)
 
--- If the reader's bytes are known, the parts that were taken are the first of them, and it showed its end only where none are left.
+-- If the reader's bytes are known, the parts that were taken are the first of them, and it showed its end only where
+-- none are left.
 abbrev pub TakenFrom : Option (List ℕ) → Parts → Type 0
 TakenFrom known taken = (left : Option (List ℕ)) × Takes taken [] taken known left
 

@@ -40,7 +40,8 @@ module _ (limit : Limits) (text : List ℕ) (old new : Option (List ℕ)) where
   Pumps (Err (Write NoMemory)) = PassesOn in_part
   Pumps (Err (Start fault)) = Keeps old new
 
--- A fault of writing comes before one of reading. A frame that could not be made ends the reading. For private clauses: reading never ends at a closed outbox.
+-- A fault of writing comes before one of reading. A frame that could not be made ends the reading. For private clauses:
+-- reading never ends at a closed outbox.
 abbrev pub pump_answer : ReadEnd → Option WriteFault → Result (Unit {0}) PumpFault
 pump_answer end (Some fault) = Err (Write fault)
 pump_answer Exit None = Ok tt

@@ -17,8 +17,8 @@ pub record Replying : Type 0 where
   pub bytes : List ℕ
   pub failed : Bool
 
--- The outbox sends a frame of each message, up to the first that it finds no memory for. That one and all after it are refused. It is
--- never closed.
+-- The outbox sends a frame of each message, up to the first that it finds no memory for. That one and all after it are
+-- refused. It is never closed.
 abbrev pub RepliesSend : Replying → plain.Message → Result (Unit {0}) SendFault → Replying → Type 0
 RepliesSend old m (Ok done) new =
     (new.relay ≡ old.relay) × (old.failed ≡ false) × (new.failed ≡ false)
@@ -37,7 +37,8 @@ abbrev pub IsWhole : Stop → Type 0
 IsWhole (refused fault) = ⊥
 IsWhole stop = Unit {0}
 
--- For private clauses: what the writer got of all that was sent, by the first fault. If there is none, no message was refused.
+-- For private clauses: what the writer got of all that was sent, by the first fault. If there is none, no message was
+-- refused.
 abbrev pub WritesReplies : Stop → List plain.Message → Option WriteFault → Option (List ℕ)
     → Option (List ℕ) → Type 0
 WritesReplies stop sends None old new = IsWhole stop × GetsFrames sends old new

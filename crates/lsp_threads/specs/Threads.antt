@@ -1,4 +1,5 @@
--- A session whose reader and writer run in threads of their own: bytes in to bytes out (LSP 3.17, "Base Protocol" and "Server lifecycle").
+-- A session whose reader and writer run in threads of their own: bytes in to bytes out (LSP 3.17, "Base Protocol" and
+-- "Server lifecycle").
 use Rattle.std.specs.Prelude.{◌≡◌, ◌⊎◌, Bool, true, false, ℕ, List, ◌∷◌, ◌++◌, Option, Some, None, Result, Err}
 use Rattle.lsp_message.specs.Frame.{Begins}
 use Rattle.lsp_message.specs.Message.{Message}
@@ -24,19 +25,21 @@ abbrev pub GetsFirst : List Message → Option (List ℕ) → Option (List ℕ) 
 GetsFirst ms old new = (sent : List Message) × (unsent : List Message) × (ms ≡ sent ++ unsent)
     × GetsFrames sent old new
 
--- The first frame of the text is this message, and the rest follows it; or others woke the session, if they can, and nothing was read.
+-- The first frame of the text is this message, and the rest follows it; or others woke the session, if they can, and
+-- nothing was read.
 abbrev pub ReadsOrWakes : Bool → Limits → List ℕ → Option Message → List ℕ → Type 0
 ReadsOrWakes wakeable limit text (Some m) rest = Begins limit text m rest
 ReadsOrWakes wakeable limit text None rest = (wakeable ≡ true) × (rest ≡ text)
 
--- For what a session in threads answers: as one over bytes ends, whatever is left of the text, since the reader is gone.
+-- For what a session in threads answers: as one over bytes ends, whatever is left of the text, since the reader is
+-- gone.
 abbrev pub EndsInThreads : Limits → Result SessionEnd SessionFault → SessionAnswer → Stop
     → Option Message → List ℕ → Type 0
 EndsInThreads limit result answer stop shutdown_reply at = (left : Option (List ℕ))
     × Ends limit left result answer stop shutdown_reply at
 
--- What the writer got of all that was sent: frames of it; or, if a write failed, frames of the first messages and a beginning of
--- the next; or, if an allocation failed, frames of the first messages.
+-- What the writer got of all that was sent: frames of it; or, if a write failed, frames of the first messages and a
+-- beginning of the next; or, if an allocation failed, frames of the first messages.
 abbrev pub WroteInThreads : Option (List ℕ) → Option (List ℕ) → Result SessionEnd SessionFault
     → Stop → Option Message → List Message → Type 0
 WroteInThreads old new (Err (Write fault)) stop shutdown_reply sends = IsOutput fault
@@ -58,14 +61,15 @@ ThreadsGive = ThreadsGiveOver false
 
 -- of a session that asks a listener at content parts which are no messages, and that others can wake or not
 module _ (wakeable : Bool) {L : Type 0} (hears : L → ReadFault → L → Type 0) (limit : Limits) where
-  -- The first frame of the text is this message, and the listener hears nothing. Or the session is woken: by others, if they can, and
-  -- nothing was read; or since the first frame is passed over, of which the listener hears.
+  -- The first frame of the text is this message, and the listener hears nothing. Or the session is woken: by others, if
+  -- they can, and nothing was read; or since the first frame is passed over, of which the listener hears.
   abbrev pub ReadsFrameOrWakes : List ℕ × L → Option Message → List ℕ × L → Type 0
   ReadsFrameOrWakes old (Some m) new = Begins limit old.0 m new.0 × (new.1 ≡ old.1)
   ReadsFrameOrWakes old None new = ((wakeable ≡ true) × (new ≡ old))
       ⊎ PassesOver hears limit old new
 
-  -- Bytes in to bytes out. Of its end and of what was written the same is said as of a session that passes over nothing.
+  -- Bytes in to bytes out. Of its end and of what was written the same is said as of a session that passes over
+  -- nothing.
   abbrev pub ThreadsTellOver : SessionPart → List ℕ → L → L → Option (List ℕ) → Option (List ℕ)
       → Result SessionEnd SessionFault → Type 0
   ThreadsTellOver P text first last old new result =
@@ -78,8 +82,8 @@ abbrev pub ThreadsTell : {L : Type 0} → (L → ReadFault → L → Type 0) →
     → L → Option (List ℕ) → Option (List ℕ) → Result SessionEnd SessionFault → Type 0
 ThreadsTell = ThreadsTellOver false
 
--- What ended the messages of a session whose inbox ended so, or took End so: a reader's end counts if the session came to it.
--- For private clauses.
+-- What ended the messages of a session whose inbox ended so, or took End so: a reader's end counts if the session came
+-- to it. For private clauses.
 abbrev pub session_end : Option ReadEnd → Bool → ReadEnd → Option ReadEnd
 session_end (Some end) drained read = Some end
 session_end None true read = Some read

@@ -1,10 +1,12 @@
 -- File URIs and the paths that they name (RFC 8089, RFC 3986).
-use Rattle.std.specs.Prelude.{◌≡◌, ◌≢◌, ℕ, Bool, true, not, ◌||◌, ◌&&◌, ◌==◌, cond, List, [], ◌∷◌, ◌++◌, All, ◌⊎◌, codes, IsUtf8, false, ⊤}
+use Rattle.std.specs.Prelude.{◌≡◌, ◌≢◌, ℕ, Bool, true, not, ◌||◌, ◌&&◌, ◌==◌, cond, List, [], ◌∷◌, ◌++◌, All, ◌⊎◌}
+use Rattle.std.specs.Prelude.{codes, IsUtf8, false, ⊤}
 use Rattle.std.specs.List.{flat_map}
 use Rattle.std.specs.Char.{is_ascii_alphanumeric, is_ascii_hexdigit}
 use Rattle.percent_encoding.specs.Percent.{percent_encode_byte, percent_decode}
 use Rattle.lsp_types.specs.declared.file_uri.FileUriFault.{FileUriFault}
-use Rattle.lsp_types.specs.declared.file_uri.FileUriFault.TheVariants.{Memory, NotFile, Host, Query, Escape, Relative, Nul, NotUtf8}
+use Rattle.lsp_types.specs.declared.file_uri.FileUriFault.TheVariants.{Memory, NotFile, Host, Query, Escape, Relative}
+use Rattle.lsp_types.specs.declared.file_uri.FileUriFault.TheVariants.{Nul, NotUtf8}
 
 -- a byte of a path that stands in its URI as it is: unreserved (RFC 3986, section 2.3), or the '/' between names
 abbrev pub stays : ℕ → Bool

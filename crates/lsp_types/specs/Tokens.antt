@@ -11,8 +11,8 @@ abbrev pub are_behind : ℕ → ℕ → List SemanticToken → Bool
 are_behind line start [] = true
 are_behind line start (t ∷ ts) = is_behind line start t && are_behind t.line t.start ts
 
--- the five numbers of a token: how many lines it stands behind a place, how many units behind it if it is on that line, or
--- behind the line's start, its length, its type and its modifiers
+-- the five numbers of a token: how many lines it stands behind a place, how many units behind it if it is on that line,
+-- or behind the line's start, its length, its type and its modifiers
 abbrev pub five_behind : ℕ → ℕ → SemanticToken → List ℕ
 five_behind line start t =
     (t.line - line) ∷ cond (line == t.line) (t.start - start) t.start

@@ -9,7 +9,8 @@ use Rattle.example_search.proofs.search.find_all.Goals as goal
 pub loop-number-preserved : goal.loop-number-preserved
 loop-number-preserved g c =
     rw c.in_ok-append.ensures.items (All-append
-    (λ symbol. Any (λ source. IsFoundIn (string_bytes source.uri) (arc_value source.text) c.args.word.now (view symbol)) c.args.sources.now)
+    (λ symbol. Any (λ source. IsFoundIn (string_bytes source.uri) (arc_value source.text) c.args.word.now (view symbol))
+    c.args.sources.now)
     _ _ c.loop-number.invariant
     (λ k d h. (
       c.loop-number.number,

@@ -8,4 +8,9 @@ use Rattle.example_search.proofs.search.headings_with.Goals.{in-Some+in_ok-push,
 
 pub loop-line-preserved : goal.loop-line-preserved
 loop-line-preserved c =
-    elim c.match-branch-2.branch [ in-Some+in_ok-push w ↦ rw (w.found-is, w.in_ok-push.ensures.items) (All-push (λ symbol. IsFoundIn (string_bytes c.args.source.now.uri) (arc_value c.args.source.now.text) c.args.word.now (view symbol)) _ _ c.loop-line.invariant (rw w.in-Some.is at c.in_ok-symbol.ensures)) | in_default w ↦ rw w.found-is c.loop-line.invariant ]
+    elim c.match-branch-2.branch [
+      | in-Some+in_ok-push w ↦ rw (w.found-is, w.in_ok-push.ensures.items)
+          (All-push (λ symbol. IsFoundIn (string_bytes c.args.source.now.uri) (arc_value c.args.source.now.text)
+          c.args.word.now (view symbol)) _ _ c.loop-line.invariant (rw w.in-Some.is at c.in_ok-symbol.ensures))
+      | in_default w ↦ rw w.found-is c.loop-line.invariant
+    ]

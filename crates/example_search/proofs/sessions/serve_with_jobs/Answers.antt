@@ -7,5 +7,6 @@ use Rattle.example_search.proofs.sessions.serve_with_jobs.Goals as goal
 pub returns-clause-told : goal.returns-clause-told
 returns-clause-told g c =
     taken_told_as true _ c.args.client.limits _ _ _ _ (c.session_with_jobs_keeps_laws.ensures.exchanges _ _)
-    (λ (done : Threaded _). done.taken.parts) (λ (done : Threaded _). noted done.given) (λ (done : Threaded _). done.answer) _
+    (λ (done : Threaded _). done.taken.parts) (λ (done : Threaded _). noted done.given)
+    (λ (done : Threaded _). done.answer) _
     c.run_jobs.ensures.told

@@ -12,7 +12,8 @@ returns c =
       told.2,
       told.3,
       λ idle side. elim c.if-is_idle.branch [
-        | then-is_idle w ↦ both_taken c.in_ok-world.world told.0 told.3 (c.is_idle.ensures.idle w.if-is_idle.true) (w.is_idle-all.ensures.idle (sym w.all-is ∙ idle)) side
+        | then-is_idle w ↦ both_taken c.in_ok-world.world told.0 told.3 (c.is_idle.ensures.idle w.if-is_idle.true)
+            (w.is_idle-all.ensures.idle (sym w.all-is ∙ idle)) side
         | else-is_idle w ↦ cc
       ],
       λ all. elim c.if-is_idle.branch [

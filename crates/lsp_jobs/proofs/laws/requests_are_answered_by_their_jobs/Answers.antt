@@ -5,4 +5,5 @@ use Rattle.lsp_jobs.proofs.laws.requests_are_answered_by_their_jobs.Goals as goa
 
 pub returns : goal.returns
 returns g c = λ silent exchanges law earlier later x id outcome cut none sent.
-    its_own g.S.Server g.S.JobServer g.J.Job silent earlier id outcome (subst (WakeSends g.S.Server g.S.JobServer g.J.Job earlier) sent (law earlier later x cut none).0)
+    its_own g.S.Server g.S.JobServer g.J.Job silent earlier id outcome (subst (WakeSends g.S.Server g.S.JobServer
+    g.J.Job earlier) sent (law earlier later x cut none).0)

@@ -16,16 +16,20 @@ loop-act-preserved g c =
     let done = c.loop-act.yielded in
     let rest : List (Act _) = into_iter_items c.next.new.self in
     let turn : into_iter_items c.loop-act.act-iterator ≡ c.in-Some.act ∷ rest = c.in-Some.ensures.steps.0 in
-    let more : map by_server (map seen (done ++ c.in-Some.act ∷ [])) ≡ map by_server (map seen done) ++ by_server (seen c.in-Some.act) ∷ [] =
-    ap (map by_server) (map-append seen done (c.in-Some.act ∷ [])) ∙ map-append by_server (map seen done) (seen c.in-Some.act ∷ []) in (
+    let more : map by_server (map seen (done ++ c.in-Some.act ∷ [])) ≡ map by_server (map seen done)
+    ++ by_server (seen c.in-Some.act) ∷ [] =
+    ap (map by_server) (map-append seen done (c.in-Some.act ∷ [])) ∙ map-append by_server (map seen done)
+    (seen c.in-Some.act ∷ []) in (
       tt,
       tt,
       append_assoc done (c.in-Some.act ∷ []) rest ∙ (ap (λ (l : List (Act _)). done ++ l) (sym turn) ∙ before.2),
-      c.in_ok-push_by_server.ensures ∙ ap (λ (l : List (Plain (Asked g.row.P.Denot))). l ++ by_server (seen c.in-Some.act) ∷ []) before.3 ∙ sym more,
+      c.in_ok-push_by_server.ensures ∙ ap (λ (l : List (Plain (Asked g.row.P.Denot))). l
+          ++ by_server (seen c.in-Some.act) ∷ []) before.3 ∙ sym more,
     )
 
 pub returns : goal.returns
 returns g c =
     let none = sym c.loop-act.act-iterator.rest.ok.0 ∙ c.in-None.ensures.steps.0 in
-    let all = all_taken c.loop-act.yielded (into_iter_items c.loop-act.act-iterator) c.args.acts.items c.loop-act.invariant.2 none in
+    let all = all_taken c.loop-act.yielded (into_iter_items c.loop-act.act-iterator) c.args.acts.items
+    c.loop-act.invariant.2 none in
     c.loop-act.invariant.3 ∙ ap (λ (l : List (Act _)). map by_server (map (act_view {P = g.row.P.Denot}) l)) all

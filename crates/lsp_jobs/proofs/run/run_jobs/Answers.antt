@@ -15,11 +15,14 @@ returns-clause-session g c =
     let old = c.new-queued.result in
     let new = c.run_threads_of_service_over-done.new.service in
     started_told_as true g.L.Listener.hears c.args.options.limits c.args.bad_bodies.now _
-    (SessionOut (woken_with_queues may) old new) (JobSession g.row.T.Denot g.S.Server g.S.JobServer g.J.Job c.args.server _)
-    (job_session g.row.T.Denot g.S.Server g.S.JobServer g.J.Job old new c.new-pooled.result c.args.server _ c.new-queued.ensures
+    (SessionOut (woken_with_queues may) old new) (JobSession g.row.T.Denot g.S.Server g.S.JobServer g.J.Job
+    c.args.server _)
+    (job_session g.row.T.Denot g.S.Server g.S.JobServer g.J.Job old new c.new-pooled.result c.args.server _
+    c.new-queued.ensures
     (c.new-pooled.ensures ∙ ap (λ t. (c.args.server, t)) c.in-Ok-start_pool.ensures)
     (c.into_parts-server.ensures ∙ ap (λ (p : PooledServer _ _ _ _). p.server) c.into_server.ensures))
-    (λ (done : Threaded _). g.W.Write.contents done.writer) (λ (done : Threaded _). done.answer) _ _ _ (rw c.in-Ok-waker.ensures.made at c.run_threads_of_service_over-done.ensures.session)
+    (λ (done : Threaded _). g.W.Write.contents done.writer) (λ (done : Threaded _). done.answer) _ _ _
+    (rw c.in-Ok-waker.ensures.made at c.run_threads_of_service_over-done.ensures.session)
 
 pub returns-clause-told : goal.returns-clause-told
 returns-clause-told g c =
@@ -27,8 +30,12 @@ returns-clause-told g c =
     let old = c.new-queued.result in
     let new = c.run_threads_of_service_over-done.new.service in
     taken_told_as true g.L.Listener.hears c.args.options.limits c.args.bad_bodies.now _
-    (SessionOut (woken_with_queues may) old new) (JobSession g.row.T.Denot g.S.Server g.S.JobServer g.J.Job c.args.server _)
-    (job_session g.row.T.Denot g.S.Server g.S.JobServer g.J.Job old new c.new-pooled.result c.args.server _ c.new-queued.ensures
+    (SessionOut (woken_with_queues may) old new) (JobSession g.row.T.Denot g.S.Server g.S.JobServer g.J.Job
+    c.args.server _)
+    (job_session g.row.T.Denot g.S.Server g.S.JobServer g.J.Job old new c.new-pooled.result c.args.server _
+    c.new-queued.ensures
     (c.new-pooled.ensures ∙ ap (λ t. (c.args.server, t)) c.in-Ok-start_pool.ensures)
     (c.into_parts-server.ensures ∙ ap (λ (p : PooledServer _ _ _ _). p.server) c.into_server.ensures))
-    (λ (done : Threaded _). done.taken.parts) (λ (done : Threaded _). noted done.given) (λ (done : Threaded _). done.answer) _ (rw c.in-Ok-waker.ensures.made at c.run_threads_of_service_over-done.ensures.told)
+    (λ (done : Threaded _). done.taken.parts) (λ (done : Threaded _). noted done.given)
+    (λ (done : Threaded _). done.answer) _ (rw c.in-Ok-waker.ensures.made at
+    c.run_threads_of_service_over-done.ensures.told)

@@ -8,4 +8,5 @@ use Rattle.lsp_jobs.proofs.workers.start_job_workers.Goals as goal
 
 pub start_workers-requires-send-E : goal.start_workers-requires-send-E
 start_workers-requires-send-E g c κs within =
-    param_send _ _ (arg_send _ no _ (queued_job_send (param 1 g.row.J) _ (any.ghosts (param 1 g.row.J) g.J.Job any.no_dict any.no_dict) c.type_bounds.send-J ran_send))
+    param_send _ _ (arg_send _ no _ (queued_job_send (param 1 g.row.J) _ (any.ghosts (param 1 g.row.J) g.J.Job
+    any.no_dict any.no_dict) c.type_bounds.send-J ran_send))

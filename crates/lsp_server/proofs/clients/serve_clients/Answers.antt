@@ -8,7 +8,8 @@ pub returns-in-Standard-clause-outcome : goal.returns-in-Standard-clause-outcome
 returns-in-Standard-clause-outcome g c =
     let asked : medium_of (channel_of (map string_bytes c.args.words.now)) ≡ Some streams = search rules in
     IfOk-weaker c.serve_standard.result _ _ (λ outcome served.
-    (served.0, served.1, asked ∙ ap Some (sym served.2), asked ∙ ap Some (sym served.3), served.4)) c.serve_standard.ensures.outcome
+    (served.0, served.1, asked ∙ ap Some (sym served.2), asked ∙ ap Some (sym served.3), served.4))
+    c.serve_standard.ensures.outcome
 
 pub returns-in-Port-clause-outcome : goal.returns-in-Port-clause-outcome
 returns-in-Port-clause-outcome g c =

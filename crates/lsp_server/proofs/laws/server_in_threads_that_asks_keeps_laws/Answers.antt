@@ -12,7 +12,9 @@ returns g c =
     let may = unwoken g.S.Server in
     record {
       bytes = λ limit first last text heard heard_last before after answer tells.
-          over_as (ServerSession may first last) (LawfulSession may first last) (lawful may first last) _ (text, heard) _ _ tells;
+          over_as (ServerSession may first last) (LawfulSession may first last) (lawful may first last) _ (text, heard)
+          _ _ tells;
       nothing_passed = λ limit first last text heard heard_last before after answer never tells.
-          none_passed false g.L.Listener.hears limit heard heard_last never (ServerSession may first last) text before after answer tells;
+          none_passed false g.L.Listener.hears limit heard heard_last never (ServerSession may first last) text before
+          after answer tells;
     }

@@ -15,7 +15,8 @@ returns-clause-session g c =
     started_told_as false g.L.Listener.hears c.args.options.limits c.args.bad_bodies.now _
     (SessionOut (with_queues (unwoken g.S.Server)) old new) (ServerSession (unwoken g.S.Server) c.args.server _)
     (session_of (unwoken g.S.Server) old new c.args.server _ c.new-queued.ensures c.into_server.ensures)
-    (λ (done : Threaded _). g.W.Write.contents done.writer) (λ (done : Threaded _). done.answer) _ _ _ c.run_threads_of_service-done.ensures.session
+    (λ (done : Threaded _). g.W.Write.contents done.writer) (λ (done : Threaded _). done.answer) _ _ _
+    c.run_threads_of_service-done.ensures.session
 
 pub returns-clause-told : goal.returns-clause-told
 returns-clause-told g c =
@@ -24,4 +25,5 @@ returns-clause-told g c =
     taken_told_as false g.L.Listener.hears c.args.options.limits c.args.bad_bodies.now _
     (SessionOut (with_queues (unwoken g.S.Server)) old new) (ServerSession (unwoken g.S.Server) c.args.server _)
     (session_of (unwoken g.S.Server) old new c.args.server _ c.new-queued.ensures c.into_server.ensures)
-    (λ (done : Threaded _). done.taken.parts) (λ (done : Threaded _). noted done.given) (λ (done : Threaded _). done.answer) _ c.run_threads_of_service-done.ensures.told
+    (λ (done : Threaded _). done.taken.parts) (λ (done : Threaded _). noted done.given)
+    (λ (done : Threaded _). done.answer) _ c.run_threads_of_service-done.ensures.told

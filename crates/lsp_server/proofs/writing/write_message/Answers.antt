@@ -6,7 +6,8 @@ use Rattle.lsp_server.proofs.writing.write_message.Goals as goal
 
 pub returns-in-Ok-clause-written : goal.returns-in-Ok-clause-written
 returns-in-Ok-clause-written g c =
-    from_behind _ _ (taken_of c.args.outgoing.now.taken) (taken_of c.write_behind.new.outgoing.taken) (noted c.args.given.now) (noted c.write_behind.new.given) _ c.in-Ok.ensures
+    from_behind _ _ (taken_of c.args.outgoing.now.taken) (taken_of c.write_behind.new.outgoing.taken)
+    (noted c.args.given.now) (noted c.write_behind.new.given) _ c.in-Ok.ensures
     c.write_behind.ensures.written
 
 pub returns-in-Err-clause-given : goal.returns-in-Err-clause-given

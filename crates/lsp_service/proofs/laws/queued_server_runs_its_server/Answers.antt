@@ -10,10 +10,12 @@ pub returns : goal.returns
 returns g c =
     let may = unwoken g.S.Server in
     record {
-      exchanges = λ old new server xs stop shutdown_reply answer begun out. session_of may old new server new.server begun refl xs stop shutdown_reply answer out;
+      exchanges = λ old new server xs stop shutdown_reply answer begun out. session_of may old new server new.server
+          begun refl xs stop shutdown_reply answer out;
       boxes = λ old new server before after answer begun runs.
           runs_as (SessionOut (with_queues may) old new) (ServerSession may server new.server)
-          (session_of may old new server new.server begun refl) g.I.Inbox.receives g.O.Outbox.sends before after answer runs;
+          (session_of may old new server new.server begun refl) g.I.Inbox.receives g.O.Outbox.sends before after
+          answer runs;
       bytes = λ old new server limit text left heard heard_last before after answer begun gives.
           over_as (SessionOut (with_queues may) old new) (ServerSession may server new.server)
           (session_of may old new server new.server begun refl) _ (text, heard) _ _ gives;

@@ -8,4 +8,5 @@ use Rattle.lsp_service.proofs.laws.server_over_a_transport_keeps_laws.Goals as g
 pub returns : goal.returns
 returns g c = λ first last before after answer serves.
     let may = unwoken g.S.Server in
-    serves_as (ServerSession may first last) (LawfulSession may first last) (lawful may first last) before after answer serves
+    serves_as (ServerSession may first last) (LawfulSession may first last) (lawful may first last) before after
+    answer serves

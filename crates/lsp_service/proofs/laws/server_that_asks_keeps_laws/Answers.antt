@@ -11,7 +11,9 @@ returns g c =
     let may = unwoken g.S.Server in
     record {
       bytes = λ limit first last text left heard heard_last before after answer gives.
-          over_as (ServerSession may first last) (LawfulSession may first last) (lawful may first last) _ (text, heard) _ _ gives;
+          over_as (ServerSession may first last) (LawfulSession may first last) (lawful may first last) _ (text, heard)
+          _ _ gives;
       nothing_passed = λ limit first last text left heard heard_last before after answer never gives.
-          none_passed g.L.Listener.hears never limit (ServerSession may first last) text left heard heard_last before after answer gives;
+          none_passed g.L.Listener.hears never limit (ServerSession may first last) text left heard heard_last before
+          after answer gives;
     }

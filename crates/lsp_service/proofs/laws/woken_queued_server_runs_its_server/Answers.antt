@@ -11,12 +11,15 @@ pub returns : goal.returns
 returns g c =
     let may = with_wakes g.S.Server g.S.WokenServer.wakes in
     record {
-      exchanges = λ old new server xs stop shutdown_reply answer begun out. woken_session_of may old new server new.queued.server begun refl xs stop shutdown_reply answer out;
+      exchanges = λ old new server xs stop shutdown_reply answer begun out. woken_session_of may old new server
+          new.queued.server begun refl xs stop shutdown_reply answer out;
       boxes = λ old new server before after answer begun runs.
           runs_as (SessionOut (woken_with_queues may) old new) (ServerSession may server new.queued.server)
-          (woken_session_of may old new server new.queued.server begun refl) g.I.Inbox.receives g.O.Outbox.sends before after answer runs;
+          (woken_session_of may old new server new.queued.server begun refl) g.I.Inbox.receives g.O.Outbox.sends before
+          after answer runs;
       bytes = λ old new server limit text left heard heard_last before after answer begun gives.
           over_as (SessionOut (woken_with_queues may) old new) (LawfulSession may server new.queued.server)
-          (λ xs stop shutdown_reply answer out. lawful may server new.queued.server xs stop shutdown_reply answer (woken_session_of may old new server new.queued.server begun refl xs stop shutdown_reply answer out))
+          (λ xs stop shutdown_reply answer out. lawful may server new.queued.server xs stop shutdown_reply answer
+          (woken_session_of may old new server new.queued.server begun refl xs stop shutdown_reply answer out))
           _ (text, heard) _ _ gives;
     }

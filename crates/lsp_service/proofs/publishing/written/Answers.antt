@@ -18,7 +18,8 @@ loop-value-preserved g c =
     let d = view c.in-Ok.tree in
     let one : IsOutcomeOf (g.T.Described.writes x) (Ok d) = search rules in
     let items : c.push.new.self.items ≡ trees ++ c.in-Ok.tree ∷ [] = search rules in
-    let pushed : map view c.push.new.self.items ≡ ds ++ d ∷ [] = ap (map view) items ∙ map-append view trees (c.in-Ok.tree ∷ []) in
+    let pushed : map view c.push.new.self.items ≡ ds ++ d ∷ [] = ap (map view) items ∙ map-append view trees
+    (c.in-Ok.tree ∷ []) in
     let taken : take (i + 1) values ≡ take i values ++ x ∷ [] =
     (take_at_read values i x c.loop-value-test.true).1 ∙ ap (λ y. take i values ++ y ∷ []) (sym c.value-item.is) in
     subst (λ xs. AreWritten g.T.Described.writes xs (items_of (map view c.push.new.self.items))) (sym taken)
@@ -29,6 +30,7 @@ pub returns : goal.returns
 returns g c =
     let values = c.args.values.now in
     let trees = c.loop-value.trees in
-    let all : take c.loop-value.value-index values ≡ values = take_all c.loop-value.value-index values c.loop-value-test.false in
+    let all : take c.loop-value.value-index values ≡ values = take_all c.loop-value.value-index values
+    c.loop-value-test.false in
     subst (IsListOf g.T.Described.writes values) (sym (view-Array trees))
     (subst (λ xs. AreWritten g.T.Described.writes xs (items_view trees.items)) all c.loop-value.invariant)

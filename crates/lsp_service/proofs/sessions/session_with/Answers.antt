@@ -10,5 +10,6 @@ returns g c =
     let old = c.new-queued.result in
     let new = c.session_of_service-answer.new.service in
     told_as (SessionOut (with_queues (unwoken g.S.Server)) old new) (ServerSession (unwoken g.S.Server) c.args.server _)
-    (session_of (unwoken g.S.Server) old new c.args.server _ c.new-queued.ensures c.into_server.ensures) g.L.Listener.hears c.args.limits
+    (session_of (unwoken g.S.Server) old new c.args.server _ c.new-queued.ensures c.into_server.ensures)
+    g.L.Listener.hears c.args.limits
     _ _ _ _ _ _ _ c.session_of_service-answer.ensures

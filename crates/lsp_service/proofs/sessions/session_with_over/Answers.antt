@@ -9,5 +9,7 @@ pub returns : goal.returns
 returns g c =
     let old = c.new-queued.result in
     let new = c.serve-answer.new.service in
-    serves_as (SessionOut (with_queues (unwoken g.S.Server)) old new) (ServerSession (unwoken g.S.Server) c.args.server _)
-    (session_of (unwoken g.S.Server) old new c.args.server _ c.new-queued.ensures c.into_server.ensures) _ _ _ c.serve-answer.ensures.serves
+    serves_as (SessionOut (with_queues (unwoken g.S.Server)) old new) (ServerSession (unwoken g.S.Server)
+    c.args.server _)
+    (session_of (unwoken g.S.Server) old new c.args.server _ c.new-queued.ensures c.into_server.ensures) _ _ _
+    c.serve-answer.ensures.serves

@@ -7,6 +7,7 @@ use Rattle.lsp_session.proofs.loops.read_loop_within.Given as goal
 
 abbrev pub invariant-loop : goal.invariant-loop
 invariant-loop g l = record {
-  handed : Handed (of_content l.limit) g.O.Outbox.sends (g.R.Read.remaining l.fn.reader) (g.R.Read.remaining l.reader) l.fn.outbox l.outbox;
+  handed : Handed (of_content l.limit) g.O.Outbox.sends (g.R.Read.remaining l.fn.reader) (g.R.Read.remaining l.reader)
+      l.fn.outbox l.outbox;
   offered : (ms : List Message) × OffersAll g.O.Outbox.sends l.fn.outbox ms l.outbox;
 }

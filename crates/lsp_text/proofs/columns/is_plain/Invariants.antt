@@ -4,4 +4,5 @@ use Rattle.lsp_text.specs.Lines.{is_break}
 use Rattle.lsp_text.proofs.columns.is_plain.Given as goal
 
 abbrev pub invariant-loop-i : goal.invariant-loop-i
-invariant-loop-i l = l.plain ≡ true → (k : ℕ) → k < l.i → (slice_index l.run k < 128) × (is_break Standard (slice_index l.run k) ≡ false)
+invariant-loop-i l = l.plain ≡ true → (k : ℕ) → k < l.i → (slice_index l.run k < 128)
+    × (is_break Standard (slice_index l.run k) ≡ false)

@@ -6,5 +6,6 @@ use Rattle.lsp_text.proofs.lines.put_starts.Goals as goal
 pub returns-clause-ok : goal.returns-clause-ok
 returns-clause-ok c =
     let h = c.in_ok-splice.ensures.items in
-    items_from_extend {E = Unit {0}} {P = λ (xs : List ℕ). c.splice.new.self.items ≡ splice c.args.starts.now.items c.args.from c.args.to xs} (Ok tt) (h.0, h.1, refl, h.4, h.3)
+    items_from_extend {E = Unit {0}} {P = λ (xs : List ℕ). c.splice.new.self.items ≡ splice c.args.starts.now.items
+    c.args.from c.args.to xs} (Ok tt) (h.0, h.1, refl, h.4, h.3)
     (YieldsList-from_vec c.args.new.items h.2.0 (h.2.1 ∙ c.args.new.ok.0))

@@ -7,7 +7,8 @@ use Rattle.lsp_threads.proofs.content_reader.read_contents.Given as goal
 abbrev pub invariant-loop : goal.invariant-loop
 invariant-loop g l = record {
   are : AreContents l.limits l.taken.parts l.outbox.contents;
-  taken : Takes l.taken.parts [] l.taken.parts (g.S.Read.remaining l.fn.reader.inner) (g.S.Read.remaining l.reader.inner);
+  taken : Takes l.taken.parts [] l.taken.parts (g.S.Read.remaining l.fn.reader.inner) (g.S.Read.remaining
+      l.reader.inner);
   relay : l.outbox.relay ≡ l.fn.outbox.relay;
   wakeable : l.outbox.wakeable ≡ l.fn.outbox.wakeable;
 }

@@ -19,7 +19,11 @@ members-preserved c =
     let passed = c.in_ok-passes_value.ensures (ap Ok yes) in (
       n - 1,
       omega (arith, l.invariant.1, shorter, passed.3),
-      λ clean. l.invariant.2 (more_members n name l.reader mid c.passes_value.new.reader (omega (arith, l.invariant.1, shorter)) key passed clean),
+      λ clean. l.invariant.2 (more_members n name l.reader mid c.passes_value.new.reader (omega (
+        arith,
+        l.invariant.1,
+        shorter,
+      )) key passed clean),
       omega (arith, l.invariant.3, shorter, passed.3),
     )
 

@@ -9,4 +9,5 @@ returns-then-eq c = λ yes.
 
 pub returns : goal.returns
 returns c = λ yes.
-    value_passed c.args.name.now c.args.reader.now c.skip_value.new.self (sym c.eq.ensures ∙ c.if-eq.false) c.in_ok-skip_value.ensures.value c.in_ok-skip_value.ensures.shorter
+    value_passed c.args.name.now c.args.reader.now c.skip_value.new.self (sym c.eq.ensures ∙ c.if-eq.false)
+    c.in_ok-skip_value.ensures.value c.in_ok-skip_value.ensures.shorter

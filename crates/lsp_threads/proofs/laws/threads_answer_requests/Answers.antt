@@ -10,5 +10,8 @@ use Rattle.lsp_threads.proofs.laws.threads_answer_requests.Goals as goal
 pub returns : goal.returns
 returns g c = λ wakeable limit capabilities old new text before after answer gives.
     let P = SessionOut (of_handler g.H.Handler.answers g.H.Handler.notes capabilities) old new in
-    over_as P (Both P (Both AnswersRequests (KeepsOrder false false))) (λ xs stop shutdown_reply answer out.
-    (out, answers_in_order g.H.Handler.answers g.H.Handler.notes capabilities old new xs stop shutdown_reply answer out)) _ text _ _ gives
+    over_as P (Both P (Both AnswersRequests (KeepsOrder false false))) (λ xs stop shutdown_reply answer out. (
+      out,
+      answers_in_order g.H.Handler.answers g.H.Handler.notes capabilities old new xs stop shutdown_reply answer
+          out,
+    )) _ text _ _ gives

@@ -8,4 +8,7 @@ use Rattle.lsp_threads.proofs.laws.threads_keep_order.Goals as goal
 pub returns : goal.returns
 returns g c = λ wakeable limit old new text before after answer gives.
     let P = SessionOut g.S.Service.behavior old new in
-    over_as P (Both P (KeepsOrder g.S.Service.behavior.passes_late true)) (λ xs stop shutdown_reply answer out. (out, keeps_order g.S.Service.behavior old new xs stop shutdown_reply answer out)) _ text _ _ gives
+    over_as P (Both P (KeepsOrder g.S.Service.behavior.passes_late true)) (λ xs stop shutdown_reply answer out. (
+      out,
+      keeps_order g.S.Service.behavior old new xs stop shutdown_reply answer out,
+    )) _ text _ _ gives

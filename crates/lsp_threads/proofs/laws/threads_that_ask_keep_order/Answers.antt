@@ -8,4 +8,7 @@ use Rattle.lsp_threads.proofs.laws.threads_that_ask_keep_order.Goals as goal
 pub returns : goal.returns
 returns g c = λ wakeable limit old new text first last before after answer tells.
     let P = SessionOut g.S.Service.behavior old new in
-    over_as P (Both P (KeepsOrder g.S.Service.behavior.passes_late true)) (λ xs stop shutdown_reply answer out. (out, keeps_order g.S.Service.behavior old new xs stop shutdown_reply answer out)) _ (text, first) _ _ tells
+    over_as P (Both P (KeepsOrder g.S.Service.behavior.passes_late true)) (λ xs stop shutdown_reply answer out. (
+      out,
+      keeps_order g.S.Service.behavior old new xs stop shutdown_reply answer out,
+    )) _ (text, first) _ _ tells

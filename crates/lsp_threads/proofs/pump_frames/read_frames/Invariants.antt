@@ -8,7 +8,9 @@ use Rattle.lsp_threads.proofs.pump_frames.read_frames.Given as goal
 -- frames of the messages so far were added, which are what was taken
 abbrev pub invariant-loop : goal.invariant-loop
 invariant-loop g l = record {
-  handed : (at : List ℕ) → Handed l.limits FramingSends (Some (concat l.taken.parts ++ at)) (Some at) l.fn.outbox l.outbox;
-  taken : Takes l.taken.parts [] l.taken.parts (g.S.Read.remaining l.fn.reader.inner) (g.S.Read.remaining l.reader.inner);
+  handed : (at : List ℕ) → Handed l.limits FramingSends (Some (concat l.taken.parts ++ at)) (Some at) l.fn.outbox
+      l.outbox;
+  taken : Takes l.taken.parts [] l.taken.parts (g.S.Read.remaining l.fn.reader.inner) (g.S.Read.remaining
+      l.reader.inner);
   relay : l.outbox.relay ≡ l.fn.outbox.relay;
 }

@@ -6,7 +6,9 @@ use Rattle.lsp_threads.proofs.Frames.{parcel_bytes-push}
 use Rattle.lsp_threads.proofs.relay_texts.deliver_text.Goals as goal
 
 pub returns-then-not-is_empty-clause-bytes : goal.returns-then-not-is_empty-clause-bytes
-returns-then-not-is_empty-clause-bytes g c = ap parcel_bytes c.deliver.ensures.sent ∙ parcel_bytes-push c.args.tx.now.sent c.args.text
+returns-then-not-is_empty-clause-bytes g c = ap parcel_bytes c.deliver.ensures.sent ∙ parcel_bytes-push
+    c.args.tx.now.sent c.args.text
 
 pub returns-then-not-is_empty-clause-still_open : goal.returns-then-not-is_empty-clause-still_open
-returns-then-not-is_empty-clause-still_open g c = subst IsOpen (sym c.deliver.ensures.sent) (open_push c.args.tx.now.sent c.args.text c.requires)
+returns-then-not-is_empty-clause-still_open g c = subst IsOpen (sym c.deliver.ensures.sent)
+    (open_push c.args.tx.now.sent c.args.text c.requires)

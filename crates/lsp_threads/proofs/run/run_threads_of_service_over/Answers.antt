@@ -2,12 +2,18 @@ use Rattle.lsp_threads.proofs.Taken.{told_known}
 use Rattle.lsp_threads.proofs.run.run_threads_of_service_over.Goals as goal
 
 pub returns-in-Ok-clause-told : goal.returns-in-Ok-clause-told
-returns-in-Ok-clause-told g c = rw (c.in-Ok.ensures.reading.4, c.in-Ok.ensures.reading.5) at c.serve_between.ensures.told
+returns-in-Ok-clause-told g c = rw (c.in-Ok.ensures.reading.4, c.in-Ok.ensures.reading.5) at
+    c.serve_between.ensures.told
 
 pub returns-in-Ok-clause-passed : goal.returns-in-Ok-clause-passed
-returns-in-Ok-clause-passed g c = (rw c.in-Ok.ensures.reading.3 at c.serve_between.ensures.taken, rw c.in-Ok.ensures.writing.2 at c.serve_between.ensures.given)
+returns-in-Ok-clause-passed g c = (
+  rw c.in-Ok.ensures.reading.3 at c.serve_between.ensures.taken,
+  rw c.in-Ok.ensures.writing.2 at c.serve_between.ensures.given,
+)
 
 pub returns-in-Ok-clause-session : goal.returns-in-Ok-clause-session
 returns-in-Ok-clause-session g c =
-    told_known _ _ _ _ _ _ _ _ _ _ _ _ (rw (c.in-Ok.ensures.reading.4, c.in-Ok.ensures.reading.5) at c.serve_between.ensures.told)
-    (rw c.in-Ok.ensures.reading.3 at c.serve_between.ensures.taken) (rw c.in-Ok.ensures.writing.2 at c.serve_between.ensures.given)
+    told_known _ _ _ _ _ _ _ _ _ _ _ _ (rw (c.in-Ok.ensures.reading.4, c.in-Ok.ensures.reading.5) at
+    c.serve_between.ensures.told)
+    (rw c.in-Ok.ensures.reading.3 at c.serve_between.ensures.taken) (rw c.in-Ok.ensures.writing.2 at
+    c.serve_between.ensures.given)

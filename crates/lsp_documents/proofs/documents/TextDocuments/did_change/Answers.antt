@@ -10,14 +10,24 @@ use Rattle.lsp_documents.proofs.documents.TextDocuments.did_change.Goals as goal
 pub returns-in-Some-refusal-clause-err : goal.returns-in-Some-refusal-clause-err
 returns-in-Some-refusal-clause-err c =
     let d = view c.args.params.now in
-    change_refused (documents_of c.args.self.now) (documents_of c.refuse.new.self) (uri_in d) (option_and_then version_in (document_in d)) c.version_of-version.result (changes_given d) c.in-Some.uri.now c.in-Some-whole_in.whole c.in-Some-refusal.fault _
-    c.version_of-version.ensures (sym c.in-Some.ensures) (sym c.in-Some-whole_in.ensures) (sym c.in-Some-refusal.ensures) c.unmade.ensures.why
+    change_refused (documents_of c.args.self.now) (documents_of c.refuse.new.self) (uri_in d) (option_and_then
+    version_in (document_in d)) c.version_of-version.result (changes_given d) c.in-Some.uri.now
+    c.in-Some-whole_in.whole c.in-Some-refusal.fault _
+    c.version_of-version.ensures (sym c.in-Some.ensures) (sym c.in-Some-whole_in.ensures)
+    (sym c.in-Some-refusal.ensures) c.unmade.ensures.why
     (record { agreed = c.refuse.ensures.agreed; own = c.refuse.ensures.own; others = c.refuse.ensures.others })
 
 pub returns-clause-err : goal.returns-clause-err
 returns-clause-err c =
     let d = view c.args.params.now in
     let some : IfSome (changes_given (view c.args.params.now)) (λ cs. has_changes cs ≡ true) = search rules in
-    change_starved (documents_of c.args.self.now) (documents_of c.missed-in-Err.new.self) (uri_in d) (option_and_then version_in (document_in d)) c.version_of-version.result (changes_given d) c.in-Some.uri.now c.in-Some-whole_in.whole _
-    c.version_of-version.ensures (sym c.in-Some.ensures) (sym c.in-Some-whole_in.ensures) (sym c.refusal.ensures ∙ c.in_default-refusal.is) c.missed-in-Err.ensures.why some
-    (record { agreed = c.missed-in-Err.ensures.agreed; own = c.missed-in-Err.ensures.own; others = c.missed-in-Err.ensures.others })
+    change_starved (documents_of c.args.self.now) (documents_of c.missed-in-Err.new.self) (uri_in d) (option_and_then
+    version_in (document_in d)) c.version_of-version.result (changes_given d) c.in-Some.uri.now
+    c.in-Some-whole_in.whole _
+    c.version_of-version.ensures (sym c.in-Some.ensures) (sym c.in-Some-whole_in.ensures) (sym c.refusal.ensures
+    ∙ c.in_default-refusal.is) c.missed-in-Err.ensures.why some
+    (record {
+      agreed = c.missed-in-Err.ensures.agreed;
+      own = c.missed-in-Err.ensures.own;
+      others = c.missed-in-Err.ensures.others;
+    })

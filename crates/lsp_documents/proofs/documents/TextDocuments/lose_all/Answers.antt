@@ -10,4 +10,5 @@ use Rattle.lsp_documents.proofs.documents.TextDocuments.lose_all.Goals as goal
 pub returns-clause-held : goal.returns-clause-held
 returns-clause-held c =
     let e = map_same_pairs _ lost _ (λ k v b w f' t. search rules) _ _ c.retain.ensures.filtered in
-    λ q. rw e (lookup-map_values lost (is_at (λ k. slice_cmp nat_cmp q (string_bytes k))) c.args.self.now.documents.entries)
+    λ q. rw e (lookup-map_values lost (is_at (λ k. slice_cmp nat_cmp q (string_bytes k)))
+    c.args.self.now.documents.entries)

@@ -11,4 +11,5 @@ invariant-loop-id g l =
     (goal.iterator-loop-id g).can_next l.id-iterator
     × (goal.iterator-loop-id g).is_finite l.id-iterator
     × (l.yielded ++ into_iter_items l.id-iterator ≡ into_iter_items l.initial.id-iterator)
-    × ((id : Id) → pending_jobs l.self id ≡ cond (list_any (same_id id) l.yielded) None (pending_jobs l.initial.self id))
+    × ((id : Id) → pending_jobs l.self id ≡ cond (list_any (same_id id) l.yielded) None
+    (pending_jobs l.initial.self id))

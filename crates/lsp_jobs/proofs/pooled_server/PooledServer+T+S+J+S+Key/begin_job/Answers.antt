@@ -10,7 +10,21 @@ use Rattle.lsp_jobs.proofs.pooled_server.«PooledServer+T+S+J+S+Key».begin_job.
 pub returns : goal.returns
 returns g c =
     let acts = map (act_view {P = g.row.S-Payload.Denot}) c.start_one.new.acts.items in
-    let started = subst (λ l. StartsOne g.S.JobServer (c.args.self.now.server, pending_jobs c.args.self.now.pool, map (act_view {P = g.row.S-Payload.Denot}) l)
-    (new_job_view c.args.start) (c.start_one.new.self.server, pending_jobs c.start_one.new.self.pool, acts)) c.new-acts.ensures.items c.in_ok-start_one.ensures in
+    let started = subst (λ l. StartsOne g.S.JobServer (
+      c.args.self.now.server,
+      pending_jobs c.args.self.now.pool,
+      map (act_view {P = g.row.S-Payload.Denot}) l,
+    )
+    (new_job_view c.args.start) (c.start_one.new.self.server, pending_jobs c.start_one.new.self.pool, acts))
+    c.new-acts.ensures.items c.in_ok-start_one.ensures in
     IfOk-weaker c.acts_with_jobs.result _ _
-    (λ all others. (others.0, others.1, record { acts = acts; did = seen c.start_one.new.self; started = started; others = others.2 })) c.acts_with_jobs.ensures
+    (λ all others. (
+      others.0,
+      others.1,
+      record {
+        acts = acts;
+        did = seen c.start_one.new.self;
+        started = started;
+        others = others.2;
+      },
+    )) c.acts_with_jobs.ensures

@@ -14,9 +14,12 @@ returns-in-Ok g c =
     let server = ap (λ (x : _ × PendingJobs _). x.0) forgot in
     let first = map (act_view {P = g.row.S-Payload.Denot}) c.in_ok-acts.acts.items in (
       first,
-      subst (λ s. g.S.JobServer.finishes c.args.self.now.server c.args.id c.args.key (end_view c.args.end) first s) (sym server) c.in_ok-acts.ensures,
+      subst (λ s. g.S.JobServer.finishes c.args.self.now.server c.args.id c.args.key (end_view c.args.end) first s)
+          (sym server) c.in_ok-acts.ensures,
       ap (λ l. map (act_view {P = g.row.S-Payload.Denot}) l) c.in-Ok.ensures.items
-          ∙ map-append (act_view {P = g.row.S-Payload.Denot}) c.in_ok-acts.acts.items (Reply c.args.id c.in_ok-outcome.outcome ∷ [])
+          ∙ map-append (act_view {P = g.row.S-Payload.Denot}) c.in_ok-acts.acts.items (Reply c.args.id
+          c.in_ok-outcome.outcome ∷ [])
           ∙ ap (λ o. first ++ replies c.args.id o ∷ []) c.in_ok-outcome.ensures,
-      ap (λ (x : _ × PendingJobs _). x.1) forgot ∙ ap (λ l. unanswered (map (act_view {P = g.row.S-Payload.Denot}) l) (pending_jobs c.args.self.now.pool)) c.deref.ensures.value,
+      ap (λ (x : _ × PendingJobs _). x.1) forgot ∙ ap (λ l. unanswered (map (act_view {P = g.row.S-Payload.Denot}) l)
+          (pending_jobs c.args.self.now.pool)) c.deref.ensures.value,
     )

@@ -18,15 +18,26 @@ loop-start-preserved g c =
     let turn : into_iter_items c.loop-start.start-iterator ≡ c.in-Some.start ∷ rest = c.in-Some.ensures.steps.0 in (
       tt,
       tt,
-      append_assoc c.loop-start.yielded (c.in-Some.start ∷ []) rest ∙ (ap (λ (l : List (NewJob _ _)). c.loop-start.yielded ++ l) (sym turn) ∙ before.2),
+      append_assoc c.loop-start.yielded (c.in-Some.start ∷ []) rest
+          ∙ (ap (λ (l : List (NewJob _ _)). c.loop-start.yielded ++ l) (sym turn) ∙ before.2),
       rw (map-append new_job_view c.loop-start.yielded (c.in-Some.start ∷ []))
-          (FoldsTo-push (StartsOne g.S.JobServer) _ (map new_job_view c.loop-start.yielded) _ (new_job_view c.in-Some.start) _ before.3 c.in_ok-start_one.ensures),
+          (FoldsTo-push (StartsOne g.S.JobServer) _ (map new_job_view c.loop-start.yielded) _
+          (new_job_view c.in-Some.start) _ before.3 c.in_ok-start_one.ensures),
     )
 
 pub returns : goal.returns
 returns g c =
     let none = sym c.loop-start.start-iterator.rest.ok.0 ∙ c.in-None.ensures.steps.0 in
-    let all = all_taken c.loop-start.yielded (into_iter_items c.loop-start.start-iterator) c.args.jobs.items c.loop-start.invariant.2 none in
-    subst (λ (l : List (NewJob _ _)). FoldsTo (StartsOne g.S.JobServer)
-    (c.args.self.now.server, pending_jobs c.args.self.now.pool, map (act_view {P = g.row.S-Payload.Denot}) c.args.acts.items) (map new_job_view l)
-    (c.loop-start.self.server, pending_jobs c.loop-start.self.pool, map (act_view {P = g.row.S-Payload.Denot}) c.loop-start.acts.items)) all c.loop-start.invariant.3
+    let all = all_taken c.loop-start.yielded (into_iter_items c.loop-start.start-iterator) c.args.jobs.items
+    c.loop-start.invariant.2 none in
+    subst (λ (l : List (NewJob _ _)). FoldsTo (StartsOne g.S.JobServer) (
+      c.args.self.now.server,
+      pending_jobs c.args.self.now.pool,
+      map (act_view {P = g.row.S-Payload.Denot})
+          c.args.acts.items,
+    ) (map new_job_view l) (
+      c.loop-start.self.server,
+      pending_jobs c.loop-start.self.pool,
+      map (act_view {P = g.row.S-Payload.Denot})
+          c.loop-start.acts.items,
+    )) all c.loop-start.invariant.3

@@ -20,5 +20,6 @@ returns g c =
       starts = subst (λ s. g.S.JobServer.starts s started mid) server c.in_ok-jobs.ensures;
       taken = subst (λ t. FoldsTo (StartsOne g.S.JobServer) (mid, t, map act_view c.args.acts.items) started
           (c.start_all.new.self.server, pending_jobs c.start_all.new.self.pool, map act_view all.items))
-          (ap (λ (x : _ × PendingJobs _). x.1) forgot ∙ ap (λ l. unanswered (map act_view l) (pending_jobs c.args.self.now.pool)) c.deref.ensures.value) done;
+          (ap (λ (x : _ × PendingJobs _). x.1) forgot ∙ ap (λ l. unanswered (map act_view l)
+          (pending_jobs c.args.self.now.pool)) c.deref.ensures.value) done;
     }) c.start_all.ensures

@@ -15,9 +15,13 @@ returns-in_ok-more-in-Err-Full g c =
     let key : c.in-Err-Full.key ≡ c.args.start.key = (rw c.in-Err-Full.field-0-is at c.in-Err-Full.ensures.back) in
     let pending = c.in-Err-Full.ensures.err ∙ ap (λ i. without i before) c.in_ok-clone.ensures in
     let ends = subst (λ (x : g.row.S-Key.Denot × PendingJobs (g.row.J.Denot × g.row.S-Key.Denot)).
-    Ends g.S.JobServer c.args.start.id x.0 no_room (c.args.self.now.server, x.1) more (c.end_job.new.self.server, pending_jobs c.end_job.new.self.pool))
+    Ends g.S.JobServer c.args.start.id x.0 no_room (c.args.self.now.server, x.1) more (
+      c.end_job.new.self.server,
+      pending_jobs c.end_job.new.self.pool,
+    ))
     (λ k. (key k, pending k)) c.in_ok-more-in-Err-Full.ensures in
-    appended c.append.result c.append.new.self.items c.args.acts.now.items c.in_ok-more-in-Err-Full.more.items c.append.ensures.items
+    appended c.append.result c.append.new.self.items c.args.acts.now.items c.in_ok-more-in-Err-Full.more.items
+    c.append.ensures.items
     (λ is. inr (
       more,
       ends,

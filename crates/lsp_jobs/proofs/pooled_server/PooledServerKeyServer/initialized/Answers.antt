@@ -8,5 +8,10 @@ returns g c =
     IfOk-weaker c.acts_with_jobs.result _ _ (λ all others. (
       others.0,
       others.1,
-      (map (act_view {P = g.row.S-Payload.Denot}) c.in_ok-acts.acts.items, c.initialized.new.self, c.in_ok-acts.ensures, others.2),
+      (
+        map (act_view {P = g.row.S-Payload.Denot}) c.in_ok-acts.acts.items,
+        c.initialized.new.self,
+        c.in_ok-acts.ensures,
+        others.2,
+      ),
     )) c.acts_with_jobs.ensures

@@ -16,5 +16,10 @@ returns g c =
       others.1,
       subst (λ (x : g.row.S.Denot × PendingJobs (g.row.J.Denot × g.row.S-Key.Denot)).
           Does g.S.JobServer (g.S.Server.notified x.0 method params) x.1 others.0 (seen c.acts_with_jobs.new.self))
-          c.in_ok-forget_cancelled.ensures (map (act_view {P = g.row.S-Payload.Denot}) c.in_ok-acts.acts.items, c.notification.new.self, c.in_ok-acts.ensures, others.2),
+          c.in_ok-forget_cancelled.ensures (
+            map (act_view {P = g.row.S-Payload.Denot}) c.in_ok-acts.acts.items,
+            c.notification.new.self,
+            c.in_ok-acts.ensures,
+            others.2,
+          ),
     )) c.acts_with_jobs.ensures

@@ -22,7 +22,8 @@ returns-in-Job g c =
         is_for = given.0;
         gives = given.1;
         begins = subst (λ (x : Id × PendingJobs (g.row.J.Denot × g.row.S-Key.Denot)).
-            BeginsJob g.S.JobServer (c.job.new.self, x.1) (x.0, c.in-Job.job, c.in-Job.key) begins.0 (seen c.begin_job.new.self))
+            BeginsJob g.S.JobServer (c.job.new.self, x.1) (x.0, c.in-Job.job, c.in-Job.key) begins.0
+            (seen c.begin_job.new.self))
             (λ k. (c.in_ok-id.ensures k, c.forget.ensures k)) begins.2;
       }),
     )) c.begin_job.ensures
@@ -38,8 +39,10 @@ returns-in_ok-acts-in-Server g c =
       inr (
         acts,
         did,
-        subst (λ (x : Request × g.row.S.Denot). g.S.Server.requested x.1 x.0.id (string_bytes x.0.method) (view x.0.params) acts did) (λ k. (back.0 k, back.1 k))
+        subst (λ (x : Request × g.row.S.Denot). g.S.Server.requested x.1 x.0.id (string_bytes x.0.method)
+            (view x.0.params) acts did) (λ k. (back.0 k, back.1 k))
             c.in_ok-acts-in-Server.ensures,
-        subst (λ t. StartsJobs g.S.JobServer (did, t) acts others.0 (seen c.acts_with_jobs.new.self)) c.forget.ensures others.2,
+        subst (λ t. StartsJobs g.S.JobServer (did, t) acts others.0 (seen c.acts_with_jobs.new.self)) c.forget.ensures
+            others.2,
       ),
     )) c.acts_with_jobs.ensures

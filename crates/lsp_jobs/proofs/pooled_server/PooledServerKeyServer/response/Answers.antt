@@ -9,5 +9,10 @@ returns-in_ok-acts-in-ByServer g c =
     (IfOk-weaker c.acts_with_jobs.result _ _ (λ all others. (
       others.0,
       others.1,
-      (map (act_view {P = g.row.S-Payload.Denot}) c.in_ok-acts-in-ByServer.acts.items, c.response.new.self, c.in_ok-acts-in-ByServer.ensures, others.2),
+      (
+        map (act_view {P = g.row.S-Payload.Denot}) c.in_ok-acts-in-ByServer.acts.items,
+        c.response.new.self,
+        c.in_ok-acts-in-ByServer.ensures,
+        others.2,
+      ),
     )) c.acts_with_jobs.ensures)

@@ -13,7 +13,8 @@ returns-in_ok-acts-in-Outcome g c =
     let id = c.in-Some.said.0 in
     let acts = map (act_view {P = g.row.S-Payload.Denot}) c.in_ok-acts-in-Outcome.acts.items in
     let outcome = outcome_view c.in-Outcome.outcome in
-    let ended = subst (λ t. Ends g.S.JobServer id c.in-Outcome.key (came_to outcome) (c.args.self.now.server, t) acts (seen c.end_job.new.self)) tells.3 c.in_ok-acts-in-Outcome.ensures in
+    let ended = subst (λ t. Ends g.S.JobServer id c.in-Outcome.key (came_to outcome) (c.args.self.now.server, t) acts
+    (seen c.end_job.new.self)) tells.3 c.in_ok-acts-in-Outcome.ensures in
     IfOk-weaker c.acts_with_jobs.result _ _ (λ all others. inr (inr (inr (
       others.0,
       others.1,

@@ -6,7 +6,16 @@ use Rattle.lsp_jobs.proofs.table.JobTable.complete.Goals as goal
 pub invariant_of-self : goal.invariant_of-self
 invariant_of-self g c =
     let known = c.args.self.now.known in
-    record { known = (known.0, known.1, known.2, known.3, fewer _ c.args.self.now.jobs c.complete.new.self c.args.id.now c.complete.ensures.removed known.4) }
+    record {
+      known = (
+        known.0,
+        known.1,
+        known.2,
+        known.3,
+        fewer _ c.args.self.now.jobs c.complete.new.self c.args.id.now
+            c.complete.ensures.removed known.4,
+      );
+    }
 
 pub returns-clause-removed : goal.returns-clause-removed
 returns-clause-removed g c = pending_remove job_of _ _ c.args.id.now c.complete.ensures.removed

@@ -35,10 +35,12 @@ invariant_of-self-2 g c =
         (seat.0 ∙ sym known.0.0 ∙ known.1.0, seat.1 ∙ sym known.0.1 ∙ known.1.1, seat.2, known.1.3),
         (known_all _ _ grown).0,
         one_longer _ jobs c.args.job c.args.self.now.next grown known.3 ∙ sym c.in-Some.ensures.1,
-        registered jobs c.args.job _ c.args.self.now.jobs c.register.new.self c.args.id _ c.register.result grown (sym known.3) c.of.ensures c.register.ensures.ok c.register.ensures.err known.4,
+        registered jobs c.args.job _ c.args.self.now.jobs c.register.new.self c.args.id _ c.register.result grown
+            (sym known.3) c.of.ensures c.register.ensures.ok c.register.ensures.err known.4,
       );
     }
 
 pub returns-in-Ok-clause-ok : goal.returns-in-Ok-clause-ok
 returns-in-Ok-clause-ok g c =
-    pending_insert job_of _ _ c.args.id _ c.in-Ok.ensures.ok ∙ ap (λ job. with_job c.args.id (job, c.args.kept) (pending_of c.args.self.now.jobs)) c.of.ensures
+    pending_insert job_of _ _ c.args.id _ c.in-Ok.ensures.ok ∙ ap (λ job. with_job c.args.id (job, c.args.kept)
+    (pending_of c.args.self.now.jobs)) c.of.ensures

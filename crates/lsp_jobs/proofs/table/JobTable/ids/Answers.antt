@@ -6,4 +6,5 @@ use Rattle.lsp_jobs.proofs.Forgetting.{still_there}
 use Rattle.lsp_jobs.proofs.table.JobTable.ids.Goals as goal
 
 pub returns : goal.returns
-returns g c = IfOk-weaker c.ids.result _ _ (λ ids all. λ id. all id ∙ still_there job_of (map.get c.args.self.now.jobs id)) c.ids.ensures
+returns g c = IfOk-weaker c.ids.result _ _ (λ ids all. λ id. all id ∙ still_there job_of (map.get c.args.self.now.jobs
+    id)) c.ids.ensures

@@ -9,7 +9,9 @@ pub returns-then-is_awaited-clause-said : goal.returns-then-is_awaited-clause-sa
 returns-then-is_awaited-clause-said g c =
     let table = c.take_item.new.self in
     let awaited = c.is_awaited.ensures c.if-is_awaited.true in
-    said_by (any.ghosts g.row.J g.J.Job any.no_dict any.no_dict).comes_to g.J.Job.reports g.J.Job.asks (all_jobs (knows table.pass)) table.jobs c.in_ok-item.item awaited.0 c.args.self.now.jobs (c.in_ok-item.ensures.same ∙ c.loop.invariant) table.known.4 c.in_ok-item.ensures.said awaited.1
+    said_by (any.ghosts g.row.J g.J.Job any.no_dict any.no_dict).comes_to g.J.Job.reports g.J.Job.asks
+    (all_jobs (knows table.pass)) table.jobs c.in_ok-item.item awaited.0 c.args.self.now.jobs
+    (c.in_ok-item.ensures.same ∙ c.loop.invariant) table.known.4 c.in_ok-item.ensures.said awaited.1
     awaited.2
 
 pub returns-then-is_awaited-clause-same : goal.returns-then-is_awaited-clause-same

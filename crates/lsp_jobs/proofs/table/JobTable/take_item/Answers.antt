@@ -14,7 +14,8 @@ pub invariant_of-self : goal.invariant_of-self
 invariant_of-self g c =
     let known = c.args.self.now.known in
     let seat = c.try_recv_as.ensures.channel.0 in
-    let same : knows c.try_recv_as.new.pass ≡ knows c.args.self.now.pass = same_view _ _ _ _ c.try_recv_as.result c.try_recv_as.ensures.rule in
+    let same : knows c.try_recv_as.new.pass ≡ knows c.args.self.now.pass = same_view _ _ _ _ c.try_recv_as.result
+    c.try_recv_as.ensures.rule in
     record {
       known = (
         (seat.0 ∙ sym known.1.0 ∙ known.0.0, seat.1 ∙ sym known.1.1 ∙ known.0.1, seat.2, known.0.3),

@@ -1,4 +1,5 @@
-use Rattle.std.proofs.Common.{true, false, ◌<◌, List, Err, sym, ap, subst, ◌≡◌, ◌≤◌, length, ℕ, Vec, Global, [], ◌++◌, Ok, arith}
+use Rattle.std.proofs.Common.{true, false, ◌<◌, List, Err, sym, ap, subst, ◌≡◌, ◌≤◌, length, ℕ, Vec, Global, [], ◌++◌}
+use Rattle.std.proofs.Common.{Ok, arith}
 use Rattle.std.proofs.KnownBytes.{Consumes-nil, Consumes-trans}
 use Rattle.std.proofs.lemmas.Result.{err_from_is_err_and}
 use Rattle.lsp_message.proofs.Suffixes.{body_stops, body_whole, body_fails}
@@ -27,7 +28,8 @@ returns-in_err-take_part-clause-exact g c =
     let part = c.in_err-take_part.ensures.part in
     let taken = Consumes-trans _ _ _ _ _ c.loop.invariant.taken part.2 in
     let within : length (c.loop.body.items ++ part.0) ≤ c.args.count = rw (← part.1) (omega arith) in
-    rw (p.1, p.2) (body_fails (λ (body : Vec ℕ Global). body.items) _ c.args.count _ _ _ c.in_err-take_part.ensures.fault taken within)
+    rw (p.1, p.2) (body_fails (λ (body : Vec ℕ Global). body.items) _ c.args.count _ _ _
+    c.in_err-take_part.ensures.fault taken within)
 
 pub returns-clause-exact : goal.returns-clause-exact
 returns-clause-exact g c =
@@ -41,10 +43,18 @@ pub returns-then-missing-eq0-clause-begun : goal.returns-then-missing-eq0-clause
 returns-then-missing-eq0-clause-begun g c = (_, c.loop.invariant.taken)
 
 pub returns-in_err-take_part-clause-begun : goal.returns-in_err-take_part-clause-begun
-returns-in_err-take_part-clause-begun g c = (_, Consumes-trans _ _ _ _ _ c.loop.invariant.taken c.in_err-take_part.ensures.part.2)
+returns-in_err-take_part-clause-begun g c = (
+  _,
+  Consumes-trans _ _ _ _ _ c.loop.invariant.taken
+      c.in_err-take_part.ensures.part.2,
+)
 
 pub returns-then-not-branch-clause-begun : goal.returns-then-not-branch-clause-begun
-returns-then-not-branch-clause-begun g c = (_, Consumes-trans _ _ _ _ _ c.loop.invariant.taken c.in_ok-take_part.ensures.part.2)
+returns-then-not-branch-clause-begun g c = (
+  _,
+  Consumes-trans _ _ _ _ _ c.loop.invariant.taken
+      c.in_ok-take_part.ensures.part.2,
+)
 
 pub returns-clause-begun : goal.returns-clause-begun
 returns-clause-begun g c = (_, c.loop.invariant.taken)
@@ -67,19 +77,32 @@ returns-in_err-take_part-clause-told g c =
     let p = err_from_is_err_and c.from_residual-in_err-take_part.result c.from_residual-in_err-take_part.ensures.1 in
     let size : length c.take_part.new.body.items ≤ c.args.count = omega (arith, c.take_part.ensures.fits) in
     let failed = c.in_err-take_part.ensures.fault in
-    rw (p.1, p.2) (Told-map _ _ _ _ _ _ (λ parts is. body_broken items c.args.count _ parts failed (omega (arith, size, ap length is)))
-    (told_body (Err c.in_err-take_part.field-0.0) [] _ _ _ _ _ _ _ _ c.loop.invariant.told c.in_err-take_part.ensures.told))
+    rw (p.1, p.2) (Told-map _ _ _ _ _ _ (λ parts is. body_broken items c.args.count _ parts failed (omega (
+      arith,
+      size,
+      ap length is,
+    )))
+    (told_body (Err c.in_err-take_part.field-0.0) [] _ _ _ _ _ _ _ _ c.loop.invariant.told
+    c.in_err-take_part.ensures.told))
 
 pub returns-then-not-branch-clause-told : goal.returns-then-not-branch-clause-told
 returns-then-not-branch-clause-told g c =
     let same : c.in_ok-take_part.field-0 ≡ false = cc in
-    let short : length c.take_part.new.body.items < c.args.count = omega (arith, c.in_ok-take_part.ensures.short (ap Ok same)) in
-    Told-map _ _ _ _ _ _ (λ parts is. body_is_short items c.args.count parts (omega (arith, short, ap length is.0)) is.1)
+    let short : length c.take_part.new.body.items < c.args.count = omega (
+      arith,
+      c.in_ok-take_part.ensures.short
+          (ap Ok same),
+    ) in
+    Told-map _ _ _ _ _ _ (λ parts is. body_is_short items c.args.count parts (omega (arith, short, ap length is.0))
+    is.1)
     (told_body (Ok false) [] _ _ _ _ _ _ _ _ c.loop.invariant.told (rw (same) at c.in_ok-take_part.ensures.told))
 
 pub returns-clause-told : goal.returns-clause-told
 returns-clause-told g c =
-    Told-map _ _ _ _ _ _ (λ parts is. body_broken items c.args.count (Input Other) parts tt (omega (arith, ap length is))) c.loop.invariant.told
+    Told-map _ _ _ _ _ _ (λ parts is. body_broken items c.args.count (Input Other) parts tt (omega (
+      arith,
+      ap length is,
+    ))) c.loop.invariant.told
 
 pub loop-preserved : goal.loop-preserved
 loop-preserved g c =

@@ -9,5 +9,6 @@ invariant-loop g l = record {
   taken : Consumes (g.R.Read.remaining l.initial.reader) (g.R.Read.remaining l.reader) l.body.items;
   within : vec_len l.body ≤ l.size;
   room : l.size ≤ vec_capacity l.body;
-  told : Told (λ parts. l.body.items ≡ [] ++ concat parts) l.initial.taken.parts l.taken.parts (g.R.Read.remaining l.initial.reader) (g.R.Read.remaining l.reader);
+  told : Told (λ parts. l.body.items ≡ [] ++ concat parts) l.initial.taken.parts l.taken.parts (g.R.Read.remaining
+      l.initial.reader) (g.R.Read.remaining l.reader);
 }

@@ -1,4 +1,5 @@
-use Rattle.std.proofs.Common.{[], ◌∷◌, ◌≡◌, ◌≤◌, ◌+◌, ◌++◌, length, take, eqb-true, ap, arith, length-append, length-take}
+use Rattle.std.proofs.Common.{[], ◌∷◌, ◌≡◌, ◌≤◌, ◌+◌, ◌++◌, length, take, eqb-true, ap, arith, length-append}
+use Rattle.std.proofs.Common.{length-take}
 use Rattle.std.proofs.lemmas.Bool.{not-false}
 use Rattle.std.proofs.BufReadLemmas.{Consumes_shown}
 use Rattle.lsp_message.proofs.Shown.{kept_shown}
@@ -7,19 +8,32 @@ use Rattle.lsp_message.proofs.ToldHeaders.{takes_part, takes_nothing}
 use Rattle.lsp_message.proofs.frame.body.take_part.Given.{Over}
 use Rattle.lsp_message.proofs.frame.body.take_part.Goals as goal
 
-appended : (g : Over) (c : goal.After-consume g) → c.extend_from_slice.new.self.items ≡ c.args.body.now.items ++ take c.min-count.result c.in-Ok.shown.now
+appended : (g : Over) (c : goal.After-consume g) → c.extend_from_slice.new.self.items ≡ c.args.body.now.items
+    ++ take c.min-count.result c.in-Ok.shown.now
 appended g c = rw c.unwrap.ensures at c.extend_from_slice.ensures.items
 
 within : (g : Over) (c : goal.After-consume g) → c.min-count.result ≤ length c.in-Ok.shown.now
 within g c = omega (arith, c.min-count.ensures)
 
-added : (g : Over) (c : goal.After-consume g) → length c.extend_from_slice.new.self.items ≡ length c.args.body.now.items + c.min-count.result
-added g c = omega (arith, within g c, ap length (appended g c), length-append c.args.body.now.items (take c.min-count.result c.in-Ok.shown.now), length-take c.min-count.result c.in-Ok.shown.now)
+added : (g : Over) (c : goal.After-consume g) → length c.extend_from_slice.new.self.items ≡ length c.args.body.now.items
+    + c.min-count.result
+added g c = omega (
+  arith,
+  within g c,
+  ap length (appended g c),
+  length-append c.args.body.now.items
+      (take c.min-count.result c.in-Ok.shown.now),
+  length-take c.min-count.result c.in-Ok.shown.now,
+)
 
 pub returns-clause-part : goal.returns-clause-part
 returns-clause-part g c =
-    let kept = kept_shown _ _ _ _ _ c.in-Ok.is c.fill_buf.follows.holds-at-none in
-    (_, appended g c, (Consumes_shown _ _ _ _ _ c.min-count.result (within g c) c.in-Ok.ensures.front c.in-Ok.ensures.end kept.0 kept.1 c.consume.ensures.bytes).0)
+    let kept = kept_shown _ _ _ _ _ c.in-Ok.is c.fill_buf.follows.holds-at-none in (
+      _,
+      appended g c,
+      (Consumes_shown _ _ _ _ _ c.min-count.result (within g c) c.in-Ok.ensures.front
+          c.in-Ok.ensures.end kept.0 kept.1 c.consume.ensures.bytes).0,
+    )
 
 pub returns-clause-fits : goal.returns-clause-fits
 returns-clause-fits g c = omega (arith, added g c, c.min-count.ensures)
@@ -32,7 +46,8 @@ returns-clause-end g c = λ is.
     let kept = kept_shown _ _ _ _ _ c.in-Ok.is c.fill_buf.follows.holds-at-none in
     let none : c.min-count.result ≡ 0 = eqb-true _ _ (not-false _ (cc)) in
     let shown : length c.in-Ok.shown.now ≡ 0 = omega (arith, c.min-count.ensures, c.requires.some) in
-    (Consumes_shown _ _ _ _ _ c.min-count.result (within g c) c.in-Ok.ensures.front c.in-Ok.ensures.end kept.0 kept.1 c.consume.ensures.bytes).1 shown
+    (Consumes_shown _ _ _ _ _ c.min-count.result (within g c) c.in-Ok.ensures.front c.in-Ok.ensures.end kept.0 kept.1
+    c.consume.ensures.bytes).1 shown
 
 pub returns-clause-short : goal.returns-clause-short
 returns-clause-short g c = λ is.
@@ -40,14 +55,30 @@ returns-clause-short g c = λ is.
     omega (arith, added g c)
 
 pub returns-in-Err-clause-told : goal.returns-in-Err-clause-told
-returns-in-Err-clause-told g c = ([], Takes-none _ _ _ c.fill_buf.follows.holds-at-none.0, takes_nothing _ _ _ c.unless_interrupted.ensures)
+returns-in-Err-clause-told g c = (
+  [],
+  Takes-none _ _ _ c.fill_buf.follows.holds-at-none.0,
+  takes_nothing _ _ _
+      c.unless_interrupted.ensures,
+)
 
 pub returns-clause-told : goal.returns-clause-told
 returns-clause-told g c =
     let kept = kept_shown _ _ _ _ _ c.in-Ok.is c.fill_buf.follows.holds-at-none in
-    let taken = Consumes_shown _ _ _ _ _ c.min-count.result (within g c) c.in-Ok.ensures.front c.in-Ok.ensures.end kept.0 kept.1 c.consume.ensures.bytes in
+    let taken = Consumes_shown _ _ _ _ _ c.min-count.result (within g c) c.in-Ok.ensures.front c.in-Ok.ensures.end
+    kept.0 kept.1 c.consume.ensures.bytes in
     let size = length-take c.min-count.result c.in-Ok.shown.now in (
       take c.min-count.result c.in-Ok.shown.now ∷ [],
-      Takes-one _ _ _ _ _ c.add.ensures taken.0 (λ none. taken.1 (omega (arith, none, size, c.min-count.ensures, c.requires.some))),
-      takes_part _ _ _ _ (λ is. let none : c.min-count.result ≡ 0 = eqb-true _ _ (not-false _ is) in omega (arith, none, size)) (appended g c),
+      Takes-one _ _ _ _ _ c.add.ensures taken.0 (λ none. taken.1 (omega (
+        arith,
+        none,
+        size,
+        c.min-count.ensures,
+        c.requires.some,
+      ))),
+      takes_part _ _ _ _ (λ is. let none : c.min-count.result ≡ 0 = eqb-true _ _ (not-false _ is) in omega (
+        arith,
+        none,
+        size,
+      )) (appended g c),
     )

@@ -6,8 +6,10 @@ use Rattle.lsp_message.proofs.frame.line.gather_line.Given as goal
 
 abbrev pub invariant-loop : goal.invariant-loop
 invariant-loop g l = record {
-  line : KeepsLine l.initial.line.items (g.R.Read.remaining l.initial.reader) l.line.items (g.R.Read.remaining l.reader);
+  line : KeepsLine l.initial.line.items (g.R.Read.remaining l.initial.reader) l.line.items (g.R.Read.remaining
+      l.reader);
   begun : TakesFront (g.R.Read.remaining l.initial.reader) (g.R.Read.remaining l.reader);
-  told : Told (GathersSome (Ok false) l.initial.line.items l.line.items) l.initial.taken.parts l.taken.parts (g.R.Read.remaining l.initial.reader) (g.R.Read.remaining l.reader);
+  told : Told (GathersSome (Ok false) l.initial.line.items l.line.items) l.initial.taken.parts l.taken.parts
+      (g.R.Read.remaining l.initial.reader) (g.R.Read.remaining l.reader);
   spent : Spends l.initial.taken.parts l.taken.parts l.initial.room l.room;
 }

@@ -1,14 +1,17 @@
-use Rattle.std.proofs.Common.{ℕ, List, [], ◌∷◌, take, ◌≡◌, ◌≤◌, length, IfSome, sym, subst, arith, length-take, length-take-le}
+use Rattle.std.proofs.Common.{ℕ, List, [], ◌∷◌, take, ◌≡◌, ◌≤◌, length, IfSome, sym, subst, arith, length-take}
+use Rattle.std.proofs.Common.{length-take-le}
 use Rattle.std.proofs.lemmas.Result.{err_from_is_err_and}
 use Rattle.std.specs.Io.{StartsWith}
 use Rattle.std.specs.Io.KnownBytes.{Keeps}
 use Rattle.lsp_message.specs.ToldSteps.{GathersSome}
 use Rattle.std.proofs.BufReadLemmas.{Consumes_shown}
 use Rattle.lsp_message.proofs.Bounds.{spends_taken}
-use Rattle.lsp_message.proofs.Shown.{IsLinePart, part_to_feed, part_with_no_feed, kept_shown, shown_left, front_shown, end_shown, fits_shown, dropped, line_ends, line_goes_on}
+use Rattle.lsp_message.proofs.Shown.{IsLinePart, part_to_feed, part_with_no_feed, kept_shown, shown_left, front_shown}
+use Rattle.lsp_message.proofs.Shown.{end_shown, fits_shown, dropped, line_ends, line_goes_on}
 use Rattle.lsp_message.proofs.Takings.{TakesFront-kept, StaysInLine-kept, OnErr-any}
 use Rattle.lsp_message.proofs.Told.{Takes-none, Takes-one}
-use Rattle.lsp_message.proofs.ToldLines.{IsPart, feed_part, no_feed_part, part_shows, gathers_part, gathers_nothing, no_feed_none}
+use Rattle.lsp_message.proofs.ToldLines.{IsPart, feed_part, no_feed_part, part_shows, gathers_part, gathers_nothing}
+use Rattle.lsp_message.proofs.ToldLines.{no_feed_none}
 use Rattle.lsp_message.proofs.frame.line.gather_some.Given.{Over}
 use Rattle.lsp_message.proofs.frame.line.gather_some.Goals.{in-Some, in-None}
 use Rattle.lsp_message.proofs.frame.line.gather_some.Goals as goal
@@ -23,21 +26,30 @@ within g c = omega (arith, c.min.ensures)
 -- the reader's bytes are kept by `fill_buf`
 kept : (g : Over) (c : goal.After-consume g)
     → Keeps (g.R.Read.remaining c.args.reader.now) (g.R.Read.remaining c.fill_buf.follows.lender-at-none)
-    × IfSome (g.R.Read.remaining c.args.reader.now) (λ _. IfSome (g.R.BufRead.consumable_len c.fill_buf.follows.lender-at-none) (λ n. length (short g c) ≤ n))
+    × IfSome (g.R.Read.remaining c.args.reader.now) (λ _. IfSome (g.R.BufRead.consumable_len
+    c.fill_buf.follows.lender-at-none) (λ n. length (short g c) ≤ n))
 kept g c =
-    let all = kept_shown _ _ _ _ _ c.in-Ok.is c.fill_buf.follows.holds-at-none in
-    (all.0, fits_shown (g.R.Read.remaining c.args.reader.now) (g.R.BufRead.consumable_len c.fill_buf.follows.lender-at-none) c.in-Ok.shown.now c.min.result (within g c) all.1)
+    let all = kept_shown _ _ _ _ _ c.in-Ok.is c.fill_buf.follows.holds-at-none in (
+      all.0,
+      fits_shown (g.R.Read.remaining c.args.reader.now) (g.R.BufRead.consumable_len
+          c.fill_buf.follows.lender-at-none) c.in-Ok.shown.now c.min.result (within g c) all.1,
+    )
 
-front : (g : Over) (c : goal.After-consume g) → IfSome (g.R.Read.remaining c.args.reader.now) (λ xs. StartsWith xs (short g c))
-front g c = front_shown (g.R.Read.remaining c.args.reader.now) c.in-Ok.shown.now c.min.result (within g c) c.in-Ok.ensures.front
+front : (g : Over) (c : goal.After-consume g) → IfSome (g.R.Read.remaining c.args.reader.now) (λ xs. StartsWith xs
+    (short g c))
+front g c = front_shown (g.R.Read.remaining c.args.reader.now) c.in-Ok.shown.now c.min.result (within g c)
+    c.in-Ok.ensures.front
 
-end : (g : Over) (c : goal.After-consume g) → IfSome (g.R.Read.remaining c.args.reader.now) (λ xs. length (short g c) ≡ 0 → xs ≡ [])
-end g c = end_shown (g.R.Read.remaining c.args.reader.now) c.in-Ok.shown.now c.min.result (within g c) (λ none. omega (arith, none, c.min.ensures)) c.in-Ok.ensures.end
+end : (g : Over) (c : goal.After-consume g) → IfSome (g.R.Read.remaining c.args.reader.now) (λ xs. length (short g c)
+    ≡ 0 → xs ≡ [])
+end g c = end_shown (g.R.Read.remaining c.args.reader.now) c.in-Ok.shown.now c.min.result (within g c) (λ none. omega
+    (arith, none, c.min.ensures)) c.in-Ok.ensures.end
 
 part : (g : Over) (c : goal.After-consume g) → IsLinePart (short g c) c.match-memchr.count.0 c.match-memchr.count.1
 part g c = elim c.match-memchr.branch [
   | in-Some w ↦ subst (λ p. IsLinePart (short g c) p.0 p.1) (sym w.count-is) (part_to_feed _ _ w.in-Some.ensures)
-  | in-None w ↦ subst (λ p. IsLinePart (short g c) p.0 p.1) (sym w.count-is) (subst (IsLinePart _ _) (sym w.is_empty.ensures) (part_with_no_feed _ w.in-None.ensures))
+  | in-None w ↦ subst (λ p. IsLinePart (short g c) p.0 p.1) (sym w.count-is) (subst (IsLinePart _ _)
+      (sym w.is_empty.ensures) (part_with_no_feed _ w.in-None.ensures))
 ]
 
 pub returns-clause-more : goal.returns-clause-more
@@ -51,39 +63,60 @@ returns-clause-end g c = λ is.
     line_ends _ _ _ _ _ _ _ (part g c) c.in_ok-extend_from_slice.ensures.items (front g c) (end g c) moved (cc)
 
 pub returns-clause-begun : goal.returns-clause-begun
-returns-clause-begun g c =
-    (_, (Consumes_shown _ _ _ _ _ _ (part g c).within (front g c) (end g c) (kept g c).0 (kept g c).1 c.consume.ensures.bytes).0)
+returns-clause-begun g c = (
+  _,
+  (Consumes_shown _ _ _ _ _ _ (part g c).within (front g c) (end g c) (kept g c).0 (kept g c).1
+      c.consume.ensures.bytes).0,
+)
 
 pub returns-in_err-extend_from_slice-clause-memory : goal.returns-in_err-extend_from_slice-clause-memory
 returns-in_err-extend_from_slice-clause-memory g c = λ is.
     let kept = kept_shown _ _ _ _ _ c.in-Ok.is c.fill_buf.follows.holds-at-none in
     let full = c.in_err-extend_from_slice.ensures.full in
     let few = length-take c.match-memchr.count.0 (take c.min.result c.in-Ok.shown.now) in
-    shown_left _ _ _ kept.0 c.in-Ok.ensures.front (omega (arith, full, c.args.line.now.ok.1, few, length-take c.min.result c.in-Ok.shown.now))
+    shown_left _ _ _ kept.0 c.in-Ok.ensures.front (omega (
+      arith,
+      full,
+      c.args.line.now.ok.1,
+      few,
+      length-take c.min.result c.in-Ok.shown.now,
+    ))
 
 pub returns-in_err-extend_from_slice-clause-begun : goal.returns-in_err-extend_from_slice-clause-begun
 returns-in_err-extend_from_slice-clause-begun g c = TakesFront-kept _ _ c.fill_buf.follows.holds-at-none.0
 
 pub returns-in_err-extend_from_slice-clause-stays : goal.returns-in_err-extend_from_slice-clause-stays
-returns-in_err-extend_from_slice-clause-stays g c = OnErr-any _ (StaysInLine-kept _ _ c.fill_buf.follows.holds-at-none.0)
+returns-in_err-extend_from_slice-clause-stays g c = OnErr-any _ (StaysInLine-kept _ _
+    c.fill_buf.follows.holds-at-none.0)
 
 told_part : (g : Over) (c : goal.After-consume g) → IsPart (short g c) c.match-memchr.count.0 c.match-memchr.count.1
 told_part g c = elim c.match-memchr.branch [
   | in-Some w ↦ subst (λ p. IsPart (short g c) p.0 p.1) (sym w.count-is) (feed_part _ _ w.in-Some.ensures)
-  | in-None w ↦ subst (λ p. IsPart (short g c) p.0 p.1) (sym w.count-is) (subst (IsPart _ _) (sym w.is_empty.ensures) (no_feed_part _ w.in-None.ensures))
+  | in-None w ↦ subst (λ p. IsPart (short g c) p.0 p.1) (sym w.count-is) (subst (IsPart _ _) (sym w.is_empty.ensures)
+      (no_feed_part _ w.in-None.ensures))
 ]
 
 pub returns-in-Err-clause-told : goal.returns-in-Err-clause-told
-returns-in-Err-clause-told g c = ([], Takes-none _ _ _ c.fill_buf.follows.holds-at-none.0, gathers_nothing _ _ _ c.unless_interrupted.ensures)
+returns-in-Err-clause-told g c = (
+  [],
+  Takes-none _ _ _ c.fill_buf.follows.holds-at-none.0,
+  gathers_nothing _ _ _
+      c.unless_interrupted.ensures,
+)
 
 pub returns-in_err-extend_from_slice-clause-told : goal.returns-in_err-extend_from_slice-clause-told
 returns-in_err-extend_from_slice-clause-told g c =
-    let p = err_from_is_err_and c.from_residual.result c.from_residual.ensures.1 in
-    ([], Takes-none _ _ _ c.fill_buf.follows.holds-at-none.0, subst (λ r. GathersSome r c.args.line.now.items c.extend_from_slice.new.self.items []) (sym p.1) no_feed_none)
+    let p = err_from_is_err_and c.from_residual.result c.from_residual.ensures.1 in (
+      [],
+      Takes-none _ _ _ c.fill_buf.follows.holds-at-none.0,
+      subst (λ r. GathersSome r c.args.line.now.items
+          c.extend_from_slice.new.self.items []) (sym p.1) no_feed_none,
+    )
 
 pub returns-clause-told : goal.returns-clause-told
 returns-clause-told g c =
-    let taken = Consumes_shown _ _ _ _ _ _ (part g c).within (front g c) (end g c) (kept g c).0 (kept g c).1 c.consume.ensures.bytes in (
+    let taken = Consumes_shown _ _ _ _ _ _ (part g c).within (front g c) (end g c) (kept g c).0 (kept g c).1
+    c.consume.ensures.bytes in (
       take c.match-memchr.count.0 (short g c) ∷ [],
       Takes-one _ _ _ _ _ c.add.ensures taken.0 (λ none. taken.1 (part_shows _ _ _ (told_part g c) none)),
       gathers_part _ _ _ _ _ (told_part g c) c.in_ok-extend_from_slice.ensures.items,
@@ -93,4 +126,9 @@ pub returns-clause-spent : goal.returns-clause-spent
 returns-clause-spent g c =
     let shows = (part g c).within in
     let size = length-take-le c.min.result c.in-Ok.shown.now (within g c) in
-    spends_taken c.match-memchr.count.0 (short g c) _ _ _ c.add.ensures shows (omega (arith, shows, size, c.min.ensures))
+    spends_taken c.match-memchr.count.0 (short g c) _ _ _ c.add.ensures shows (omega (
+      arith,
+      shows,
+      size,
+      c.min.ensures,
+    ))

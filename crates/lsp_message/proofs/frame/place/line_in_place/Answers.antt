@@ -13,12 +13,14 @@ returns-in-Err-clause-exact g c = not_shown _ _ _ _ c.fill_buf.follows.holds-at-
 pub returns-in-Ok-line-clause-exact : goal.returns-in-Ok-line-clause-exact
 returns-in-Ok-line-clause-exact g c =
     let kept = kept_shown _ _ _ _ _ c.in-Ok.is c.fill_buf.follows.holds-at-none in
-    placed_line _ _ _ _ _ _ c.in-Some.ensures c.in-Ok.ensures.front c.in-Ok.ensures.end kept c.consume.ensures.bytes (Ok c.in-Ok-line.line) (sym c.in-Ok-line.is ∙ c.header_line-line.ensures)
+    placed_line _ _ _ _ _ _ c.in-Some.ensures c.in-Ok.ensures.front c.in-Ok.ensures.end kept c.consume.ensures.bytes
+    (Ok c.in-Ok-line.line) (sym c.in-Ok-line.is ∙ c.header_line-line.ensures)
 
 pub returns-in-Err-line-clause-exact : goal.returns-in-Err-line-clause-exact
 returns-in-Err-line-clause-exact g c =
     let kept = kept_shown _ _ _ _ _ c.in-Ok.is c.fill_buf.follows.holds-at-none in
-    placed_line _ _ _ _ _ _ c.in-Some.ensures c.in-Ok.ensures.front c.in-Ok.ensures.end kept c.consume.ensures.bytes (Err c.in-Err-line.fault) (sym c.in-Err-line.is ∙ c.header_line-line.ensures)
+    placed_line _ _ _ _ _ _ c.in-Some.ensures c.in-Ok.ensures.front c.in-Ok.ensures.end kept c.consume.ensures.bytes
+    (Err c.in-Err-line.fault) (sym c.in-Err-line.is ∙ c.header_line-line.ensures)
 
 pub returns-in-Ok-line-clause-begun : goal.returns-in-Ok-line-clause-begun
 returns-in-Ok-line-clause-begun g c =
@@ -37,12 +39,18 @@ pub returns-in-None-2-clause-begun : goal.returns-in-None-2-clause-begun
 returns-in-None-2-clause-begun g c = TakesFront-kept _ _ c.fill_buf.follows.holds-at-none.0
 
 pub returns-in-Err-clause-told : goal.returns-in-Err-clause-told
-returns-in-Err-clause-told g c = ([], Takes-none _ _ _ c.fill_buf.follows.holds-at-none.0, placed_nothing _ _ c.unless_interrupted.ensures)
+returns-in-Err-clause-told g c = (
+  [],
+  Takes-none _ _ _ c.fill_buf.follows.holds-at-none.0,
+  placed_nothing _ _
+      c.unless_interrupted.ensures,
+)
 
 pub returns-in-None-clause-told : goal.returns-in-None-clause-told
 returns-in-None-clause-told g c =
     let kept = kept_shown _ _ _ _ _ c.in-Ok.is c.fill_buf.follows.holds-at-none in
-    told_end _ _ _ _ _ c.add.ensures kept.0 c.in-Ok.ensures.end (eqb-true _ _ (sym c.is_empty.ensures ∙ c.if-is_empty.true))
+    told_end _ _ _ _ _ c.add.ensures kept.0 c.in-Ok.ensures.end (eqb-true _ _ (sym c.is_empty.ensures
+    ∙ c.if-is_empty.true))
 
 pub returns-in-None-2-clause-told : goal.returns-in-None-2-clause-told
 returns-in-None-2-clause-told g c = ([], Takes-none _ _ _ c.fill_buf.follows.holds-at-none.0, refl)
@@ -50,12 +58,14 @@ returns-in-None-2-clause-told g c = ([], Takes-none _ _ _ c.fill_buf.follows.hol
 pub returns-in-Ok-line-clause-told : goal.returns-in-Ok-line-clause-told
 returns-in-Ok-line-clause-told g c =
     let kept = kept_shown _ _ _ _ _ c.in-Ok.is c.fill_buf.follows.holds-at-none in
-    told_placed _ _ _ _ _ _ _ _ c.in-Some.ensures c.in-Ok.ensures.front c.in-Ok.ensures.end kept c.consume.ensures.bytes c.add-2.ensures (Ok c.in-Ok-line.line) (sym c.in-Ok-line.is ∙ c.header_line-line.ensures)
+    told_placed _ _ _ _ _ _ _ _ c.in-Some.ensures c.in-Ok.ensures.front c.in-Ok.ensures.end kept c.consume.ensures.bytes
+    c.add-2.ensures (Ok c.in-Ok-line.line) (sym c.in-Ok-line.is ∙ c.header_line-line.ensures)
 
 pub returns-in-Err-line-clause-told : goal.returns-in-Err-line-clause-told
 returns-in-Err-line-clause-told g c =
     let kept = kept_shown _ _ _ _ _ c.in-Ok.is c.fill_buf.follows.holds-at-none in
-    told_placed _ _ _ _ _ _ _ _ c.in-Some.ensures c.in-Ok.ensures.front c.in-Ok.ensures.end kept c.consume.ensures.bytes c.add-2.ensures (Err c.in-Err-line.fault) (sym c.in-Err-line.is ∙ c.header_line-line.ensures)
+    told_placed _ _ _ _ _ _ _ _ c.in-Some.ensures c.in-Ok.ensures.front c.in-Ok.ensures.end kept c.consume.ensures.bytes
+    c.add-2.ensures (Err c.in-Err-line.fault) (sym c.in-Err-line.is ∙ c.header_line-line.ensures)
 
 pub returns-then-count-room-clause-begun : goal.returns-then-count-room-clause-begun
 returns-then-count-room-clause-begun g c = TakesFront-kept _ _ c.fill_buf.follows.holds-at-none.0
@@ -64,7 +74,8 @@ pub returns-then-count-room-clause-told : goal.returns-then-count-room-clause-to
 returns-then-count-room-clause-told g c = ([], Takes-none _ _ _ c.fill_buf.follows.holds-at-none.0, refl)
 
 pub returns-in-None-clause-spent : goal.returns-in-None-clause-spent
-returns-in-None-clause-spent g c = spends_none _ _ _ _ c.add.ensures (eqb-true _ _ (sym c.is_empty.ensures ∙ c.if-is_empty.true))
+returns-in-None-clause-spent g c = spends_none _ _ _ _ c.add.ensures (eqb-true _ _ (sym c.is_empty.ensures
+    ∙ c.if-is_empty.true))
 
 pub returns-in-Ok-line-clause-spent : goal.returns-in-Ok-line-clause-spent
 returns-in-Ok-line-clause-spent g c =

@@ -9,38 +9,56 @@ use Rattle.lsp_message.proofs.frame.read.gathered_line.Goals as goal
 
 pub returns-in_err-header_line-clause-exact : goal.returns-in_err-header_line-clause-exact
 returns-in_err-header_line-clause-exact g c =
-    let gathered = subst (λ l. EndsLine l (g.R.Read.remaining c.args.reader.now) c.gather_line.new.line.items (g.R.Read.remaining c.gather_line.new.reader)) c.clear.ensures.items c.in_ok-gather_line.ensures.line in
-    let some : length c.gather_line.new.line.items ≡ 0 → ⊥ = λ none. true≢false (sym (eq-eqb _ _ (c.gather_line.new.line.ok.0 ∙ none)) ∙ sym c.is_empty.ensures ∙ c.if-is_empty.false) in
-    let p = err_from_is_err_and c.from_residual-in_err-header_line.result c.from_residual-in_err-header_line.ensures.1 in
-    rw (p.1, p.2) (line_read (g.R.Read.remaining c.args.reader.now) (g.R.Read.remaining c.gather_line.new.reader) c.gather_line.new.line.items _ gathered some (c.in_err-header_line.ensures ∙ ap header_line c.deref.ensures.value))
+    let gathered = subst (λ l. EndsLine l (g.R.Read.remaining c.args.reader.now) c.gather_line.new.line.items
+    (g.R.Read.remaining c.gather_line.new.reader)) c.clear.ensures.items c.in_ok-gather_line.ensures.line in
+    let some : length c.gather_line.new.line.items ≡ 0 → ⊥ = λ none. true≢false
+    (sym (eq-eqb _ _ (c.gather_line.new.line.ok.0 ∙ none)) ∙ sym c.is_empty.ensures ∙ c.if-is_empty.false) in
+    let p = err_from_is_err_and c.from_residual-in_err-header_line.result c.from_residual-in_err-header_line.ensures.1
+    in
+    rw (p.1, p.2) (line_read (g.R.Read.remaining c.args.reader.now) (g.R.Read.remaining c.gather_line.new.reader)
+    c.gather_line.new.line.items _ gathered some (c.in_err-header_line.ensures
+    ∙ ap header_line c.deref.ensures.value))
 
 pub returns-in_err-gather_line-clause-exact : goal.returns-in_err-gather_line-clause-exact
 returns-in_err-gather_line-clause-exact g c =
     let p = err_from_is_err_and c.from_residual.result c.from_residual.ensures.1 in
-    rw (p.1, p.2) (line_stops _ _ _ c.in_err-gather_line.ensures.fault c.in_err-gather_line.ensures.stays (λ is. c.gather_line.ensures.memory (c.in_err-gather_line.was ∙ ap Err is)))
+    rw (p.1, p.2) (line_stops _ _ _ c.in_err-gather_line.ensures.fault c.in_err-gather_line.ensures.stays
+    (λ is. c.gather_line.ensures.memory (c.in_err-gather_line.was ∙ ap Err is)))
 
 pub returns-clause-exact : goal.returns-clause-exact
 returns-clause-exact g c =
-    let gathered = subst (λ l. EndsLine l (g.R.Read.remaining c.args.reader.now) c.gather_line.new.line.items (g.R.Read.remaining c.gather_line.new.reader)) c.clear.ensures.items c.in_ok-gather_line.ensures.line in
-    let some : length c.gather_line.new.line.items ≡ 0 → ⊥ = λ none. true≢false (sym (eq-eqb _ _ (c.gather_line.new.line.ok.0 ∙ none)) ∙ sym c.is_empty.ensures ∙ c.if-is_empty.false) in
-    line_read (g.R.Read.remaining c.args.reader.now) (g.R.Read.remaining c.gather_line.new.reader) c.gather_line.new.line.items _ gathered some (c.in_ok-header_line.ensures ∙ ap header_line c.deref.ensures.value)
+    let gathered = subst (λ l. EndsLine l (g.R.Read.remaining c.args.reader.now) c.gather_line.new.line.items
+    (g.R.Read.remaining c.gather_line.new.reader)) c.clear.ensures.items c.in_ok-gather_line.ensures.line in
+    let some : length c.gather_line.new.line.items ≡ 0 → ⊥ = λ none. true≢false
+    (sym (eq-eqb _ _ (c.gather_line.new.line.ok.0 ∙ none)) ∙ sym c.is_empty.ensures ∙ c.if-is_empty.false) in
+    line_read (g.R.Read.remaining c.args.reader.now) (g.R.Read.remaining c.gather_line.new.reader)
+    c.gather_line.new.line.items _ gathered some (c.in_ok-header_line.ensures
+    ∙ ap header_line c.deref.ensures.value)
 
 pub returns-in_err-gather_line-clause-told : goal.returns-in_err-gather_line-clause-told
 returns-in_err-gather_line-clause-told g c =
     let p = err_from_is_err_and c.from_residual.result c.from_residual.ensures.1 in
-    rw (p.1, p.2) (Told-map _ _ _ _ _ _ (λ parts none. line_failed _ parts c.in_err-gather_line.ensures.fault none) c.in_err-gather_line.ensures.told)
+    rw (p.1, p.2) (Told-map _ _ _ _ _ _ (λ parts none. line_failed _ parts c.in_err-gather_line.ensures.fault none)
+    c.in_err-gather_line.ensures.told)
 
 pub returns-then-is_empty-clause-told : goal.returns-then-is_empty-clause-told
 returns-then-is_empty-clause-told g c =
     let none = sym c.gather_line.new.line.ok.0 ∙ eqb-true _ _ (sym c.is_empty.ensures ∙ c.if-is_empty.true) in
-    Told-map _ _ _ _ _ _ (λ parts line. line_none _ parts none line) (gathered_parts _ _ _ _ _ _ _ c.clear.ensures.items c.in_ok-gather_line.ensures.told)
+    Told-map _ _ _ _ _ _ (λ parts line. line_none _ parts none line) (gathered_parts _ _ _ _ _ _ _ c.clear.ensures.items
+    c.in_ok-gather_line.ensures.told)
 
 pub returns-in_err-header_line-clause-told : goal.returns-in_err-header_line-clause-told
 returns-in_err-header_line-clause-told g c =
-    let some : length c.gather_line.new.line.items ≡ 0 → ⊥ = λ none. true≢false (sym (eq-eqb _ _ (c.gather_line.new.line.ok.0 ∙ none)) ∙ sym c.is_empty.ensures ∙ c.if-is_empty.false) in
-    let p = err_from_is_err_and c.from_residual-in_err-header_line.result c.from_residual-in_err-header_line.ensures.1 in
-    rw (p.1, p.2) (Told-map _ _ _ _ _ _ (λ parts line. line_bad _ _ parts (c.in_err-header_line.ensures ∙ ap header_line c.deref.ensures.value) some line) (gathered_parts _ _ _ _ _ _ _ c.clear.ensures.items c.in_ok-gather_line.ensures.told))
+    let some : length c.gather_line.new.line.items ≡ 0 → ⊥ = λ none. true≢false
+    (sym (eq-eqb _ _ (c.gather_line.new.line.ok.0 ∙ none)) ∙ sym c.is_empty.ensures ∙ c.if-is_empty.false) in
+    let p = err_from_is_err_and c.from_residual-in_err-header_line.result c.from_residual-in_err-header_line.ensures.1
+    in
+    rw (p.1, p.2) (Told-map _ _ _ _ _ _ (λ parts line. line_bad _ _ parts (c.in_err-header_line.ensures
+    ∙ ap header_line c.deref.ensures.value) some line) (gathered_parts _ _ _ _ _ _ _ c.clear.ensures.items
+    c.in_ok-gather_line.ensures.told))
 
 pub returns-clause-told : goal.returns-clause-told
 returns-clause-told g c =
-    Told-map _ _ _ _ _ _ (λ parts line. line_good _ _ parts (c.in_ok-header_line.ensures ∙ ap header_line c.deref.ensures.value) line) (gathered_parts _ _ _ _ _ _ _ c.clear.ensures.items c.in_ok-gather_line.ensures.told)
+    Told-map _ _ _ _ _ _ (λ parts line. line_good _ _ parts (c.in_ok-header_line.ensures
+    ∙ ap header_line c.deref.ensures.value) line) (gathered_parts _ _ _ _ _ _ _ c.clear.ensures.items
+    c.in_ok-gather_line.ensures.told)

@@ -8,7 +8,8 @@ returns-then-count-most-clause-exact g c =
     let told = c.read_header-answer.ensures.told in
     let spent = spends_parts told.0 _ _ _ _ told.1.added c.read_header-answer.ensures.spent in
     let size : length (concat told.0) ≡ c.args.most + 1 = omega (arith, spent, c.if-count-most.true) in
-    header_above c.args.most c.read_header-answer.result told.0 size _ _ told.1.consumed c.read_header-answer.ensures.exact
+    header_above c.args.most c.read_header-answer.result told.0 size _ _ told.1.consumed
+    c.read_header-answer.ensures.exact
 
 pub returns-then-count-most-clause-told : goal.returns-then-count-most-clause-told
 returns-then-count-most-clause-told g c =
@@ -22,7 +23,8 @@ returns-clause-exact g c =
     let told = c.read_header-answer.ensures.told in
     let spent = spends_parts told.0 _ _ _ _ told.1.added c.read_header-answer.ensures.spent in
     let size : length (concat told.0) ≤ c.args.most = omega (arith, spent, c.if-count-most.false) in
-    header_kept c.args.most c.read_header-answer.result told.0 size _ _ told.1.consumed c.read_header-answer.ensures.exact
+    header_kept c.args.most c.read_header-answer.result told.0 size _ _ told.1.consumed
+    c.read_header-answer.ensures.exact
 
 pub returns-clause-told : goal.returns-clause-told
 returns-clause-told g c =

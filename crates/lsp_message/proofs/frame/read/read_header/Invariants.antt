@@ -9,6 +9,7 @@ abbrev pub invariant-loop : goal.invariant-loop
 invariant-loop g l = record {
   header : Continues (g.R.Read.remaining l.initial.reader) (g.R.Read.remaining l.reader) l.length;
   begun : TakesFront (g.R.Read.remaining l.initial.reader) (g.R.Read.remaining l.reader);
-  told : Told (GoesOn l.length) l.initial.taken.parts l.taken.parts (g.R.Read.remaining l.initial.reader) (g.R.Read.remaining l.reader);
+  told : Told (GoesOn l.length) l.initial.taken.parts l.taken.parts (g.R.Read.remaining l.initial.reader)
+      (g.R.Read.remaining l.reader);
   spent : Spends l.initial.taken.parts l.taken.parts l.initial.room l.room;
 }

@@ -9,7 +9,8 @@ use Rattle.lsp_message.proofs.msg.Message.from_content.Goals as goal
 
 pub returns-in-Ok : goal.returns-in-Ok
 returns-in-Ok c =
-    subst (Decodes message_view c.message_in_text.result) (ap (λ text. tree_means (read text)) c.in-Ok.ensures.cases.0 ∙ sym (body_means-text _ c.in-Ok.ensures.cases.1))
+    subst (Decodes message_view c.message_in_text.result) (ap (λ text. tree_means (read text)) c.in-Ok.ensures.cases.0
+    ∙ sym (body_means-text _ c.in-Ok.ensures.cases.1))
     c.message_in_text.ensures.means
 
 pub returns-in-Err : goal.returns-in-Err

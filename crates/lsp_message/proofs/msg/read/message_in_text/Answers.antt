@@ -11,4 +11,5 @@ pub returns-in-Ok-clause-some : goal.returns-in-Ok-clause-some
 returns-in-Ok-clause-some c = λ is. absurd (tree_needs_no_memory _ _ (view c.in-Ok.tree) c.message_in_tree.ensures is)
 
 pub returns-else-is_memory-clause-means : goal.returns-else-is_memory-clause-means
-returns-else-is_memory-clause-means c = ap tree_means (c.in-Err.ensures.err (λ memory. true≢false (sym (c.is_memory.ensures.1 memory) ∙ c.if-is_memory.false)))
+returns-else-is_memory-clause-means c = ap tree_means (c.in-Err.ensures.err (λ memory. true≢false
+    (sym (c.is_memory.ensures.1 memory) ∙ c.if-is_memory.false)))

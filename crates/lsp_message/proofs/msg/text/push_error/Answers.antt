@@ -12,7 +12,8 @@ pub returns-clause-text : goal.returns-clause-text
 returns-clause-text c =
     let old = string_bytes c.args.out.now in
     let error = c.args.error.now in
-    let details : Adds (IsLaterMember (codes "data") (option_map view error.«data»)) (string_bytes c.push_text.new.out) (string_bytes c.push_later_member.new.out) = search rules in
+    let details : Adds (IsLaterMember (codes "data") (option_map view error.«data»)) (string_bytes c.push_text.new.out)
+    (string_bytes c.push_later_member.new.out) = search rules in
     let code = named (codes "{") (codes "code") (compact_text (number (of_integer error.code))) in
     let message = named (codes ",") (codes "message") (compact_text (string (string_bytes error.message))) in
     let first : string_bytes c.push_number.new.out ≡ old ++ code = search rules in

@@ -12,7 +12,13 @@ pub returns : goal.returns
 returns c =
     let old = string_bytes c.args.out.now in
     let notification = c.args.notification.now in
-    let more : Adds (IsLaterMember (codes "params") (unless_null (Some (view notification.params)))) (string_bytes c.push_text.new.out) (string_bytes c.push_params.new.out) = c.in_ok-push_params.ensures in
+    let more : Adds (IsLaterMember (codes "params") (unless_null (Some (view notification.params))))
+    (string_bytes c.push_text.new.out) (string_bytes c.push_params.new.out) = c.in_ok-push_params.ensures in
     let method = named c.args.before.now (codes "method") (compact_text (string (string_bytes notification.method))) in
-    let first : string_bytes c.push_text.new.out ≡ old ++ method = rw (← c.as_str.ensures.value) c.in_ok-push_text.ensures in
-    (method ++ more.0 ++ codes "}", (more.0, more.1, refl), joined_three old method more.0 (codes "}") _ _ _ first more.2 c.in_ok-push_str.ensures.bytes)
+    let first : string_bytes c.push_text.new.out ≡ old ++ method = rw (← c.as_str.ensures.value)
+    c.in_ok-push_text.ensures in (
+      method ++ more.0 ++ codes "}",
+      (more.0, more.1, refl),
+      joined_three old method more.0 (codes "}") _ _ _ first
+          more.2 c.in_ok-push_str.ensures.bytes,
+    )

@@ -13,9 +13,14 @@ pub returns-clause-text : goal.returns-clause-text
 returns-clause-text c =
     let old = string_bytes c.args.out.now in
     let request = c.args.request.now in
-    let more : Adds (IsLaterMember (codes "params") (unless_null (Some (view request.params)))) (string_bytes c.push_text.new.out) (string_bytes c.push_params.new.out) = search rules in
+    let more : Adds (IsLaterMember (codes "params") (unless_null (Some (view request.params))))
+    (string_bytes c.push_text.new.out) (string_bytes c.push_params.new.out) = search rules in
     let id = named c.args.before.now (codes "id") (compact_text (id_tree request.id)) in
     let method = named (codes ",") (codes "method") (compact_text (string (string_bytes request.method))) in
     let first : string_bytes c.push_id.new.out ≡ old ++ id = search rules in
-    let second : string_bytes c.push_text.new.out ≡ string_bytes c.push_id.new.out ++ method = search rules in
-    (id ++ method ++ more.0 ++ codes "}", (more.0, more.1, refl), joined_four old id method more.0 (codes "}") _ _ _ _ first second more.2 (search rules))
+    let second : string_bytes c.push_text.new.out ≡ string_bytes c.push_id.new.out ++ method = search rules in (
+      id ++ method ++ more.0 ++ codes "}",
+      (more.0, more.1, refl),
+      joined_four old id method more.0 (codes "}") _ _ _ _
+          first second more.2 (search rules),
+    )

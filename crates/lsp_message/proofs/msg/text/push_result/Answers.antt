@@ -11,7 +11,8 @@ returns-clause-text c =
     let text = string_bytes c.in_ok-text.text in
     let id = named c.args.before.now (codes "id") (compact_text (id_tree c.args.id.now)) in
     let result = named (codes ",") (codes "result") text in
-    let second : string_bytes c.push_named.new.out ≡ string_bytes c.push_id.new.out ++ result = rw (← c.as_str.ensures.value) c.in_ok-push_named.ensures in (
+    let second : string_bytes c.push_named.new.out ≡ string_bytes c.push_id.new.out
+    ++ result = rw (← c.as_str.ensures.value) c.in_ok-push_named.ensures in (
       id ++ result ++ codes "}",
       (text, c.in_ok-text.ensures, refl),
       joined_three old id result (codes "}") _ _ _ c.in_ok-push_id.ensures.text second c.in_ok-push_str.ensures.bytes,

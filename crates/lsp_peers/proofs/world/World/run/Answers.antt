@@ -16,7 +16,8 @@ loop-step-init c = (
   tt,
   tt,
   c.into_iter-step-iterator.ensures.into_iter_gives.0,
-  subst (λ (l : List Outcome). IsWholeRun [] l c.new-world.result) (sym c.new-outcomes.ensures.items) (whole_nothing _ c.new-world.ensures),
+  subst (λ (l : List Outcome). IsWholeRun [] l c.new-world.result) (sym c.new-outcomes.ensures.items) (whole_nothing _
+      c.new-world.ensures),
 )
 
 pub loop-step-preserved : goal.loop-step-preserved
@@ -24,12 +25,15 @@ loop-step-preserved c =
     let before = c.loop-step.invariant in
     let rest : List Step = into_iter_items c.next.new.self in
     let turn : into_iter_items c.loop-step.step-iterator ≡ c.in-Some.step ∷ rest = c.in-Some.ensures.steps.0 in
-    let whole : c.loop-step.yielded ++ c.in-Some.step ∷ rest ≡ c.args.steps.items = ap (λ (l : List Step). c.loop-step.yielded ++ l) (sym turn) ∙ before.2 in
+    let whole : c.loop-step.yielded ++ c.in-Some.step ∷ rest ≡ c.args.steps.items = ap
+    (λ (l : List Step). c.loop-step.yielded ++ l) (sym turn) ∙ before.2 in
     let pushed = chosen _ _ _ _ c.push.ensures.items (c.is_err.ensures.negation ∙ ap not c.if-is_err.false) in (
       tt,
       tt,
       append_assoc c.loop-step.yielded (c.in-Some.step ∷ []) rest ∙ whole,
-      whole_more _ _ _ _ _ _ _ before.3 pushed (λ handed old after readable. c.in_ok-outcome.ensures.exchanged handed old after readable) (λ handed old after deep. let err = c.in_ok-outcome.ensures.unread handed old after deep in cc),
+      whole_more _ _ _ _ _ _ _ before.3 pushed (λ handed old after readable. c.in_ok-outcome.ensures.exchanged handed
+          old after readable) (λ handed old after deep. let err = c.in_ok-outcome.ensures.unread handed old after deep
+          in cc),
     )
 
 pub returns-in_err-outcome-clause-deep : goal.returns-in_err-outcome-clause-deep
@@ -37,14 +41,18 @@ returns-in_err-outcome-clause-deep c = λ deep.
     let before = c.loop-step.invariant in
     let rest : List Step = into_iter_items c.next.new.self in
     let turn : into_iter_items c.loop-step.step-iterator ≡ c.in-Some.step ∷ rest = c.in-Some.ensures.steps.0 in
-    let whole : c.loop-step.yielded ++ c.in-Some.step ∷ rest ≡ c.args.steps.items = ap (λ (l : List Step). c.loop-step.yielded ++ l) (sym turn) ∙ before.2 in
+    let whole : c.loop-step.yielded ++ c.in-Some.step ∷ rest ≡ c.args.steps.items = ap
+    (λ (l : List Step). c.loop-step.yielded ++ l) (sym turn) ∙ before.2 in
     let told = err_from_is_err_and c.from_residual.result c.from_residual.ensures.1 in
     let same : told.0 ≡ NotReadBack = cc in
     let fault : c.in_err-outcome.field-0.0 ≡ NotReadBack = sym told.2 ∙ same in
-    whole_fault _ _ _ _ _ _ before.3 whole (λ history after readable. let memory = c.in_err-outcome.ensures.err (λ side. []) history after readable in cc)
+    whole_fault _ _ _ _ _ _ before.3 whole (λ history after readable. let memory = c.in_err-outcome.ensures.err
+    (λ side. []) history after readable in cc)
 
 pub returns-clause-exchanged : goal.returns-clause-exchanged
 returns-clause-exchanged c =
     let none = c.in-None.ensures.steps.0 in
-    let all : c.loop-step.yielded ≡ c.args.steps.items = all_taken c.loop-step.yielded (into_iter_items c.loop-step.step-iterator) c.args.steps.items c.loop-step.invariant.2 (sym c.loop-step.step-iterator.rest.ok.0 ∙ none) in
+    let all : c.loop-step.yielded ≡ c.args.steps.items = all_taken c.loop-step.yielded (into_iter_items
+    c.loop-step.step-iterator) c.args.steps.items c.loop-step.invariant.2 (sym c.loop-step.step-iterator.rest.ok.0
+    ∙ none) in
     subst (λ (l : List Step). IsWholeRun l c.loop-step.outcomes.items c.loop-step.world) all c.loop-step.invariant.3

@@ -6,4 +6,5 @@ use Rattle.lsp_queue.proofs.Keys.{get_at_key}
 use Rattle.lsp_queue.proofs.req_queue.Incoming.«data».Goals as goal
 
 pub returns : goal.returns
-returns g c = c.get.ensures.value ∙ sym (get_at_key id_total id_antisymmetric c.self.inside.pending.entries c.args.id.now) ∙ ap (λ m. map.get m c.args.id.now) c.self.view_is
+returns g c = c.get.ensures.value ∙ sym (get_at_key id_total id_antisymmetric c.self.inside.pending.entries
+    c.args.id.now) ∙ ap (λ m. map.get m c.args.id.now) c.self.view_is

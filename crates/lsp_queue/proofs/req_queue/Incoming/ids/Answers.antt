@@ -9,6 +9,8 @@ use Rattle.lsp_queue.proofs.req_queue.Incoming.ids.Goals as goal
 
 pub returns : goal.returns
 returns g c = λ id.
-    ap (list_any (same_id id)) (sym (append-nil c.loop-id.ids.items) ∙ ap (λ l. c.loop-id.ids.items ++ l) (sym c.in-None.ensures.steps.0) ∙ c.loop-id.invariant ∙ c.into_iter-id-iterator.ensures.into_iter_gives)
+    ap (list_any (same_id id)) (sym (append-nil c.loop-id.ids.items) ∙ ap (λ l. c.loop-id.ids.items ++ l)
+    (sym c.in-None.ensures.steps.0) ∙ c.loop-id.invariant ∙ c.into_iter-id-iterator.ensures.into_iter_gives)
     ∙ sym (c.keys-id-items.ensures.has id)
-    ∙ sym (ap is_some (get_at_key id_total id_antisymmetric c.self.inside.pending.entries id)) ∙ ap (λ m. is_some (map.get m id)) c.self.view_is
+    ∙ sym (ap is_some (get_at_key id_total id_antisymmetric c.self.inside.pending.entries id))
+    ∙ ap (λ m. is_some (map.get m id)) c.self.view_is

@@ -6,4 +6,5 @@ use Rattle.lsp_queue.proofs.Keys.{get_at_key}
 use Rattle.lsp_queue.proofs.req_queue.Incoming.is_completed.Goals as goal
 
 pub returns : goal.returns
-returns g c = ap not (c.contains_key.ensures ∙ sym (ap is_some (get_at_key id_total id_antisymmetric c.self.inside.pending.entries c.args.id.now)) ∙ ap (λ m. is_some (map.get m c.args.id.now)) c.self.view_is)
+returns g c = ap not (c.contains_key.ensures ∙ sym (ap is_some (get_at_key id_total id_antisymmetric
+    c.self.inside.pending.entries c.args.id.now)) ∙ ap (λ m. is_some (map.get m c.args.id.now)) c.self.view_is)

@@ -8,9 +8,11 @@ use Rattle.lsp_queue.proofs.req_queue.Outgoing.complete.Goals as goal
 
 pub returns-clause-value : goal.returns-clause-value
 returns-clause-value g c =
-    c.remove.ensures.value ∙ sym (get_at_key id_total id_antisymmetric c.self.inside.pending.entries c.args.id) ∙ ap (λ (p : Asked g.row.O.Denot). map.get p.0 c.args.id) c.self.view_is
+    c.remove.ensures.value ∙ sym (get_at_key id_total id_antisymmetric c.self.inside.pending.entries c.args.id)
+    ∙ ap (λ (p : Asked g.row.O.Denot). map.get p.0 c.args.id) c.self.view_is
 
 pub returns-clause-removed : goal.returns-clause-removed
 returns-clause-removed g c =
-    ap (λ (m : Pending g.row.O.Denot). (m, c.self.inside.next)) (one_key_removed id_total id_antisymmetric c.self.inside.pending.entries c.remove.new.self.entries c.args.id c.remove.ensures.updates.0)
+    ap (λ (m : Pending g.row.O.Denot). (m, c.self.inside.next)) (one_key_removed id_total id_antisymmetric
+    c.self.inside.pending.entries c.remove.new.self.entries c.args.id c.remove.ensures.updates.0)
     ∙ ap (λ (p : Asked g.row.O.Denot). (map.remove p.0 c.args.id, p.1)) c.self.view_is

@@ -7,4 +7,5 @@ use Rattle.lsp_queue.proofs.Keys.{none_pending}
 use Rattle.lsp_queue.proofs.req_queue.Outgoing.has_pending.Goals as goal
 
 pub returns : goal.returns
-returns g c = ap not (ap (λ (n : ℕ). n == 0) c.len.ensures.len ∙ none_pending id_total id_antisymmetric c.self.inside.pending.entries ∙ ap (λ (p : Asked g.row.O.Denot). map.len p.0 == 0) c.self.view_is)
+returns g c = ap not (ap (λ (n : ℕ). n == 0) c.len.ensures.len ∙ none_pending id_total id_antisymmetric
+    c.self.inside.pending.entries ∙ ap (λ (p : Asked g.row.O.Denot). map.len p.0 == 0) c.self.view_is)

@@ -8,5 +8,6 @@ use Rattle.lsp_queue.proofs.req_queue.Outgoing.is_completed.Goals as goal
 
 pub returns : goal.returns
 returns g c =
-    ap not (c.contains_key.ensures ∙ sym (ap is_some (get_at_key id_total id_antisymmetric c.self.inside.pending.entries c.args.id.now))
+    ap not (c.contains_key.ensures ∙ sym (ap is_some (get_at_key id_total id_antisymmetric c.self.inside.pending.entries
+    c.args.id.now))
     ∙ ap (λ (p : Asked _). is_some (map.get p.0 c.args.id.now)) c.self.view_is)

@@ -11,5 +11,6 @@ returns g c =
     IfOk-weaker c.answer_cancelled.result _ _ (λ x same. (
       seen after,
       (_, _, c.in_ok-acts.ensures, done.back, done.queues),
-      ap (λ (d : Queues _). (after.server, d)) (same ∙ ap (answers_cancelled (queues_of after.queues)) c.in_ok-cancelled.ensures),
+      ap (λ (d : Queues _). (after.server, d)) (same ∙ ap (answers_cancelled (queues_of after.queues))
+          c.in_ok-cancelled.ensures),
     )) c.answer_cancelled.ensures

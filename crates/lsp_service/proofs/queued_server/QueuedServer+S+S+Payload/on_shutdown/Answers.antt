@@ -11,5 +11,14 @@ returns g c =
     let done = c.in_ok-perform_all.ensures in
     let start : Queues _ = queues_of c.args.self.now.queues in
     let acts = map act_view c.in_ok-acts.acts.items in
-    let queues = done.queues ∙ ap (λ (held : Pending (Unit {0})). does_all (record { held = held; asked = start.asked; sent = start.sent }) acts) c.complete.ensures.removed in
-    IfOk-weaker c.answer_held.result _ _ (λ x held. ((after.server, queues_of after.queues), (_, _, c.in_ok-acts.ensures, done.back, queues), held, refl)) c.answer_held.ensures
+    let queues = done.queues ∙ ap (λ (held : Pending (Unit {0})). does_all (record {
+      held = held;
+      asked = start.asked;
+      sent = start.sent;
+    }) acts) c.complete.ensures.removed in
+    IfOk-weaker c.answer_held.result _ _ (λ x held. (
+      (after.server, queues_of after.queues),
+      (_, _, c.in_ok-acts.ensures, done.back, queues),
+      held,
+      refl,
+    )) c.answer_held.ensures

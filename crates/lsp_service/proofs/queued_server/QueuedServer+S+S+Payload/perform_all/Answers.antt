@@ -16,12 +16,17 @@ loop-act-preserved g c =
     let start : Queues _ = queues_of c.args.self.now.queues in
     let acts = map act_view c.loop-act.yielded in
     let act = act_view c.in-Some.act in
-    let joined : map act_view (c.loop-act.yielded ++ c.in-Some.act ∷ []) ≡ acts ++ act ∷ [] = map-append act_view c.loop-act.yielded (c.in-Some.act ∷ []) in (
+    let joined : map act_view (c.loop-act.yielded ++ c.in-Some.act ∷ []) ≡ acts ++ act ∷ [] = map-append act_view
+    c.loop-act.yielded (c.in-Some.act ∷ []) in (
       tt,
       tt,
-      append_assoc c.loop-act.yielded (c.in-Some.act ∷ []) rest ∙ (ap (λ (l : List (rust.Act _)). c.loop-act.yielded ++ l) (sym turn) ∙ before.2),
+      append_assoc c.loop-act.yielded (c.in-Some.act ∷ []) rest ∙ (ap (λ (l : List (rust.Act _)). c.loop-act.yielded
+          ++ l) (sym turn) ∙ before.2),
       c.in_ok-perform.ensures.queues ∙ (ap (λ (d : Queues _). does d act) before.3
           ∙ (sym (does_push start acts act) ∙ ap (does_all start) (sym joined))),
-      rw (joined, unsent_push start acts act) (takes_more g.S.Server.takes_back _ _ _ (unsent (count_of start.asked) acts) (unsent_by (count_of (does_all start acts).asked) act) before.4
-          (subst (λ (n : ℕ). TakesBack g.S.Server.takes_back c.loop-act.self.server (unsent_by n act) c.perform.new.self.server) (ap (λ (d : Queues _). count_of d.asked) before.3) c.in_ok-perform.ensures.back)),
+      rw (joined, unsent_push start acts act) (takes_more g.S.Server.takes_back _ _ _ (unsent (count_of start.asked)
+          acts) (unsent_by (count_of (does_all start acts).asked) act) before.4
+          (subst (λ (n : ℕ). TakesBack g.S.Server.takes_back c.loop-act.self.server (unsent_by n act)
+          c.perform.new.self.server) (ap (λ (d : Queues _). count_of d.asked) before.3)
+          c.in_ok-perform.ensures.back)),
     )

@@ -5,6 +5,11 @@ use Rattle.lsp_service.proofs.queued_server.QueuedServerPayloadService.initializ
 
 pub returns : goal.returns
 returns g c = record {
-  output = (seen c.begin.new.self, c.in_ok-begin.ensures, c.take_sent.ensures.sent, ap (λ (d : Queues _). (c.begin.new.self.server, d)) c.take_sent.ensures.rest);
+  output = (
+    seen c.begin.new.self,
+    c.in_ok-begin.ensures,
+    c.take_sent.ensures.sent,
+    ap (λ (d : Queues _). (c.begin.new.self.server, d)) c.take_sent.ensures.rest,
+  );
   err = tt;
 }

@@ -5,5 +5,12 @@ use Rattle.lsp_service.proofs.queued_server.QueuedServerPayloadService.woken.Goa
 
 pub returns : goal.returns
 returns g c =
-    let old = c.args.self.now in
-    (seen old, ([], old.server, (refl, refl), refl, refl), c.take_sent.ensures.sent, ap (λ (d : Queues _). (old.server, d)) c.take_sent.ensures.rest)
+    let old = c.args.self.now in (
+      seen old,
+      ([], old.server, (refl, refl), refl, refl),
+      c.take_sent.ensures.sent,
+      ap (λ (d : Queues _). (
+        old.server,
+        d,
+      )) c.take_sent.ensures.rest,
+    )

@@ -7,4 +7,5 @@ use Rattle.lsp_service.proofs.queued_server.Queues.answer_cancelled.Goals as goa
 pub returns : goal.returns
 returns g c =
     rw c.in-Some.is
-    (IfOk-weaker c.reply.result _ _ (λ x done. done ∙ ap (λ outcome. does (queues_of c.args.self.now) (replies c.in-Some.id outcome)) c.in_ok-outcome.ensures) c.reply.ensures)
+    (IfOk-weaker c.reply.result _ _ (λ x done. done ∙ ap (λ outcome. does (queues_of c.args.self.now)
+    (replies c.in-Some.id outcome)) c.in_ok-outcome.ensures) c.reply.ensures)

@@ -9,4 +9,5 @@ returns-clause-due g c = λ goes_on acts old new xs stop shutdown_reply answer d
 pub returns-clause-replies : goal.returns-clause-replies
 returns-clause-replies g c = λ capabilities goes_on acts old new xs stop shutdown_reply answer waits both.
     never_both_wait (of_handler g.H.Handler.answers g.H.Handler.notes capabilities) old goes_on
-    (replies_are_due g.H.Handler.answers g.H.Handler.notes capabilities old goes_on waits) acts xs stop shutdown_reply answer both.1 new both.0
+    (replies_are_due g.H.Handler.answers g.H.Handler.notes capabilities old goes_on waits) acts xs stop shutdown_reply
+    answer both.1 new both.0

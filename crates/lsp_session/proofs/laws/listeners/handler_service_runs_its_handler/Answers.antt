@@ -18,9 +18,14 @@ pub returns-clause-bytes : goal.returns-clause-bytes
 returns-clause-bytes g c = λ limit old new text left first last before after answer gives.
     let capabilities = view old.capabilities.now in
     let P = SessionOut (lent_handler g.H.Handler.answers g.H.Handler.notes) old new in
-    let Q = SessionOut (of_handler g.H.Handler.answers g.H.Handler.notes capabilities) old.handler.now new.handler.now in
+    let Q = SessionOut (of_handler g.H.Handler.answers g.H.Handler.notes capabilities) old.handler.now
+    new.handler.now in
     over_as P (Both Q (Both AnswersRequests (KeepsOrder false false))) (λ xs stop shutdown_reply answer out.
-    let as_handler = session_as g.H.Handler.answers g.H.Handler.notes capabilities old new new.handler.now (λ names. refl)
-    old.handler.now refl refl xs stop shutdown_reply answer out in
-    (as_handler, answers_in_order g.H.Handler.answers g.H.Handler.notes capabilities old.handler.now new.handler.now xs stop shutdown_reply answer as_handler))
+    let as_handler = session_as g.H.Handler.answers g.H.Handler.notes capabilities old new new.handler.now
+    (λ names. refl)
+    old.handler.now refl refl xs stop shutdown_reply answer out in (
+      as_handler,
+      answers_in_order g.H.Handler.answers g.H.Handler.notes capabilities old.handler.now new.handler.now xs
+          stop shutdown_reply answer as_handler,
+    ))
     _ (text, first) _ _ gives

@@ -4,4 +4,5 @@ use Rattle.lsp_session.proofs.laws.listeners.nothing_is_passed_over.Goals as goa
 
 pub returns : goal.returns
 returns g c = λ limit old new text left first last before after answer never gives.
-    none_passed g.L.Listener.hears never limit (SessionOut g.S.Service.behavior old new) text left first last before after answer gives
+    none_passed g.L.Listener.hears never limit (SessionOut g.S.Service.behavior old new) text left first last before
+    after answer gives

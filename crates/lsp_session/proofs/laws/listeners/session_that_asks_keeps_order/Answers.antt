@@ -8,4 +8,7 @@ use Rattle.lsp_session.proofs.laws.listeners.session_that_asks_keeps_order.Goals
 pub returns : goal.returns
 returns g c = λ limit old new text left first last before after answer gives.
     let P = SessionOut g.S.Service.behavior old new in
-    over_as P (Both P (KeepsOrder g.S.Service.behavior.passes_late true)) (λ xs stop shutdown_reply answer out. (out, keeps_order g.S.Service.behavior old new xs stop shutdown_reply answer out)) _ (text, first) _ _ gives
+    over_as P (Both P (KeepsOrder g.S.Service.behavior.passes_late true)) (λ xs stop shutdown_reply answer out. (
+      out,
+      keeps_order g.S.Service.behavior old new xs stop shutdown_reply answer out,
+    )) _ (text, first) _ _ gives

@@ -14,12 +14,18 @@ returns-clause-exchanges g c = λ capabilities old new xs stop shutdown_reply an
 pub returns-clause-boxes : goal.returns-clause-boxes
 returns-clause-boxes g c = λ capabilities old new before after answer runs.
     let P = SessionOut (of_handler g.H.Handler.answers g.H.Handler.notes capabilities) old new in
-    runs_as P (Both P (Both AnswersRequests (KeepsOrder false false))) (λ xs stop shutdown_reply answer out.
-    (out, answers_in_order g.H.Handler.answers g.H.Handler.notes capabilities old new xs stop shutdown_reply answer out))
+    runs_as P (Both P (Both AnswersRequests (KeepsOrder false false))) (λ xs stop shutdown_reply answer out. (
+      out,
+      answers_in_order g.H.Handler.answers g.H.Handler.notes capabilities old new xs stop shutdown_reply
+          answer out,
+    ))
     g.I.Inbox.receives g.O.Outbox.sends before after answer runs
 
 pub returns-clause-bytes : goal.returns-clause-bytes
 returns-clause-bytes g c = λ limit capabilities old new text left before after answer gives.
     let P = SessionOut (of_handler g.H.Handler.answers g.H.Handler.notes capabilities) old new in
-    over_as P (Both P (Both AnswersRequests (KeepsOrder false false))) (λ xs stop shutdown_reply answer out.
-    (out, answers_in_order g.H.Handler.answers g.H.Handler.notes capabilities old new xs stop shutdown_reply answer out)) _ text _ _ gives
+    over_as P (Both P (Both AnswersRequests (KeepsOrder false false))) (λ xs stop shutdown_reply answer out. (
+      out,
+      answers_in_order g.H.Handler.answers g.H.Handler.notes capabilities old new xs stop shutdown_reply answer
+          out,
+    )) _ text _ _ gives

@@ -9,11 +9,13 @@ loop-turn-init g c = (c.requires, undecided_none _ _ _ _)
 
 pub returns-then-not-ask-clause-starts : goal.returns-then-not-ask-clause-starts
 returns-then-not-ask-clause-starts g c =
-    rw c.aborted.ensures (starts_answered _ _ _ _ _ _ _ _ stopped _ c.loop-turn.invariant.1 c.loop-turn-test.true (c.if-not-ask.ensures.asks, refl) (inl (refl, refl)))
+    rw c.aborted.ensures (starts_answered _ _ _ _ _ _ _ _ stopped _ c.loop-turn.invariant.1 c.loop-turn-test.true
+    (c.if-not-ask.ensures.asks, refl) (inl (refl, refl)))
 
 pub returns-in-Some-clause-starts : goal.returns-in-Some-clause-starts
 returns-in-Some-clause-starts g c =
-    starts_answered _ _ _ _ _ _ _ _ (got (event_view c.receive_for-event.result)) _ c.loop-turn.invariant.1 c.loop-turn-test.true
+    starts_answered _ _ _ _ _ _ _ _ (got (event_view c.receive_for-event.result)) _ c.loop-turn.invariant.1
+    c.loop-turn-test.true
     (c.if-not-ask.ensures.asks, c.receive_for-event.ensures) c.in-Some.ensures
 
 pub loop-turn-preserved : goal.loop-turn-preserved

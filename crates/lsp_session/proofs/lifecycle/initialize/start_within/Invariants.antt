@@ -5,4 +5,8 @@ use Rattle.lsp_session.proofs.lifecycle.initialize.start_within.Given as goal
 abbrev pub invariant-loop-turn : goal.invariant-loop-turn
 invariant-loop-turn g l =
     g.G.Gate.can_ask l.gate
-    × Undecided g.G.Gate.asks g.I.Inbox.receives g.O.Outbox.sends l._turn (l.initial.gate, l.initial.inbox, l.initial.outbox) (l.gate, l.inbox, l.outbox)
+    × Undecided g.G.Gate.asks g.I.Inbox.receives g.O.Outbox.sends l._turn (
+      l.initial.gate,
+      l.initial.inbox,
+      l.initial.outbox,
+    ) (l.gate, l.inbox, l.outbox)

@@ -14,7 +14,11 @@ returns g c =
     let notes = g.H.Handler.notes in
     let old = c.new-service.result in
     let new = c.session_of_service.new.service in
-    known_as (SessionOut (lent_handler answers notes) old new) (SessionOut (of_handler answers notes (view c.args.capabilities)) c.args.handler.now _)
-    (session_as answers notes (view c.args.capabilities) old new _ (λ names. c.handler-1.given.1 (sym c.new-service.ensures.same_handler ∙ sym names))
-    c.args.handler.now c.new-service.ensures.unchanged (ap view c.new-service.ensures.capabilities)) (of_content c.args.limit)
-    _ _ _ _ _ (untold _ (λ first fault last told. told) (of_content c.args.limit) _ _ _ _ _ _ _ _ c.session_of_service.ensures)
+    known_as (SessionOut (lent_handler answers notes) old new) (SessionOut (of_handler answers notes
+    (view c.args.capabilities)) c.args.handler.now _)
+    (session_as answers notes (view c.args.capabilities) old new _ (λ names. c.handler-1.given.1
+    (sym c.new-service.ensures.same_handler ∙ sym names))
+    c.args.handler.now c.new-service.ensures.unchanged (ap view c.new-service.ensures.capabilities))
+    (of_content c.args.limit)
+    _ _ _ _ _ (untold _ (λ first fault last told. told) (of_content c.args.limit) _ _ _ _ _ _ _ _
+    c.session_of_service.ensures)

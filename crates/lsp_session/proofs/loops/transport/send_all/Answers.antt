@@ -12,12 +12,15 @@ pub loop-message-preserved : goal.loop-message-preserved
 loop-message-preserved g c =
     let before = c.loop-message.invariant in
     let rest : List msg.Message = into_iter_items c.next.new.self in
-    let output_of : into_iter_items c.loop-message.message-iterator ≡ c.in-Some.message ∷ rest = c.in-Some.ensures.steps.0 in (
+    let output_of : into_iter_items c.loop-message.message-iterator ≡ c.in-Some.message
+    ∷ rest = c.in-Some.ensures.steps.0 in (
       tt,
       tt,
-      append_assoc c.loop-message.yielded (c.in-Some.message ∷ []) rest ∙ (ap (λ (l : List msg.Message). c.loop-message.yielded ++ l) (sym output_of) ∙ before.2),
+      append_assoc c.loop-message.yielded (c.in-Some.message ∷ []) rest
+          ∙ (ap (λ (l : List msg.Message). c.loop-message.yielded ++ l) (sym output_of) ∙ before.2),
       rw (map-append message_view c.loop-message.yielded (c.in-Some.message ∷ []))
-          (FoldsTo-append (Takes g.O.Outbox.sends) (map message_view c.loop-message.yielded) (message_view c.in-Some.message ∷ []) c.args.outbox.now c.loop-message.outbox c.send.new.self before.3
+          (FoldsTo-append (Takes g.O.Outbox.sends) (map message_view c.loop-message.yielded)
+          (message_view c.in-Some.message ∷ []) c.args.outbox.now c.loop-message.outbox c.send.new.self before.3
           (c.send.new.self, c.in_ok-send.ensures.sends, refl)),
     )
 
@@ -25,14 +28,17 @@ pub returns-in_err-send : goal.returns-in_err-send
 returns-in_err-send g c =
     let before = c.loop-message.invariant in
     let rest : List msg.Message = into_iter_items c.next.new.self in
-    let output_of : into_iter_items c.loop-message.message-iterator ≡ c.in-Some.message ∷ rest = c.in-Some.ensures.steps.0 in
-    let whole : c.loop-message.yielded ++ c.in-Some.message ∷ rest ≡ c.args.messages.items = ap (λ (l : List msg.Message). c.loop-message.yielded ++ l) (sym output_of) ∙ before.2 in
+    let output_of : into_iter_items c.loop-message.message-iterator ≡ c.in-Some.message
+    ∷ rest = c.in-Some.ensures.steps.0 in
+    let whole : c.loop-message.yielded ++ c.in-Some.message ∷ rest ≡ c.args.messages.items = ap
+    (λ (l : List msg.Message). c.loop-message.yielded ++ l) (sym output_of) ∙ before.2 in
     let p = err_from_is_err_and c.from_residual.result c.from_residual.ensures.1 in
     rw p.1 (record {
       part = map message_view c.loop-message.yielded;
       unsent = message_view c.in-Some.message;
       more = map message_view rest;
-      cut = ap (map message_view) (sym whole) ∙ map-append message_view c.loop-message.yielded (c.in-Some.message ∷ rest);
+      cut = ap (map message_view) (sym whole) ∙ map-append message_view c.loop-message.yielded (c.in-Some.message
+          ∷ rest);
       mid = c.loop-message.outbox;
       taken = before.3;
       refusal = c.in_err-send.field-0.0;

@@ -5,5 +5,8 @@ use Rattle.lsp_threads.proofs.ContentReads.{begins_none}
 use Rattle.lsp_threads.proofs.content_outbox.ContentOutbox.new.Goals as goal
 
 pub invariant_of-result : goal.invariant_of-result
-invariant_of-result g c =
-    (subst IsOpen (sym c.requires) tt, λ still. begins_none c.args.tx.source _ _ (λ i. contents_of (c.requires i) ++ bytes_of (c.new.ensures.items i)) c.new-2.ensures)
+invariant_of-result g c = (
+  subst IsOpen (sym c.requires) tt,
+  λ still. begins_none c.args.tx.source _ _ (λ i. contents_of (c.requires i)
+      ++ bytes_of (c.new.ensures.items i)) c.new-2.ensures,
+)

@@ -3,5 +3,7 @@ use Rattle.lsp_threads.proofs.pump_frames.RelayTxStringReadsInto.read_into.Goals
 
 pub returns-clause-told : goal.returns-clause-told
 returns-clause-told g c =
-    tells_frames c.args.limits _ c.args.self c.new-outbox.result c.read_frames-end.new.outbox c.finish.result c.read_frames-end.result _ c.new-outbox.ensures
-    c.read_frames-end.ensures.handed (rw c.new-reader.ensures at c.read_frames-end.ensures.taken) c.finish.ensures.bytes c.finish.ensures.ended
+    tells_frames c.args.limits _ c.args.self c.new-outbox.result c.read_frames-end.new.outbox c.finish.result
+    c.read_frames-end.result _ c.new-outbox.ensures
+    c.read_frames-end.ensures.handed (rw c.new-reader.ensures at c.read_frames-end.ensures.taken) c.finish.ensures.bytes
+    c.finish.ensures.ended

@@ -6,7 +6,9 @@ use Rattle.lsp_threads.proofs.reply_outbox.ReplyOutbox.finish.Goals as goal
 
 pub returns-clause-bytes : goal.returns-clause-bytes
 returns-clause-bytes g c =
-    ap parcel_bytes c.deliver.ensures.sent ∙ parcel_bytes-end c.self.inside.tx.sent ∙ ap (λ (r : Replying). r.bytes) c.self.view_is
+    ap parcel_bytes c.deliver.ensures.sent ∙ parcel_bytes-end c.self.inside.tx.sent ∙ ap (λ (r : Replying). r.bytes)
+    c.self.view_is
 
 pub returns-clause-ended : goal.returns-clause-ended
-returns-clause-ended g c = subst AreEnded (sym c.deliver.ensures.sent) (ended_after c.self.inside.tx.sent c.self.invariant)
+returns-clause-ended g c = subst AreEnded (sym c.deliver.ensures.sent) (ended_after c.self.inside.tx.sent
+    c.self.invariant)

@@ -8,5 +8,10 @@ returns-in-Ok-clause-sends g c =
       c.deliver_text.ensures.relay ∙ ap (λ (r : Replying). r.relay) c.self.view_is,
       ap (λ (r : Replying). r.failed) (sym c.self.view_is) ∙ c.if-self.false,
       c.if-self.false,
-      (frame, c.in-Ok.ensures.ok, c.deliver_text.ensures.bytes ∙ ap (λ (r : Replying). r.bytes ++ frame) c.self.view_is),
+      (
+        frame,
+        c.in-Ok.ensures.ok,
+        c.deliver_text.ensures.bytes ∙ ap (λ (r : Replying). r.bytes ++ frame)
+            c.self.view_is,
+      ),
     )

@@ -10,7 +10,8 @@ use contract.Monad.{Fun}
 use contract.Running.{tables, tables_of}
 use sound.WpLaws.{WpFn-mono}
 use types.Logic.{Logic}
-use types.Kit.{‵, raw, ◌⊛◌, prop, ◌$◌, ◌∵◌, !, qed, move, keep, drop, split, fsplit, fjoin, feq_l, regoal, suffices, done}
+use types.Kit.{‵, raw, ◌⊛◌, prop, ◌$◌, ◌∵◌, !, qed, move, keep, drop, split, fsplit, fjoin, feq_l, regoal, suffices}
+use types.Kit.{done}
 use types.Part.{agg}
 use types.Run.{enter, returns, and_then, no_more}
 use types.ByLocal.{alloc_all, pass_all, free_all, look_at, get, sets}
@@ -47,12 +48,14 @@ module _ {M : Type 1} {𝓤 : Ura M} (𝓛 : Logic 𝓤) (at_mem : Memory → SP
     abbrev toks : SProp 𝓤
     toks = alive 𝓛 (it.ended).signature z.0.0 z.0.1
 
-    walks : ent 𝓤 ((walk_of 𝓛 it.ended stayed (it.clauses 𝓛 at_mem run)).pre z) (WpFn 𝓤 H C Λ code.function ((walk_of 𝓛 it.ended stayed (it.clauses 𝓛 at_mem run)).args z) Post)
+    walks : ent 𝓤 ((walk_of 𝓛 it.ended stayed (it.clauses 𝓛 at_mem run)).pre z) (WpFn 𝓤 H C Λ code.function
+        ((walk_of 𝓛 it.ended stayed (it.clauses 𝓛 at_mem run)).args z) Post)
     walks =
         let a = z.0.3 in
         let vss = z.0.4 in
         let made : Passed = record { marker = record {}; parts = a.0.now.parts } in
-        qed 𝓛 ((raw toks ⊛ ‵ (owns (types_at (it.ended).signature.params z.0.0) a vss)) ∷ raw ((it.clauses 𝓛 at_mem run z.0.0 a).requires z.1) ∷ []) ∵
+        qed 𝓛 ((raw toks ⊛ ‵ (owns (types_at (it.ended).signature.params z.0.0) a vss))
+        ∷ raw ((it.clauses 𝓛 at_mem run z.0.0 a).requires z.1) ∷ []) ∵
         keep ! (0 ∷ []) $ split ! $ move ! (1 ∷ []) $
         fsplit ! $ fsplit ! $ feq_l ! (λ is₀. drop ! $ drop ! $
         let p = vptr a.0.ref_ptr.0 a.0.ref_ptr.1 in
@@ -61,13 +64,20 @@ module _ {M : Type 1} {𝓤 : Ura M} (𝓛 : Logic 𝓤) (at_mem : Memory → SP
         sets ! (agg ! (no_more !)) refl (tt, tt) $
         sets ! (agg ! (and_then ! (get ! refl) (no_more !))) refl (tt, (tt, tt)) $
         returns ! (look_at ! 0 refl) $ free_all ! refl $
-        pure_i ! ((T.the_row).own_val made (v ∷ [])) ((λ vss. (tt, ((λ uss. (tt, tt)), tt))), tt) (((vstruct vnil ∷ [], tt), (refl, ((tt, (refl, tt)), tt))), tt) $
+        pure_i ! ((T.the_row).own_val made (v ∷ [])) (
+          (λ vss. (tt, ((λ uss. (tt, tt)), tt))),
+          tt,
+        ) (((vstruct vnil ∷ [], tt), (refl, ((tt, (refl, tt)), tt))), tt) $
         suffices ! _ (ends_at 𝓛 it.ended stayed (it.clauses 𝓛 at_mem run) z v made (tt, tt) (tt, tt)) $ says ! refl $
         nothing ! $ nothing ! $ fjoin ! $ move ! (2 ∷ 0 ∷ 1 ∷ []) $ done !))
 
   meets : (𝓣 : Tables 𝓤 H) → Meets 𝓛 it.signature (WpFn 𝓤 H 𝓣.C 𝓣.Λ code.function) (it.spec 𝓛 at_mem run)
   meets 𝓣 =
-      walk_Meets 𝓛 it.ended stayed (Goes-dropped 𝓛 1 (RefOf (0 ∷ []) tt (plain (λ _. T.the_row)) (λ _. tt)) yes (λ κs x f. refl), tt)
+      walk_Meets 𝓛 it.ended stayed (
+        Goes-dropped 𝓛 1 (RefOf (0 ∷ []) tt (plain (λ _. T.the_row)) (λ _. tt)) yes
+            (λ κs x f. refl),
+        tt,
+      )
       (it.clauses 𝓛 at_mem run) (WpFn 𝓤 H 𝓣.C 𝓣.Λ code.function) (WpFn-mono 𝓤 H 𝓛.laws 𝓣 code.function) (walks 𝓣.C 𝓣.Λ)
 
 pub so_far_spec : {M : Type 1} → stated.statement M

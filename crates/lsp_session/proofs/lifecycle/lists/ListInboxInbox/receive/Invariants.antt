@@ -8,7 +8,8 @@ use Rattle.lsp_session.proofs.lifecycle.lists.ListInboxInbox.receive.Given as go
 -- only timeouts came so far
 abbrev pub invariant-loop-event : goal.invariant-loop-event
 invariant-loop-event l =
-    PassesTimeouts (λ (old : ListInbox) event new. GivesNext (map event_view old.events.items) event (map event_view new.events.items)) l.initial.self l.self
+    PassesTimeouts (λ (old : ListInbox) event new. GivesNext (map event_view old.events.items) event (map event_view
+    new.events.items)) l.initial.self l.self
 
 abbrev pub decreases-loop-event : goal.decreases-loop-event
 decreases-loop-event l = length l.self.events.items
