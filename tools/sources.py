@@ -12,6 +12,7 @@ tries that: it changes each body and each clause of each library, one at a time,
 import hashlib
 import re
 import sys
+from dataclasses import dataclass
 from pathlib import Path
 
 ROOT = Path(__file__).resolve().parent.parent
@@ -186,6 +187,62 @@ def function_text(text, place):
         if start <= place < end:
             return " ".join(kept[start:end].split())
     return ""
+
+
+@dataclass(frozen=True)
+class Place:
+    """A function: what `rt check --only` takes for it, and what the name that a check prints has to match."""
+
+    only: str
+    pattern: str
+
+
+def heads_before(text, at):
+    """The heads of the functions up to the line of a place."""
+    return list(re.finditer(r"(?m)^( *)(?:pub(?:\([^)]*\))? )?(?:const |unsafe )*fn (\w+)", text[: text.find("\n", at)]))
+
+
+def name_at(text, at):
+    """The name of the function at a place."""
+    found = heads_before(text, at)
+    return found[-1][2] if found else None
+
+
+def function_at(file, text, at):
+    """The function at a place of a file, or nothing for an import."""
+    if re.match(r"(?:pub |ghost )?use ", text[at:].lstrip()):
+        return None
+    found = heads_before(text, at)
+    words = file.removeprefix("src/").removesuffix(".rt").split("/")
+    module = "::".join(words[:-1] if words[-1] in ("mod", "lib", "main") else words)
+    if not found:
+        return Place(module, re.escape(module) + r"::\S+")
+    name, below = found[-1][2], f"{module}::" * bool(module)
+    if not found[-1][1]:
+        return Place(below + name, re.escape(below + name))
+    heads = re.finditer(r"(?m)^(?:pub )?(impl|trait)\b([^{]*)\{", text[: found[-1].start()])
+    word, head = [(it[1], " ".join(it[2].split())) for it in heads][-1]
+    if word == "trait":
+        owner = re.match(r"\w+", head)[0]
+        return Place(f"{below}{owner}::{name}", re.escape(f"{below}{owner}::{name}"))
+    given = head[: len(head) - len(without_generics(head))] if head.startswith("<") else ""
+    of_trait, _, of_type = re.sub(r" where .*", "", head[len(given) :].strip()).rpartition(" for ")
+    owner, rest = re.match(r"&?(\w+)(.*)", of_type.strip()).groups()
+    of_trait = "".join(re.findall(r"\w+", re.sub(r"'\w+|\w+::", "", of_trait)))
+    # Where the type is taken at types of its own, their names are a part of the printed name, so the whole module is asked for.
+    is_plain = set(re.findall(r"[\w:]+", rest)) <= set(re.findall(r"\w+", given))
+    pattern = rf"(?:\S+::)?{owner}{'' if is_plain else '[^:]*'}{of_trait}::{name}"
+    only = f"{below}{owner}{of_trait}::{name}" if of_trait else f"{owner}::{name}"
+    return Place(only if is_plain else module, pattern)
+
+
+def without_generics(head):
+    depth = 0
+    for at, mark in enumerate(head):
+        depth += (mark == "<") - (mark == ">" and head[at - 1] != "-")
+        if not depth:
+            return head[at + 1 :].strip()
+    return head
 
 
 def plain(path):
