@@ -76,8 +76,8 @@ pub fn tell_length<R: Print>(rt: &R, alloc: Global) -> anyhow::Result<()> {
 }
 
 /// Makes so many keystrokes at the text's start, in its middle and at its end, and so many new lines in its middle, asks for the
-/// positions of as many offsets, types at as many carets, and a tenth as often at the end of a long line, and prints the microseconds of
-/// each.
+/// positions of as many offsets, types at as many carets; types a tenth as often at the end of a long line, and asks for as many places in
+/// it. Prints the microseconds of each.
 pub fn time_all<R: Clock + Print>(rt: &R, alloc: Global, count: u32) -> io::Result<()> {
     time_large(rt, alloc, count)?;
     time_carets(rt, alloc, count)?;
@@ -108,7 +108,7 @@ fn time_edits<R: Clock + Print>(
     for typing in &EDITS {
         time_typing(rt, alloc, text, typing, count)?;
     }
-    time_asking(rt, text, count)
+    time_asking(rt, text, count, 100)
 }
 
 fn time_typing<R: Clock + Print>(
@@ -123,11 +123,29 @@ fn time_typing<R: Clock + Print>(
     tell_count(rt, start, count, typing.what)
 }
 
-fn time_asking<R: Clock + Print>(rt: &R, text: &Text, count: u32) -> io::Result<()> {
+/// Asks for the positions of so many offsets, `step` bytes apart, and of each position for its offset.
+fn time_asking<R: Clock + Print>(rt: &R, text: &Text, count: u32, step: u32) -> io::Result<()> {
     let start = Instant::now(rt)?;
-    let sum = asked(text, count);
+    let sum = asked(text, count, step);
     let took = start.elapsed(rt)?.as_micros();
     println!(rt; "{count} positions of offsets and back: {took} us, sum {sum}")
+}
+
+/// Asks for the positions of so many offsets in one call.
+fn time_in_order<R: Clock + Print>(
+    rt: &R,
+    alloc: Global,
+    text: &Text,
+    count: u32,
+    step: u32,
+) -> io::Result<()> {
+    let mut offsets = Vec::new(alloc);
+    for i in 0..count {
+        offsets.push((i as usize).wrapping_mul(step as usize))?;
+    }
+    let start = Instant::now(rt)?;
+    text.positions_at(alloc, offsets.as_slice(), UTF16)?;
+    tell_count(rt, start, count, "positions of offsets, in order")
 }
 
 fn time_carets<R: Clock + Print>(rt: &R, alloc: Global, count: u32) -> io::Result<()> {
@@ -155,9 +173,23 @@ fn time_long_line<R: Clock + Print>(
     count: u32,
 ) -> io::Result<()> {
     let mut text = repeated(alloc, "x", typing.behind)?;
-    let timed = time_typing(rt, alloc, &mut text, typing, count);
+    let timed = time_line(rt, alloc, &mut text, typing, count);
     drop(text);
     timed
+}
+
+/// Types at the end of this line, and asks for places all over it.
+fn time_line<R: Clock + Print>(
+    rt: &R,
+    alloc: Global,
+    text: &mut Text,
+    typing: &Typing,
+    count: u32,
+) -> io::Result<()> {
+    let step = typing.behind / count.max(1);
+    time_typing(rt, alloc, text, typing, count)?;
+    time_asking(rt, text, count, step)?;
+    time_in_order(rt, alloc, text, count, step)
 }
 
 /// Prints the microseconds since this start behind a name.
@@ -208,10 +240,10 @@ fn insert(
 }
 
 /// The sum of so many offsets, each by way of its position.
-fn asked(text: &Text, count: u32) -> u64 {
+fn asked(text: &Text, count: u32, step: u32) -> u64 {
     let mut sum: u64 = 0;
     for i in 0..count {
-        let offset = (i as usize).wrapping_mul(100);
+        let offset = (i as usize).wrapping_mul(step as usize);
         let place = text.position_at(offset, UTF16);
         sum = sum.wrapping_add(text.offset_at(place, UTF16) as u64);
     }
