@@ -1,6 +1,6 @@
 #!/usr/bin/env python3
 """Clients of servers that serve one after another, over a socket: what goes wrong with one is a line on standard error, and the next is
-served as ever. Some come and go, send no message, reset, or leave without `shutdown`; one comes while the program has no descriptors, and one reads late
+served as ever. Some come and go, send no message, reset, leave without `shutdown`, or say nothing more; one comes while the program has no descriptors, and one reads late
 while the program is stopped and goes on.
 
 Then the same servers are started with the words of LSP 3.17 ("Implementation Considerations"): over standard input and output, by a client
@@ -168,7 +168,32 @@ def reads_late(server):
         editor.notify("exit")
 
 
-CLIENTS = [comes_and_goes, sends_no_message, resets, leaves, comes_without_descriptors, reads_late]
+def is_looked_for(stream):
+    """Whether the system looks now and then whether this client is still there: its row of the system's table has that timer."""
+    (_, here), (_, there) = stream.getsockname(), stream.getpeername()
+    for row in Path("/proc/net/tcp").read_text().splitlines()[1:]:
+        _, local, remote, _, _, timer = row.split()[:6]
+        if (int(local.split(":")[1], 16), int(remote.split(":")[1], 16)) == (there, here):
+            return timer.startswith("02:")
+    return False
+
+
+def goes_without_a_word(server):
+    """If its machine is gone, the system finds that out."""
+    with server.stream() as stream, stream.makefile("rb") as source, stream.makefile("wb") as sink:
+        editor = Editor(source, sink)
+        editor.ask("initialize", {"processId": None, "rootUri": None, "capabilities": {}})
+        editor.notify("initialized", {})
+        deadline = time.monotonic() + PATIENCE
+        while not is_looked_for(stream):
+            if time.monotonic() > deadline:
+                raise Difference("nobody looks for a client that says nothing")
+            time.sleep(0.01)
+        stream.shutdown(socket.SHUT_RDWR)
+    expect("the line of a client that is gone", server.says("it"), LEFT)
+
+
+CLIENTS = [comes_and_goes, sends_no_message, resets, leaves, goes_without_a_word, comes_without_descriptors, reads_late]
 
 
 def serves_all(way):

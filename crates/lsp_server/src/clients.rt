@@ -1,5 +1,5 @@
 //! The clients of a program: that of its standard input and output, one that listens itself, or those of a socket, one after another.
-ghost use Rattle.std.specs.Prelude.{◌≡◌, Some, map, IfOk, IfErr, IsErr, IsErrAnd, IsSomeAnd, string_bytes};
+ghost use Rattle.std.specs.Prelude.{◌≡◌, Some, map, IfOk, IfErr, IsErr, IsErrAnd, IsSomeAnd, IsTrue, string_bytes};
 ghost use Rattle.std.specs.Duration.{as_nanos};
 ghost use Rattle.std.specs.IoError.{error_kind};
 ghost use Rattle.std.specs.declared.io.ErrorKind.TheVariants.{InvalidInput, OutOfMemory};
@@ -10,7 +10,7 @@ ghost use Rattle.lsp_server.specs.Clients.{medium_of, reader_medium, writer_medi
 
 use crate::connection::READ_AHEAD;
 use crate::pipe::PipeStream;
-use crate::socket::{ReadHalf, WriteHalf, halves};
+use crate::socket::{ReadHalf, WriteHalf, halves, keep_alive};
 use crate::stdio::StandardOutput;
 use crate::words::{Channel, NO_PORT, channel_in, is_unknown};
 use lsp_message::Limits;
@@ -36,18 +36,24 @@ pub struct ClientOptions {
     /// session a read failed. Afterwards it may be silent as long as it likes, as an editor whose user is away. Without a time it may
     /// be silent from the start. A time of zero gives up every client.
     pub silence: Option<Duration>,
+    /// Whether the system looks now and then whether the machine of a client is still there. One that went without a word, as at a power
+    /// cut, is then found after the system's time, which is two hours on most (`net.ipv4.tcp_keepalive_time`): a read fails, and the
+    /// next client is served. Without it such a client is waited for until something is sent to it.
+    pub keep_alive: bool,
     /// How many bytes a header part and a content part of a client may have. The streams that `serve` is given have these limits.
     pub limits: Limits,
 }
 
 impl ClientOptions {
-    /// Half a minute, 64 KiB for a header part, and any number of bytes for a content part.
+    /// Half a minute, with looks whether the machine is there, 64 KiB for a header part, and any number of bytes for a content part.
     pub fn new() -> ClientOptions
         ensures silence { IsSomeAnd result.silence (λ time. as_nanos time ≡ 30000000000) }
+        ensures keep_alive { IsTrue result.keep_alive }
         ensures limits { result.limits ≡ record { header = Some 65536; content = most_content } }
     {
         ClientOptions {
             silence: Some(Duration::from_secs(SILENT_SECONDS)),
+            keep_alive: true,
             limits: Limits {
                 header: Some(Limits::HEADER_BYTES),
                 content: u64::MAX,
@@ -143,8 +149,8 @@ impl<R: Print, S: OpenStream + Drop + Write> Write for ClientWriter<R, S> {
 /// without `shutdown`, or one that the system refused, for example since the program has no descriptors left. After such a refusal a
 /// second passes.
 ///
-/// A client that waits for the one before it gets no reply until that one is gone. One that says nothing at all is given up as `options` say,
-/// and one that reads nothing, or very little, after half a minute. Once a session has ended, its client is cut off. Whoever reaches the
+/// A client that waits for the one before it gets no reply until that one is gone. One that says nothing at all, and one whose machine is
+/// gone, is given up as `options` say, and one that reads nothing, or very little, after half a minute. Once a session has ended, its client is cut off. Whoever reaches the
 /// address is served, so where strangers do, the options should limit the content part too.
 pub fn serve_clients<R, F, E>(
     rt: &R,
@@ -307,6 +313,9 @@ where
     E: Display + Drop,
     requires { F.IsAlwaysCallable serve.now }
 {
+    if options.keep_alive {
+        keep_alive(&stream);
+    }
     let ends = stream.try_clone().and_then(|whole| Ok((
         whole,
         socket_ends(rt, stream, options.silence)?,

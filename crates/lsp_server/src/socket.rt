@@ -9,10 +9,12 @@ ghost use Rattle.lsp_server.specs.declared.io_fault.IoFault.TheVariants.{Socket}
 use crate::connection::Connection;
 use crate::io_fault::IoFault;
 use crate::io_threads::IoThreads;
+use libc::net;
 use lsp_message::Limits;
 use std::io;
 use std::io::{ErrorKind, Read, Write};
 use std::net::{Net, OpenListener, OpenStream, Shutdown, TcpListener, TcpStream, ToSocketAddrs};
+use std::os::fd::AsRawFd;
 use std::sync::Wait;
 use std::thread::Threads;
 use std::time::{Clock, Duration};
@@ -117,6 +119,15 @@ fn socket_fault(error: io::Error) -> IoFault
     ensures { result ≡ Socket (error_kind error) }
 {
     IoFault::Socket(error.kind())
+}
+
+/// Has the system look now and then whether the machine of a stream's peer is still there. A read fails once it is not.
+pub(crate) fn keep_alive<S: AsRawFd>(stream: &S) {
+    let mut on = [0u8; 16];
+    on[..4].copy_from_slice(&1i32.to_ne_bytes());
+    let fd = stream.as_raw_fd();
+    // If the option is refused, only a peer that went without a word is waited for longer.
+    let _ = unsafe { net::setsockopt(fd, net::SOL_SOCKET, net::SO_KEEPALIVE, &on, 4) };
 }
 
 /// What reads from a stream, and what writes to it. With a time, a read fails if the peer sends nothing for that long, until its first

@@ -7,8 +7,8 @@ use Rattle.lsp_server.proofs.unread_weights.count_of.Goals as goal
 pub loop-init : goal.loop-init
 loop-init c =
     let all =
-      ap length (c.into_iter-iterator.ensures.into_iter_gives ∙ c.memchr_iter-items.ensures.value)
-      ∙ length-places (is_byte c.args.byte) c.args.content.now in
+    ap length (c.into_iter-iterator.ensures.into_iter_gives ∙ c.memchr_iter-items.ensures.value)
+    ∙ length-places (is_byte c.args.byte) c.args.content.now in
     omega (arith, all)
 
 pub loop-preserved : goal.loop-preserved
