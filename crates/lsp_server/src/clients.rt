@@ -112,6 +112,18 @@ impl<R: Print, S: OpenStream + Drop + Write> Write for ClientWriter<R, S> {
     }
 }
 
+/// What a client sends and reads, over the medium that the words name.
+type Ends<R> = (
+    BufReader<ClientReader<<R as Input>::Reader, <R as Net>::Stream>>,
+    ClientWriter<R, <R as Net>::Stream>,
+);
+
+/// The streams of a client, which `serve_clients` hands to its closure.
+pub type Streams<R> = ClientStreams<
+    BufReader<ClientReader<<R as Input>::Reader, <R as Net>::Stream>>,
+    ClientWriter<R, <R as Net>::Stream>,
+>;
+
 /// Serves the client that the words of the command line name. `words` are those behind the program's name, or behind your own first
 /// words. The first word that asks for a channel decides (LSP 3.17, "Implementation Considerations"):
 ///
@@ -160,10 +172,7 @@ pub fn serve_clients<R, F, E>(
 ) -> io::Result<Result<SessionEnd, E>>
 where
     R: Net + Wait + Clock + AllocGlobal + Input + Print + Eprint + Copy + Drop,
-    F: Fn(
-        ClientStreams<BufReader<ClientReader<R::Reader, R::Stream>>, ClientWriter<R, R::Stream>>,
-    ) -> Result<SessionEnd, E>
-        + Drop,
+    F: Fn(Streams<R>) -> Result<SessionEnd, E> + Drop,
     E: Display + Drop,
     requires { F.IsAlwaysCallable serve }
     ensures outcome { IfOk result (λ outcome.
@@ -177,13 +186,28 @@ where
         → IsErrAnd result (λ error. error_kind error ≡ InvalidInput) }
 {
     name_unknown(rt, words);
-    match channel_in(words) {
-        Channel::Standard => serve_standard(rt, options.limits, &serve),
-        Channel::Address(address) => serve_socket(rt, address, &options, &serve),
-        Channel::Port(port) => serve_port(rt, port, options.limits, &serve),
-        Channel::Pipe(name) => serve_pipe(rt, name, options.limits, &serve),
+    let ends = match channel_in(words) {
+        Channel::Address(address) => return serve_socket(rt, address, &options, &serve),
+        Channel::Standard => standard_ends(rt),
+        Channel::Port(port) => port_ends(rt, port),
+        Channel::Pipe(name) => pipe_ends(rt, name),
         Channel::Refused(reason) => Err(io::Error::new(ErrorKind::InvalidInput, reason)),
-    }
+    };
+    Ok(serve(streams_of::<R>(ends?, options.limits)))
+}
+
+/// The streams of a client with these ends.
+fn streams_of<R>(ends: Ends<R>, limits: Limits) -> Streams<R>
+where
+    R: Net + Input + Print + Drop,
+    ensures reader { result.reader ≡ ends.0 }
+    ensures writer { result.writer ≡ ends.1 }
+    ensures limits { result.limits ≡ limits }
+{
+    let (reader, writer) = ends;
+    let mut client = ClientStreams::new(reader, writer);
+    client.limits = limits;
+    client
 }
 
 /// Prints the options that LSP does not have.
@@ -195,83 +219,46 @@ fn name_unknown<R: Eprint>(rt: &R, words: &[String]) {
     }
 }
 
-/// Serves the client of standard input and output.
-fn serve_standard<R, F, E>(rt: &R, limits: Limits, serve: &F) -> io::Result<Result<SessionEnd, E>>
+/// The ends of the client of standard input and output.
+fn standard_ends<R>(rt: &R) -> io::Result<Ends<R>>
 where
     R: Net + AllocGlobal + Input + Print + Copy + Drop,
-    F: Fn(
-        ClientStreams<BufReader<ClientReader<R::Reader, R::Stream>>, ClientWriter<R, R::Stream>>,
-    ) -> Result<SessionEnd, E>,
-    E: Drop,
-    requires { F.IsAlwaysCallable serve.now }
-    ensures outcome { IfOk result (λ outcome.
-        (client : _) × F.post serve.now client outcome
-        × (reader_medium (reader_inner client.reader) ≡ streams) × (writer_medium client.writer ≡ streams)
-        × (client.limits ≡ limits)) }
+    ensures medium { IfOk result (λ ends.
+        (reader_medium (reader_inner ends.0) ≡ streams) × (writer_medium ends.1 ≡ streams)) }
     ensures memory { IfErr result (λ error. error_kind error ≡ OutOfMemory) }
 {
     let input = ClientReader::Standard(rt.reader());
     let reader = BufReader::with_capacity(rt.alloc(), READ_AHEAD, input)?;
-    let writer = ClientWriter::Standard(StandardOutput::new(*rt));
-    let mut client = ClientStreams::new(reader, writer);
-    client.limits = limits;
-    Ok(serve(client))
+    Ok((reader, ClientWriter::Standard(StandardOutput::new(*rt))))
 }
 
-/// Serves the client that listens at a port of this machine.
-fn serve_port<R, F, E>(
-    rt: &R,
-    port: &str,
-    limits: Limits,
-    serve: &F,
-) -> io::Result<Result<SessionEnd, E>>
+/// The ends of the client that listens at a port of this machine.
+fn port_ends<R>(rt: &R, port: &str) -> io::Result<Ends<R>>
 where
-    R: Net + AllocGlobal + Input + Print + Copy + Drop,
-    F: Fn(
-        ClientStreams<BufReader<ClientReader<R::Reader, R::Stream>>, ClientWriter<R, R::Stream>>,
-    ) -> Result<SessionEnd, E>,
-    E: Drop,
-    requires { F.IsAlwaysCallable serve.now }
-    ensures { IfOk result (λ outcome.
-        (client : _) × F.post serve.now client outcome
-        × (reader_medium (reader_inner client.reader) ≡ by_socket) × (writer_medium client.writer ≡ by_socket)
-        × (client.limits ≡ limits)) }
+    R: Net + AllocGlobal + Input + Print + Drop,
+    ensures { IfOk result (λ ends.
+        (reader_medium (reader_inner ends.0) ≡ by_socket) × (writer_medium ends.1 ≡ by_socket)) }
 {
     let Ok(port) = port.parse::<u16>() else {
         return Err(io::Error::new(ErrorKind::InvalidInput, NO_PORT));
     };
-    let stream = TcpStream::connect(rt, (Ipv4Addr::LOCALHOST, port))?;
-    let (input, output) = socket_ends(rt, stream, None)?;
-    let mut client = ClientStreams::new(input, output);
-    client.limits = limits;
-    Ok(serve(client))
+    socket_ends(
+        rt,
+        TcpStream::connect(rt, (Ipv4Addr::LOCALHOST, port))?,
+        None,
+    )
 }
 
-/// Serves the client that listens at a socket file.
-fn serve_pipe<R, F, E>(
-    rt: &R,
-    name: &str,
-    limits: Limits,
-    serve: &F,
-) -> io::Result<Result<SessionEnd, E>>
+/// The ends of the client that listens at a socket file.
+fn pipe_ends<R>(rt: &R, name: &str) -> io::Result<Ends<R>>
 where
-    R: Net + AllocGlobal + Input + Print + Copy + Drop,
-    F: Fn(
-        ClientStreams<BufReader<ClientReader<R::Reader, R::Stream>>, ClientWriter<R, R::Stream>>,
-    ) -> Result<SessionEnd, E>,
-    E: Drop,
-    requires { F.IsAlwaysCallable serve.now }
-    ensures { IfOk result (λ outcome.
-        (client : _) × F.post serve.now client outcome
-        × (reader_medium (reader_inner client.reader) ≡ by_file) × (writer_medium client.writer ≡ by_file)
-        × (client.limits ≡ limits)) }
+    R: Net + AllocGlobal + Input + Print + Drop,
+    ensures { IfOk result (λ ends.
+        (reader_medium (reader_inner ends.0) ≡ by_file) × (writer_medium ends.1 ≡ by_file)) }
 {
     let (reader, writer) = halves(PipeStream::connect(rt, name)?, None)?;
     let reader = BufReader::with_capacity(rt.alloc(), READ_AHEAD, ClientReader::Pipe(reader))?;
-    let writer = ClientWriter::Pipe(writer);
-    let mut client = ClientStreams::new(reader, writer);
-    client.limits = limits;
-    Ok(serve(client))
+    Ok((reader, ClientWriter::Pipe(writer)))
 }
 
 /// Serves the clients that connect to an address. It returns only if nobody may listen there.
@@ -283,9 +270,7 @@ fn serve_socket<R, F, E>(
 ) -> io::Result<Result<SessionEnd, E>>
 where
     R: Net + Wait + Clock + AllocGlobal + Input + Print + Eprint + Copy + Drop,
-    F: Fn(
-        ClientStreams<BufReader<ClientReader<R::Reader, R::Stream>>, ClientWriter<R, R::Stream>>,
-    ) -> Result<SessionEnd, E>,
+    F: Fn(Streams<R>) -> Result<SessionEnd, E>,
     E: Display + Drop,
     requires { F.IsAlwaysCallable serve.now }
     ensures { IsErr result }
@@ -307,9 +292,7 @@ where
 fn serve_stream<R, F, E>(rt: &R, stream: R::Stream, options: &ClientOptions, serve: &F)
 where
     R: Net + AllocGlobal + Input + Print + Eprint + Copy + Drop,
-    F: Fn(
-        ClientStreams<BufReader<ClientReader<R::Reader, R::Stream>>, ClientWriter<R, R::Stream>>,
-    ) -> Result<SessionEnd, E>,
+    F: Fn(Streams<R>) -> Result<SessionEnd, E>,
     E: Display + Drop,
     requires { F.IsAlwaysCallable serve.now }
 {
@@ -320,16 +303,14 @@ where
         whole,
         socket_ends(rt, stream, options.silence)?,
     )));
-    let (whole, (reader, writer)) = match ends {
+    let (whole, ends) = match ends {
         Ok(ends) => ends,
         Err(error) => {
             let _ = eprintln!(rt; "{error}");
             return;
         }
     };
-    let mut client = ClientStreams::new(reader, writer);
-    client.limits = options.limits;
-    let _ = match serve(client) {
+    let _ = match serve(streams_of::<R>(ends, options.limits)) {
         Ok(SessionEnd::ShutDown) => Ok(()),
         Ok(SessionEnd::Closed) => eprintln!(rt; "the client left without a shutdown"),
         Err(error) => eprintln!(rt; "{error:#}"),
@@ -339,16 +320,7 @@ where
 }
 
 /// The reader and the writer of a stream.
-fn socket_ends<R>(
-    rt: &R,
-    stream: R::Stream,
-    silence: Option<Duration>,
-) -> io::Result<
-    (
-        BufReader<ClientReader<R::Reader, R::Stream>>,
-        ClientWriter<R, R::Stream>,
-    ),
->
+fn socket_ends<R>(rt: &R, stream: R::Stream, silence: Option<Duration>) -> io::Result<Ends<R>>
 where
     R: Net + AllocGlobal + Input + Print + Drop,
     ensures { IfOk result (λ ends.
