@@ -27,6 +27,10 @@ collects_then a b c x y z first second = (
       (contents_of second.0)) ∙ ap (λ l. l ++ contents_of second.0) first.2 ∙ second.2,
 )
 
+first_empty : {A : Type 0} (xs ys : List A) → xs ++ ys ≡ [] → xs ≡ []
+first_empty [] ys none = refl
+first_empty (x ∷ xs) ys none = absurd (cc (none))
+
 -- one parcel, if no content part waits
 pub collects_parcel : (taken new : List (Parcel Contents)) (waiting items : List (Vec ℕ Global)) (contents : Contents)
     → waiting ≡ [] → new ≡ taken ++ parcel.Message contents ∷ []
@@ -58,6 +62,14 @@ module _ {L : Type 0} (old mid new : Receiving × L) (passed : PassesWakes old m
   abbrev Passed : Bool → Type 0
   Passed b = MatchBool b (mid ≡ old) (Collects old.0.taken old.0.waiting mid.0.taken mid.0.waiting × (is_over mid.0
       ≡ false) × (mid.1 ≡ old.1))
+
+  -- none waited before if none does now
+  pub none_waited : mid.0.waiting ≡ [] → old.0.waiting ≡ []
+  none_waited none = at (is_over old.0) passed.2
+    where
+      at : (b : Bool) → Passed b → old.0.waiting ≡ []
+      at true same = sym (ap (λ (s : Receiving × _). s.0.waiting) same) ∙ none
+      at false (collects, still_open, told) = first_empty old.0.waiting (contents_of collects.0) (collects.2 ∙ none)
 
   -- a wake more
   pub passes_wake : ComesNext mid (Ok woken) new → PassesWakes old new

@@ -13,3 +13,4 @@ pub mod RefusedWakes
 pub mod Replies
 pub mod Sessions
 pub mod Taken
+pub mod ThreadEnds

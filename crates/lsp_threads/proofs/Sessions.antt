@@ -12,7 +12,6 @@ use Rattle.lsp_relay.specs.Relay.{ended, has_end, Sending}
 use Rattle.lsp_relay.specs.declared.ends.Parcel.{Parcel}
 use Rattle.lsp_session.proofs.Lending.{over_as}
 use Rattle.lsp_session.proofs.Ran.{Facts}
-use Rattle.lsp_session.specs.Event.{Event}
 use Rattle.lsp_session.specs.PassingBytes.{PassesNothingOver}
 use Rattle.lsp_session.specs.Session.{came_of, Exchange, messages_of, SessionAnswer, SessionPart, sends_of, Stop}
 use Rattle.lsp_session.specs.Served.{StopsFor}
@@ -25,39 +24,28 @@ use Rattle.lsp_session.specs.declared.loops.served.StopReason.{StopReason}
 use Rattle.lsp_session.specs.declared.loops.stream_session.SessionFault.{SessionFault}
 use Rattle.lsp_threads.proofs.ContentStream.{as_stream}
 use Rattle.lsp_threads.proofs.Replies.{all_replied, replies_written, session_gives}
-use Rattle.lsp_threads.specs.ContentBoxes.{InboxGives, KeepsLent, seen_of}
-use Rattle.lsp_threads.specs.Contents.{Contents, ContentsGive, HandsWhole}
+use Rattle.lsp_threads.specs.Contents.{Contents, ContentsGive, HandsWhole, Receiving}
 use Rattle.lsp_threads.specs.Framing.{parcel_bytes, AreEnded, WritesParcels}
 use Rattle.lsp_message.specs.Told.{Parts}
 use Rattle.lsp_message.specs.declared.frame.limits.Limits.{Limits}
 use Rattle.lsp_threads.specs.Passing.{OfTaken}
 use Rattle.lsp_threads.specs.Replies.{Replying, RepliesSend, reply_fault, WritesReplies}
 use Rattle.lsp_threads.specs.Threads.{ReadsFrameOrWakes, ReadsOrWakes, session_end, ThreadsGiveOver, ThreadsTellOver}
-use Rattle.lsp_threads.specs.declared.content_inbox.ContentInbox.{ContentInbox}
 
--- what an inbox gave, as it is seen; and what it was lent is kept
-pub seen_all : {R L : Type 0} (hears : L → ReadFault → L → Type 0) (events : List Event) (old new : ContentInbox R L)
-    → FoldsTo (InboxGives hears) old events new
-    → FoldsTo (ContentsGive hears) (seen_of old) events (seen_of new) × KeepsLent old new
-seen_all hears [] old new run = (ap seen_of run, (rw run refl, rw run refl))
-seen_all hears (event ∷ events) old new run =
-    let rest = seen_all hears events run.0 new run.2 in
-    ((seen_of run.0, run.1.0, rest.0), (rest.1.0 ∙ run.1.1.0, rest.1.1 ∙ run.1.1.1))
-
+-- over what is seen of the inbox and of the outbox
 module _ {L : Type 0} (hears : L → ReadFault → L → Type 0) (limit : Limits) (P Q : SessionPart) (reason : StopReason)
     (knows : (xs : List Exchange) (stop : Stop) (shutdown_reply : Option Sent) (answer : SessionAnswer)
     → P xs stop shutdown_reply answer
     → Q xs stop shutdown_reply answer × StopsFor reason xs stop shutdown_reply answer × Facts stop (messages_of xs))
-    (a b : Option (List ℕ)) {R : Type 0} (inbox inbox' : ContentInbox R L) (outbox outbox' : Replying)
-    (answer : SessionAnswer)
-    (runs : Runs (InboxGives hears) RepliesSend P (inbox, outbox) answer (inbox', outbox')) where
+    (a b : Option (List ℕ)) (inbox inbox' : Receiving × L) (outbox outbox' : Replying) (answer : SessionAnswer)
+    (runs : Runs (ContentsGive hears) RepliesSend P (inbox, outbox) answer (inbox', outbox')) where
   -- what the threads of a session come to in bytes
-  module _ (none : (seen_of inbox).0.taken ≡ []) (all_given : (seen_of inbox).0.waiting ≡ [])
-      (unended : (seen_of inbox).0.end ≡ None) (unsent : outbox.bytes ≡ [])
+  module _ (none : inbox.0.taken ≡ []) (all_given : inbox.0.waiting ≡ [])
+      (unended : inbox.0.end ≡ None) (unsent : outbox.bytes ≡ [])
       (taken : List (Parcel Contents)) (back : Sending Contents)
-      (drained : MatchBool (has_end (seen_of inbox').0.taken) (taken ≡ (seen_of inbox').0.taken) ((more : List Contents)
-      × (taken ≡ (seen_of inbox').0.taken ++ ended more)))
-      (settled : IsPrefix taken back.sent) (silent : back.wakeable ≡ false → (seen_of inbox').0.wakes ≡ 0)
+      (drained : MatchBool (has_end inbox'.0.taken) (taken ≡ inbox'.0.taken) ((more : List Contents)
+      × (taken ≡ inbox'.0.taken ++ ended more)))
+      (settled : IsPrefix taken back.sent) (silent : back.wakeable ≡ false → inbox'.0.wakes ≡ 0)
       (tx : Sending Contents) (read : ReadEnd)
       (replies_taken replies : List (Parcel (String Global))) (all : parcel_bytes replies ≡ outbox'.bytes)
       (finished : AreEnded replies) (fault : Option WriteFault)
@@ -70,28 +58,28 @@ module _ {L : Type 0} (hears : L → ReadFault → L → Type 0) (limit : Limits
         runs.shutdown_reply runs.stop runs.got) replies_taken replies all finished replies_settled fault written)
 
     -- a wake that was taken was given by others
-    woke : (wakeable : Bool) → (wakeable ≡ false → (seen_of inbox').0.wakes ≡ 0) → 1 ≤ (seen_of inbox').0.wakes
+    woke : (wakeable : Bool) → (wakeable ≡ false → inbox'.0.wakes ≡ 0) → 1 ≤ inbox'.0.wakes
         → wakeable ≡ true
     woke true silent' some = refl
     woke false silent' some = absurd (omega (arith, silent' refl, some))
 
     pub threads_tell : (known : Option (List ℕ)) → IfSome known (λ text. HandsWhole limit text tx read back)
-        → IfSome known (λ text. ThreadsTellOver tx.wakeable hears limit Q text (seen_of inbox).1 (seen_of inbox').1 a b
-        (session_answer reason answer (session_end (seen_of inbox').0.end (has_end (seen_of inbox').0.taken) read)
+        → IfSome known (λ text. ThreadsTellOver tx.wakeable hears limit Q text inbox.1 inbox'.1 a b
+        (session_answer reason answer (session_end inbox'.0.end (has_end inbox'.0.taken) read)
         (reply_fault fault outbox'.failed)))
     threads_tell None handed = tt
     threads_tell (Some text) handed =
-        let s = as_stream limit hears (tx.wakeable ≡ true) (seen_of inbox) (seen_of inbox') none all_given unended
-        runs.events (seen_all hears runs.events inbox inbox' runs.received).0
+        let s = as_stream limit hears (tx.wakeable ≡ true) inbox inbox' none all_given unended
+        runs.events runs.received
         (woke tx.wakeable (λ e. silent (handed.2 ∙ e))) taken tx back drained settled read text handed in
-        subst (λ heard. ThreadsTellOver tx.wakeable hears limit Q text (seen_of inbox).1 heard a b
-        (session_answer reason answer (session_end (seen_of inbox').0.end (has_end (seen_of inbox').0.taken) read)
+        subst (λ heard. ThreadsTellOver tx.wakeable hears limit Q text inbox.1 heard a b
+        (session_answer reason answer (session_end inbox'.0.end (has_end inbox'.0.taken) read)
         (reply_fault fault outbox'.failed))) s.1.2
-        (subst (λ end. ThreadsTellOver tx.wakeable hears limit Q text (seen_of inbox).1 s.0.1 a b (session_answer reason
+        (subst (λ end. ThreadsTellOver tx.wakeable hears limit Q text inbox.1 s.0.1 a b (session_answer reason
         answer end (reply_fault fault outbox'.failed))) s.1.1
-        (session_gives (InboxGives hears) RepliesSend tx.wakeable hears limit P Q reason knows a b (inbox, outbox)
+        (session_gives (ContentsGive hears) RepliesSend tx.wakeable hears limit P Q reason knows a b (inbox, outbox)
         (inbox', outbox') answer runs
-        text (seen_of inbox).1 s.0 s.1.0 (reply_fault fault outbox'.failed) output_written))
+        text inbox.1 s.0 s.1.0 (reply_fault fault outbox'.failed) output_written))
 
 -- A session in threads that is described otherwise.
 module _ (P Q : SessionPart)

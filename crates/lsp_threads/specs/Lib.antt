@@ -1,9 +1,9 @@
-pub mod ContentBoxes
 pub mod Contents
 pub mod Framing
 pub mod GoesOn
 pub mod Passing
 pub mod Pump
 pub mod Replies
+pub mod ThreadEnds
 pub mod Threads
 pub use Rattle.lsp_relay.specs.Relay

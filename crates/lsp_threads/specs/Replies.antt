@@ -1,4 +1,4 @@
--- Replies as texts of frames on a relay: the outbox that makes them, and what is written of all that it was offered.
+-- Replies as texts of frames on a relay: the outbox that gathers them, and what is written of all that it was offered.
 use Rattle.std.specs.Prelude.{◌≡◌, ℕ, Bool, true, false, List, ◌++◌, Option, Some, None, Result, Ok, Err, String}
 use Rattle.std.specs.declared.alloc.Global.{Global}
 use Rattle.lsp_message.specs.Message as plain
@@ -16,6 +16,15 @@ pub record Replying : Type 0 where
   pub relay : Relay (String Global)
   pub bytes : List ℕ
   pub failed : Bool
+
+-- the same, of one that gathers frames, and the last of these bytes, which are held and not handed over yet
+pub record Gathered : Type 0 where
+  pub replies : Replying
+  pub held : List ℕ
+
+-- For private clauses: these bytes were sent, and no message was refused.
+abbrev pub AddsBytes : Replying → List ℕ → Replying → Type 0
+AddsBytes old bytes new = new ≡ record old { bytes = old.bytes ++ bytes }
 
 -- The outbox sends a frame of each message, up to the first that it finds no memory for. That one and all after it are
 -- refused. It is never closed.

@@ -13,6 +13,9 @@ use std::collections::VecDeque;
 use std::marker::Model;
 use std::sync::Wait;
 
+/// How many content parts have to be at hand for replies to be gathered. It changes speed only.
+const MANY: usize = 16;
+
 /// What comes next from a relay of content parts.
 #[derive(Drop)]
 pub enum Next {
@@ -83,6 +86,13 @@ impl<R: Wait + Drop> ContentParts<R> {
         ensures { result ≡ has_end self.now.taken }
     {
         self.drained
+    }
+
+    /// Whether so many content parts are at hand that replies are gathered.
+    pub fn is_at_hand(&self) -> bool
+        ensures { self.now.waiting ≡ [] → result ≡ false }
+    {
+        self.waiting.len() >= MANY
     }
 
     /// What it waits with.

@@ -3,7 +3,6 @@
 #![tactic(auto)]
 
 mod backlog;
-mod content_inbox;
 mod content_outbox;
 mod content_parts;
 mod content_reader;
@@ -18,6 +17,7 @@ mod relay_texts;
 mod reply_outbox;
 mod run;
 mod serving;
+mod thread_ends;
 mod watched_writer;
 mod workers;
 

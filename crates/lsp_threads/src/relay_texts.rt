@@ -207,7 +207,7 @@ fn gather<W: Write>(
 
 /// Adds a text to those that are not written. False means that it was not added: there are none, they have no room together, or an
 /// allocation failed.
-fn joins(pending: &mut String, text: &str) -> bool
+pub fn joins(pending: &mut String, text: &str) -> bool
     ensures { MatchBool result (string_bytes pending.new ≡ string_bytes pending.old ++ text.now)
         (string_bytes pending.new ≡ string_bytes pending.old) }
 {

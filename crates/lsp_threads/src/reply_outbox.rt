@@ -1,23 +1,28 @@
-//! The outbox of a session whose writer has a thread of its own: it makes frames, and hands each over as a text.
-ghost use Rattle.std.specs.Prelude.{◌≡◌, [], false, IfErr, IfOk, string_bytes};
+//! The outbox of a session whose writer has a thread of its own: it makes frames, gathers them, and hands them over as texts.
+ghost use Rattle.std.specs.Prelude.{◌≡◌, ◌++◌, [], false, IfErr, IfOk, string_bytes};
 ghost use Rattle.lsp_message.specs.View.{message_view};
 ghost use Rattle.lsp_message.specs.Written.{IsFrameOf};
+ghost use Rattle.lsp_session.specs.Boxes.{handed_back};
 ghost use Rattle.lsp_threads.specs.Framing.{parcel_bytes, AreEnded};
-ghost use Rattle.lsp_threads.specs.Replies.{reply_fault as reply_fault_spec};
+ghost use Rattle.lsp_threads.specs.Replies.{AddsBytes, RepliesSend, reply_fault as reply_fault_spec};
 
 use crate::backlog::Backlog;
 use crate::relay_boxes::deliver;
-use crate::relay_texts::deliver_text;
+use crate::relay_texts::{deliver_text, joins};
 use crate::watched_writer::WriteFaults;
 use lsp_message::{Message, WriteFault};
 use lsp_relay::{Parcel, RelayTx};
-use lsp_session::{Outbox, SendFault};
+use lsp_session::SendFault;
 use std::alloc::Global;
 use std::marker::Model;
+use std::mem;
 use std::sync::Wait;
 
-/// The sender's end of a relay of texts. It makes the frame of each message and sends it at once, and waits until there is room, and while
-/// too much is not written.
+/// From how many bytes on gathered frames are handed over, though more could join them. It changes speed and memory only.
+const FULL_TEXT: usize = 8192;
+
+/// The sender's end of a relay of texts. It makes the frame of each message, and hands it over at once, or gathers it while more content
+/// parts are at hand. It waits until there is room, and while too much is not written.
 ///
 /// If no memory is left for a frame, or a write has failed, that message is refused, and all after it.
 #[derive(Drop)]
@@ -26,20 +31,32 @@ pub struct ReplyOutbox<R: Wait + Drop> {
     alloc: Global,
     tx: RelayTx<String>,
     unwritten: Backlog,
+    /// Frames that were gathered and not handed over yet.
+    held: String,
+    /// Whether the next frame is gathered.
+    gathers: bool,
     /// Whether a message was refused.
     failed: bool,
     faults: WriteFaults,
 }
 
 impl<R: Wait + Drop> Model for ReplyOutbox<R> {
+    ghost use Rattle.std.specs.Prelude.{◌++◌, string_bytes};
     ghost use Rattle.lsp_relay.specs.Relay.{IsOpen};
     ghost use Rattle.lsp_threads.specs.Framing.{parcel_bytes};
-    ghost use Rattle.lsp_threads.specs.Replies.{Replying};
+    ghost use Rattle.lsp_threads.specs.Replies.{Gathered};
 
-    ghost Value = { Replying };
+    ghost Value = { Gathered };
 
     ghost view = { λ b.
-        record { relay = b.tx.relay; bytes = parcel_bytes b.tx.sent; failed = b.failed } };
+        record {
+          replies = record {
+            relay = b.tx.relay;
+            bytes = parcel_bytes b.tx.sent ++ string_bytes b.held;
+            failed = b.failed;
+          };
+          held = string_bytes b.held;
+        } };
 
     ghost invariant = { λ b. IsOpen b.tx.sent };
 }
@@ -53,52 +70,35 @@ impl<R: Wait + Drop> ReplyOutbox<R> {
         faults: WriteFaults,
     ) -> ReplyOutbox<R>
         requires { tx.sent ≡ [] }
-        ensures { result ≡ record { relay = tx.relay; bytes = []; failed = false } }
+        ensures { result ≡ record {
+          replies = record { relay = tx.relay; bytes = []; failed = false };
+          held = [];
+        } }
     {
         ReplyOutbox {
             rt,
             alloc,
             tx,
             unwritten,
+            held: String::new(alloc),
+            gathers: false,
             failed: false,
             faults,
         }
     }
 
-    /// Sends End, and gives the relay's end back. It also says whether a message was refused.
-    pub fn finish(self) -> (RelayTx<String>, bool)
-        ensures relay { result.0.relay ≡ self.relay }
-        ensures bytes { parcel_bytes result.0.sent ≡ self.bytes }
-        ensures ended { AreEnded result.0.sent }
-        ensures failed { result.1 ≡ self.failed }
+    /// Sends a message. The fault means that it was refused, and gives it back.
+    pub fn send(&mut self, message: Message) -> Result<(), SendFault>
+        ensures sends { RepliesSend self.old.replies (message_view message) result self.new.replies }
+        ensures handed_back { IfErr result (λ fault. handed_back fault ≡ message) }
     {
-        let ReplyOutbox {
-            rt,
-            alloc: _,
-            mut tx,
-            unwritten: _,
-            failed,
-            faults: _,
-        } = self;
-        deliver(&rt, &mut tx, Parcel::End);
-        (tx, failed)
-    }
-}
-
-impl<R: Wait + Drop> Outbox for ReplyOutbox<R> {
-    ghost use Rattle.lsp_threads.specs.Replies.{RepliesSend};
-
-    ghost sends = { RepliesSend };
-
-    fn send(&mut self, message: Message) -> Result<(), SendFault> {
         if self.failed || self.faults.any() {
             self.failed = true;
             return Err(SendFault::Memory(message));
         }
         match framed(self.alloc, message) {
             Ok(frame) => {
-                self.unwritten.add(&self.rt, frame.len() as u64);
-                deliver_text(&self.rt, &mut self.tx, frame);
+                self.gather(frame);
                 Ok(())
             }
             Err(message) => {
@@ -106,6 +106,62 @@ impl<R: Wait + Drop> Outbox for ReplyOutbox<R> {
                 Err(SendFault::Memory(message))
             }
         }
+    }
+
+    /// Puts a frame behind those that are held. What would not fit is handed over before, and all of it unless frames are gathered.
+    fn gather(&mut self, frame: String)
+        ensures { AddsBytes self.old.replies (string_bytes frame) self.new.replies }
+    {
+        if !joins(&mut self.held, &frame) {
+            self.hand_over();
+            self.held = frame;
+        }
+        if !self.gathers || self.held.len() >= FULL_TEXT {
+            self.hand_over();
+        }
+    }
+
+    /// Hands over what is held, as one text.
+    fn hand_over(&mut self)
+        ensures { self.new ≡ record self.old { held = [] } }
+    {
+        let text = mem::replace(&mut self.held, String::new(self.alloc));
+        self.unwritten.add(&self.rt, text.len() as u64);
+        deliver_text(&self.rt, &mut self.tx, text);
+    }
+
+    /// From now on frames are gathered, if more content parts are at hand. Else what is held is handed over, and each frame at once.
+    pub fn go_on(&mut self, at_hand: bool)
+        ensures replies { self.new.replies ≡ self.old.replies }
+        ensures ready { at_hand ≡ false → self.new.held ≡ [] }
+    {
+        self.gathers = at_hand;
+        if !at_hand {
+            self.hand_over();
+        }
+    }
+
+    /// Sends what is held and then End, and gives the relay's end back. It also says whether a message was refused.
+    pub fn finish(self) -> (RelayTx<String>, bool)
+        ensures relay { result.0.relay ≡ self.replies.relay }
+        ensures bytes { parcel_bytes result.0.sent ≡ self.replies.bytes }
+        ensures ended { AreEnded result.0.sent }
+        ensures failed { result.1 ≡ self.replies.failed }
+    {
+        let ReplyOutbox {
+            rt,
+            alloc: _,
+            mut tx,
+            mut unwritten,
+            held,
+            gathers: _,
+            failed,
+            faults: _,
+        } = self;
+        unwritten.add(&rt, held.len() as u64);
+        deliver_text(&rt, &mut tx, held);
+        deliver(&rt, &mut tx, Parcel::End);
+        (tx, failed)
     }
 }
 

@@ -6,17 +6,17 @@ ghost use Rattle.lsp_threads.specs.Passing.{GivenTo, OfTaken, TakenFrom, noted};
 ghost use Rattle.lsp_threads.specs.Threads.{ThreadsTellOver, session_end as session_end_spec};
 
 use crate::backlog::{Backlog, Takes, bounded_backlog};
-use crate::content_inbox::ContentInbox;
 use crate::content_outbox::{Contents, ContentsPlan, ContentsRx, ContentsTx};
 use crate::content_parts::ContentParts;
 use crate::relay_boxes::deliver;
 use crate::reply_outbox::{ReplyOutbox, reply_fault};
 use crate::run::{ThreadOptions, Threaded};
+use crate::thread_ends::{ThreadEnds, serve_ends};
 use crate::watched_writer::{WatchedWriter, WriteFaults, write_faults};
 use crate::workers::{ROOM, Reader, StartFault, Writer, start_reader, start_writer};
 use lsp_message::{Limits, Passed, ReadFault, WriteFault};
 use lsp_relay::{AnyPlan, Parcel, RelayRx, RelayTx, Source, plan, relay, settle_all};
-use lsp_session::{Listener, ReadEnd, Service, serve_service, session_answer};
+use lsp_session::{Listener, ReadEnd, Service, session_answer};
 use std::alloc::Global;
 use std::io::{BufRead, ErrorKind, Write};
 use std::marker::Brand;
@@ -202,10 +202,10 @@ where
         faults,
     } = workers;
     let mut parts = ContentParts::new(*rt, alloc, rx, takes);
-    let mut inbox = ContentInbox::new(alloc, &mut parts, listener);
     let mut outbox = ReplyOutbox::new(*rt, alloc, replies, unwritten, faults);
-    let served = serve_service(alloc, &mut inbox, &mut outbox, service);
-    let ended = inbox.end();
+    let mut ends = ThreadEnds::new(alloc, &mut parts, listener, &mut outbox);
+    let served = serve_ends(alloc, &mut ends, service);
+    let ended = ends.end();
     let drained = parts.is_drained();
     let at_exit = matches!(ended, Some(ReadEnd::Exit));
     let (replies, failed) = outbox.finish();

@@ -18,6 +18,8 @@ pub struct Echo {
     pub signals: Arc<Signals>,
     /// Whether it waits with an answer until the reader came to its second pause.
     pub is_gated: bool,
+    /// How many messages have to be written before it refuses a request.
+    pub awaited: u64,
 }
 
 impl Handler for Echo {
@@ -27,6 +29,7 @@ impl Handler for Echo {
             return Ok(Ok(Value::Null));
         }
         if request.method.as_str() != "demo/echo" {
+            let _ = self.signals.wait(Signal::Messages, self.awaited);
             return Ok(Err(ResponseError::method_not_found(self.alloc)?));
         }
         match request.params.clone() {

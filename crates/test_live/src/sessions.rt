@@ -168,6 +168,10 @@ where
         alloc,
         signals: Arc::try_clone(signals)?,
         is_gated: matches!(run.device, Device::Gated),
+        awaited: match run.device {
+            Device::Late => run.count as u64,
+            _ => 0,
+        },
     };
     let mut none = Value::Object(Map::new(alloc));
     let mut service = HandlerService::new(alloc, &mut none, &mut echo);

@@ -155,6 +155,8 @@ pub enum Device {
     Slow,
     /// The writer waits for a request to come to the handler, which waits for the second pause of the text.
     Gated,
+    /// The handler waits, before it refuses a request, until so many messages were written.
+    Late,
     /// Content parts that are no messages are passed over, if a session can. It says how many were not UTF-8, no JSON, no message,
     /// and lists.
     Passes,
@@ -221,7 +223,7 @@ static CALLS: [(&str, Call); 13] = [
     ("stuck", Call::Stuck),
 ];
 
-static DEVICES: [(&str, Device); 16] = [
+static DEVICES: [(&str, Device); 17] = [
     ("whole", Device::Whole),
     ("ends", Device::Ends),
     ("breaks", Device::Breaks),
@@ -235,6 +237,7 @@ static DEVICES: [(&str, Device); 16] = [
     ("waits", Device::Waits),
     ("slow", Device::Slow),
     ("gated", Device::Gated),
+    ("late", Device::Late),
     ("passes", Device::Passes),
     ("no_reader", Device::NoReader),
     ("no_writer", Device::NoWriter),

@@ -7,20 +7,20 @@ use Rattle.lsp_session.specs.SessionLaws.{Both}
 use Rattle.lsp_session.specs.SessionFault.{session_answer}
 use Rattle.lsp_relay.specs.Relay.{has_end}
 use Rattle.lsp_threads.specs.Contents.{Lent, Taking}
-use Rattle.lsp_threads.specs.Replies.{Replying, reply_fault}
+use Rattle.lsp_threads.specs.Replies.{Gathered, reply_fault}
+use Rattle.lsp_threads.specs.ThreadEnds.{seen_of}
 use Rattle.lsp_threads.specs.Threads.{session_end}
 use Rattle.lsp_threads.proofs.ContentStream.{gives_relay}
 use Rattle.lsp_threads.proofs.Replies.{all_replied}
-use Rattle.lsp_threads.proofs.Sessions.{seen_all, threads_tell}
+use Rattle.lsp_threads.proofs.Sessions.{threads_tell}
 use Rattle.lsp_threads.proofs.serving.serve_between.Goals as goal
 
 pub leave_reading-read-requires : goal.leave_reading-read-requires
 leave_reading-read-requires g c =
-    let runs = c.serve_service-served.ensures in
-    let seen = seen_all g.L.Listener.hears runs.events _ _ runs.received in
-    let kept = c.parts-2-1.given.1 (sym c.new-inbox.ensures.same_parts ∙ sym seen.1.0) in
-    let same = ap (λ (t : Taking). t.relay) kept ∙ gives_relay g.L.Listener.hears runs.events _ _ seen.0
-    ∙ ap (λ (t : Taking). t.relay) (c.new-inbox.ensures.untaken ∙ c.new-parts.ensures) in
+    let run = c.serve_ends-served.ensures in
+    let kept = c.parts-2-1.given.1 (sym c.new-ends.ensures.same_parts ∙ sym run.lent.0) in
+    let same = ap (λ (t : Taking). t.relay) kept ∙ gives_relay g.L.Listener.hears run.runs.events _ _ run.runs.received
+    ∙ ap (λ (t : Taking). t.relay) (c.new-ends.ensures.untaken ∙ c.new-parts.ensures) in
     record {
       known = (
         ap (λ (l : Lent). l.0) same ∙ sym c.requires.reading.1,
@@ -32,10 +32,13 @@ leave_reading-read-requires g c =
 
 pub settle_all-requires : goal.settle_all-requires
 settle_all-requires g c =
-    let runs = c.serve_service-served.ensures in
+    let run = c.serve_ends-served.ensures in
+    let runs = run.runs in
+    let sent = c.outbox-2-1.given.1 (sym c.new-ends.ensures.same_outbox ∙ sym run.lent.2) in
     let replied = all_replied _ _ runs.output runs.shutdown_reply runs.stop runs.got in
     c.join-replies_rx.ensures.0 ∙ c.requires.writing.1
-    ∙ sym (c.finish-replies.ensures.relay ∙ replied.same_relay ∙ ap (λ (r : Replying). r.relay) c.new-outbox.ensures)
+    ∙ sym (c.finish-replies.ensures.relay ∙ ap (λ (b : Gathered). b.replies.relay) sent ∙ replied.same_relay
+    ∙ ap (λ (b : Gathered). b.replies.relay) (c.new-ends.ensures.unsent ∙ c.new-outbox.ensures))
 
 pub returns-clause-taken : goal.returns-clause-taken
 returns-clause-taken g c = c.leave_reading-read.ensures.6
@@ -47,22 +50,22 @@ pub returns-clause-told : goal.returns-clause-told
 returns-clause-told g c = λ rest ends.
     let hears = g.L.Listener.hears in
     let old = c.args.service.now in
-    let new = c.serve_service-served.new.service in
-    let served = c.serve_service-served.result in
-    let runs = c.serve_service-served.ensures in
-    let seen = seen_all hears runs.events _ _ runs.received in
-    let kept = c.parts-2-1.given.1 (sym c.new-inbox.ensures.same_parts ∙ sym seen.1.0) in
-    let told = c.listener-1.given.1 (sym c.new-inbox.ensures.same_listener ∙ sym seen.1.1) in
+    let new = c.serve_ends-served.new.service in
+    let served = c.serve_ends-served.result in
+    let run = c.serve_ends-served.ensures in
+    let kept = c.parts-2-1.given.1 (sym c.new-ends.ensures.same_parts ∙ sym run.lent.0) in
+    let told = c.listener-1.given.1 (sym c.new-ends.ensures.same_listener ∙ sym run.lent.1) in
+    let sent = c.outbox-2-1.given.1 (sym c.new-ends.ensures.same_outbox ∙ sym run.lent.2) in
     let left = c.leave_reading-read.ensures in
-    let first = c.new-inbox.ensures.untaken ∙ c.new-parts.ensures in
+    let first = c.new-ends.ensures.untaken ∙ c.new-parts.ensures in
     let drained = c.is_drained-drained.ensures ∙ ap (λ (t : Taking). has_end t.taken) kept in
     let ended = c.session_end.ensures ∙ (λ i. session_end (c.end-ended.ensures i) (drained i)
     c.leave_reading-read.result.0) in
-    let fault = c.reply_fault-fault.ensures ∙ (λ i. reply_fault c.join-replies_rx.result.2
-    (c.finish-replies.ensures.failed i)) in
+    let failed = c.finish-replies.ensures.failed ∙ ap (λ (b : Gathered). b.replies.failed) sent in
+    let fault = c.reply_fault-fault.ensures ∙ (λ i. reply_fault c.join-replies_rx.result.2 (failed i)) in
     let answer = c.session_answer-answer.ensures ∙ (λ i. session_answer served.stop served.answer (ended i)
     (fault i)) in
-    rw (answer, told, sym c.new-inbox.ensures.untold) (threads_tell hears c.args.workers.reading.promise.limits
+    rw (answer, told, sym c.new-ends.ensures.untold) (threads_tell hears c.args.workers.reading.promise.limits
     (Both (SessionOut g.S.Service.behavior old new) (StopsFor served.stop))
     (SessionOut g.S.Service.behavior old new) served.stop
     (λ xs stop shutdown_reply answer both. (
@@ -71,14 +74,15 @@ returns-clause-told g c = λ rest ends.
       session_facts g.S.Service.behavior starting old new refl xs
           stop shutdown_reply answer both.0,
     ))
-    _ _ c.new-inbox.result c.serve_service-served.new.inbox c.new-outbox.result c.serve_service-served.new.outbox
-    served.answer runs
+    _ _ (seen_of c.new-ends.result) (seen_of c.serve_ends-served.new.ends) c.new-ends.result.outbox.now.replies
+    c.serve_ends-served.new.ends.outbox.now.replies served.answer run.runs
     (ap (λ (t : Taking). t.taken) first ∙ c.requires.reading.0) (ap (λ (t : Taking). t.waiting) first)
-    c.new-inbox.ensures.unended
-    (ap (λ (r : Replying). r.bytes) c.new-outbox.ensures)
+    c.new-ends.ensures.unended
+    (ap (λ (b : Gathered). b.replies.bytes) (c.new-ends.ensures.unsent ∙ c.new-outbox.ensures))
     left.1 left.0 (rw kept at left.2) left.3 (rw kept at left.4) c.args.workers.reading.promise.tx.value
     c.leave_reading-read.result.0
-    c.join-replies_rx.result.0.taken c.finish-replies.result.0.sent c.finish-replies.ensures.bytes
+    c.join-replies_rx.result.0.taken c.finish-replies.result.0.sent
+    (c.finish-replies.ensures.bytes ∙ ap (λ (b : Gathered). b.replies.bytes) sent)
     c.finish-replies.ensures.ended
     c.join-replies_rx.result.2 c.join-replies_rx.ensures.1 c.settle_all.ensures.settled
     (Some (concat c.leave_reading-read.result.1.parts ++ rest)) (left.5 rest ends))

@@ -1,14 +1,14 @@
 use Rattle.std.proofs.Common.{◌∙◌, ap, sym, subst}
 use Rattle.lsp_threads.specs.Framing.{parcel_bytes, AreEnded}
-use Rattle.lsp_threads.specs.Replies.{Replying}
+use Rattle.lsp_threads.specs.Replies.{Gathered}
 use Rattle.lsp_threads.proofs.Frames.{parcel_bytes-end, ended_after}
 use Rattle.lsp_threads.proofs.reply_outbox.ReplyOutbox.finish.Goals as goal
 
 pub returns-clause-bytes : goal.returns-clause-bytes
 returns-clause-bytes g c =
-    ap parcel_bytes c.deliver.ensures.sent ∙ parcel_bytes-end c.self.inside.tx.sent ∙ ap (λ (r : Replying). r.bytes)
-    c.self.view_is
+    ap parcel_bytes c.deliver.ensures.sent ∙ parcel_bytes-end c.deliver_text.new.tx.sent ∙ c.deliver_text.ensures.bytes
+    ∙ ap (λ (b : Gathered). b.replies.bytes) c.self.view_is
 
 pub returns-clause-ended : goal.returns-clause-ended
-returns-clause-ended g c = subst AreEnded (sym c.deliver.ensures.sent) (ended_after c.self.inside.tx.sent
-    c.self.invariant)
+returns-clause-ended g c = subst AreEnded (sym c.deliver.ensures.sent) (ended_after c.deliver_text.new.tx.sent
+    c.deliver_text.ensures.still_open)

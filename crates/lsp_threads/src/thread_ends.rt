@@ -1,11 +1,21 @@
-//! An inbox over a relay of content parts: it gives the messages that they are, and asks a listener at one that is none.
-ghost use Rattle.std.specs.Prelude.{◌≡◌, None};
+//! The caller's ends of a session in threads: an inbox over a relay of content parts, and the outbox of its replies, as one value.
+ghost use Rattle.std.specs.Prelude.{◌≡◌, [], None};
 ghost use Rattle.lsp_session.specs.Event.{arrival_view, event_view};
-ghost use Rattle.lsp_threads.specs.ContentBoxes.{InboxGives, InboxListens, ReadsNext};
+ghost use Rattle.lsp_session.specs.Served.{StopsFor};
+ghost use Rattle.lsp_session.specs.Session.{SessionOut};
+ghost use Rattle.lsp_session.specs.SessionLaws.{Both};
+ghost use Rattle.lsp_session.specs.SessionRun.{Runs};
+ghost use Rattle.lsp_threads.specs.Contents.{ContentsGive};
+ghost use Rattle.lsp_threads.specs.Replies.{RepliesSend};
+ghost use Rattle.lsp_threads.specs.ThreadEnds.{EndsListen, GivesNext, IsReadyToWait, KeepsLent, ReadsNext, seen_of};
 
 use crate::content_parts::{ContentParts, Next};
+use crate::reply_outbox::ReplyOutbox;
 use lsp_message::{Message, ReadFault};
-use lsp_session::{Arrival, Event, Inbox, Listener, ReadEnd, WakingInbox, is_exit, is_of_body};
+use lsp_session::{
+    Arrival, Event, Inbox, Listener, Outbox, ReadEnd, SendFault, Served, Service, WakingInbox,
+    is_exit, is_of_body, serve_transport,
+};
 use std::alloc::Global;
 use std::sync::Wait;
 
@@ -15,30 +25,37 @@ use std::sync::Wait;
 /// `receive_or_woken` gives each wake of the relay. It also asks the listener at a content part that is no message (`is_of_body`), and
 /// passes over it and gives `Arrival::Woken`, or ends the messages. In the other calls there is no wake: those of the relay are passed over,
 /// and such a part ends the messages, as each other fault does everywhere.
+///
+/// What is sent is gathered while many content parts are at hand, and all of it is handed over before a wait.
 #[derive(Drop)]
-pub struct ContentInbox<'a, R: Wait + Drop, L> {
+pub struct ThreadEnds<'a, R: Wait + Drop, L> {
     alloc: Global,
     parts: &'a mut ContentParts<R>,
     listener: &'a mut L,
+    outbox: &'a mut ReplyOutbox<R>,
     end: Option<ReadEnd>,
 }
 
-impl<'a, R: Wait + Copy + Drop, L: Listener> ContentInbox<'a, R, L> {
+impl<'a, R: Wait + Copy + Drop, L: Listener> ThreadEnds<'a, R, L> {
     pub fn new(
         alloc: Global,
         parts: &'a mut ContentParts<R>,
         listener: &'a mut L,
-    ) -> ContentInbox<'a, R, L>
+        outbox: &'a mut ReplyOutbox<R>,
+    ) -> ThreadEnds<'a, R, L>
         ensures same_parts { result.parts.ghost_name ≡ parts.entry.ghost_name }
         ensures untaken { result.parts.now ≡ parts.old }
         ensures same_listener { result.listener.ghost_name ≡ listener.entry.ghost_name }
         ensures untold { result.listener.now ≡ listener.old }
+        ensures same_outbox { result.outbox.ghost_name ≡ outbox.entry.ghost_name }
+        ensures unsent { result.outbox.now ≡ outbox.old }
         ensures unended { result.end ≡ None }
     {
-        ContentInbox {
+        ThreadEnds {
             alloc,
             parts,
             listener,
+            outbox,
             end: None,
         }
     }
@@ -50,8 +67,20 @@ impl<'a, R: Wait + Copy + Drop, L: Listener> ContentInbox<'a, R, L> {
         self.end
     }
 
+    /// Hands over what was sent, unless many content parts are at hand. What is sent for the next one is gathered then.
+    fn make_ready(&mut self)
+        ensures untaken { seen_of self.new ≡ seen_of self.old }
+        ensures unsent { self.new.outbox.now.replies ≡ self.old.outbox.now.replies }
+        ensures ready { IsReadyToWait self.new }
+        ensures lent { KeepsLent self.old self.new }
+    {
+        let at_hand = self.parts.is_at_hand();
+        self.outbox.go_on(at_hand);
+    }
+
     /// Takes what comes next: a message, a wake of the relay, or that no more come. A fault has not ended the messages yet.
     fn read_next(&mut self) -> Result<Arrival, ReadFault>
+        requires { IsReadyToWait self.old }
         ensures { ReadsNext self.old result self.new }
     {
         if self.end.is_some() || self.parts.is_drained() {
@@ -74,8 +103,9 @@ impl<'a, R: Wait + Copy + Drop, L: Listener> ContentInbox<'a, R, L> {
 
     /// What one wait gives that also gives wakes. At a content part that is no message the listener is asked whether to read on.
     fn next_arrival(&mut self) -> Arrival
-        ensures gives { InboxGives L.hears self.old (arrival_view result) self.new }
-        ensures listens { InboxListens L.ends self.old (arrival_view result) self.new }
+        requires { IsReadyToWait self.old }
+        ensures gives { GivesNext L.hears self.old (arrival_view result) self.new }
+        ensures listens { EndsListen L.ends self.old (arrival_view result) self.new }
     {
         match self.read_next() {
             Ok(arrival) => arrival,
@@ -92,7 +122,8 @@ impl<'a, R: Wait + Copy + Drop, L: Listener> ContentInbox<'a, R, L> {
 
     /// Gives the message of the next content part, and passes over wakes of the relay.
     fn next_event(&mut self) -> Event
-        ensures { InboxGives L.hears self.old (event_view result) self.new }
+        requires { IsReadyToWait self.old }
+        ensures { GivesNext L.hears self.old (event_view result) self.new }
     {
         let rt = self.parts.handle();
         for _ in rt.forever() {
@@ -110,28 +141,54 @@ impl<'a, R: Wait + Copy + Drop, L: Listener> ContentInbox<'a, R, L> {
     }
 }
 
-impl<'a, R: Wait + Copy + Drop, L: Listener> Inbox for ContentInbox<'a, R, L> {
-    ghost use Rattle.lsp_threads.specs.ContentBoxes.{InboxGives};
+impl<'a, R: Wait + Copy + Drop, L: Listener> Inbox for ThreadEnds<'a, R, L> {
+    ghost use Rattle.lsp_threads.specs.ThreadEnds.{EndsGive};
 
-    ghost receives = { InboxGives L.hears };
+    ghost receives = { EndsGive L.hears };
 
     fn receive_for(&mut self, _seconds: u64) -> Event {
+        self.make_ready();
         self.next_event()
     }
 
-    #[tactic(auto, using(lsp_session::proofs::Waiting::waits_none))]
     fn receive(&mut self) -> Event {
+        self.make_ready();
         self.next_event()
     }
 }
 
-impl<'a, R: Wait + Copy + Drop, L: Listener> WakingInbox for ContentInbox<'a, R, L> {
-    ghost use Rattle.lsp_threads.specs.ContentBoxes.{InboxListens};
+impl<'a, R: Wait + Copy + Drop, L: Listener> WakingInbox for ThreadEnds<'a, R, L> {
+    ghost use Rattle.lsp_threads.specs.ThreadEnds.{EndsListen};
 
-    ghost listens = { InboxListens L.ends };
+    ghost listens = { EndsListen L.ends };
 
-    #[tactic(auto, using(lsp_session::proofs::Waiting::waits_none))]
     fn receive_or_woken(&mut self) -> Arrival {
+        self.make_ready();
         self.next_arrival()
     }
+}
+
+impl<'a, R: Wait + Copy + Drop, L: Listener> Outbox for ThreadEnds<'a, R, L> {
+    ghost use Rattle.lsp_threads.specs.ThreadEnds.{EndsSend};
+
+    ghost sends = { EndsSend };
+
+    fn send(&mut self, message: Message) -> Result<(), SendFault> {
+        self.outbox.send(message)
+    }
+}
+
+/// Runs a session of a server over the caller's ends. All that is sent for a message is handed over before a wait for the next.
+pub fn serve_ends<R: Wait + Copy + Drop, L: Listener, S: Service>(
+    alloc: Global,
+    ends: &mut ThreadEnds<'_, R, L>,
+    service: &mut S,
+) -> Served
+    ensures runs { Runs (ContentsGive L.hears) RepliesSend
+        (Both (SessionOut S.behavior service.old service.new) (StopsFor result.stop))
+        (seen_of ends.old, ends.old.outbox.now.replies) result.answer
+        (seen_of ends.new, ends.new.outbox.now.replies) }
+    ensures lent { KeepsLent ends.old ends.new }
+{
+    serve_transport(alloc, ends, service)
 }

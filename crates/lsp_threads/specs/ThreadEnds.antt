@@ -1,0 +1,67 @@
+-- The caller's ends of a session in threads as one value, as contracts see it: the inbox over content parts, and the
+-- outbox, of which nothing is held when the inbox waits.
+use Rattle.std.specs.Prelude.{◌≡◌, [], Result, Ok, Err}
+use Rattle.lsp_message.specs.declared.frame.ReadFault.{ReadFault}
+use Rattle.lsp_session.specs.Boxes.{Sends}
+use Rattle.lsp_session.specs.Event.{Event, arrival_view}
+use Rattle.lsp_session.specs.declared.lifecycle.Arrival.{Arrival}
+use Rattle.lsp_threads.specs.Contents.{ComesNext, ContentsGive, ContentsListen, Receiving}
+use Rattle.lsp_threads.specs.Replies.{RepliesSend}
+use Rattle.lsp_threads.specs.declared.thread_ends.ThreadEnds.{ThreadEnds}
+
+module _ {R L : Type 0} where
+  -- what is seen of the inbox, and its listener
+  abbrev pub seen_of : ThreadEnds R L → Receiving × L
+  seen_of inbox =
+      let parts = inbox.parts.now in (
+        record {
+          relay = parts.relay;
+          taken = parts.taken;
+          waiting = parts.waiting;
+          end = inbox.end;
+          wakes = parts.wakes;
+        },
+        inbox.listener.now,
+      )
+
+  -- the relay's end, the listener and the outbox that were lent are kept
+  abbrev pub KeepsLent : ThreadEnds R L → ThreadEnds R L → Type 0
+  KeepsLent old new = (new.parts.ghost_name ≡ old.parts.ghost_name)
+      × (new.listener.ghost_name ≡ old.listener.ghost_name)
+      × (new.outbox.ghost_name ≡ old.outbox.ghost_name)
+
+  -- nothing that was sent is held, unless a content part is at hand
+  abbrev pub IsReadyToWait : ThreadEnds R L → Type 0
+  IsReadyToWait ends = ends.parts.now.waiting ≡ [] → ends.outbox.now.held ≡ []
+
+  -- One receive. It sends nothing, and if no content part was at hand, nothing that was sent is held.
+  abbrev pub EndsGive : (L → ReadFault → L → Type 0) → ThreadEnds R L → Event → ThreadEnds R L → Type 0
+  EndsGive hears old event new = ContentsGive hears (seen_of old) event (seen_of new)
+      × (new.outbox.now.replies ≡ old.outbox.now.replies)
+      × (old.parts.now.waiting ≡ [] → new.outbox.now.held ≡ []) × KeepsLent old new
+
+  -- a wait for wakes too
+  abbrev pub EndsListen : (L → ReadFault → Type 0) → ThreadEnds R L → Event → ThreadEnds R L → Type 0
+  EndsListen ends old event new = ContentsListen ends (seen_of old) event (seen_of new)
+
+  -- one send, which takes nothing
+  abbrev pub EndsSend : Sends (ThreadEnds R L)
+  EndsSend old m outcome new = RepliesSend old.outbox.now.replies m outcome new.outbox.now.replies
+      × (seen_of new ≡ seen_of old) × KeepsLent old new
+
+  -- ---- for private clauses: what comes next, once all was handed over that had to be
+
+  -- nothing is sent, and nothing handed over
+  abbrev pub LeavesOutbox : ThreadEnds R L → ThreadEnds R L → Type 0
+  LeavesOutbox old new = (new.outbox.now ≡ old.outbox.now) × KeepsLent old new
+
+  abbrev pub GivesNext : (L → ReadFault → L → Type 0) → ThreadEnds R L → Event → ThreadEnds R L → Type 0
+  GivesNext hears old event new = ContentsGive hears (seen_of old) event (seen_of new)
+      × LeavesOutbox old new
+
+  -- before the listener is asked
+  abbrev pub ReadsNext : ThreadEnds R L → Result Arrival ReadFault → ThreadEnds R L → Type 0
+  ReadsNext old (Ok arrival) new = ComesNext (seen_of old) (Ok (arrival_view arrival)) (seen_of new)
+      × LeavesOutbox old new
+  ReadsNext old (Err fault) new = ComesNext (seen_of old) (Err fault) (seen_of new)
+      × LeavesOutbox old new
