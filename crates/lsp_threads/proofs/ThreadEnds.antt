@@ -2,7 +2,8 @@
 use Rattle.std.proofs.Common.{◌≡◌, ◌∙◌, ap, refl, subst, ℕ}
 use Rattle.lsp_message.specs.declared.frame.ReadFault.{ReadFault}
 use Rattle.lsp_session.proofs.TransportRuns.{transport_runs}
-use Rattle.lsp_session.specs.Boxes.{Receives}
+use Rattle.lsp_session.proofs.Waiting.{waits_none}
+use Rattle.lsp_session.specs.Boxes.{Receives, WaitsFor}
 use Rattle.lsp_session.specs.Event.{Event}
 use Rattle.lsp_session.specs.Prompt.{Talks}
 use Rattle.lsp_session.specs.Session.{SessionAnswer, SessionPart, Phase}
@@ -32,8 +33,13 @@ module _ {R L : Type 0} where
       lent_on old mid new lent gives.1.1,
     )
 
+    pub ends_wait : WaitsFor (EndsGive hears) old event new
+    ends_wait = waits_none (EndsGive hears) old new event ends_give
+
     pub ends_listen : (ends : L → ReadFault → Type 0) → EndsListen ends mid event new → EndsListen ends old event new
     ends_listen ends listens = subst (λ (s : Receiving × L). ContentsListen ends s event (seen_of new)) untaken listens
+
+  pub ruleset ready_waits = (ends_give, ends_wait, ends_listen)
 
   -- a session over both ends
   pub ends_run : (hears : L → ReadFault → L → Type 0) (listens : Receives (ThreadEnds R L)) (phase : Phase)

@@ -146,11 +146,13 @@ impl<'a, R: Wait + Copy + Drop, L: Listener> Inbox for ThreadEnds<'a, R, L> {
 
     ghost receives = { EndsGive L.hears };
 
+    #[tactic(auto, using(crate::proofs::ThreadEnds::ready_waits))]
     fn receive_for(&mut self, _seconds: u64) -> Event {
         self.make_ready();
         self.next_event()
     }
 
+    #[tactic(auto, using(crate::proofs::ThreadEnds::ready_waits))]
     fn receive(&mut self) -> Event {
         self.make_ready();
         self.next_event()
@@ -162,6 +164,7 @@ impl<'a, R: Wait + Copy + Drop, L: Listener> WakingInbox for ThreadEnds<'a, R, L
 
     ghost listens = { EndsListen L.ends };
 
+    #[tactic(auto, using(crate::proofs::ThreadEnds::ready_waits))]
     fn receive_or_woken(&mut self) -> Arrival {
         self.make_ready();
         self.next_arrival()

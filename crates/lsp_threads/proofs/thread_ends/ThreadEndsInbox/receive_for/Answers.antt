@@ -1,8 +1,0 @@
-use Rattle.lsp_threads.proofs.ThreadEnds.{ends_give}
-use Rattle.lsp_threads.proofs.thread_ends.ThreadEndsInbox.receive_for.Goals as goal
-
-pub returns : goal.returns
-returns g c =
-    let ready = c.make_ready.ensures in
-    ends_give c.args.self.now c.make_ready.new.self c.next_event.new.self _ ready.untaken ready.unsent ready.ready
-    ready.lent g.L.Listener.hears c.next_event.ensures
