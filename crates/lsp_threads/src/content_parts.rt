@@ -13,7 +13,8 @@ use std::collections::VecDeque;
 use std::marker::Model;
 use std::sync::Wait;
 
-/// How many content parts have to be at hand for replies to be gathered. It changes speed only.
+/// How many content parts have to be at hand behind the next one for replies to be gathered. So the few that a client sends in one go are
+/// answered one by one, and no reply to them waits for a slow one.
 const MANY: usize = 16;
 
 /// What comes next from a relay of content parts.
@@ -88,11 +89,11 @@ impl<R: Wait + Drop> ContentParts<R> {
         self.drained
     }
 
-    /// Whether so many content parts are at hand that replies are gathered.
+    /// Whether so many content parts are at hand that replies are gathered. Then a take does not wait.
     pub fn is_at_hand(&self) -> bool
         ensures { self.now.waiting ≡ [] → result ≡ false }
     {
-        self.waiting.len() >= MANY
+        self.waiting.len() > MANY
     }
 
     /// What it waits with.

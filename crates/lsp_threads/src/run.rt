@@ -59,7 +59,7 @@ pub struct ThreadOptions {
     /// part is read once nothing else is unread.
     pub unread: u64,
     /// How many bytes of messages may be sent that are not written yet. Above that the session waits with the next. A longer message is
-    /// sent once nothing else is unwritten.
+    /// sent once nothing else is unwritten. Replies that were gathered, up to 8 KiB, count as one message.
     pub unwritten: u64,
 }
 
@@ -92,6 +92,8 @@ impl ThreadOptions {
 /// - The thread that reads may outlive the call, if the reader did not come to its end, to a fault or to an `exit`. It ends with its input,
 ///   at the next message that it hands on, or with the program. What it read and the session did not take is dropped. A read fault counts
 ///   only if the session came to it.
+/// - What the handler gives goes to the thread that writes before the session waits for the next message. It goes there at once, unless 16
+///   messages or more were read and wait behind the one that is handled. While so many wait, replies are gathered, up to 8 KiB.
 /// - A content part that is no message ends the session with `SessionFault::Read`. What was read behind it is dropped.
 /// - After a failed write nothing more is written, and the session goes on until it has something to send: so the handler may get messages
 ///   that `session` would not have read. While it has nothing to send, it waits for the client.
@@ -175,8 +177,7 @@ where
 /// Runs a session of a service (LSP 3.17, "Server lifecycle") with a thread that reads, a thread that writes and the
 /// service on the caller's thread. In every schedule its answer and the bytes that it writes are such as a session allows.
 ///
-/// Starts, faults and the end are those of `run_threads`, but for content parts that are no messages. A message that the service gives is
-/// written while the service goes on.
+/// Starts, faults, replies that are gathered, and the end are as in `run_threads`, but for content parts that are no messages.
 ///
 /// At a content part that is no message (see `lsp_session::is_of_body`) the listener `bad_bodies` is asked, at once and on your thread. Where
 /// it reads on, nothing is answered, the service is woken, and the next frame follows. That is so from `initialized` up to `shutdown`, if
