@@ -373,18 +373,25 @@ def in_order(names):
     return sorted(names, key=lambda it: (isinstance(it, str), it))
 
 
+def misfits_of(params, keys):
+    """Why params are refused that lack one of these members, or have another value there."""
+    members = {"textDocument": [("uri", str)], "position": [("line", int), ("character", int)]}
+    wanted = []
+    for key in keys:
+        inner = params.get(key) if isinstance(params.get(key), dict) else {}
+        wanted += [(params, key, dict), *((inner, name, kind) for name, kind in members[key])]
+    return [
+        f"invalid `{key}`" if key in where else f"missing field `{key}`" for where, key, kind in wanted if not isinstance(where.get(key), kind)
+    ]
+
+
 def typed(came):
     """What comes of a message whose params are a place in a document (LSP 3.17, "TextDocumentPositionParams"). Params that lack a key
     are refused (JSON-RPC 2.0, section 5.1), in the words of the Rust crate `serde_json`, and a value that does not fit by its key
     (docs/TYPES.md). Types of messages: LSP 3.17, "MessageType"."""
     params, id = came["params"], came.get("id")
     document, at = (params.get(it) if isinstance(params.get(it), dict) else {} for it in ["textDocument", "position"])
-    wanted = [(params, "textDocument", dict), (document, "uri", str), (params, "position", dict), (at, "line", int), (at, "character", int)]
-    misfits = [
-        f"invalid `{key}`" if key in where else f"missing field `{key}`"
-        for where, key, kind in wanted
-        if not isinstance(where.get(key), kind)
-    ]
+    misfits = misfits_of(params, ["textDocument", "position"])
     if id is None:
         if misfits:
             return [{"method": "window/logMessage", "params": {"message": f"{came['method']}: {misfits[0]}", "type": 1}}]

@@ -8,7 +8,7 @@ import re
 from urllib.parse import quote, unquote_to_bytes
 
 from documents import agreed
-from rules import is_whole, ordered
+from rules import NOT_FOUND, is_whole, misfits_of, ordered
 
 
 class Misfit(ValueError):
@@ -55,7 +55,30 @@ def among(first, last):
 
 
 def named(*names):
-    return kind(lambda value: value in names)
+    read = kind(lambda value: value in names)
+    read.fitting = lambda key: names[0]
+    return read
+
+
+def decimal(value):
+    """A number with a fraction, as JSON writes it."""
+    fits(isinstance(value, float) or is_number(value))
+    return float(value)
+
+
+decimal.fitting = lambda key: 0.5
+
+
+def either(*ways):
+    """The first of these types that fits."""
+
+    def read(value):
+        found = [it for it in map(if_fits, ways) if it(value) is not None]
+        fits(found)
+        return found[0](value)
+
+    read.fitting = lambda key: sample(ways[0], key)
+    return read
 
 
 def some(read):
@@ -136,6 +159,9 @@ PART = {**DOCUMENT, "range": "Range"}
 DONE = {"workDoneToken?": if_fits(NUMBER_OR_TEXT)}
 PARTS = {**DONE, "partialResultToken?": if_fits(NUMBER_OR_TEXT)}
 MESSAGE = {"type": among(1, 4), "message": TEXT}
+FULL = {"kind": named("full"), "resultId?": TEXT, "items": some("Diagnostic")}
+UNCHANGED = {"kind": named("unchanged"), "resultId": TEXT}
+RELATED = {"relatedDocuments?": each(either("FullDocumentDiagnosticReport", "UnchangedDocumentDiagnosticReport"))}
 # A name with `?` is of a member that may be missing or null.
 TYPES = {
     "Position": {"line": line, "character": UNSIGNED},
@@ -303,6 +329,137 @@ TYPES = {
     "WorkDoneProgressReport": {"cancellable?": TRUTH, "message?": TEXT, "percentage?": UNSIGNED},
     "WorkDoneProgressEnd": {"message?": TEXT},
     "ProgressParams": {"token": NUMBER_OR_TEXT, "value": progress},
+    # Where something is, and what is asked with a place.
+    "LocationLink": {"originSelectionRange?": "Range", "targetUri": TEXT, "targetRange": "Range", "targetSelectionRange": "Range"},
+    "HoverParams": {**PLACE, **DONE},
+    "DefinitionParams": {**PLACE, **PARTS},
+    "CompletionContext": {"triggerKind": among(1, 3), "triggerCharacter?": TEXT},
+    "CompletionParams": {**PLACE, "context?": if_fits("CompletionContext"), **PARTS},
+    "SignatureHelpContext": {
+        "triggerKind": among(1, 3),
+        "triggerCharacter?": TEXT,
+        "isRetrigger": TRUTH,
+        "activeSignatureHelp?": "SignatureHelp",
+    },
+    "SignatureHelpParams": {**PLACE, "context?": if_fits("SignatureHelpContext"), **DONE},
+    "DocumentOnTypeFormattingParams": {**PLACE, "ch": TEXT, "options": "FormattingOptions"},
+    # The workspace, the window and the handshake.
+    "WorkspaceFoldersChangeEvent": {"added": some("WorkspaceFolder"), "removed": some("WorkspaceFolder")},
+    "DidChangeWorkspaceFoldersParams": {"event": "WorkspaceFoldersChangeEvent"},
+    "DidChangeConfigurationParams": {"settings": ANY},
+    "FileEvent": {"uri": TEXT, "type": among(1, 3)},
+    "DidChangeWatchedFilesParams": {"changes": some("FileEvent")},
+    "MessageActionItem": {"title": TEXT},
+    "ShowMessageRequestParams": {**MESSAGE, "actions?": some("MessageActionItem")},
+    "ShowDocumentParams": {"uri": TEXT, "external?": TRUTH, "takeFocus?": TRUTH, "selection?": "Range"},
+    "ShowDocumentResult": {"success": TRUTH},
+    "SetTraceParams": {"value": TEXT},
+    "LogTraceParams": {"message": TEXT, "verbose?": TEXT},
+    "CancelParams": {"id": NUMBER_OR_TEXT},
+    "Registration": {"id": TEXT, "method": TEXT, "registerOptions?": ANY},
+    "RegistrationParams": {"registrations": some("Registration")},
+    "Unregistration": {"id": TEXT, "method": TEXT},
+    "UnregistrationParams": {"unregisterations": some("Unregistration")},
+    # Language features.
+    "DocumentHighlight": {"range": "Range", "kind?": among(1, 3)},
+    "FoldingRange": {
+        "startLine": UNSIGNED,
+        "startCharacter?": UNSIGNED,
+        "endLine": UNSIGNED,
+        "endCharacter?": UNSIGNED,
+        "kind?": TEXT,
+        "collapsedText?": TEXT,
+    },
+    "SelectionRangeParams": {**DOCUMENT, "positions": some("Position"), **PARTS},
+    "LinkedEditingRanges": {"ranges": some("Range"), "wordPattern?": TEXT},
+    "Moniker": {"scheme": TEXT, "identifier": TEXT, "unique": TEXT, "kind?": TEXT},
+    "CodeLens": {"range": "Range", "command?": "Command", "data?": ANY},
+    "DocumentLink": {"range": "Range", "target?": TEXT, "tooltip?": TEXT, "data?": ANY},
+    "CallHierarchyItem": {
+        "name": TEXT,
+        "kind": among(1, 26),
+        "tags?": some(among(1, 1)),
+        "detail?": TEXT,
+        "uri": TEXT,
+        "range": "Range",
+        "selectionRange": "Range",
+        "data?": ANY,
+    },
+    "CallHierarchyIncomingCallsParams": {"item": "CallHierarchyItem", **PARTS},
+    "CallHierarchyIncomingCall": {"from": "CallHierarchyItem", "fromRanges": some("Range")},
+    "CallHierarchyOutgoingCall": {"to": "CallHierarchyItem", "fromRanges": some("Range")},
+    "Color": {"red": decimal, "green": decimal, "blue": decimal, "alpha": decimal},
+    "ColorInformation": {"range": "Range", "color": "Color"},
+    "ColorPresentationParams": {**PART, "color": "Color", **PARTS},
+    "ColorPresentation": {"label": TEXT, "textEdit?": "TextEdit", "additionalTextEdits?": some("TextEdit")},
+    "InlineValueContext": {"frameId": INTEGER, "stoppedLocation": "Range"},
+    "InlineValueParams": {**PART, "context": "InlineValueContext", **DONE},
+    "InlineValueText": {"range": "Range", "text": TEXT},
+    "InlineValueVariableLookup": {"range": "Range", "variableName?": TEXT, "caseSensitiveLookup": TRUTH},
+    "InlineValueEvaluatableExpression": {"range": "Range", "expression?": TEXT},
+    "SemanticTokensDeltaParams": {**DOCUMENT, "previousResultId": TEXT, **PARTS},
+    "SemanticTokensEdit": {"start": UNSIGNED, "deleteCount": UNSIGNED, "data?": some(UNSIGNED)},
+    "SemanticTokensDelta": {"resultId?": TEXT, "edits": some("SemanticTokensEdit")},
+    # Diagnostics that a client asks for.
+    "DocumentDiagnosticParams": {**DOCUMENT, "identifier?": TEXT, "previousResultId?": TEXT, **PARTS},
+    "FullDocumentDiagnosticReport": {**FULL},
+    "UnchangedDocumentDiagnosticReport": {**UNCHANGED},
+    "RelatedFullDocumentDiagnosticReport": {**FULL, **RELATED},
+    "RelatedUnchangedDocumentDiagnosticReport": {**UNCHANGED, **RELATED},
+    "PreviousResultId": {"uri": TEXT, "value": TEXT},
+    "WorkspaceDiagnosticParams": {"identifier?": TEXT, "previousResultIds": some("PreviousResultId"), **PARTS},
+    "WorkspaceFullDocumentDiagnosticReport": {**FULL, "uri": TEXT, "version": nullable(INTEGER)},
+    "WorkspaceUnchangedDocumentDiagnosticReport": {**UNCHANGED, "uri": TEXT, "version": nullable(INTEGER)},
+    "WorkspaceDiagnosticReport": {
+        "items": some(either("WorkspaceFullDocumentDiagnosticReport", "WorkspaceUnchangedDocumentDiagnosticReport"))
+    },
+    "DiagnosticServerCancellationData": {"retriggerRequest": TRUTH},
+    # Files.
+    "FileCreate": {"uri": TEXT},
+    "CreateFilesParams": {"files": some("FileCreate")},
+    "FileRename": {"oldUri": TEXT, "newUri": TEXT},
+    "RenameFilesParams": {"files": some("FileRename")},
+    "FileOperationPatternOptions": {"ignoreCase?": TRUTH},
+    "FileOperationPattern": {"glob": TEXT, "matches?": TEXT, "options?": "FileOperationPatternOptions"},
+    "FileOperationFilter": {"scheme?": TEXT, "pattern": "FileOperationPattern"},
+    "FileOperationRegistrationOptions": {"filters": some("FileOperationFilter")},
+    "FileOperationOptions": {
+        f"{when}{what}?": "FileOperationRegistrationOptions" for what in ("Create", "Rename", "Delete") for when in ("did", "will")
+    },
+    "RelativePattern": {"baseUri": TEXT, "pattern": TEXT},
+    "FileSystemWatcher": {"globPattern": either(TEXT, "RelativePattern"), "kind?": UNSIGNED},
+    "DidChangeWatchedFilesRegistrationOptions": {"watchers": some("FileSystemWatcher")},
+    # Notebooks.
+    "ExecutionSummary": {"executionOrder": UNSIGNED, "success?": TRUTH},
+    "NotebookCell": {"kind": among(1, 2), "document": TEXT, "metadata?": ANY, "executionSummary?": "ExecutionSummary"},
+    "NotebookDocument": {"uri": TEXT, "notebookType": TEXT, "version": INTEGER, "metadata?": ANY, "cells": some("NotebookCell")},
+    "DidOpenNotebookDocumentParams": {"notebookDocument": "NotebookDocument", "cellTextDocuments": some("TextDocumentItem")},
+    "VersionedNotebookDocumentIdentifier": {"version": INTEGER, "uri": TEXT},
+    "NotebookCellArrayChange": {"start": UNSIGNED, "deleteCount": UNSIGNED, "cells?": some("NotebookCell")},
+    "NotebookCellStructure": {
+        "array": "NotebookCellArrayChange",
+        "didOpen?": some("TextDocumentItem"),
+        "didClose?": some("TextDocumentIdentifier"),
+    },
+    "NotebookCellTextChange": {
+        "document": "VersionedTextDocumentIdentifier",
+        "changes": some("TextDocumentContentChangeEvent"),
+    },
+    "NotebookCellChanges": {
+        "structure?": "NotebookCellStructure",
+        "data?": some("NotebookCell"),
+        "textContent?": some("NotebookCellTextChange"),
+    },
+    "NotebookDocumentChangeEvent": {"metadata?": ANY, "cells?": "NotebookCellChanges"},
+    "DidChangeNotebookDocumentParams": {
+        "notebookDocument": "VersionedNotebookDocumentIdentifier",
+        "change": "NotebookDocumentChangeEvent",
+    },
+    "DidSaveNotebookDocumentParams": {"notebookDocument": "TextDocumentIdentifier"},
+    "DidCloseNotebookDocumentParams": {
+        "notebookDocument": "TextDocumentIdentifier",
+        "cellTextDocuments": some("TextDocumentIdentifier"),
+    },
 }
 
 
@@ -328,7 +485,7 @@ def all_capabilities(characters, names):
         "documentOnTypeFormattingProvider": {"firstTriggerCharacter": "}", "moreTriggerCharacter": characters},
         "renameProvider": {"prepareProvider": True, **done},
         "executeCommandProvider": {"commands": names, **done},
-        "semanticTokensProvider": {"legend": legend, "range": False, "full": True, **done},
+        "semanticTokensProvider": {"legend": legend, "range": False, "full": {"delta": True}, **done},
         "diagnosticProvider": {"identifier": "}", "interFileDependencies": True, "workspaceDiagnostics": False, **done},
         "workspace": {"workspaceFolders": folders, "fileOperations": {"notebook": names}},
         "experimental": {"notebook": names},
@@ -359,8 +516,24 @@ WHOLE = (
     "CodeActionParams CodeAction Command RenameParams PrepareRenameResult DocumentFormattingParams DocumentRangeFormattingParams "
     "ExecuteCommandParams ApplyWorkspaceEditParams ApplyWorkspaceEditResult Hover CompletionList CompletionItem SignatureHelp Location "
     "SemanticTokens InlayHint WorkspaceSymbolParams WorkspaceSymbol PublishDiagnosticsParams ShowMessageParams ConfigurationParams "
-    "WorkDoneProgressParams WorkDoneProgressCreateParams"
+    "WorkDoneProgressParams WorkDoneProgressCreateParams "
+    "LocationLink HoverParams DefinitionParams CompletionParams SignatureHelpParams DocumentOnTypeFormattingParams "
+    "DidChangeWorkspaceFoldersParams DidChangeConfigurationParams DidChangeWatchedFilesParams ShowMessageRequestParams MessageActionItem "
+    "ShowDocumentParams ShowDocumentResult SetTraceParams LogTraceParams CancelParams RegistrationParams UnregistrationParams "
+    "DocumentHighlight FoldingRange SelectionRangeParams LinkedEditingRanges Moniker CodeLens DocumentLink CallHierarchyItem "
+    "CallHierarchyIncomingCallsParams CallHierarchyIncomingCall CallHierarchyOutgoingCall ColorInformation ColorPresentationParams "
+    "ColorPresentation InlineValueParams SemanticTokensDeltaParams DocumentDiagnosticParams WorkspaceDiagnosticParams "
+    "WorkspaceDiagnosticReport DiagnosticServerCancellationData CreateFilesParams RenameFilesParams FileOperationOptions "
+    "DidChangeWatchedFilesRegistrationOptions DidOpenNotebookDocumentParams DidChangeNotebookDocumentParams DidSaveNotebookDocumentParams "
+    "DidCloseNotebookDocumentParams"
 )
+# Types of which each value is one of these.
+CHOICES = {
+    "DefinitionResult": ["Location", some("Location"), some("LocationLink")],
+    "InlineValue": ["InlineValueText", "InlineValueVariableLookup", "InlineValueEvaluatableExpression"],
+    "SemanticTokensDeltaResult": ["SemanticTokensDelta", "SemanticTokens"],
+    "DocumentDiagnosticReport": ["RelatedFullDocumentDiagnosticReport", "RelatedUnchangedDocumentDiagnosticReport"],
+}
 
 
 def rows():
@@ -374,6 +547,22 @@ def rows():
             yield f"typed {name} {ordered({it: whole[it] for it in needed})}"
         for left_out in needed:
             yield f"typed {name} {ordered({it: whole[it] for it in needed if it != left_out})}"
+    yield "# Types with several forms."
+    for name, ways in CHOICES.items():
+        for way in ways:
+            yield f"typed {name} {ordered(sample(way, ''))}"
+        yield f"typed {name} {{}}"
+    yield """typed SelectionRange {"ranges": [[1, 2], [0, 9]]}"""
+    yield "# Acts by methods: params that fit, a line of 0, a key that is missing, one of another type, and a method of another kind."
+    place = {"textDocument": {"uri": "file:///a"}, "position": {"line": 3, "character": 4}}
+    for method in ["textDocument/didClose", *ACTS, "textDocument/rename"]:
+        for params in [place, {**place, "position": {"line": 0, "character": 4}}, {"textDocument": {"uri": 5}}, {"position": place["position"]}]:
+            id = {} if method == "textDocument/didClose" else {"id": 1}
+            yield f"method {ordered({**id, 'method': method, 'params': params})}"
+    yield "# A client that can be asked for its configuration, and others."
+    for client in [{"workspace": {"configuration": True}}, {"workspace": {"configuration": False}}, {}, None]:
+        for reply, settings in [([7], {"lines": 5}), ([None], {"lines": None}), ([], {}), (["x"], None), (None, {"lines": -1}), ({}, [])]:
+            yield f"configuration {ordered({'client': client, 'reply': reply, 'settings': settings})}"
 
 
 def read_as(how, value):
@@ -411,6 +600,14 @@ def result_answer(value):
     return {"capabilities": {}, "serverInfo": read_as("ServerInfo", value)}
 
 
+def selection_answer(value):
+    """LSP 3.17, "Selection Range Request", of parts of the first line, each in the one behind it."""
+    found = None
+    for start, end in reversed(value["ranges"]):
+        found = {"range": {"start": {"line": 0, "character": start}, "end": {"line": 0, "character": end}}} | ({"parent": found} if found else {})
+    return found
+
+
 def document_capabilities_answer(params):
     """LSP 3.17, "PositionEncodingKind" and "TextDocumentSyncOptions", of a server that hears of the parts that changed (2)."""
     include_text = params.get("includeText") is True
@@ -426,6 +623,8 @@ def document_capabilities_answers(params):
 OTHERS = {
     "ServerCapabilities": capabilities_answer,
     "InitializeResult": result_answer,
+    "SelectionRange": selection_answer,
+    **{name: either(*ways) for name, ways in CHOICES.items()},
 }
 
 
@@ -438,6 +637,52 @@ def typed_answer(text):
         return [ordered(OTHERS[name](value) if name in OTHERS else read_as(name, value))]
     except Misfit:
         return ["refused"]
+
+
+def acts_answer(text):
+    """What a server does at a message by its method, with params that fit or do not (JSON-RPC 2.0, section 5.1)."""
+    came = json.loads(text)
+    method, params, id = came["method"], came["params"], came.get("id")
+    keys = {"textDocument/didClose": 1, "textDocument/foldingRange": 1}.get(method, 2)
+    misfits = misfits_of(params, ["textDocument", "position"][:keys])
+    if method == "textDocument/didClose":
+        if misfits:
+            return [f"tell window/logMessage {ordered({'message': f'{method}: {misfits[0]}', 'type': 1})}"]
+        return [f"tell textDocument/publishDiagnostics {ordered({'uri': params['textDocument']['uri'], 'diagnostics': []})}"]
+    if method not in ACTS:
+        return [f"refuse {id} {NOT_FOUND['code']} {NOT_FOUND['message']}"]
+    if misfits:
+        return [f"refuse {id} -32602 {misfits[0]}"]
+    found = ACTS[method](params)
+    return [f"refuse {id} -32803 no line above" if found is None else f"reply {id} {ordered(found)}"]
+
+
+def line_above(params):
+    at = {"character": 0, "line": params["position"]["line"] - 1}
+    return {"uri": params["textDocument"]["uri"], "range": {"start": at, "end": at}} if at["line"] >= 0 else None
+
+
+ACTS = {
+    "textDocument/hover": lambda params: {"contents": {"kind": "plaintext", "value": params["textDocument"]["uri"]}},
+    "textDocument/definition": line_above,
+    "textDocument/foldingRange": lambda params: [{"startLine": 1, "endLine": 2}],
+    "textDocument/completion": lambda params: params["position"],
+}
+
+
+def configuration_answer(text):
+    """LSP 3.17, "Configuration Request": a client is asked if it can be, and replies with a list. Of one that can't be, the settings have the
+    section (VS Code's way, docs/TYPES.md)."""
+    given = json.loads(text)
+    capabilities = given.get("client")
+    can = isinstance(capabilities, dict) and capabilities.get("workspace", {}).get("configuration") is True
+    said = [f"ask workspace/configuration {ordered({'items': [{'section': 'lines'}]})} for 7" if can else "nothing"]
+    reply, settings, value = given.get("reply"), given.get("settings"), 80
+    for found in [reply[-1] if isinstance(reply, list) and reply else None, settings.get("lines") if isinstance(settings, dict) else None]:
+        taken = is_number(found) and 0 <= found < 2**32
+        value = found if taken else value
+        said.append(f"{'taken' if taken else 'kept'} {value}")
+    return [", ".join(said)]
 
 
 def pair(value):
@@ -616,4 +861,4 @@ def lines_answer(text):
     return [" ".join(it for ends in ("\r?\n", "\r\n|\n|\r") for it in [*map(quoted, re.split(ends, json.loads(text))), "none"])]
 
 
-ROWS = {"plain": plain_answers, "typed": typed_answer, "uri": uri_answer, "path": path_answer, "names": names_answer, "folders": folders_answer, "tokens": tokens_answer, "offset": offset_answer, "lines": lines_answer}
+ROWS = {"method": acts_answer, "configuration": configuration_answer, "plain": plain_answers, "typed": typed_answer, "uri": uri_answer, "path": path_answer, "names": names_answer, "folders": folders_answer, "tokens": tokens_answer, "offset": offset_answer, "lines": lines_answer}

@@ -4,10 +4,9 @@ use crate::diagnostics::Diagnostic;
 use crate::documents::TextDocumentIdentifier;
 use crate::edits::WorkspaceEdit;
 use crate::json::{
-    Keyed, ReadMembers, Sink, Source, WriteMembers, if_fits, read_object, those_that_fit,
-    write_object,
+    Keyed, ReadMembers, Sink, Source, WriteMembers, if_fits, number_within, read_object,
+    those_that_fit, write_object,
 };
-use crate::numbers::number_within;
 use crate::progress::ProgressToken;
 use crate::workspace::Command;
 use lsp_text::Range;

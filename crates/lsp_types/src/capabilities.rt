@@ -315,6 +315,29 @@ impl TextDocumentSyncOptions {
     }
 }
 
+impl Default for TextDocumentSyncOptions {
+    ghost use Rattle.std.specs.Prelude.{◌≡◌, None};
+
+    /// Nothing is set.
+    fn default() -> TextDocumentSyncOptions
+        ensures { result ≡ record {
+          open_close = None;
+          change = None;
+          will_save = None;
+          will_save_wait_until = None;
+          save = None;
+        } }
+    {
+        TextDocumentSyncOptions {
+            open_close: None,
+            change: None,
+            will_save: None,
+            will_save_wait_until: None,
+            save: None,
+        }
+    }
+}
+
 impl Described for TextDocumentSyncOptions {}
 
 impl Keyed for TextDocumentSyncOptions {
@@ -350,6 +373,19 @@ pub struct SaveOptions {
     pub include_text: Option<bool>,
 }
 
+impl Default for SaveOptions {
+    ghost use Rattle.std.specs.Prelude.{◌≡◌, None};
+
+    /// Nothing is set.
+    fn default() -> SaveOptions
+        ensures { result ≡ record {
+          include_text = None;
+        } }
+    {
+        SaveOptions { include_text: None }
+    }
+}
+
 impl Described for SaveOptions {}
 
 impl Keyed for SaveOptions {
@@ -381,6 +417,29 @@ pub struct CompletionOptions {
     pub completion_item: Option<CompletionItemOptions>,
     /// Whether the server can tell how far it is.
     pub work_done_progress: Option<bool>,
+}
+
+impl Default for CompletionOptions {
+    ghost use Rattle.std.specs.Prelude.{◌≡◌, None};
+
+    /// Nothing is set.
+    fn default() -> CompletionOptions
+        ensures { result ≡ record {
+          trigger_characters = None;
+          resolve_provider = None;
+          all_commit_characters = None;
+          completion_item = None;
+          work_done_progress = None;
+        } }
+    {
+        CompletionOptions {
+            trigger_characters: None,
+            resolve_provider: None,
+            all_commit_characters: None,
+            completion_item: None,
+            work_done_progress: None,
+        }
+    }
 }
 
 impl Described for CompletionOptions {}
@@ -418,6 +477,21 @@ pub struct CompletionItemOptions {
     pub label_details_support: Option<bool>,
 }
 
+impl Default for CompletionItemOptions {
+    ghost use Rattle.std.specs.Prelude.{◌≡◌, None};
+
+    /// Nothing is set.
+    fn default() -> CompletionItemOptions
+        ensures { result ≡ record {
+          label_details_support = None;
+        } }
+    {
+        CompletionItemOptions {
+            label_details_support: None,
+        }
+    }
+}
+
 impl Described for CompletionItemOptions {}
 
 impl Keyed for CompletionItemOptions {
@@ -445,6 +519,25 @@ pub struct SignatureHelpOptions {
     pub retrigger_characters: Option<Vec<String>>,
     /// Whether the server can tell how far it is.
     pub work_done_progress: Option<bool>,
+}
+
+impl Default for SignatureHelpOptions {
+    ghost use Rattle.std.specs.Prelude.{◌≡◌, None};
+
+    /// Nothing is set.
+    fn default() -> SignatureHelpOptions
+        ensures { result ≡ record {
+          trigger_characters = None;
+          retrigger_characters = None;
+          work_done_progress = None;
+        } }
+    {
+        SignatureHelpOptions {
+            trigger_characters: None,
+            retrigger_characters: None,
+            work_done_progress: None,
+        }
+    }
 }
 
 impl Described for SignatureHelpOptions {}
@@ -482,6 +575,25 @@ pub struct CodeActionOptions {
     pub work_done_progress: Option<bool>,
 }
 
+impl Default for CodeActionOptions {
+    ghost use Rattle.std.specs.Prelude.{◌≡◌, None};
+
+    /// Nothing is set.
+    fn default() -> CodeActionOptions
+        ensures { result ≡ record {
+          code_action_kinds = None;
+          resolve_provider = None;
+          work_done_progress = None;
+        } }
+    {
+        CodeActionOptions {
+            code_action_kinds: None,
+            resolve_provider: None,
+            work_done_progress: None,
+        }
+    }
+}
+
 impl Described for CodeActionOptions {}
 
 impl Keyed for CodeActionOptions {
@@ -515,6 +627,23 @@ pub struct CodeLensOptions {
     pub work_done_progress: Option<bool>,
 }
 
+impl Default for CodeLensOptions {
+    ghost use Rattle.std.specs.Prelude.{◌≡◌, None};
+
+    /// Nothing is set.
+    fn default() -> CodeLensOptions
+        ensures { result ≡ record {
+          resolve_provider = None;
+          work_done_progress = None;
+        } }
+    {
+        CodeLensOptions {
+            resolve_provider: None,
+            work_done_progress: None,
+        }
+    }
+}
+
 impl Described for CodeLensOptions {}
 
 impl Keyed for CodeLensOptions {
@@ -541,6 +670,23 @@ pub struct DocumentLinkOptions {
     pub resolve_provider: Option<bool>,
     /// Whether the server can tell how far it is.
     pub work_done_progress: Option<bool>,
+}
+
+impl Default for DocumentLinkOptions {
+    ghost use Rattle.std.specs.Prelude.{◌≡◌, None};
+
+    /// Nothing is set.
+    fn default() -> DocumentLinkOptions
+        ensures { result ≡ record {
+          resolve_provider = None;
+          work_done_progress = None;
+        } }
+    {
+        DocumentLinkOptions {
+            resolve_provider: None,
+            work_done_progress: None,
+        }
+    }
 }
 
 impl Described for DocumentLinkOptions {}
@@ -571,6 +717,23 @@ pub struct DocumentOnTypeFormattingOptions {
     pub more_trigger_character: Option<Vec<String>>,
 }
 
+impl DocumentOnTypeFormattingOptions {
+    ghost use Rattle.std.specs.Prelude.{◌≡◌, None};
+
+    /// What has to be there. The rest is `None`.
+    pub fn new(first_trigger_character: String) -> DocumentOnTypeFormattingOptions
+        ensures { result ≡ record {
+          first_trigger_character = first_trigger_character;
+          more_trigger_character = None;
+        } }
+    {
+        DocumentOnTypeFormattingOptions {
+            first_trigger_character,
+            more_trigger_character: None,
+        }
+    }
+}
+
 impl Described for DocumentOnTypeFormattingOptions {}
 
 impl Keyed for DocumentOnTypeFormattingOptions {
@@ -597,6 +760,23 @@ pub struct RenameOptions {
     pub prepare_provider: Option<bool>,
     /// Whether the server can tell how far it is.
     pub work_done_progress: Option<bool>,
+}
+
+impl Default for RenameOptions {
+    ghost use Rattle.std.specs.Prelude.{◌≡◌, None};
+
+    /// Nothing is set.
+    fn default() -> RenameOptions
+        ensures { result ≡ record {
+          prepare_provider = None;
+          work_done_progress = None;
+        } }
+    {
+        RenameOptions {
+            prepare_provider: None,
+            work_done_progress: None,
+        }
+    }
 }
 
 impl Described for RenameOptions {}
@@ -627,6 +807,23 @@ pub struct ExecuteCommandOptions {
     pub work_done_progress: Option<bool>,
 }
 
+impl ExecuteCommandOptions {
+    ghost use Rattle.std.specs.Prelude.{◌≡◌, None};
+
+    /// What has to be there. The rest is `None`.
+    pub fn new(commands: Vec<String>) -> ExecuteCommandOptions
+        ensures { result ≡ record {
+          commands = commands;
+          work_done_progress = None;
+        } }
+    {
+        ExecuteCommandOptions {
+            commands,
+            work_done_progress: None,
+        }
+    }
+}
+
 impl Described for ExecuteCommandOptions {}
 
 impl Keyed for ExecuteCommandOptions {
@@ -653,9 +850,30 @@ pub struct SemanticTokensOptions {
     /// `textDocument/semanticTokens/range`.
     pub range: Option<bool>,
     /// `textDocument/semanticTokens/full`.
-    pub full: Option<bool>,
+    pub full: Option<SemanticTokensFullOptions>,
     /// Whether the server can tell how far it is.
     pub work_done_progress: Option<bool>,
+}
+
+impl SemanticTokensOptions {
+    ghost use Rattle.std.specs.Prelude.{◌≡◌, None};
+
+    /// What has to be there. The rest is `None`.
+    pub fn new(legend: SemanticTokensLegend) -> SemanticTokensOptions
+        ensures { result ≡ record {
+          legend = legend;
+          range = None;
+          full = None;
+          work_done_progress = None;
+        } }
+    {
+        SemanticTokensOptions {
+            legend,
+            range: None,
+            full: None,
+            work_done_progress: None,
+        }
+    }
 }
 
 impl Described for SemanticTokensOptions {}
@@ -674,6 +892,44 @@ impl WriteMembers for SemanticTokensOptions {
 }
 
 impl Serialize for SemanticTokensOptions {
+    fn serialize<S: Serializer>(&self, out: &mut S) -> Result<(), S::Error> {
+        write_object(self, out)
+    }
+}
+
+/// How the semantic tokens of a whole document are offered (LSP 3.17, "SemanticTokensOptions").
+#[derive(Clone, Copy, Drop)]
+pub struct SemanticTokensFullOptions {
+    /// `textDocument/semanticTokens/full/delta`.
+    pub delta: Option<bool>,
+}
+
+impl Default for SemanticTokensFullOptions {
+    ghost use Rattle.std.specs.Prelude.{◌≡◌, None};
+
+    /// Nothing is set.
+    fn default() -> SemanticTokensFullOptions
+        ensures { result ≡ record {
+          delta = None;
+        } }
+    {
+        SemanticTokensFullOptions { delta: None }
+    }
+}
+
+impl Described for SemanticTokensFullOptions {}
+
+impl Keyed for SemanticTokensFullOptions {
+    const KEYS: &'static [&'static str] = &["delta"];
+}
+
+impl WriteMembers for SemanticTokensFullOptions {
+    fn write<O: Sink>(&self, out: O) -> O {
+        out.some(&self.delta)
+    }
+}
+
+impl Serialize for SemanticTokensFullOptions {
     fn serialize<S: Serializer>(&self, out: &mut S) -> Result<(), S::Error> {
         write_object(self, out)
     }
@@ -719,6 +975,27 @@ pub struct DiagnosticOptions {
     pub work_done_progress: Option<bool>,
 }
 
+impl DiagnosticOptions {
+    ghost use Rattle.std.specs.Prelude.{◌≡◌, None};
+
+    /// What has to be there. The rest is `None`.
+    pub fn new(inter_file_dependencies: bool, workspace_diagnostics: bool) -> DiagnosticOptions
+        ensures { result ≡ record {
+          identifier = None;
+          inter_file_dependencies = inter_file_dependencies;
+          workspace_diagnostics = workspace_diagnostics;
+          work_done_progress = None;
+        } }
+    {
+        DiagnosticOptions {
+            identifier: None,
+            inter_file_dependencies,
+            workspace_diagnostics,
+            work_done_progress: None,
+        }
+    }
+}
+
 impl Described for DiagnosticOptions {}
 
 impl Keyed for DiagnosticOptions {
@@ -754,6 +1031,23 @@ pub struct WorkspaceOptions {
     pub file_operations: Option<Value>,
 }
 
+impl Default for WorkspaceOptions {
+    ghost use Rattle.std.specs.Prelude.{◌≡◌, None};
+
+    /// Nothing is set.
+    fn default() -> WorkspaceOptions
+        ensures { result ≡ record {
+          workspace_folders = None;
+          file_operations = None;
+        } }
+    {
+        WorkspaceOptions {
+            workspace_folders: None,
+            file_operations: None,
+        }
+    }
+}
+
 impl Described for WorkspaceOptions {}
 
 impl Keyed for WorkspaceOptions {
@@ -780,6 +1074,23 @@ pub struct WorkspaceFoldersServerCapabilities {
     pub supported: Option<bool>,
     /// Whether it wants to hear of their changes.
     pub change_notifications: Option<bool>,
+}
+
+impl Default for WorkspaceFoldersServerCapabilities {
+    ghost use Rattle.std.specs.Prelude.{◌≡◌, None};
+
+    /// Nothing is set.
+    fn default() -> WorkspaceFoldersServerCapabilities
+        ensures { result ≡ record {
+          supported = None;
+          change_notifications = None;
+        } }
+    {
+        WorkspaceFoldersServerCapabilities {
+            supported: None,
+            change_notifications: None,
+        }
+    }
 }
 
 impl Described for WorkspaceFoldersServerCapabilities {}

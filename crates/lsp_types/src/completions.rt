@@ -1,11 +1,15 @@
 //! Completions: what a client offers while a user types.
 // `tools/types` wrote this file from `types.txt`: change that.
+use crate::documents::TextDocumentIdentifier;
 use crate::edits::TextEdit;
 use crate::hovers::MarkupContent;
-use crate::json::{Keyed, ReadMembers, Sink, Source, WriteMembers, read_object, write_object};
-use crate::numbers::number_within;
+use crate::json::{
+    Blank, Keyed, ReadMembers, Sink, Source, WriteMembers, if_fits, number_within, read_object,
+    write_object,
+};
+use crate::progress::ProgressToken;
 use crate::workspace::Command;
-use lsp_text::Range;
+use lsp_text::{Position, Range};
 use serde::{
     Described, Deserialize, DeserializeOwned, Deserializer, Format, Serialize, Serializer,
 };
@@ -224,6 +228,23 @@ pub struct CompletionItemLabelDetails {
     pub detail: Option<String>,
     /// Further behind, as a path.
     pub description: Option<String>,
+}
+
+impl Default for CompletionItemLabelDetails {
+    ghost use Rattle.std.specs.Prelude.{◌≡◌, None};
+
+    /// Nothing is set.
+    fn default() -> CompletionItemLabelDetails
+        ensures { result ≡ record {
+          detail = None;
+          description = None;
+        } }
+    {
+        CompletionItemLabelDetails {
+            detail: None,
+            description: None,
+        }
+    }
 }
 
 impl Described for CompletionItemLabelDetails {}
@@ -471,6 +492,29 @@ pub struct CompletionItemDefaults {
     pub data: Option<Value>,
 }
 
+impl Default for CompletionItemDefaults {
+    ghost use Rattle.std.specs.Prelude.{◌≡◌, None};
+
+    /// Nothing is set.
+    fn default() -> CompletionItemDefaults
+        ensures { result ≡ record {
+          commit_characters = None;
+          edit_range = None;
+          insert_text_format = None;
+          insert_text_mode = None;
+          «data» = None;
+        } }
+    {
+        CompletionItemDefaults {
+            commit_characters: None,
+            edit_range: None,
+            insert_text_format: None,
+            insert_text_mode: None,
+            data: None,
+        }
+    }
+}
+
 impl Described for CompletionItemDefaults {}
 
 impl Keyed for CompletionItemDefaults {
@@ -520,6 +564,163 @@ impl DeserializeOwned for CompletionItemDefaults {
     }
 }
 
+/// Why completions are asked for (LSP 3.17, "CompletionTriggerKind"). On reading, another number is refused.
+#[derive(Clone, Copy, Drop)]
+pub struct CompletionTriggerKind(pub u32);
+
+impl CompletionTriggerKind {
+    /// The user asked, or typed a letter.
+    pub const INVOKED: CompletionTriggerKind = CompletionTriggerKind(1);
+    /// One of `trigger_characters` was typed.
+    pub const TRIGGER_CHARACTER: CompletionTriggerKind = CompletionTriggerKind(2);
+    /// More was typed, and the last list was not complete.
+    pub const TRIGGER_FOR_INCOMPLETE_COMPLETIONS: CompletionTriggerKind = CompletionTriggerKind(3);
+}
+
+impl Described for CompletionTriggerKind {}
+
+impl Serialize for CompletionTriggerKind {
+    fn serialize<S: Serializer>(&self, out: &mut S) -> Result<(), S::Error> {
+        self.0.serialize(out)
+    }
+}
+
+impl<'de> Deserialize<'de> for CompletionTriggerKind {
+    fn deserialize<F: Format>(
+        alloc: Global,
+        from: &mut Deserializer<'de, '_, F>,
+    ) -> Result<CompletionTriggerKind, F::Error> {
+        match number_within(alloc, from, 1, 3) {
+            Ok(number) => Ok(CompletionTriggerKind(number)),
+            Err(failed) => Err(failed),
+        }
+    }
+}
+
+impl DeserializeOwned for CompletionTriggerKind {
+    fn deserialize_owned<F: Format>(
+        alloc: Global,
+        from: &mut Deserializer<'_, '_, F>,
+    ) -> Result<CompletionTriggerKind, F::Error> {
+        CompletionTriggerKind::deserialize(alloc, from)
+    }
+}
+
+impl Blank for CompletionTriggerKind {
+    fn blank(_alloc: Global) -> CompletionTriggerKind {
+        CompletionTriggerKind::INVOKED
+    }
+}
+
+/// Why completions are asked for (LSP 3.17, "CompletionContext").
+#[derive(Drop)]
+pub struct CompletionContext {
+    /// Why.
+    pub trigger_kind: CompletionTriggerKind,
+    /// The character that was typed, if it was one of `trigger_characters`.
+    pub trigger_character: Option<String>,
+}
+
+impl Described for CompletionContext {}
+
+impl Keyed for CompletionContext {
+    const KEYS: &'static [&'static str] = &["triggerKind", "triggerCharacter"];
+}
+
+impl WriteMembers for CompletionContext {
+    fn write<O: Sink>(&self, out: O) -> O {
+        out.member(&self.trigger_kind).some(&self.trigger_character)
+    }
+}
+
+impl Serialize for CompletionContext {
+    fn serialize<S: Serializer>(&self, out: &mut S) -> Result<(), S::Error> {
+        write_object(self, out)
+    }
+}
+
+impl ReadMembers for CompletionContext {
+    fn read<S: Source>(members: &mut S) -> CompletionContext {
+        CompletionContext {
+            trigger_kind: members.required(),
+            trigger_character: members.optional(),
+        }
+    }
+}
+
+impl DeserializeOwned for CompletionContext {
+    fn deserialize_owned<F: Format>(
+        alloc: Global,
+        from: &mut Deserializer<'_, '_, F>,
+    ) -> Result<CompletionContext, F::Error> {
+        read_object(alloc, from)
+    }
+}
+
+/// The params of `textDocument/completion` (LSP 3.17, "Completion Request").
+#[derive(Drop)]
+pub struct CompletionParams {
+    /// The document.
+    pub text_document: TextDocumentIdentifier,
+    /// The place in it.
+    pub position: Position,
+    /// Why. None if the client does not say it, or it does not fit.
+    pub context: Option<CompletionContext>,
+    /// The token to report progress with. None if it is not asked for, or does not fit.
+    pub work_done_token: Option<ProgressToken>,
+    /// The token to send parts of the result with. None if they are not asked for, or it does not fit.
+    pub partial_result_token: Option<ProgressToken>,
+}
+
+impl Described for CompletionParams {}
+
+impl Keyed for CompletionParams {
+    const KEYS: &'static [&'static str] = &[
+        "textDocument",
+        "position",
+        "context",
+        "workDoneToken",
+        "partialResultToken",
+    ];
+}
+
+impl WriteMembers for CompletionParams {
+    fn write<O: Sink>(&self, out: O) -> O {
+        out.member(&self.text_document)
+            .member(&self.position)
+            .some(&self.context)
+            .some(&self.work_done_token)
+            .some(&self.partial_result_token)
+    }
+}
+
+impl Serialize for CompletionParams {
+    fn serialize<S: Serializer>(&self, out: &mut S) -> Result<(), S::Error> {
+        write_object(self, out)
+    }
+}
+
+impl ReadMembers for CompletionParams {
+    fn read<S: Source>(members: &mut S) -> CompletionParams {
+        CompletionParams {
+            text_document: members.required(),
+            position: members.required(),
+            context: if_fits(members),
+            work_done_token: if_fits(members),
+            partial_result_token: if_fits(members),
+        }
+    }
+}
+
+impl DeserializeOwned for CompletionParams {
+    fn deserialize_owned<F: Format>(
+        alloc: Global,
+        from: &mut Deserializer<'_, '_, F>,
+    ) -> Result<CompletionParams, F::Error> {
+        read_object(alloc, from)
+    }
+}
+
 /// The result of `textDocument/completion`, or null (LSP 3.17, "CompletionList").
 #[derive(Drop)]
 pub struct CompletionList {
@@ -529,6 +730,25 @@ pub struct CompletionList {
     pub item_defaults: Option<CompletionItemDefaults>,
     /// The completions.
     pub items: Vec<CompletionItem>,
+}
+
+impl CompletionList {
+    ghost use Rattle.std.specs.Prelude.{◌≡◌, None};
+
+    /// What has to be there. The rest is `None`.
+    pub fn new(is_incomplete: bool, items: Vec<CompletionItem>) -> CompletionList
+        ensures { result ≡ record {
+          is_incomplete = is_incomplete;
+          item_defaults = None;
+          items = items;
+        } }
+    {
+        CompletionList {
+            is_incomplete,
+            item_defaults: None,
+            items,
+        }
+    }
 }
 
 impl Described for CompletionList {}

@@ -2,8 +2,9 @@
 // `tools/types` wrote this file from `types.txt`: change that.
 use crate::choices::NumberOrString;
 use crate::documents::Location;
-use crate::json::{Keyed, ReadMembers, Sink, Source, WriteMembers, read_object, write_object};
-use crate::numbers::number_within;
+use crate::json::{
+    Keyed, ReadMembers, Sink, Source, WriteMembers, number_within, read_object, write_object,
+};
 use lsp_text::Range;
 use serde::{
     Described, Deserialize, DeserializeOwned, Deserializer, Format, Serialize, Serializer,
@@ -324,6 +325,25 @@ pub struct PublishDiagnosticsParams {
     pub version: Option<i32>,
     /// All that is wrong with it. An empty list takes away what was shown before.
     pub diagnostics: Vec<Diagnostic>,
+}
+
+impl PublishDiagnosticsParams {
+    ghost use Rattle.std.specs.Prelude.{◌≡◌, None};
+
+    /// What has to be there. The rest is `None`.
+    pub fn new(uri: String, diagnostics: Vec<Diagnostic>) -> PublishDiagnosticsParams
+        ensures { result ≡ record {
+          uri = uri;
+          version = None;
+          diagnostics = diagnostics;
+        } }
+    {
+        PublishDiagnosticsParams {
+            uri,
+            version: None,
+            diagnostics,
+        }
+    }
 }
 
 impl Described for PublishDiagnosticsParams {}

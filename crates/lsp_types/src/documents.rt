@@ -1,10 +1,9 @@
 //! Places in documents, and what a client tells of its documents.
 // `tools/types` wrote this file from `types.txt`: change that.
 use crate::json::{
-    Blank, Changes, Keyed, ReadMembers, Sink, Source, WriteMembers, if_fits, read_object,
-    text_or_empty, write_object,
+    Blank, Changes, Keyed, ReadMembers, Sink, Source, WriteMembers, if_fits, number_within,
+    read_if_fits, read_object, text_or_empty, write_object,
 };
-use crate::numbers::number_within;
 use crate::progress::ProgressToken;
 use lsp_text::{ContentChange, Position, Range};
 use serde::{
@@ -63,6 +62,132 @@ impl DeserializeOwned for Location {
         from: &mut Deserializer<'_, '_, F>,
     ) -> Result<Location, F::Error> {
         read_object(alloc, from)
+    }
+}
+
+/// A part of a document, and how one comes to it (LSP 3.17, "LocationLink").
+#[derive(Drop)]
+pub struct LocationLink {
+    /// The part that leads there. `None` means the word at the place that was asked for.
+    pub origin_selection_range: Option<Range>,
+    /// The document's URI.
+    pub target_uri: String,
+    /// All that is meant, as a function with its comment.
+    pub target_range: Range,
+    /// The part to select, as its name. It lies in `target_range`.
+    pub target_selection_range: Range,
+}
+
+impl LocationLink {
+    ghost use Rattle.std.specs.Prelude.{◌≡◌, None};
+
+    /// What has to be there. The rest is `None`.
+    pub fn new(
+        target_uri: String,
+        target_range: Range,
+        target_selection_range: Range,
+    ) -> LocationLink
+        ensures { result ≡ record {
+          origin_selection_range = None;
+          target_uri = target_uri;
+          target_range = target_range;
+          target_selection_range = target_selection_range;
+        } }
+    {
+        LocationLink {
+            origin_selection_range: None,
+            target_uri,
+            target_range,
+            target_selection_range,
+        }
+    }
+}
+
+impl Described for LocationLink {}
+
+impl Keyed for LocationLink {
+    const KEYS: &'static [&'static str] = &[
+        "originSelectionRange",
+        "targetUri",
+        "targetRange",
+        "targetSelectionRange",
+    ];
+}
+
+impl WriteMembers for LocationLink {
+    fn write<O: Sink>(&self, out: O) -> O {
+        out.some(&self.origin_selection_range)
+            .member(&self.target_uri)
+            .member(&self.target_range)
+            .member(&self.target_selection_range)
+    }
+}
+
+impl Serialize for LocationLink {
+    fn serialize<S: Serializer>(&self, out: &mut S) -> Result<(), S::Error> {
+        write_object(self, out)
+    }
+}
+
+impl ReadMembers for LocationLink {
+    fn read<S: Source>(members: &mut S) -> LocationLink {
+        LocationLink {
+            origin_selection_range: members.optional(),
+            target_uri: members.required(),
+            target_range: members.required(),
+            target_selection_range: members.required(),
+        }
+    }
+}
+
+impl DeserializeOwned for LocationLink {
+    fn deserialize_owned<F: Format>(
+        alloc: Global,
+        from: &mut Deserializer<'_, '_, F>,
+    ) -> Result<LocationLink, F::Error> {
+        read_object(alloc, from)
+    }
+}
+
+/// Where something is: the result of `textDocument/definition`, `declaration`, `typeDefinition` and `implementation`, or null (LSP
+/// 3.17, "Goto Definition Request").
+#[derive(Drop)]
+pub enum DefinitionResult {
+    /// One place.
+    One(Location),
+    /// Places.
+    Several(Vec<Location>),
+    /// The same with more, for clients with `linkSupport` at this method.
+    Links(Vec<LocationLink>),
+}
+
+impl Described for DefinitionResult {}
+
+impl Serialize for DefinitionResult {
+    fn serialize<S: Serializer>(&self, out: &mut S) -> Result<(), S::Error> {
+        match self {
+            DefinitionResult::One(it) => it.serialize(out),
+            DefinitionResult::Several(it) => it.serialize(out),
+            DefinitionResult::Links(it) => it.serialize(out),
+        }
+    }
+}
+
+impl DeserializeOwned for DefinitionResult {
+    fn deserialize_owned<F: Format>(
+        alloc: Global,
+        from: &mut Deserializer<'_, '_, F>,
+    ) -> Result<DefinitionResult, F::Error> {
+        if let Some(it) = read_if_fits(alloc, from)? {
+            return Ok(DefinitionResult::One(it));
+        }
+        if let Some(it) = read_if_fits(alloc, from)? {
+            return Ok(DefinitionResult::Several(it));
+        }
+        match DeserializeOwned::deserialize_owned(alloc, from) {
+            Ok(it) => Ok(DefinitionResult::Links(it)),
+            Err(failed) => Err(failed),
+        }
     }
 }
 
@@ -603,6 +728,127 @@ impl DeserializeOwned for TextDocumentPositionParams {
         read_object(alloc, from)
     }
 }
+
+/// The params of `textDocument/hover` (LSP 3.17, "Hover Request").
+#[derive(Drop)]
+pub struct HoverParams {
+    /// The document.
+    pub text_document: TextDocumentIdentifier,
+    /// The place in it.
+    pub position: Position,
+    /// The token to report progress with. None if it is not asked for, or does not fit.
+    pub work_done_token: Option<ProgressToken>,
+}
+
+impl Described for HoverParams {}
+
+impl Keyed for HoverParams {
+    const KEYS: &'static [&'static str] = &["textDocument", "position", "workDoneToken"];
+}
+
+impl WriteMembers for HoverParams {
+    fn write<O: Sink>(&self, out: O) -> O {
+        out.member(&self.text_document)
+            .member(&self.position)
+            .some(&self.work_done_token)
+    }
+}
+
+impl Serialize for HoverParams {
+    fn serialize<S: Serializer>(&self, out: &mut S) -> Result<(), S::Error> {
+        write_object(self, out)
+    }
+}
+
+impl ReadMembers for HoverParams {
+    fn read<S: Source>(members: &mut S) -> HoverParams {
+        HoverParams {
+            text_document: members.required(),
+            position: members.required(),
+            work_done_token: if_fits(members),
+        }
+    }
+}
+
+impl DeserializeOwned for HoverParams {
+    fn deserialize_owned<F: Format>(
+        alloc: Global,
+        from: &mut Deserializer<'_, '_, F>,
+    ) -> Result<HoverParams, F::Error> {
+        read_object(alloc, from)
+    }
+}
+
+/// The params of `textDocument/prepareRename` (LSP 3.17, "Prepare Rename Request").
+pub type PrepareRenameParams = HoverParams;
+
+/// The params of `textDocument/definition` (LSP 3.17, "Goto Definition Request").
+#[derive(Drop)]
+pub struct DefinitionParams {
+    /// The document.
+    pub text_document: TextDocumentIdentifier,
+    /// The place in it.
+    pub position: Position,
+    /// The token to report progress with. None if it is not asked for, or does not fit.
+    pub work_done_token: Option<ProgressToken>,
+    /// The token to send parts of the result with. None if they are not asked for, or it does not fit.
+    pub partial_result_token: Option<ProgressToken>,
+}
+
+impl Described for DefinitionParams {}
+
+impl Keyed for DefinitionParams {
+    const KEYS: &'static [&'static str] = &[
+        "textDocument",
+        "position",
+        "workDoneToken",
+        "partialResultToken",
+    ];
+}
+
+impl WriteMembers for DefinitionParams {
+    fn write<O: Sink>(&self, out: O) -> O {
+        out.member(&self.text_document)
+            .member(&self.position)
+            .some(&self.work_done_token)
+            .some(&self.partial_result_token)
+    }
+}
+
+impl Serialize for DefinitionParams {
+    fn serialize<S: Serializer>(&self, out: &mut S) -> Result<(), S::Error> {
+        write_object(self, out)
+    }
+}
+
+impl ReadMembers for DefinitionParams {
+    fn read<S: Source>(members: &mut S) -> DefinitionParams {
+        DefinitionParams {
+            text_document: members.required(),
+            position: members.required(),
+            work_done_token: if_fits(members),
+            partial_result_token: if_fits(members),
+        }
+    }
+}
+
+impl DeserializeOwned for DefinitionParams {
+    fn deserialize_owned<F: Format>(
+        alloc: Global,
+        from: &mut Deserializer<'_, '_, F>,
+    ) -> Result<DefinitionParams, F::Error> {
+        read_object(alloc, from)
+    }
+}
+
+/// The params of `textDocument/declaration` (LSP 3.17, "Goto Declaration Request").
+pub type DeclarationParams = DefinitionParams;
+
+/// The params of `textDocument/typeDefinition` (LSP 3.17, "Goto Type Definition Request").
+pub type TypeDefinitionParams = DefinitionParams;
+
+/// The params of `textDocument/implementation` (LSP 3.17, "Goto Implementation Request").
+pub type ImplementationParams = DefinitionParams;
 
 /// The params of `textDocument/inlayHint` (LSP 3.17, "Inlay Hint Request").
 #[derive(Drop)]

@@ -186,6 +186,25 @@ pub struct WorkspaceEdit {
     pub change_annotations: Option<BTreeMap<String, ChangeAnnotation>>,
 }
 
+impl Default for WorkspaceEdit {
+    ghost use Rattle.std.specs.Prelude.{◌≡◌, None};
+
+    /// Nothing is set.
+    fn default() -> WorkspaceEdit
+        ensures { result ≡ record {
+          changes = None;
+          document_changes = None;
+          change_annotations = None;
+        } }
+    {
+        WorkspaceEdit {
+            changes: None,
+            document_changes: None,
+            change_annotations: None,
+        }
+    }
+}
+
 impl Described for WorkspaceEdit {}
 
 impl Keyed for WorkspaceEdit {
@@ -243,6 +262,25 @@ pub struct ChangeAnnotation {
     pub needs_confirmation: Option<bool>,
     /// More about it.
     pub description: Option<String>,
+}
+
+impl ChangeAnnotation {
+    ghost use Rattle.std.specs.Prelude.{◌≡◌, None};
+
+    /// What has to be there. The rest is `None`.
+    pub fn new(label: String) -> ChangeAnnotation
+        ensures { result ≡ record {
+          label = label;
+          needs_confirmation = None;
+          description = None;
+        } }
+    {
+        ChangeAnnotation {
+            label,
+            needs_confirmation: None,
+            description: None,
+        }
+    }
 }
 
 impl Described for ChangeAnnotation {}
@@ -557,6 +595,61 @@ impl DeserializeOwned for DocumentRangeFormattingParams {
         alloc: Global,
         from: &mut Deserializer<'_, '_, F>,
     ) -> Result<DocumentRangeFormattingParams, F::Error> {
+        read_object(alloc, from)
+    }
+}
+
+/// The params of `textDocument/onTypeFormatting` (LSP 3.17, "Document on Type Formatting Request"). The result is a list of
+/// `TextEdit` or null.
+#[derive(Drop)]
+pub struct DocumentOnTypeFormattingParams {
+    /// The document.
+    pub text_document: TextDocumentIdentifier,
+    /// The place behind what was typed.
+    pub position: Position,
+    /// The character that was typed.
+    pub ch: String,
+    /// How to format it.
+    pub options: FormattingOptions,
+}
+
+impl Described for DocumentOnTypeFormattingParams {}
+
+impl Keyed for DocumentOnTypeFormattingParams {
+    const KEYS: &'static [&'static str] = &["textDocument", "position", "ch", "options"];
+}
+
+impl WriteMembers for DocumentOnTypeFormattingParams {
+    fn write<O: Sink>(&self, out: O) -> O {
+        out.member(&self.text_document)
+            .member(&self.position)
+            .member(&self.ch)
+            .member(&self.options)
+    }
+}
+
+impl Serialize for DocumentOnTypeFormattingParams {
+    fn serialize<S: Serializer>(&self, out: &mut S) -> Result<(), S::Error> {
+        write_object(self, out)
+    }
+}
+
+impl ReadMembers for DocumentOnTypeFormattingParams {
+    fn read<S: Source>(members: &mut S) -> DocumentOnTypeFormattingParams {
+        DocumentOnTypeFormattingParams {
+            text_document: members.required(),
+            position: members.required(),
+            ch: members.required(),
+            options: members.required(),
+        }
+    }
+}
+
+impl DeserializeOwned for DocumentOnTypeFormattingParams {
+    fn deserialize_owned<F: Format>(
+        alloc: Global,
+        from: &mut Deserializer<'_, '_, F>,
+    ) -> Result<DocumentOnTypeFormattingParams, F::Error> {
         read_object(alloc, from)
     }
 }

@@ -1,8 +1,9 @@
 //! Inlay hints: what a client shows between the characters of a text.
 // `tools/types` wrote this file from `types.txt`: change that.
 use crate::edits::TextEdit;
-use crate::json::{Keyed, ReadMembers, Sink, Source, WriteMembers, read_object, write_object};
-use crate::numbers::number_within;
+use crate::json::{
+    Keyed, ReadMembers, Sink, Source, WriteMembers, number_within, read_object, write_object,
+};
 use lsp_text::Position;
 use serde::{
     Described, Deserialize, DeserializeOwned, Deserializer, Format, Serialize, Serializer,
@@ -69,6 +70,35 @@ pub struct InlayHint {
     pub padding_right: Option<bool>,
     /// What the client gives back in `inlayHint/resolve`.
     pub data: Option<Value>,
+}
+
+impl InlayHint {
+    ghost use Rattle.std.specs.Prelude.{◌≡◌, None};
+
+    /// What has to be there. The rest is `None`.
+    pub fn new(position: Position, label: String) -> InlayHint
+        ensures { result ≡ record {
+          position = position;
+          label = label;
+          kind = None;
+          text_edits = None;
+          tooltip = None;
+          padding_left = None;
+          padding_right = None;
+          «data» = None;
+        } }
+    {
+        InlayHint {
+            position,
+            label,
+            kind: None,
+            text_edits: None,
+            tooltip: None,
+            padding_left: None,
+            padding_right: None,
+            data: None,
+        }
+    }
 }
 
 impl Described for InlayHint {}

@@ -1,15 +1,18 @@
-// The types as JSON. A type says its keys once, and its members are written and read one after another, in that order. No step gives
-// up on its own: what fails is kept until the object's end, so that nothing is let go half way. That is what makes the derives dear
-// for the prover. A type's own writer and reader have one type parameter each, no lifetime and no key at a call; the impls of serde's
-// traits only call them.
+//! How types of LSP are read and written, for crates of such types.
+//!
+//! A type says its keys once, and its members are written and read one after another, in that order. No step gives up on its own: what fails is kept until the object's end, so that nothing is let go half way. That is what makes the derives dear
+//! for the prover. A type's own writer and reader have one type parameter each, no lifetime and no key at a call; the impls of serde's
+//! traits only call them.
 mod blanks;
 mod changes;
 mod fitting;
+mod numbers;
 mod reading;
 mod writing;
 
 pub use changes::Changes;
-pub use fitting::{if_fits, text_or_empty, those_that_fit};
+pub use fitting::{if_fits, read_if_fits, text_or_empty, those_that_fit};
+pub use numbers::number_within;
 pub use reading::{Blank, ReadMembers, Source, read_object};
 pub use writing::{Object, Sink, WriteMembers, write_object};
 

@@ -1,6 +1,7 @@
 //! The handshake.
 // `tools/types` wrote this file from `types.txt`: change that.
 use crate::capabilities::ServerCapabilities;
+use crate::choices::NumberOrString;
 use crate::json::{
     Keyed, ReadMembers, Sink, Source, WriteMembers, if_fits, read_object, write_object,
 };
@@ -110,6 +111,23 @@ pub struct ServerInfo {
     pub version: Option<String>,
 }
 
+impl ServerInfo {
+    ghost use Rattle.std.specs.Prelude.{◌≡◌, None};
+
+    /// What has to be there. The rest is `None`.
+    pub fn new(name: String) -> ServerInfo
+        ensures { result ≡ record {
+          name = name;
+          version = None;
+        } }
+    {
+        ServerInfo {
+            name,
+            version: None,
+        }
+    }
+}
+
 impl Described for ServerInfo {}
 
 impl Keyed for ServerInfo {
@@ -182,5 +200,349 @@ impl WriteMembers for InitializeResult {
 impl Serialize for InitializeResult {
     fn serialize<S: Serializer>(&self, out: &mut S) -> Result<(), S::Error> {
         write_object(self, out)
+    }
+}
+
+/// The params of `$/setTrace` (LSP 3.17, "SetTrace").
+#[derive(Drop)]
+pub struct SetTraceParams {
+    /// How much the client wants to be told: `off`, `messages` or `verbose`.
+    pub value: String,
+}
+
+impl Described for SetTraceParams {}
+
+impl Keyed for SetTraceParams {
+    const KEYS: &'static [&'static str] = &["value"];
+}
+
+impl WriteMembers for SetTraceParams {
+    fn write<O: Sink>(&self, out: O) -> O {
+        out.member(&self.value)
+    }
+}
+
+impl Serialize for SetTraceParams {
+    fn serialize<S: Serializer>(&self, out: &mut S) -> Result<(), S::Error> {
+        write_object(self, out)
+    }
+}
+
+impl ReadMembers for SetTraceParams {
+    fn read<S: Source>(members: &mut S) -> SetTraceParams {
+        SetTraceParams {
+            value: members.required(),
+        }
+    }
+}
+
+impl DeserializeOwned for SetTraceParams {
+    fn deserialize_owned<F: Format>(
+        alloc: Global,
+        from: &mut Deserializer<'_, '_, F>,
+    ) -> Result<SetTraceParams, F::Error> {
+        read_object(alloc, from)
+    }
+}
+
+/// The params of `$/logTrace` (LSP 3.17, "LogTrace").
+#[derive(Drop)]
+pub struct LogTraceParams {
+    /// What was done.
+    pub message: String,
+    /// More about it, if the client wants to be told all.
+    pub verbose: Option<String>,
+}
+
+impl LogTraceParams {
+    ghost use Rattle.std.specs.Prelude.{◌≡◌, None};
+
+    /// What has to be there. The rest is `None`.
+    pub fn new(message: String) -> LogTraceParams
+        ensures { result ≡ record {
+          message = message;
+          verbose = None;
+        } }
+    {
+        LogTraceParams {
+            message,
+            verbose: None,
+        }
+    }
+}
+
+impl Described for LogTraceParams {}
+
+impl Keyed for LogTraceParams {
+    const KEYS: &'static [&'static str] = &["message", "verbose"];
+}
+
+impl WriteMembers for LogTraceParams {
+    fn write<O: Sink>(&self, out: O) -> O {
+        out.member(&self.message).some(&self.verbose)
+    }
+}
+
+impl Serialize for LogTraceParams {
+    fn serialize<S: Serializer>(&self, out: &mut S) -> Result<(), S::Error> {
+        write_object(self, out)
+    }
+}
+
+impl ReadMembers for LogTraceParams {
+    fn read<S: Source>(members: &mut S) -> LogTraceParams {
+        LogTraceParams {
+            message: members.required(),
+            verbose: members.optional(),
+        }
+    }
+}
+
+impl DeserializeOwned for LogTraceParams {
+    fn deserialize_owned<F: Format>(
+        alloc: Global,
+        from: &mut Deserializer<'_, '_, F>,
+    ) -> Result<LogTraceParams, F::Error> {
+        read_object(alloc, from)
+    }
+}
+
+/// The params of `$/cancelRequest` (LSP 3.17, "Cancellation Support").
+#[derive(Drop)]
+pub struct CancelParams {
+    /// The id of the request that is not needed any more.
+    pub id: NumberOrString,
+}
+
+impl Described for CancelParams {}
+
+impl Keyed for CancelParams {
+    const KEYS: &'static [&'static str] = &["id"];
+}
+
+impl WriteMembers for CancelParams {
+    fn write<O: Sink>(&self, out: O) -> O {
+        out.member(&self.id)
+    }
+}
+
+impl Serialize for CancelParams {
+    fn serialize<S: Serializer>(&self, out: &mut S) -> Result<(), S::Error> {
+        write_object(self, out)
+    }
+}
+
+impl ReadMembers for CancelParams {
+    fn read<S: Source>(members: &mut S) -> CancelParams {
+        CancelParams {
+            id: members.required(),
+        }
+    }
+}
+
+impl DeserializeOwned for CancelParams {
+    fn deserialize_owned<F: Format>(
+        alloc: Global,
+        from: &mut Deserializer<'_, '_, F>,
+    ) -> Result<CancelParams, F::Error> {
+        read_object(alloc, from)
+    }
+}
+
+/// What the server can do from now on (LSP 3.17, "Register Capability").
+#[derive(Drop)]
+pub struct Registration {
+    /// A name for it, by which it is taken back.
+    pub id: String,
+    /// The method that the client may send from now on.
+    pub method: String,
+    /// The method's options: the members of those in `ServerCapabilities`, and mostly `documentSelector`.
+    pub register_options: Option<Value>,
+}
+
+impl Registration {
+    ghost use Rattle.std.specs.Prelude.{◌≡◌, None};
+
+    /// What has to be there. The rest is `None`.
+    pub fn new(id: String, method: String) -> Registration
+        ensures { result ≡ record {
+          id = id;
+          method = method;
+          register_options = None;
+        } }
+    {
+        Registration {
+            id,
+            method,
+            register_options: None,
+        }
+    }
+}
+
+impl Described for Registration {}
+
+impl Keyed for Registration {
+    const KEYS: &'static [&'static str] = &["id", "method", "registerOptions"];
+}
+
+impl WriteMembers for Registration {
+    fn write<O: Sink>(&self, out: O) -> O {
+        out.member(&self.id)
+            .member(&self.method)
+            .some(&self.register_options)
+    }
+}
+
+impl Serialize for Registration {
+    fn serialize<S: Serializer>(&self, out: &mut S) -> Result<(), S::Error> {
+        write_object(self, out)
+    }
+}
+
+impl ReadMembers for Registration {
+    fn read<S: Source>(members: &mut S) -> Registration {
+        Registration {
+            id: members.required(),
+            method: members.required(),
+            register_options: members.optional(),
+        }
+    }
+}
+
+impl DeserializeOwned for Registration {
+    fn deserialize_owned<F: Format>(
+        alloc: Global,
+        from: &mut Deserializer<'_, '_, F>,
+    ) -> Result<Registration, F::Error> {
+        read_object(alloc, from)
+    }
+}
+
+/// The params of `client/registerCapability` (LSP 3.17, "Register Capability").
+#[derive(Drop)]
+pub struct RegistrationParams {
+    /// What the server can do.
+    pub registrations: Vec<Registration>,
+}
+
+impl Described for RegistrationParams {}
+
+impl Keyed for RegistrationParams {
+    const KEYS: &'static [&'static str] = &["registrations"];
+}
+
+impl WriteMembers for RegistrationParams {
+    fn write<O: Sink>(&self, out: O) -> O {
+        out.member(&self.registrations)
+    }
+}
+
+impl Serialize for RegistrationParams {
+    fn serialize<S: Serializer>(&self, out: &mut S) -> Result<(), S::Error> {
+        write_object(self, out)
+    }
+}
+
+impl ReadMembers for RegistrationParams {
+    fn read<S: Source>(members: &mut S) -> RegistrationParams {
+        RegistrationParams {
+            registrations: members.required(),
+        }
+    }
+}
+
+impl DeserializeOwned for RegistrationParams {
+    fn deserialize_owned<F: Format>(
+        alloc: Global,
+        from: &mut Deserializer<'_, '_, F>,
+    ) -> Result<RegistrationParams, F::Error> {
+        read_object(alloc, from)
+    }
+}
+
+/// What the server takes back (LSP 3.17, "Unregister Capability").
+#[derive(Drop)]
+pub struct Unregistration {
+    /// The name that it was given.
+    pub id: String,
+    /// The method.
+    pub method: String,
+}
+
+impl Described for Unregistration {}
+
+impl Keyed for Unregistration {
+    const KEYS: &'static [&'static str] = &["id", "method"];
+}
+
+impl WriteMembers for Unregistration {
+    fn write<O: Sink>(&self, out: O) -> O {
+        out.member(&self.id).member(&self.method)
+    }
+}
+
+impl Serialize for Unregistration {
+    fn serialize<S: Serializer>(&self, out: &mut S) -> Result<(), S::Error> {
+        write_object(self, out)
+    }
+}
+
+impl ReadMembers for Unregistration {
+    fn read<S: Source>(members: &mut S) -> Unregistration {
+        Unregistration {
+            id: members.required(),
+            method: members.required(),
+        }
+    }
+}
+
+impl DeserializeOwned for Unregistration {
+    fn deserialize_owned<F: Format>(
+        alloc: Global,
+        from: &mut Deserializer<'_, '_, F>,
+    ) -> Result<Unregistration, F::Error> {
+        read_object(alloc, from)
+    }
+}
+
+/// The params of `client/unregisterCapability` (LSP 3.17, "Unregister Capability").
+#[derive(Drop)]
+pub struct UnregistrationParams {
+    /// What is taken back. The standard spells the key so.
+    pub unregisterations: Vec<Unregistration>,
+}
+
+impl Described for UnregistrationParams {}
+
+impl Keyed for UnregistrationParams {
+    const KEYS: &'static [&'static str] = &["unregisterations"];
+}
+
+impl WriteMembers for UnregistrationParams {
+    fn write<O: Sink>(&self, out: O) -> O {
+        out.member(&self.unregisterations)
+    }
+}
+
+impl Serialize for UnregistrationParams {
+    fn serialize<S: Serializer>(&self, out: &mut S) -> Result<(), S::Error> {
+        write_object(self, out)
+    }
+}
+
+impl ReadMembers for UnregistrationParams {
+    fn read<S: Source>(members: &mut S) -> UnregistrationParams {
+        UnregistrationParams {
+            unregisterations: members.required(),
+        }
+    }
+}
+
+impl DeserializeOwned for UnregistrationParams {
+    fn deserialize_owned<F: Format>(
+        alloc: Global,
+        from: &mut Deserializer<'_, '_, F>,
+    ) -> Result<UnregistrationParams, F::Error> {
+        read_object(alloc, from)
     }
 }

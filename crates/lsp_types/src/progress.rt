@@ -137,6 +137,27 @@ pub struct WorkDoneProgressBegin {
     pub percentage: Option<u32>,
 }
 
+impl WorkDoneProgressBegin {
+    ghost use Rattle.std.specs.Prelude.{◌≡◌, None};
+
+    /// What has to be there. The rest is `None`.
+    pub fn new(title: String) -> WorkDoneProgressBegin
+        ensures { result ≡ record {
+          title = title;
+          cancellable = None;
+          message = None;
+          percentage = None;
+        } }
+    {
+        WorkDoneProgressBegin {
+            title,
+            cancellable: None,
+            message: None,
+            percentage: None,
+        }
+    }
+}
+
 impl Described for WorkDoneProgressBegin {}
 
 impl Keyed for WorkDoneProgressBegin {
@@ -197,6 +218,25 @@ pub struct WorkDoneProgressReport {
     pub percentage: Option<u32>,
 }
 
+impl Default for WorkDoneProgressReport {
+    ghost use Rattle.std.specs.Prelude.{◌≡◌, None};
+
+    /// Nothing is set.
+    fn default() -> WorkDoneProgressReport
+        ensures { result ≡ record {
+          cancellable = None;
+          message = None;
+          percentage = None;
+        } }
+    {
+        WorkDoneProgressReport {
+            cancellable: None,
+            message: None,
+            percentage: None,
+        }
+    }
+}
+
 impl Described for WorkDoneProgressReport {}
 
 impl Keyed for WorkDoneProgressReport {
@@ -243,6 +283,19 @@ impl DeserializeOwned for WorkDoneProgressReport {
 pub struct WorkDoneProgressEnd {
     /// What came of it.
     pub message: Option<String>,
+}
+
+impl Default for WorkDoneProgressEnd {
+    ghost use Rattle.std.specs.Prelude.{◌≡◌, None};
+
+    /// Nothing is set.
+    fn default() -> WorkDoneProgressEnd
+        ensures { result ≡ record {
+          message = None;
+        } }
+    {
+        WorkDoneProgressEnd { message: None }
+    }
 }
 
 impl Described for WorkDoneProgressEnd {}

@@ -1,7 +1,13 @@
 //! Signature help: what a call takes, while it is typed.
 // `tools/types` wrote this file from `types.txt`: change that.
+use crate::documents::TextDocumentIdentifier;
 use crate::hovers::MarkupContent;
-use crate::json::{Keyed, ReadMembers, Sink, Source, WriteMembers, read_object, write_object};
+use crate::json::{
+    Blank, Keyed, ReadMembers, Sink, Source, WriteMembers, if_fits, number_within, read_object,
+    write_object,
+};
+use crate::progress::ProgressToken;
+use lsp_text::Position;
 use serde::{
     Described, Deserialize, DeserializeOwned, Deserializer, Format, Serialize, Serializer,
 };
@@ -16,6 +22,25 @@ pub struct SignatureHelp {
     pub active_signature: Option<u32>,
     /// Which parameter of it is typed, from 0. `None` means the first.
     pub active_parameter: Option<u32>,
+}
+
+impl SignatureHelp {
+    ghost use Rattle.std.specs.Prelude.{◌≡◌, None};
+
+    /// What has to be there. The rest is `None`.
+    pub fn new(signatures: Vec<SignatureInformation>) -> SignatureHelp
+        ensures { result ≡ record {
+          signatures = signatures;
+          active_signature = None;
+          active_parameter = None;
+        } }
+    {
+        SignatureHelp {
+            signatures,
+            active_signature: None,
+            active_parameter: None,
+        }
+    }
 }
 
 impl Described for SignatureHelp {}
@@ -68,6 +93,27 @@ pub struct SignatureInformation {
     pub parameters: Option<Vec<ParameterInformation>>,
     /// Which of them is typed, in place of the help's `active_parameter`.
     pub active_parameter: Option<u32>,
+}
+
+impl SignatureInformation {
+    ghost use Rattle.std.specs.Prelude.{◌≡◌, None};
+
+    /// What has to be there. The rest is `None`.
+    pub fn new(label: String) -> SignatureInformation
+        ensures { result ≡ record {
+          label = label;
+          documentation = None;
+          parameters = None;
+          active_parameter = None;
+        } }
+    {
+        SignatureInformation {
+            label,
+            documentation: None,
+            parameters: None,
+            active_parameter: None,
+        }
+    }
 }
 
 impl Described for SignatureInformation {}
@@ -134,6 +180,23 @@ pub struct ParameterInformation {
     pub documentation: Option<MarkupContent>,
 }
 
+impl ParameterInformation {
+    ghost use Rattle.std.specs.Prelude.{◌≡◌, None};
+
+    /// What has to be there. The rest is `None`.
+    pub fn new(label: String) -> ParameterInformation
+        ensures { result ≡ record {
+          label = label;
+          documentation = None;
+        } }
+    {
+        ParameterInformation {
+            label,
+            documentation: None,
+        }
+    }
+}
+
 impl Described for ParameterInformation {}
 
 impl Keyed for ParameterInformation {
@@ -175,6 +238,167 @@ impl DeserializeOwned for ParameterInformation {
         alloc: Global,
         from: &mut Deserializer<'_, '_, F>,
     ) -> Result<ParameterInformation, F::Error> {
+        read_object(alloc, from)
+    }
+}
+
+/// Why signature help is asked for (LSP 3.17, "SignatureHelpTriggerKind"). On reading, another number is refused.
+#[derive(Clone, Copy, Drop)]
+pub struct SignatureHelpTriggerKind(pub u32);
+
+impl SignatureHelpTriggerKind {
+    /// The user asked.
+    pub const INVOKED: SignatureHelpTriggerKind = SignatureHelpTriggerKind(1);
+    /// One of `trigger_characters` was typed.
+    pub const TRIGGER_CHARACTER: SignatureHelpTriggerKind = SignatureHelpTriggerKind(2);
+    /// The cursor moved, or the text changed.
+    pub const CONTENT_CHANGE: SignatureHelpTriggerKind = SignatureHelpTriggerKind(3);
+}
+
+impl Described for SignatureHelpTriggerKind {}
+
+impl Serialize for SignatureHelpTriggerKind {
+    fn serialize<S: Serializer>(&self, out: &mut S) -> Result<(), S::Error> {
+        self.0.serialize(out)
+    }
+}
+
+impl<'de> Deserialize<'de> for SignatureHelpTriggerKind {
+    fn deserialize<F: Format>(
+        alloc: Global,
+        from: &mut Deserializer<'de, '_, F>,
+    ) -> Result<SignatureHelpTriggerKind, F::Error> {
+        match number_within(alloc, from, 1, 3) {
+            Ok(number) => Ok(SignatureHelpTriggerKind(number)),
+            Err(failed) => Err(failed),
+        }
+    }
+}
+
+impl DeserializeOwned for SignatureHelpTriggerKind {
+    fn deserialize_owned<F: Format>(
+        alloc: Global,
+        from: &mut Deserializer<'_, '_, F>,
+    ) -> Result<SignatureHelpTriggerKind, F::Error> {
+        SignatureHelpTriggerKind::deserialize(alloc, from)
+    }
+}
+
+impl Blank for SignatureHelpTriggerKind {
+    fn blank(_alloc: Global) -> SignatureHelpTriggerKind {
+        SignatureHelpTriggerKind::INVOKED
+    }
+}
+
+/// Why signature help is asked for (LSP 3.17, "SignatureHelpContext").
+#[derive(Drop)]
+pub struct SignatureHelpContext {
+    /// Why.
+    pub trigger_kind: SignatureHelpTriggerKind,
+    /// The character that was typed, if it was one of `trigger_characters` or `retrigger_characters`.
+    pub trigger_character: Option<String>,
+    /// Whether help is shown already.
+    pub is_retrigger: bool,
+    /// The help that is shown.
+    pub active_signature_help: Option<SignatureHelp>,
+}
+
+impl Described for SignatureHelpContext {}
+
+impl Keyed for SignatureHelpContext {
+    const KEYS: &'static [&'static str] = &[
+        "triggerKind",
+        "triggerCharacter",
+        "isRetrigger",
+        "activeSignatureHelp",
+    ];
+}
+
+impl WriteMembers for SignatureHelpContext {
+    fn write<O: Sink>(&self, out: O) -> O {
+        out.member(&self.trigger_kind)
+            .some(&self.trigger_character)
+            .member(&self.is_retrigger)
+            .some(&self.active_signature_help)
+    }
+}
+
+impl Serialize for SignatureHelpContext {
+    fn serialize<S: Serializer>(&self, out: &mut S) -> Result<(), S::Error> {
+        write_object(self, out)
+    }
+}
+
+impl ReadMembers for SignatureHelpContext {
+    fn read<S: Source>(members: &mut S) -> SignatureHelpContext {
+        SignatureHelpContext {
+            trigger_kind: members.required(),
+            trigger_character: members.optional(),
+            is_retrigger: members.required(),
+            active_signature_help: members.optional(),
+        }
+    }
+}
+
+impl DeserializeOwned for SignatureHelpContext {
+    fn deserialize_owned<F: Format>(
+        alloc: Global,
+        from: &mut Deserializer<'_, '_, F>,
+    ) -> Result<SignatureHelpContext, F::Error> {
+        read_object(alloc, from)
+    }
+}
+
+/// The params of `textDocument/signatureHelp` (LSP 3.17, "Signature Help Request").
+#[derive(Drop)]
+pub struct SignatureHelpParams {
+    /// The document.
+    pub text_document: TextDocumentIdentifier,
+    /// The place in it.
+    pub position: Position,
+    /// Why. None if the client does not say it, or it does not fit.
+    pub context: Option<SignatureHelpContext>,
+    /// The token to report progress with. None if it is not asked for, or does not fit.
+    pub work_done_token: Option<ProgressToken>,
+}
+
+impl Described for SignatureHelpParams {}
+
+impl Keyed for SignatureHelpParams {
+    const KEYS: &'static [&'static str] = &["textDocument", "position", "context", "workDoneToken"];
+}
+
+impl WriteMembers for SignatureHelpParams {
+    fn write<O: Sink>(&self, out: O) -> O {
+        out.member(&self.text_document)
+            .member(&self.position)
+            .some(&self.context)
+            .some(&self.work_done_token)
+    }
+}
+
+impl Serialize for SignatureHelpParams {
+    fn serialize<S: Serializer>(&self, out: &mut S) -> Result<(), S::Error> {
+        write_object(self, out)
+    }
+}
+
+impl ReadMembers for SignatureHelpParams {
+    fn read<S: Source>(members: &mut S) -> SignatureHelpParams {
+        SignatureHelpParams {
+            text_document: members.required(),
+            position: members.required(),
+            context: if_fits(members),
+            work_done_token: if_fits(members),
+        }
+    }
+}
+
+impl DeserializeOwned for SignatureHelpParams {
+    fn deserialize_owned<F: Format>(
+        alloc: Global,
+        from: &mut Deserializer<'_, '_, F>,
+    ) -> Result<SignatureHelpParams, F::Error> {
         read_object(alloc, from)
     }
 }

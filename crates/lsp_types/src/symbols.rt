@@ -2,10 +2,9 @@
 // `tools/types` wrote this file from `types.txt`: change that.
 use crate::documents::Location;
 use crate::json::{
-    Blank, Keyed, Object, ReadMembers, Sink, Source, WriteMembers, if_fits, read_object,
-    write_object,
+    Blank, Keyed, Object, ReadMembers, Sink, Source, WriteMembers, if_fits, number_within,
+    read_object, write_object,
 };
-use crate::numbers::number_within;
 use crate::progress::ProgressToken;
 use lsp_text::Range;
 use serde::{
@@ -299,6 +298,31 @@ pub struct WorkspaceSymbol {
     pub location: Location,
     /// What the client gives back in `workspaceSymbol/resolve`.
     pub data: Option<Value>,
+}
+
+impl WorkspaceSymbol {
+    ghost use Rattle.std.specs.Prelude.{◌≡◌, None};
+
+    /// What has to be there. The rest is `None`.
+    pub fn new(name: String, kind: SymbolKind, location: Location) -> WorkspaceSymbol
+        ensures { result ≡ record {
+          name = name;
+          kind = kind;
+          tags = None;
+          container_name = None;
+          location = location;
+          «data» = None;
+        } }
+    {
+        WorkspaceSymbol {
+            name,
+            kind,
+            tags: None,
+            container_name: None,
+            location,
+            data: None,
+        }
+    }
 }
 
 impl Described for WorkspaceSymbol {}

@@ -2,7 +2,8 @@
 // `tools/types` wrote this file from `types.txt`: change that.
 use crate::edits::WorkspaceEdit;
 use crate::json::{
-    Keyed, ReadMembers, Sink, Source, WriteMembers, if_fits, read_object, write_object,
+    Blank, Keyed, ReadMembers, Sink, Source, WriteMembers, if_fits, number_within, read_object,
+    write_object,
 };
 use crate::progress::ProgressToken;
 use serde::{
@@ -65,6 +66,270 @@ impl DeserializeOwned for WorkspaceFolder {
     }
 }
 
+/// The params of `workspace/didChangeWorkspaceFolders` (LSP 3.17, "DidChangeWorkspaceFolders Notification").
+#[derive(Drop)]
+pub struct DidChangeWorkspaceFoldersParams {
+    /// Which folders came and went.
+    pub event: WorkspaceFoldersChangeEvent,
+}
+
+impl Described for DidChangeWorkspaceFoldersParams {}
+
+impl Keyed for DidChangeWorkspaceFoldersParams {
+    const KEYS: &'static [&'static str] = &["event"];
+}
+
+impl WriteMembers for DidChangeWorkspaceFoldersParams {
+    fn write<O: Sink>(&self, out: O) -> O {
+        out.member(&self.event)
+    }
+}
+
+impl Serialize for DidChangeWorkspaceFoldersParams {
+    fn serialize<S: Serializer>(&self, out: &mut S) -> Result<(), S::Error> {
+        write_object(self, out)
+    }
+}
+
+impl ReadMembers for DidChangeWorkspaceFoldersParams {
+    fn read<S: Source>(members: &mut S) -> DidChangeWorkspaceFoldersParams {
+        DidChangeWorkspaceFoldersParams {
+            event: members.required(),
+        }
+    }
+}
+
+impl DeserializeOwned for DidChangeWorkspaceFoldersParams {
+    fn deserialize_owned<F: Format>(
+        alloc: Global,
+        from: &mut Deserializer<'_, '_, F>,
+    ) -> Result<DidChangeWorkspaceFoldersParams, F::Error> {
+        read_object(alloc, from)
+    }
+}
+
+/// Which folders came and went (LSP 3.17, "DidChangeWorkspaceFolders Notification").
+#[derive(Drop)]
+pub struct WorkspaceFoldersChangeEvent {
+    /// Those that were opened.
+    pub added: Vec<WorkspaceFolder>,
+    /// Those that were closed.
+    pub removed: Vec<WorkspaceFolder>,
+}
+
+impl Described for WorkspaceFoldersChangeEvent {}
+
+impl Keyed for WorkspaceFoldersChangeEvent {
+    const KEYS: &'static [&'static str] = &["added", "removed"];
+}
+
+impl WriteMembers for WorkspaceFoldersChangeEvent {
+    fn write<O: Sink>(&self, out: O) -> O {
+        out.member(&self.added).member(&self.removed)
+    }
+}
+
+impl Serialize for WorkspaceFoldersChangeEvent {
+    fn serialize<S: Serializer>(&self, out: &mut S) -> Result<(), S::Error> {
+        write_object(self, out)
+    }
+}
+
+impl ReadMembers for WorkspaceFoldersChangeEvent {
+    fn read<S: Source>(members: &mut S) -> WorkspaceFoldersChangeEvent {
+        WorkspaceFoldersChangeEvent {
+            added: members.required(),
+            removed: members.required(),
+        }
+    }
+}
+
+impl DeserializeOwned for WorkspaceFoldersChangeEvent {
+    fn deserialize_owned<F: Format>(
+        alloc: Global,
+        from: &mut Deserializer<'_, '_, F>,
+    ) -> Result<WorkspaceFoldersChangeEvent, F::Error> {
+        read_object(alloc, from)
+    }
+}
+
+/// The params of `workspace/didChangeConfiguration` (LSP 3.17, "DidChangeConfiguration Notification").
+#[derive(Drop)]
+pub struct DidChangeConfigurationParams {
+    /// The settings. A client that can be asked sends null, and means that the server is to ask (`workspace/configuration`).
+    pub settings: Value,
+}
+
+impl Described for DidChangeConfigurationParams {}
+
+impl Keyed for DidChangeConfigurationParams {
+    const KEYS: &'static [&'static str] = &["settings"];
+}
+
+impl WriteMembers for DidChangeConfigurationParams {
+    fn write<O: Sink>(&self, out: O) -> O {
+        out.member(&self.settings)
+    }
+}
+
+impl Serialize for DidChangeConfigurationParams {
+    fn serialize<S: Serializer>(&self, out: &mut S) -> Result<(), S::Error> {
+        write_object(self, out)
+    }
+}
+
+impl ReadMembers for DidChangeConfigurationParams {
+    fn read<S: Source>(members: &mut S) -> DidChangeConfigurationParams {
+        DidChangeConfigurationParams {
+            settings: members.required(),
+        }
+    }
+}
+
+impl DeserializeOwned for DidChangeConfigurationParams {
+    fn deserialize_owned<F: Format>(
+        alloc: Global,
+        from: &mut Deserializer<'_, '_, F>,
+    ) -> Result<DidChangeConfigurationParams, F::Error> {
+        read_object(alloc, from)
+    }
+}
+
+/// What became of a file (LSP 3.17, "FileChangeType"). On reading, another number is refused.
+#[derive(Clone, Copy, Drop)]
+pub struct FileChangeType(pub u32);
+
+impl FileChangeType {
+    /// It was made.
+    pub const CREATED: FileChangeType = FileChangeType(1);
+    /// It was changed.
+    pub const CHANGED: FileChangeType = FileChangeType(2);
+    /// It was deleted.
+    pub const DELETED: FileChangeType = FileChangeType(3);
+}
+
+impl Described for FileChangeType {}
+
+impl Serialize for FileChangeType {
+    fn serialize<S: Serializer>(&self, out: &mut S) -> Result<(), S::Error> {
+        self.0.serialize(out)
+    }
+}
+
+impl<'de> Deserialize<'de> for FileChangeType {
+    fn deserialize<F: Format>(
+        alloc: Global,
+        from: &mut Deserializer<'de, '_, F>,
+    ) -> Result<FileChangeType, F::Error> {
+        match number_within(alloc, from, 1, 3) {
+            Ok(number) => Ok(FileChangeType(number)),
+            Err(failed) => Err(failed),
+        }
+    }
+}
+
+impl DeserializeOwned for FileChangeType {
+    fn deserialize_owned<F: Format>(
+        alloc: Global,
+        from: &mut Deserializer<'_, '_, F>,
+    ) -> Result<FileChangeType, F::Error> {
+        FileChangeType::deserialize(alloc, from)
+    }
+}
+
+impl Blank for FileChangeType {
+    fn blank(_alloc: Global) -> FileChangeType {
+        FileChangeType::CREATED
+    }
+}
+
+/// What became of a file (LSP 3.17, "FileEvent").
+#[derive(Drop)]
+pub struct FileEvent {
+    /// Its URI.
+    pub uri: String,
+    /// What became of it. Its key is `type`.
+    pub typ: FileChangeType,
+}
+
+impl Described for FileEvent {}
+
+impl Keyed for FileEvent {
+    const KEYS: &'static [&'static str] = &["uri", "type"];
+}
+
+impl WriteMembers for FileEvent {
+    fn write<O: Sink>(&self, out: O) -> O {
+        out.member(&self.uri).member(&self.typ)
+    }
+}
+
+impl Serialize for FileEvent {
+    fn serialize<S: Serializer>(&self, out: &mut S) -> Result<(), S::Error> {
+        write_object(self, out)
+    }
+}
+
+impl ReadMembers for FileEvent {
+    fn read<S: Source>(members: &mut S) -> FileEvent {
+        FileEvent {
+            uri: members.required(),
+            typ: members.required(),
+        }
+    }
+}
+
+impl DeserializeOwned for FileEvent {
+    fn deserialize_owned<F: Format>(
+        alloc: Global,
+        from: &mut Deserializer<'_, '_, F>,
+    ) -> Result<FileEvent, F::Error> {
+        read_object(alloc, from)
+    }
+}
+
+/// The params of `workspace/didChangeWatchedFiles` (LSP 3.17, "DidChangeWatchedFiles Notification").
+#[derive(Drop)]
+pub struct DidChangeWatchedFilesParams {
+    /// The files.
+    pub changes: Vec<FileEvent>,
+}
+
+impl Described for DidChangeWatchedFilesParams {}
+
+impl Keyed for DidChangeWatchedFilesParams {
+    const KEYS: &'static [&'static str] = &["changes"];
+}
+
+impl WriteMembers for DidChangeWatchedFilesParams {
+    fn write<O: Sink>(&self, out: O) -> O {
+        out.member(&self.changes)
+    }
+}
+
+impl Serialize for DidChangeWatchedFilesParams {
+    fn serialize<S: Serializer>(&self, out: &mut S) -> Result<(), S::Error> {
+        write_object(self, out)
+    }
+}
+
+impl ReadMembers for DidChangeWatchedFilesParams {
+    fn read<S: Source>(members: &mut S) -> DidChangeWatchedFilesParams {
+        DidChangeWatchedFilesParams {
+            changes: members.required(),
+        }
+    }
+}
+
+impl DeserializeOwned for DidChangeWatchedFilesParams {
+    fn deserialize_owned<F: Format>(
+        alloc: Global,
+        from: &mut Deserializer<'_, '_, F>,
+    ) -> Result<DidChangeWatchedFilesParams, F::Error> {
+        read_object(alloc, from)
+    }
+}
+
 /// The params of `workspace/configuration` (LSP 3.17, "Configuration Request"). The result is a list with a value for each item.
 #[derive(Drop)]
 pub struct ConfigurationParams {
@@ -114,6 +379,23 @@ pub struct ConfigurationItem {
     pub scope_uri: Option<String>,
     /// The section, as the name of the server.
     pub section: Option<String>,
+}
+
+impl Default for ConfigurationItem {
+    ghost use Rattle.std.specs.Prelude.{◌≡◌, None};
+
+    /// Nothing is set.
+    fn default() -> ConfigurationItem
+        ensures { result ≡ record {
+          scope_uri = None;
+          section = None;
+        } }
+    {
+        ConfigurationItem {
+            scope_uri: None,
+            section: None,
+        }
+    }
 }
 
 impl Described for ConfigurationItem {}
@@ -170,6 +452,25 @@ pub struct Command {
     pub command: String,
     /// What it is sent back with.
     pub arguments: Option<Vec<Value>>,
+}
+
+impl Command {
+    ghost use Rattle.std.specs.Prelude.{◌≡◌, None};
+
+    /// What has to be there. The rest is `None`.
+    pub fn new(title: String, command: String) -> Command
+        ensures { result ≡ record {
+          title = title;
+          command = command;
+          arguments = None;
+        } }
+    {
+        Command {
+            title,
+            command,
+            arguments: None,
+        }
+    }
 }
 
 impl Described for Command {}
@@ -277,6 +578,20 @@ pub struct ApplyWorkspaceEditParams {
     pub label: Option<String>,
     /// The edit.
     pub edit: WorkspaceEdit,
+}
+
+impl ApplyWorkspaceEditParams {
+    ghost use Rattle.std.specs.Prelude.{◌≡◌, None};
+
+    /// What has to be there. The rest is `None`.
+    pub fn new(edit: WorkspaceEdit) -> ApplyWorkspaceEditParams
+        ensures { result ≡ record {
+          label = None;
+          edit = edit;
+        } }
+    {
+        ApplyWorkspaceEditParams { label: None, edit }
+    }
 }
 
 impl Described for ApplyWorkspaceEditParams {}

@@ -12,6 +12,7 @@
 //! - `plain`, `typed`: values that are read and written by a type: one of serde's kinds, or of `lsp_types`. `uri`, `path`: a path and its URI. `names`: whether
 //!   a URI names a path. `tokens`: the numbers of semantic tokens. `offset`: the place of a position that was read. `lines`:
 //!   the lines of a text, and whether there is one more.
+//! - `method`: the acts at a message, by LSP's methods. `configuration`: what is asked of a client, and what it sends.
 //! - `document`: a notification of an open document.
 //!
 //! If an allocation fails, in a call or in the program, the row has a line `refused: ..`, and is run once more; of a case this is so
@@ -19,6 +20,7 @@
 #![tactic(auto)]
 
 mod boxes;
+mod by_method;
 mod calls;
 mod devices;
 mod dispatching;
@@ -27,6 +29,7 @@ mod escapes;
 mod links;
 mod lists;
 mod messages;
+mod more_types;
 mod plain;
 mod queues;
 mod rows;

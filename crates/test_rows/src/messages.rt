@@ -1,4 +1,5 @@
 // What bytes and trees mean as messages, and what messages become.
+use crate::by_method;
 use crate::calls::say_message;
 use crate::escapes::unescape;
 use crate::said::Said;
@@ -51,6 +52,15 @@ pub fn nested(alloc: Global, levels: usize) -> Result<Value, AllocError> {
         value = Value::Array(values);
     }
     Ok(value)
+}
+
+/// The acts at a message.
+pub fn acts(said: &mut Said, text: &str) {
+    match message_in(said.alloc, text) {
+        Ok(Some(message)) => by_method::acts(said, message),
+        Ok(None) => said.push("no message"),
+        Err(_) => said.is_short = true,
+    }
 }
 
 /// The id in a tree, as it prints.

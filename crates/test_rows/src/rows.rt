@@ -3,7 +3,7 @@ use crate::calls::{Run, call_at};
 use crate::documents::Documents;
 use crate::said::Said;
 use crate::table::{Case, Given, case_in};
-use crate::{dispatching, links, lists, messages, plain, queues, types, uris};
+use crate::{by_method, dispatching, links, lists, messages, plain, queues, types, uris};
 use std::alloc::Global;
 
 /// What the next row is about.
@@ -84,6 +84,8 @@ impl Rows {
             "replay" => dispatching::replayed(said, rest),
             "link" => links::answers(said, rest),
             "typed" => types::answer(said, rest),
+            "method" => messages::acts(said, rest),
+            "configuration" => by_method::configuration(said, rest),
             "plain" => plain::answers(said, rest),
             "uri" => uris::uri(said, rest),
             "path" => uris::path(said, rest),

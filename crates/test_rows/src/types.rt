@@ -1,25 +1,31 @@
 // Values that are read by the types of `lsp_types` and written again.
 use crate::messages::{text_in, value_in};
+use crate::more_types;
 use crate::said::Said;
 use lsp_documents::Agreed;
 use lsp_trees::from_value;
 use lsp_types::{
-    ApplyWorkspaceEditParams, ApplyWorkspaceEditResult, CodeAction, CodeActionOptions,
-    CodeActionParams, CodeLensOptions, Command, CompletionItem, CompletionItemOptions,
-    CompletionList, CompletionOptions, ConfigurationParams, DiagnosticOptions,
-    DidChangeTextDocumentParams, DidCloseTextDocumentParams, DidOpenTextDocumentParams,
+    ApplyWorkspaceEditParams, ApplyWorkspaceEditResult, CancelParams, CodeAction,
+    CodeActionOptions, CodeActionParams, CodeLensOptions, Command, CompletionItem,
+    CompletionItemOptions, CompletionList, CompletionOptions, CompletionParams,
+    ConfigurationParams, DefinitionParams, DefinitionResult, DiagnosticOptions,
+    DidChangeConfigurationParams, DidChangeTextDocumentParams, DidChangeWatchedFilesParams,
+    DidChangeWorkspaceFoldersParams, DidCloseTextDocumentParams, DidOpenTextDocumentParams,
     DidSaveTextDocumentParams, DocumentFormattingParams, DocumentLinkOptions,
-    DocumentOnTypeFormattingOptions, DocumentRangeFormattingParams, DocumentSymbol,
-    ExecuteCommandOptions, ExecuteCommandParams, Hover, InitializeParams, InitializeResult,
-    InlayHint, InlayHintParams, Location, NumberOrString, Position, PrepareRenameResult,
-    ProgressParams, PublishDiagnosticsParams, Range, ReferenceParams, RenameOptions, RenameParams,
-    SaveOptions, SemanticTokens, SemanticTokensLegend, SemanticTokensOptions, ServerCapabilities,
-    ServerInfo, ShowMessageParams, SignatureHelp, SignatureHelpOptions, SymbolKind,
-    TextDocumentParams, TextDocumentPositionParams, TextDocumentRangeParams, TextDocumentSyncKind,
-    TextDocumentSyncOptions, WillSaveTextDocumentParams, WorkDoneProgressBegin,
-    WorkDoneProgressCreateParams, WorkDoneProgressEnd, WorkDoneProgressParams,
-    WorkDoneProgressReport, WorkspaceFoldersServerCapabilities, WorkspaceOptions, WorkspaceSymbol,
-    WorkspaceSymbolParams,
+    DocumentOnTypeFormattingOptions, DocumentOnTypeFormattingParams, DocumentRangeFormattingParams,
+    DocumentSymbol, ExecuteCommandOptions, ExecuteCommandParams, Hover, HoverParams,
+    InitializeParams, InitializeResult, InlayHint, InlayHintParams, Location, LocationLink,
+    LogTraceParams, MessageActionItem, NumberOrString, Position, PrepareRenameResult,
+    ProgressParams, PublishDiagnosticsParams, Range, ReferenceParams, RegistrationParams,
+    RenameOptions, RenameParams, SaveOptions, SemanticTokens, SemanticTokensFullOptions,
+    SemanticTokensLegend, SemanticTokensOptions, ServerCapabilities, ServerInfo, SetTraceParams,
+    ShowDocumentParams, ShowDocumentResult, ShowMessageParams, ShowMessageRequestParams,
+    SignatureHelp, SignatureHelpOptions, SignatureHelpParams, SymbolKind, TextDocumentParams,
+    TextDocumentPositionParams, TextDocumentRangeParams, TextDocumentSyncKind,
+    TextDocumentSyncOptions, UnregistrationParams, WillSaveTextDocumentParams,
+    WorkDoneProgressBegin, WorkDoneProgressCreateParams, WorkDoneProgressEnd,
+    WorkDoneProgressParams, WorkDoneProgressReport, WorkspaceFoldersServerCapabilities,
+    WorkspaceOptions, WorkspaceSymbol, WorkspaceSymbolParams,
 };
 use serde::{DeserializeOwned, Serialize};
 use serde_json::{Error, Map, Value, to_value};
@@ -189,20 +195,62 @@ fn of_window(said: &mut Said, name: &str, text: &str) {
         "ConfigurationParams" => back::<ConfigurationParams>(said, text),
         "WorkDoneProgressParams" => back::<WorkDoneProgressParams>(said, text),
         "WorkDoneProgressCreateParams" => back::<WorkDoneProgressCreateParams>(said, text),
-        _ => match value_in(said.alloc, text) {
-            Ok(found) => {
-                of_members(said, name, &found);
-                drop(found);
-            }
-            Err(_) => said.is_short = true,
-        },
+        _ => of_place(said, name, text),
+    }
+}
+
+fn of_place(said: &mut Said, name: &str, text: &str) {
+    match name {
+        "LocationLink" => back::<LocationLink>(said, text),
+        "DefinitionResult" => back::<DefinitionResult>(said, text),
+        "HoverParams" => back::<HoverParams>(said, text),
+        "DefinitionParams" => back::<DefinitionParams>(said, text),
+        "CompletionParams" => back::<CompletionParams>(said, text),
+        "SignatureHelpParams" => back::<SignatureHelpParams>(said, text),
+        "DocumentOnTypeFormattingParams" => back::<DocumentOnTypeFormattingParams>(said, text),
+        _ => of_client(said, name, text),
+    }
+}
+
+fn of_client(said: &mut Said, name: &str, text: &str) {
+    match name {
+        "DidChangeWorkspaceFoldersParams" => back::<DidChangeWorkspaceFoldersParams>(said, text),
+        "DidChangeConfigurationParams" => back::<DidChangeConfigurationParams>(said, text),
+        "DidChangeWatchedFilesParams" => back::<DidChangeWatchedFilesParams>(said, text),
+        "SetTraceParams" => back::<SetTraceParams>(said, text),
+        "CancelParams" => back::<CancelParams>(said, text),
+        "MessageActionItem" => back::<MessageActionItem>(said, text),
+        "ShowDocumentResult" => back::<ShowDocumentResult>(said, text),
+        _ => of_server(said, name, text),
+    }
+}
+
+fn of_server(said: &mut Said, name: &str, text: &str) {
+    match name {
+        "ShowMessageRequestParams" => back::<ShowMessageRequestParams>(said, text),
+        "ShowDocumentParams" => back::<ShowDocumentParams>(said, text),
+        "LogTraceParams" => back::<LogTraceParams>(said, text),
+        "RegistrationParams" => back::<RegistrationParams>(said, text),
+        "UnregistrationParams" => back::<UnregistrationParams>(said, text),
+        _ => more_types::of_feature(said, name, text),
     }
 }
 
 /// A value of a type that is not read as a whole.
+pub fn of_other(said: &mut Said, name: &str, text: &str) {
+    match value_in(said.alloc, text) {
+        Ok(found) => {
+            of_members(said, name, &found);
+            drop(found);
+        }
+        Err(_) => said.is_short = true,
+    }
+}
+
 fn of_members(said: &mut Said, name: &str, found: &Value) {
     match name {
         "InitializeResult" => initialized(said, found),
+        "SelectionRange" => more_types::selection(said, found),
         "DocumentSymbol" => symbol_with_children(said, found),
         "ProgressParams" => match text_in(found.pointer("/value/kind")) {
             "begin" => progress::<WorkDoneProgressBegin>(said, found),
@@ -264,7 +312,12 @@ fn copied(found: Option<&Value>) -> Result<Value, AllocError> {
 }
 
 /// A member by its type, or another value.
-fn get<T: DeserializeOwned + Drop>(said: &mut Said, found: &Value, key: &str, otherwise: T) -> T {
+pub fn get<T: DeserializeOwned + Drop>(
+    said: &mut Said,
+    found: &Value,
+    key: &str,
+    otherwise: T,
+) -> T {
     let found = member(said.alloc, found, key);
     read_or(said, found, otherwise)
 }
@@ -460,7 +513,7 @@ fn tokens(said: &mut Said, found: &Value) -> SemanticTokensOptions {
             token_modifiers: words(said, found, "characters"),
         },
         range: Some(false),
-        full: Some(true),
+        full: Some(SemanticTokensFullOptions { delta: Some(true) }),
         work_done_progress: Some(true),
     }
 }

@@ -23,6 +23,12 @@ impl Blank for u32 {
     }
 }
 
+impl Blank for f64 {
+    fn blank(_alloc: Global) -> f64 {
+        0.0
+    }
+}
+
 impl Blank for String {
     fn blank(alloc: Global) -> String {
         String::new(alloc)

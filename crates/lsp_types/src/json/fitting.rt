@@ -61,6 +61,20 @@ fn read_fitting<T: DeserializeOwned + Drop, F: Format>(
     alloc: Global,
     from: &mut Deserializer<'_, '_, F>,
 ) -> Result<Option<T>, F::Error> {
+    match read_if_fits(alloc, from) {
+        Ok(None) => match from.skip() {
+            Ok(()) => Ok(None),
+            Err(failed) => Err(failed),
+        },
+        found => found,
+    }
+}
+
+/// The value that comes next, if it fits. Else nothing is taken.
+pub fn read_if_fits<T: DeserializeOwned, F: Format>(
+    alloc: Global,
+    from: &mut Deserializer<'_, '_, F>,
+) -> Result<Option<T>, F::Error> {
     let begin = from.mark();
     match T::deserialize_owned(alloc, from) {
         Ok(value) => {
@@ -73,13 +87,8 @@ fn read_fitting<T: DeserializeOwned + Drop, F: Format>(
             }
             drop(failed);
             from.rewind(begin);
-            match from.skip() {
-                Ok(()) => {
-                    from.release(begin);
-                    Ok(None)
-                }
-                Err(failed) => Err(failed),
-            }
+            from.release(begin);
+            Ok(None)
         }
     }
 }

@@ -1,0 +1,146 @@
+// What the user set for a server.
+ghost use Rattle.std.specs.Prelude.{◌≡◌, ◌≢◌, true, false, None, Ok, IfOk, IfSome, codes};
+ghost use Rattle.serde_json.specs.Data.{Data};
+ghost use Rattle.serde_json.specs.View.{view};
+ghost use Rattle.lsp_service.specs.Acts.{asks};
+ghost use Rattle.lsp_service.specs.View.{act_view};
+
+use crate::speaking::{ask, read_result};
+use lsp_message::{ResponseError, read_as};
+use lsp_service::Act;
+use lsp_types::methods::ConfigurationRequest;
+use lsp_types::{ConfigurationParams, DidChangeConfigurationParams};
+use serde::DeserializeOwned;
+use serde_json::Value;
+use std::alloc::{AllocError, Global};
+
+/// A section of the client's configuration, read by a type of your own (LSP 3.17, "Configuration Request").
+///
+/// In `initialize` call `agree`. Ask in `initialized`, and again at each `workspace/didChangeConfiguration`. A client that can't be asked
+/// sends its settings there: hand them to `take_settings`.
+#[derive(Drop)]
+pub struct Configuration<T: Drop> {
+    /// The section, as the name of your server.
+    pub section: &'static str,
+    /// Whether the client can be asked.
+    pub is_asked: bool,
+    /// What the user set last, or what you began with.
+    pub value: T,
+}
+
+impl<T: DeserializeOwned + Drop> Configuration<T> {
+    ghost use Rattle.lsp_methods.specs.Configuring.{can_be_asked};
+
+    /// A section, and what holds until the user sets something. Until you `agree`, nothing is asked.
+    pub fn new(section: &'static str, value: T) -> Configuration<T>
+        ensures section { result.«section».now ≡ «section».now }
+        ensures is_asked { result.is_asked ≡ false }
+        ensures value { result.«value» ≡ «value» }
+    {
+        Configuration {
+            section,
+            is_asked: false,
+            value,
+        }
+    }
+
+    /// Looks in the client's capabilities whether it can be asked: `workspace.configuration` is true.
+    pub fn agree(&mut self, client: &Value)
+        ensures { self.new ≡ record self.old { is_asked = can_be_asked (view client.now) } }
+    {
+        self.is_asked = match client.pointer("/workspace/configuration") {
+            Some(can) => can.as_bool() == Some(true),
+            None => false,
+        };
+    }
+
+    /// Asks for it, if the client can be asked. `payload` comes back with the reply.
+    ///
+    /// `Err` means that an allocation failed.
+    pub fn ask<P: Drop>(&self, alloc: Global, payload: P) -> Result<Option<Act<P>>, AllocError>
+        ensures none { self.now.is_asked ≡ false → IfOk result (λ asked. asked ≡ None) }
+        ensures act { IfOk result (λ asked. IfSome asked (λ act. (tree : Data)
+            × (act_view act ≡ asks (codes "workspace/configuration") tree «payload»))) }
+    {
+        if !self.is_asked {
+            drop(payload);
+            return Ok(None);
+        }
+        let params = match ConfigurationParams::section(alloc, self.section) {
+            Ok(params) => params,
+            Err(failed) => {
+                drop(payload);
+                return Err(failed);
+            }
+        };
+        let asked = ask::<ConfigurationRequest, P>(alloc, &params, payload);
+        drop(params);
+        Ok(asked?.ok())
+    }
+
+    /// Takes the reply, and says whether it has a value that fits. Else `value` stays: the client may reply with an error, or with null if
+    /// the user set nothing.
+    ///
+    /// `Err` means that an allocation failed, and `value` stays too.
+    pub fn take_reply(
+        &mut self,
+        alloc: Global,
+        outcome: Result<Value, ResponseError>,
+    ) -> Result<bool, AllocError>
+        ensures others { (self.new.section ≡ self.old.section) × (self.new.is_asked ≡ self.old.is_asked) }
+        ensures kept { result ≢ Ok true → self.new.«value» ≡ self.old.«value» }
+    {
+        match read_result::<ConfigurationRequest>(alloc, outcome)? {
+            Ok(mut values) => {
+                let value = values.pop();
+                drop(values);
+                self.take(alloc, value)
+            }
+            Err(error) => {
+                drop(error);
+                Ok(false)
+            }
+        }
+    }
+
+    /// Takes the settings that a client sends which can't be asked: an object, whose member of the section's name is the value. It says
+    /// whether there is one that fits. Else `value` stays.
+    ///
+    /// `Err` means that an allocation failed, and `value` stays too.
+    pub fn take_settings(
+        &mut self,
+        alloc: Global,
+        params: &DidChangeConfigurationParams,
+    ) -> Result<bool, AllocError>
+        ensures others { (self.new.section ≡ self.old.section) × (self.new.is_asked ≡ self.old.is_asked) }
+        ensures kept { result ≢ Ok true → self.new.«value» ≡ self.old.«value» }
+    {
+        match params.settings.get(self.section) {
+            Some(found) => {
+                let value = found.clone()?;
+                self.take(alloc, Some(value))
+            }
+            None => Ok(false),
+        }
+    }
+
+    /// Takes a value, if there is one and it fits.
+    fn take(&mut self, alloc: Global, value: Option<Value>) -> Result<bool, AllocError>
+        ensures others { (self.new.section ≡ self.old.section) × (self.new.is_asked ≡ self.old.is_asked) }
+        ensures kept { result ≢ Ok true → self.new.«value» ≡ self.old.«value» }
+    {
+        let Some(value) = value else {
+            return Ok(false);
+        };
+        match read_as(alloc, value)? {
+            Ok(value) => {
+                self.value = value;
+                Ok(true)
+            }
+            Err(error) => {
+                drop(error);
+                Ok(false)
+            }
+        }
+    }
+}

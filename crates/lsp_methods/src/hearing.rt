@@ -1,0 +1,119 @@
+// What a client asks and tells.
+ghost use Rattle.std.specs.Prelude.{◌≡◌, ◌∷◌, ◌++◌, [], map, codes, string_bytes};
+ghost use Rattle.std.specs.Prelude.{IfErr, IfOk, MatchResult, Result};
+ghost use Rattle.lsp_message.specs.Converted.{IsFault};
+ghost use Rattle.lsp_message.specs.View.{error_view};
+ghost use Rattle.lsp_message.specs.declared.msg.ResponseError.{ResponseError as ReadError};
+ghost use Rattle.lsp_message.specs.declared.msg.code.ErrorCode.TheVariants.{InvalidParams};
+ghost use Rattle.lsp_service.specs.Answering.{ActsFor, AnswersEither, AnswersWith, IsRead};
+ghost use Rattle.lsp_service.specs.Answering.{Refuses, logs_error};
+ghost use Rattle.lsp_service.specs.View.{act_view};
+
+use lsp_message::{Notification, Request, RequestId, ResponseError};
+use lsp_service::Act;
+use lsp_types::{NotificationToServer, RequestToServer};
+use std::alloc::{AllocError, Global};
+
+/// Answers a request of this method, as `Act::answer` does: with what `answer` gives for its params, or with the error -32602 if they do
+/// not fit (JSON-RPC 2.0, section 5.1).
+///
+/// `Err` means that an allocation failed.
+pub fn answer<M, P, F>(
+    alloc: Global,
+    request: Request,
+    answer: F,
+) -> Result<Vec<Act<P>>, AllocError>
+where
+    M: RequestToServer,
+    P: Drop,
+    F: FnOnce(M::Params) -> Result<M::Result, AllocError>,
+    requires method { string_bytes request.method ≡ M.method }
+    requires answers { (params : M.Params) → F.pre answer params }
+    ensures { IfOk result (λ acts. (read : Result M.Params ReadError) × IsRead read
+        × ActsFor (λ params given. (found : M.Result) × F.post answer params (Ok found)
+        × AnswersWith (M.Result.writes found) request.id given)
+        request.id read (map act_view acts.items)) }
+{
+    Act::answer(alloc, request, answer)
+}
+
+/// Answers a request of this method as `answer` does, if `answer` may also give an error to reply with.
+pub fn try_answer<M, P, F>(
+    alloc: Global,
+    request: Request,
+    answer: F,
+) -> Result<Vec<Act<P>>, AllocError>
+where
+    M: RequestToServer,
+    P: Drop,
+    F: FnOnce(M::Params) -> Result<Result<M::Result, ResponseError>, AllocError>,
+    requires method { string_bytes request.method ≡ M.method }
+    requires answers { (params : M.Params) → F.pre answer params }
+    ensures { IfOk result (λ acts. (read : Result M.Params ReadError) × IsRead read
+        × ActsFor (λ params given. (found : Result M.Result ReadError)
+        × F.post answer params (Ok found)
+        × AnswersEither M.Result.writes request.id found given)
+        request.id read (map act_view acts.items)) }
+{
+    Act::try_answer(alloc, request, answer)
+}
+
+/// Reads the params of a request of this method, and gives the acts that `act` gives for the id and the params, as `Act::of_request`
+/// does.
+///
+/// `Err` means that an allocation failed.
+pub fn on_request<M, P, F>(
+    alloc: Global,
+    request: Request,
+    act: F,
+) -> Result<Vec<Act<P>>, AllocError>
+where
+    M: RequestToServer,
+    P: Drop,
+    F: FnOnce(RequestId, M::Params) -> Result<Vec<Act<P>>, AllocError>,
+    requires method { string_bytes request.method ≡ M.method }
+    requires acts { (params : M.Params) → F.pre act request.id params }
+    ensures { IfOk result (λ acts. (read : Result M.Params ReadError) × IsRead read
+        × MatchResult read (λ params. F.post act request.id params (Ok acts))
+        (λ e. Refuses request.id e (map act_view acts.items))) }
+{
+    Act::of_request(alloc, request, act)
+}
+
+/// Reads the params of a notification of this method, and gives the acts that `act` gives for them, as `Act::of_notification` does:
+/// params that do not fit give an error in the client's log (`window/logMessage`).
+///
+/// `Err` means that an allocation failed.
+pub fn on_notification<M, P, F>(
+    alloc: Global,
+    notification: Notification,
+    act: F,
+) -> Result<Vec<Act<P>>, AllocError>
+where
+    M: NotificationToServer,
+    P: Drop,
+    F: FnOnce(M::Params) -> Result<Vec<Act<P>>, AllocError>,
+    requires method { string_bytes notification.method ≡ M.method }
+    requires acts { (params : M.Params) → F.pre act params }
+    ensures { IfOk result (λ acts. (read : Result M.Params ReadError) × IsRead read
+        × MatchResult read (λ params. F.post act params (Ok acts))
+        (λ e. map act_view acts.items ≡ logs_error
+        (string_bytes notification.method ++ codes ": " ++ string_bytes e.message) ∷ [])) }
+{
+    Act::of_notification(alloc, notification, act)
+}
+
+/// The id of a request of this method, and its params, or the error -32602 to reply with (JSON-RPC 2.0, section 5.1), as
+/// `Request::params_as` gives them.
+///
+/// `Err` means that an allocation failed.
+pub fn read_params<M: RequestToServer>(
+    alloc: Global,
+    request: Request,
+) -> Result<(RequestId, Result<M::Params, ResponseError>), AllocError>
+    requires method { string_bytes request.method ≡ M.method }
+    ensures id { IfOk result (λ r. r.0 ≡ request.id) }
+    ensures fault { IfOk result (λ r. IfErr r.1 (λ e. IsFault InvalidParams (error_view e))) }
+{
+    request.params_as(alloc)
+}

@@ -1,0 +1,54 @@
+// Which way a method goes, and what goes with it.
+ghost use Rattle.std.specs.Prelude.{◌≡◌, List, ℕ};
+
+use serde::{DeserializeOwned, Serialize};
+
+/// A request that a client sends and a server answers (LSP 3.17, "Request Message").
+pub trait RequestToServer {
+    /// Its params.
+    type Params: DeserializeOwned;
+
+    /// Its result.
+    type Result: Serialize + Drop;
+
+    // Its method.
+    ghost method: { List ℕ };
+}
+
+/// A notification that a client sends and a server hears (LSP 3.17, "Notification Message").
+pub trait NotificationToServer {
+    /// Its params.
+    type Params: DeserializeOwned;
+
+    // Its method.
+    ghost method: { List ℕ };
+}
+
+/// A request that a server sends and a client answers (LSP 3.17, "Request Message").
+pub trait RequestToClient {
+    /// Its params.
+    type Params: Serialize;
+
+    /// Its result, which is read.
+    type Result;
+
+    // Its method.
+    ghost method: { List ℕ };
+
+    /// Its method.
+    fn method() -> &'static str
+        ensures { result.now ≡ method };
+}
+
+/// A notification that a server sends and a client hears (LSP 3.17, "Notification Message").
+pub trait NotificationToClient {
+    /// Its params.
+    type Params: Serialize;
+
+    // Its method.
+    ghost method: { List ℕ };
+
+    /// Its method.
+    fn method() -> &'static str
+        ensures { result.now ≡ method };
+}

@@ -1,0 +1,41 @@
+//! Types of LSP 3.17 for the language features that fewer servers have: highlights, folds, selections, monikers, lenses, links, hierarchies of
+//! calls and types, colors, inline values, changes of semantic tokens, and diagnostics that a client asks for. As in `lsp_types`, each is safe
+//! and each call returns; that its keys are the standard's is tested and not proved.
+#![tactic(auto)]
+
+mod colors;
+mod hierarchies;
+mod inline_values;
+pub mod methods;
+mod places;
+mod reports;
+mod token_changes;
+
+pub use colors::{
+    Color, ColorInformation, ColorPresentation, ColorPresentationParams, DocumentColorParams,
+};
+pub use hierarchies::{
+    CallHierarchyIncomingCall, CallHierarchyIncomingCallsParams, CallHierarchyItem,
+    CallHierarchyOutgoingCall, CallHierarchyOutgoingCallsParams, CallHierarchyPrepareParams,
+    TypeHierarchyItem, TypeHierarchyPrepareParams, TypeHierarchySubtypesParams,
+    TypeHierarchySupertypesParams,
+};
+pub use inline_values::{
+    InlineValue, InlineValueContext, InlineValueEvaluatableExpression, InlineValueParams,
+    InlineValueText, InlineValueVariableLookup,
+};
+pub use places::{
+    CodeLens, CodeLensParams, DocumentHighlight, DocumentHighlightKind, DocumentHighlightParams,
+    DocumentLink, DocumentLinkParams, FoldingRange, FoldingRangeParams, LinkedEditingRangeParams,
+    LinkedEditingRanges, Moniker, MonikerParams, SelectionRange, SelectionRangeParams,
+};
+pub use reports::{
+    DiagnosticServerCancellationData, DocumentDiagnosticParams, DocumentDiagnosticReport,
+    FullDocumentDiagnosticReport, PreviousResultId, RelatedFullDocumentDiagnosticReport,
+    RelatedReport, RelatedUnchangedDocumentDiagnosticReport, UnchangedDocumentDiagnosticReport,
+    WorkspaceDiagnosticParams, WorkspaceDiagnosticReport, WorkspaceDocumentDiagnosticReport,
+    WorkspaceFullDocumentDiagnosticReport, WorkspaceUnchangedDocumentDiagnosticReport,
+};
+pub use token_changes::{
+    SemanticTokensDelta, SemanticTokensDeltaParams, SemanticTokensDeltaResult, SemanticTokensEdit,
+};

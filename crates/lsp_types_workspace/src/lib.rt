@@ -1,0 +1,21 @@
+//! Types of LSP 3.17 for files that are made, renamed, deleted or watched, and for notebooks. As in `lsp_types`, each is safe and each call
+//! returns; that its keys are the standard's is tested and not proved.
+#![tactic(auto)]
+
+mod files;
+pub mod methods;
+mod notebooks;
+
+pub use files::{
+    CreateFilesParams, DeleteFilesParams, DidChangeWatchedFilesRegistrationOptions, FileCreate,
+    FileDelete, FileOperationFilter, FileOperationOptions, FileOperationPattern,
+    FileOperationPatternOptions, FileOperationRegistrationOptions, FileRename, FileSystemWatcher,
+    GlobPattern, RelativePattern, RenameFilesParams,
+};
+pub use notebooks::{
+    DidChangeNotebookDocumentParams, DidCloseNotebookDocumentParams, DidOpenNotebookDocumentParams,
+    DidSaveNotebookDocumentParams, ExecutionSummary, NotebookCell, NotebookCellArrayChange,
+    NotebookCellChanges, NotebookCellKind, NotebookCellStructure, NotebookCellTextChange,
+    NotebookDocument, NotebookDocumentChangeEvent, NotebookDocumentIdentifier,
+    VersionedNotebookDocumentIdentifier,
+};

@@ -1,0 +1,107 @@
+// Values of the types of `lsp_types_features` and `lsp_types_workspace`.
+use crate::said::Said;
+use crate::types::{back, get, of_other, say_written};
+use lsp_types::{Position, Range};
+use lsp_types_features::{
+    CallHierarchyIncomingCall, CallHierarchyIncomingCallsParams, CallHierarchyItem,
+    CallHierarchyOutgoingCall, CodeLens, ColorInformation, ColorPresentation,
+    ColorPresentationParams, DiagnosticServerCancellationData, DocumentDiagnosticParams,
+    DocumentDiagnosticReport, DocumentHighlight, DocumentLink, FoldingRange, InlineValue,
+    InlineValueParams, LinkedEditingRanges, Moniker, SelectionRange, SelectionRangeParams,
+    SemanticTokensDeltaParams, SemanticTokensDeltaResult, WorkspaceDiagnosticParams,
+    WorkspaceDiagnosticReport,
+};
+use lsp_types_workspace::{
+    CreateFilesParams, DidChangeNotebookDocumentParams, DidChangeWatchedFilesRegistrationOptions,
+    DidCloseNotebookDocumentParams, DidOpenNotebookDocumentParams, DidSaveNotebookDocumentParams,
+    FileOperationOptions, RenameFilesParams,
+};
+use serde_json::Value;
+
+pub fn of_feature(said: &mut Said, name: &str, text: &str) {
+    match name {
+        "DocumentHighlight" => back::<DocumentHighlight>(said, text),
+        "FoldingRange" => back::<FoldingRange>(said, text),
+        "SelectionRangeParams" => back::<SelectionRangeParams>(said, text),
+        "LinkedEditingRanges" => back::<LinkedEditingRanges>(said, text),
+        "Moniker" => back::<Moniker>(said, text),
+        "CodeLens" => back::<CodeLens>(said, text),
+        "DocumentLink" => back::<DocumentLink>(said, text),
+        _ => of_call(said, name, text),
+    }
+}
+
+fn of_call(said: &mut Said, name: &str, text: &str) {
+    match name {
+        "CallHierarchyItem" => back::<CallHierarchyItem>(said, text),
+        "CallHierarchyIncomingCallsParams" => back::<CallHierarchyIncomingCallsParams>(said, text),
+        "CallHierarchyIncomingCall" => back::<CallHierarchyIncomingCall>(said, text),
+        "CallHierarchyOutgoingCall" => back::<CallHierarchyOutgoingCall>(said, text),
+        "ColorInformation" => back::<ColorInformation>(said, text),
+        "ColorPresentationParams" => back::<ColorPresentationParams>(said, text),
+        "ColorPresentation" => back::<ColorPresentation>(said, text),
+        _ => of_report(said, name, text),
+    }
+}
+
+fn of_report(said: &mut Said, name: &str, text: &str) {
+    match name {
+        "InlineValueParams" => back::<InlineValueParams>(said, text),
+        "InlineValue" => back::<InlineValue>(said, text),
+        "SemanticTokensDeltaParams" => back::<SemanticTokensDeltaParams>(said, text),
+        "SemanticTokensDeltaResult" => back::<SemanticTokensDeltaResult>(said, text),
+        "DocumentDiagnosticParams" => back::<DocumentDiagnosticParams>(said, text),
+        "DocumentDiagnosticReport" => back::<DocumentDiagnosticReport>(said, text),
+        "WorkspaceDiagnosticParams" => back::<WorkspaceDiagnosticParams>(said, text),
+        "WorkspaceDiagnosticReport" => back::<WorkspaceDiagnosticReport>(said, text),
+        "DiagnosticServerCancellationData" => back::<DiagnosticServerCancellationData>(said, text),
+        _ => of_file(said, name, text),
+    }
+}
+
+fn of_file(said: &mut Said, name: &str, text: &str) {
+    match name {
+        "CreateFilesParams" => back::<CreateFilesParams>(said, text),
+        "RenameFilesParams" => back::<RenameFilesParams>(said, text),
+        "FileOperationOptions" => back::<FileOperationOptions>(said, text),
+        "DidChangeWatchedFilesRegistrationOptions" => back::<
+            DidChangeWatchedFilesRegistrationOptions,
+        >(said, text),
+        "DidOpenNotebookDocumentParams" => back::<DidOpenNotebookDocumentParams>(said, text),
+        "DidChangeNotebookDocumentParams" => back::<DidChangeNotebookDocumentParams>(said, text),
+        "DidSaveNotebookDocumentParams" => back::<DidSaveNotebookDocumentParams>(said, text),
+        "DidCloseNotebookDocumentParams" => back::<DidCloseNotebookDocumentParams>(said, text),
+        _ => of_other(said, name, text),
+    }
+}
+
+/// Parts of the first line, each within the next.
+pub fn selection(said: &mut Said, found: &Value) {
+    let ranges: Vec<(u32, u32)> = get(said, found, "ranges", Vec::new(said.alloc));
+    let mut around = None;
+    for (start, end) in ranges.as_slice().iter().rev() {
+        let range = Range::new(Position::new(0, *start), Position::new(0, *end));
+        around = boxed(
+            said,
+            SelectionRange {
+                range,
+                parent: around,
+            },
+        );
+    }
+    if let Some(selection) = &around {
+        say_written(said, &**selection);
+    }
+    drop(around);
+    drop(ranges);
+}
+
+fn boxed(said: &mut Said, selection: SelectionRange) -> Option<Box<SelectionRange>> {
+    match Box::new(said.alloc, selection) {
+        Ok(kept) => Some(kept),
+        Err(_) => {
+            said.is_short = true;
+            None
+        }
+    }
+}
