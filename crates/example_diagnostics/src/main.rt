@@ -13,16 +13,18 @@ ghost use Rattle.lsp_service.specs.Stated.{unwoken};
 
 use anyhow::{Result as Answer, bail};
 use lsp_documents::{Agreed, Made, NotMade, TextDocuments};
+use lsp_methods::{Configuration, answer};
 use lsp_server::clients::{ClientOptions, serve_clients};
 use lsp_server::{
     Act, EndSession, Notification, Request, ResponseError, Server, SessionEnd, SessionFault,
     StreamTransport, read_as, session_with_over, write_as,
 };
 use lsp_text::{Text, TextDocument};
+use lsp_types::methods::{DefinitionRequest, HoverRequest};
 use lsp_types::{
-    ConfigurationParams, Diagnostic, DiagnosticSeverity, Hover, InitializeParams, InitializeResult,
-    Location, MarkupKind, MessageType, Position, Range, ServerCapabilities,
-    TextDocumentPositionParams, methods,
+    DefinitionParams, DefinitionResult, Diagnostic, DiagnosticSeverity, Hover, HoverParams,
+    InitializeParams, InitializeResult, Location, MarkupKind, MessageType, Position, Range,
+    ServerCapabilities,
 };
 use serde_json::Value;
 use std::alloc::{AllocError, Global};
@@ -34,10 +36,8 @@ use std::{env, mem};
 struct Checker {
     alloc: Global,
     /// How many characters a line may have.
-    longest: u32,
-    /// Whether the client can be asked for its configuration.
-    configures: bool,
-    /// Whether it was asked, and has not answered yet.
+    longest: Configuration<u32>,
+    /// Whether the client was asked, and has not answered yet.
     is_asking: bool,
     documents: TextDocuments,
     /// What was last logged of a notification that was not made.
@@ -81,10 +81,7 @@ impl Server for Checker {
     }
 
     fn initialized(&mut self) -> Result<Acts, AllocError> {
-        if !self.configures {
-            return Ok(Vec::new(self.alloc));
-        }
-        match self.ask_configuration()?.ok() {
+        match self.longest.ask(self.alloc, Asked::Configuration)? {
             Some(asks) => {
                 let acts = Act::one(self.alloc, asks)?;
                 self.is_asking = true;
@@ -97,12 +94,14 @@ impl Server for Checker {
     fn request(&mut self, request: Request) -> Result<Acts, AllocError> {
         let alloc = self.alloc;
         match request.method.as_str() {
-            methods::HOVER if self.is_asking => {
+            HoverRequest::METHOD if self.is_asking => {
                 self.waiting.push(request)?;
                 Ok(Vec::new(alloc))
             }
-            methods::HOVER => self.answer_hover(request),
-            methods::DEFINITION => Act::answer(alloc, request, |params| self.definition(&params)),
+            HoverRequest::METHOD => self.answer_hover(request),
+            DefinitionRequest::METHOD => {
+                answer::<DefinitionRequest, _, _>(alloc, request, |params| self.definition(&params))
+            }
             _ => Act::one(alloc, Act::method_not_found(alloc, request.id)?),
         }
     }
@@ -121,7 +120,7 @@ impl Server for Checker {
     ) -> Result<Acts, AllocError> {
         let Asked::Configuration = asked;
         self.is_asking = false;
-        self.hear_configuration(outcome)?;
+        self.longest.take_reply(self.alloc, outcome)?;
         let mut acts = Vec::new(self.alloc);
         self.mark_all(&mut acts)?;
         self.answer_waiting(&mut acts)?;
@@ -142,8 +141,7 @@ impl Checker {
     fn new(alloc: Global) -> Checker {
         Checker {
             alloc,
-            longest: 80,
-            configures: false,
+            longest: Configuration::new("lines", 80),
             is_asking: false,
             documents: TextDocuments::new(alloc, Agreed::unannounced()),
             complaint: String::new(alloc),
@@ -154,8 +152,7 @@ impl Checker {
     /// Agrees with the client on how its texts are told, and gives what the server can do, which announces it.
     fn agree(&mut self, params: &InitializeParams) -> Result<ServerCapabilities, AllocError> {
         let client = &params.capabilities;
-        let configuration = client.pointer("/workspace/configuration");
-        self.configures = configuration.and_then(|can| can.as_bool()) == Some(true);
+        self.longest.agree(client);
         let (agreed, can) = Agreed::with_capabilities(self.alloc, client, false)?;
         self.documents = TextDocuments::new(self.alloc, agreed);
         Ok(ServerCapabilities {
@@ -163,40 +160,6 @@ impl Checker {
             definition_provider: Some(true),
             ..can
         })
-    }
-
-    /// Asks for the client's configuration.
-    fn ask_configuration(&self) -> Result<Result<Act<Asked>, ResponseError>, AllocError> {
-        let params = ConfigurationParams::section(self.alloc, "lines")?;
-        let method = methods::CONFIGURATION;
-        let asks = Act::ask(self.alloc, method, &params, Asked::Configuration);
-        drop(params);
-        asks
-    }
-
-    fn hear_configuration(
-        &mut self,
-        outcome: Result<Value, ResponseError>,
-    ) -> Result<(), AllocError> {
-        match outcome {
-            Ok(values) => self.configure(values),
-            Err(error) => {
-                drop(error);
-                Ok(())
-            }
-        }
-    }
-
-    /// Takes the client's configuration: a list with one value, which is null if the user set none.
-    fn configure(&mut self, values: Value) -> Result<(), AllocError> {
-        let read = read_as::<Vec<Option<u32>>>(self.alloc, values)?;
-        if let Ok(values) = &read
-            && let Some(Some(longest)) = values.first()
-        {
-            self.longest = *longest;
-        }
-        drop(read);
-        Ok(())
     }
 
     /// What the client is told after a notification.
@@ -259,7 +222,7 @@ impl Checker {
     ) -> Result<(), AllocError> {
         let version = document.and_then(|document| document.version());
         let found = match document {
-            Some(document) => long_lines(self.alloc, document.text(), self.longest)?,
+            Some(document) => long_lines(self.alloc, document.text(), self.longest.value)?,
             None => Vec::new(self.alloc),
         };
         let marks = Act::publish(self.alloc, uri, version, found.as_slice());
@@ -269,7 +232,7 @@ impl Checker {
     }
 
     /// How long a line is (LSP 3.17, "Hover Request").
-    fn hover(&self, params: &TextDocumentPositionParams) -> Result<Option<Hover>, AllocError> {
+    fn hover(&self, params: &HoverParams) -> Result<Option<Hover>, AllocError> {
         let Some(document) = self.documents.get(params.text_document.uri.as_str()) else {
             return Ok(None);
         };
@@ -277,15 +240,15 @@ impl Checker {
             return Ok(None);
         };
         let length = line.chars().count();
-        let text = format!(in self.alloc; "{length} of {} characters", self.longest)?;
+        let text = format!(in self.alloc; "{length} of {} characters", self.longest.value)?;
         Ok(Some(Hover::new(MarkupKind::PlainText, text)))
     }
 
     /// The heading that a line stands under (LSP 3.17, "Goto Definition Request").
     fn definition(
         &self,
-        params: &TextDocumentPositionParams,
-    ) -> Result<Option<Location>, AllocError> {
+        params: &DefinitionParams,
+    ) -> Result<Option<DefinitionResult>, AllocError> {
         let uri = params.text_document.uri.as_str();
         let Some(document) = self.documents.get(uri) else {
             return Ok(None);
@@ -294,10 +257,10 @@ impl Checker {
             return Ok(None);
         };
         let start = Position::new(line, 0);
-        Ok(Some(Location {
+        Ok(Some(DefinitionResult::One(Location {
             uri: String::from_str(self.alloc, uri)?,
             range: Range::new(start, start),
-        }))
+        })))
     }
 }
 
