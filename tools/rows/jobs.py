@@ -45,6 +45,15 @@ class Job:
         return token if is_id(token) else None
 
 
+class Slot(str):
+    """The name of a job that answers no request. It is no request's id."""
+
+    def __eq__(self, other):
+        return isinstance(other, Slot) and str.__eq__(self, other)
+
+    __hash__ = str.__hash__
+
+
 class Pool:
     """Threads that run jobs. `wake` is called when one said something."""
 
@@ -61,12 +70,15 @@ class Pool:
 
     def submit(self, name, job):
         self.forget(name)
-        if self.waiting is not None and len(self.queue) >= max(self.waiting, 1):
+        if self.waiting is not None and len(self.queue) + self.running() >= len(self.workers) + max(self.waiting, 1):
             return False
         job.name = name
         self.table[name] = job
         self.queue.append(job)
         return True
+
+    def running(self):
+        return sum(job is not None for job in self.workers)
 
     def end(self):
         for job in [*self.table.values(), *self.queue, *filter(None, self.workers)]:
@@ -90,7 +102,7 @@ class Pool:
     def begin(self, number):
         job = self.queue.pop(0)
         if not job.is_cancelled:
-            self.counts["begun"] += job.words != ["fixed"]
+            self.counts["begun"] += 1
             self.workers[number] = job
 
     def can_go_on(self, job):
@@ -125,7 +137,7 @@ class Pool:
         elif name in ("counted", "fails", "starves"):
             job.ending = name
         if not job.words:
-            self.counts["ended"] += name != "fixed"
+            self.counts["ended"] += 1
             endings = {"replied": job.reply, "counted": {"result": job.taken}, "fails": {"error": FAILED}, "starves": {"error": NO_MEMORY}}
             job.ending = endings.get(job.ending, {"result": job.value})
 
@@ -182,7 +194,7 @@ class Working(Talker):
 
     def __init__(self):
         super().__init__()
-        self.numbered, self.starts, self.later = 0, [], []
+        self.numbered, self.starts, self.later, self.kept = 0, [], [], {}
 
     def make(self, script, params):
         self.numbered += 1
@@ -209,11 +221,15 @@ class Working(Talker):
         if "method" not in came:
             return self.replied(came)
         if "id" in came and method.startswith("later "):
-            self.later.append((came["id"], self.make(method[6:], params)))
+            job = self.make(method[6:], params)
+            self.kept[job.key] = came["id"]
+            self.later.append((Slot(f"later {came['id']}"), job))
         elif is_note(came, "start"):
             self.starts, self.later = self.later, []
         elif "id" not in came and method.startswith("job "):
-            self.starts.append(("own", self.make(method[4:], params)))
+            self.starts.append((Slot("own"), self.make(method[4:], params)))
+        elif is_note(came, "stop"):
+            self.starts.append((Slot("own"), None))
         elif is_note(came, "answer"):
             return [{"id": params[0], "result": "by the server"}]
         elif "id" in came or not method.startswith("$/"):
@@ -287,7 +303,15 @@ class JobSession:
                 self.send(it)
         starts, self.server.starts = self.server.starts, []
         for name, job in starts:
-            self.submit(name, job)
+            self.free(name, "replaced" if job else "stopped")
+            if job:
+                self.submit(name, job)
+
+    def free(self, slot, end):
+        """The server sees that the job in a slot ended so."""
+        if slot in self.pool.table:
+            self.finished += f" {json.dumps(slot)}:{self.pool.table[slot].key} {end}"
+            self.pool.forget(slot)
 
     def submit(self, name, job):
         """A job without room is refused: its server sees that, and then the request has its reply."""
@@ -363,8 +387,12 @@ class JobSession:
         if kind == "ask":
             return self.send(self.server.ask(said["method"], said["params"], self.pool.table[name]))
         self.finished += f" {json.dumps(name)}:{key}"
-        published = [{"method": "published", "params": said["result"]}] if name == "own" and "result" in said else []
-        return self.act([*published, {"id": name, **said}])
+        if not isinstance(name, Slot):
+            return self.act([{"id": name, **said}])
+        if "result" not in said:
+            return self.act([])
+        kept = self.server.kept.get(key)
+        return self.act([{"method": "published", "params": said["result"]} if kept is None else {"id": kept, **said}])
 
     def answer(self, is_sorted):
         end = "write fault 1" if self.is_failed else self.end
@@ -375,6 +403,11 @@ class JobSession:
         said = f"{counts['begun']} begun, {counts['stopped']} stopped; finished{self.finished}"
         passed = "; passed " + " ".join(map(str, self.passed.values())) if self.passed else ""
         return f"{end}; wrote {shown(self.written)}; {said}{passed}"
+
+
+def hand_name(word):
+    """A request's number, or that of a slot behind an `s`."""
+    return Slot(word) if word.startswith("s") else int(word)
 
 
 class HandPool:
@@ -403,7 +436,7 @@ class HandPool:
         if verb == "submit":
             name, key, script = words.split(" ", 2)
             job = Job(script, int(key), [int(key)], TOKENS)
-            self.told += "taken, " if self.pool.submit(int(name), job) else f"full {key}, "
+            self.told += "taken, " if self.pool.submit(hand_name(name), job) else f"full {key}, "
         elif verb == "hear":
             self.heard = False
             self.told += "heard, "
@@ -414,9 +447,9 @@ class HandPool:
         elif verb == "message":
             self.told += self.message()
         elif verb == "waits":
-            self.told += "waits, " if int(words) in self.pool.table else "free, "
+            self.told += "waits, " if hand_name(words) in self.pool.table else "free, "
         elif verb == "forget":
-            self.pool.forget(int(words))
+            self.pool.forget(hand_name(words))
         elif verb in ("reply", "give_up"):
             for job in self.asked[int(words) : int(words) + 1]:
                 if not (job.is_dropped or job.is_answered):

@@ -1,2 +1,1 @@
 pub mod Echoes
-pub mod Sent

@@ -7,13 +7,13 @@ ghost use Rattle.bench.specs.Echo.{EchoesAtWakes};
 use crate::Host;
 use crate::speaking::Speaking;
 use crate::threads::ended;
-use lsp_jobs::laws::session_with_jobs_keeps_laws;
+use lsp_jobs::laws::{requests_are_answered_by_their_jobs, session_with_jobs_keeps_laws};
 use lsp_jobs::{
-    AnsweredBy, CancellationToken, Job, JobEnd, JobServer, NewJob, PoolSize, Progress, run_jobs,
+    AnsweredBy, CancellationToken, Job, JobEnd, JobName, JobServer, PoolSize, Progress, SlotChange,
+    run_jobs,
 };
 use lsp_server::{
-    Act, EndSession, Request, RequestId, ResponseError, StandardOutput, StartFault, ThreadOptions,
-    Threaded,
+    Act, EndSession, Request, ResponseError, StandardOutput, StartFault, ThreadOptions, Threaded,
 };
 use serde_json::Value;
 use std::alloc::{AllocError, Global};
@@ -40,13 +40,16 @@ impl JobServer<Computation> for Speaking {
         Ok(AnsweredBy::Job(Computation { params }, ()))
     }
 
-    fn take_jobs(&mut self, alloc: Global) -> Result<Vec<NewJob<Computation, ()>>, AllocError> {
+    fn take_changes(
+        &mut self,
+        alloc: Global,
+    ) -> Result<Vec<SlotChange<Computation, ()>>, AllocError> {
         Ok(Vec::new(alloc))
     }
 
     fn finished(
         &mut self,
-        _id: &RequestId,
+        _name: &JobName,
         _key: (),
         _end: &JobEnd,
         alloc: Global,
@@ -61,7 +64,7 @@ impl Job for Computation {
 
     ghost is_for = { λ job _ params. view job.params ≡ params };
 
-    ghost answers = { λ _ _ params outcome. outcome ≡ Ok params };
+    ghost finds = { λ job outcome. outcome ≡ Ok (view job.params) };
 
     fn run<P: Progress>(
         self,
@@ -111,6 +114,7 @@ where
         text (W.contents writer) (W.contents done.writer) done.answer)) }
 {
     session_with_jobs_keeps_laws::<T, Speaking, Computation>();
+    requests_are_answered_by_their_jobs::<Speaking, Computation>();
     let jobs = Speaking {
         alloc,
         is_null: false,

@@ -48,13 +48,13 @@ impl Job for Search {
     ghost use Rattle.serde_json.specs.Data.{string};
     ghost use Rattle.serde_json.specs.Find.{get};
     ghost use Rattle.std.specs.Prelude.{◌≡◌, Some, codes, string_bytes};
-    ghost use Rattle.example_search.specs.Sources.{AnswersSearch};
+    ghost use Rattle.example_search.specs.Sources.{FindsSymbols};
 
     ghost is_for = { λ search _ params.
         get (codes "query") params ≡ Some (string (string_bytes search.query)) };
 
-    ghost answers = { λ search _ params outcome.
-        AnswersSearch search.sources.items params outcome };
+    ghost finds = { λ search outcome.
+        FindsSymbols search.sources.items (string_bytes search.query) outcome };
 
     fn run<P: Progress>(
         self,

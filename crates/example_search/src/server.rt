@@ -9,7 +9,9 @@ ghost use Rattle.lsp_documents.specs.Known.{copied};
 use crate::search::{Search, Silence};
 use crate::sums::{Problem, Word, sheet_of, value_of, word_at};
 use lsp_documents::{Agreed, Made, NotMade, TextDocuments, position_in, uri_in};
-use lsp_jobs::{AnsweredBy, CancellationToken, Job, JobEnd, JobServer, NewJob, WorkDone};
+use lsp_jobs::{
+    AnsweredBy, CancellationToken, Job, JobEnd, JobName, JobServer, SlotChange, WorkDone,
+};
 use lsp_server::{
     Act, ErrorCode, Notification, PassedOver, Request, RequestId, ResponseError, Server,
 };
@@ -129,13 +131,13 @@ impl JobServer<Search> for Sums {
         }
     }
 
-    fn take_jobs(&mut self, alloc: Global) -> Result<Vec<NewJob<Search, ()>>, AllocError> {
+    fn take_changes(&mut self, alloc: Global) -> Result<Vec<SlotChange<Search, ()>>, AllocError> {
         Ok(Vec::new(alloc))
     }
 
     fn finished(
         &mut self,
-        _id: &RequestId,
+        _name: &JobName,
         _key: (),
         _end: &JobEnd,
         alloc: Global,

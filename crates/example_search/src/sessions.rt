@@ -71,6 +71,7 @@ where
 const SIZE: PoolSize = PoolSize {
     workers: 2,
     waiting: Some(16),
+    stack: None,
 };
 
 /// `serve_in_threads` with a pool whose threads search. The session keeps the laws of a session without jobs, whatever the searches come to
@@ -90,7 +91,8 @@ where
         ThreadsTellOver true ⟦<PassedOver as Listener>⟧.hears client.limits (LawfulJobSession T ⟦<Sums as Server>⟧
         (record {
           gives = ⟦<Sums as JobServer<Search>>⟧.gives;
-          starts = ⟦<Sums as JobServer<Search>>⟧.starts;
+          leaves = ⟦<Sums as JobServer<Search>>⟧.leaves;
+          changes = ⟦<Sums as JobServer<Search>>⟧.changes;
           finishes = ⟦<Sums as JobServer<Search>>⟧.finishes;
         }) ⟦<Search as Job>⟧ sums result.0)
         text passed_over.old passed_over.new (Some []) (noted done.given) done.answer)) }

@@ -1,11 +1,11 @@
--- At each wake a job answers the last request under its id, or it was started since.
+-- At each wake a job answers the last request under its id.
 use Rattle.serde_json.specs.Data.{Data}
 use Rattle.std.proofs.Common.{◌≡◌, ◌⊎◌, refl, sym, ◌∙◌, ap, subst, inl, inr, ℕ, ◌+◌, Bool, true, false, cond, List, []}
 use Rattle.std.proofs.Common.{◌∷◌, ◌++◌, append_assoc, append-nil, arith, Option, Some, None}
 use Rattle.std.specs.FinMap as map
 use Rattle.std.specs.List.{FoldsTo}
 use Rattle.std.specs.Ordering.{eq_by_cmp}
-use Rattle.std.specs.Prelude.{Result, Ok, Err, pos, map as map_list, if◌then◌else◌}
+use Rattle.std.specs.Prelude.{Result, Ok, Err, pos, map as map_list, if◌then◌else◌, MatchOption}
 use Rattle.lsp_message.specs.Id.{Id, id_cmp, number}
 use Rattle.lsp_message.specs.IdLaws.{id_decides}
 use Rattle.lsp_message.specs.Message.{Message, ErrorObject, request, notification, response}
@@ -29,12 +29,14 @@ use Rattle.lsp_service.specs.declared.queued_server.QueuedServer.{QueuedServer}
 use Rattle.lsp_service.specs.declared.server.Server.{Ghosts as Plain}
 use Rattle.lsp_jobs.proofs.Owed.{fewer, quiet_more, waits_now, waits_on, replies_at_wake, waits_called, waits_opened}
 use Rattle.lsp_jobs.proofs.Owed.{HeldWaits}
+use Rattle.lsp_jobs.proofs.Slots.{Spares, spares-append, fewer_requests, unanswered_has, went_all, without_request}
+use Rattle.lsp_jobs.proofs.Slots.{Went}
 use Rattle.lsp_jobs.specs.Asking.{by_server, ByServers}
-use Rattle.lsp_jobs.specs.Ends.{too_many}
-use Rattle.lsp_jobs.specs.JobLaw.{concerns, is_that, AnswersByJobs, IsAskedAt, IsStarted, Refusal, refuse}
-use Rattle.lsp_jobs.specs.JobLaw.{RepliesToLast, Waits, WakeSends}
+use Rattle.lsp_jobs.specs.Ends.{came_to}
+use Rattle.lsp_jobs.specs.JobLaw.{concerns, is_that, AnswersByJobs, Left, at_ends, RepliesToLast, Waits, WakeSends}
 use Rattle.lsp_jobs.specs.JobSession.{JobSession, seen_with_jobs}
-use Rattle.lsp_jobs.specs.Pooled.{unanswered, without_cancelled, Does, Finishes, GivesJob, StartsJobs, StartsOne}
+use Rattle.lsp_jobs.specs.Pooled.{reply_at, unanswered, without_cancelled, ChangesSlots, Does, Finishes, GivesJob}
+use Rattle.lsp_jobs.specs.Pooled.{StartsOne}
 use Rattle.lsp_jobs.specs.PoolView.{pending_jobs}
 use Rattle.lsp_jobs.specs.Seen.{seen}
 use Rattle.lsp_jobs.specs.PendingJobs.{PendingJobs, no_jobs, without, with_job}
@@ -42,6 +44,8 @@ use Rattle.lsp_jobs.specs.declared.asking.Asked.{Asked}
 use Rattle.lsp_jobs.specs.declared.asking.Asked.TheVariants.{ByJob, ByServer}
 use Rattle.lsp_jobs.specs.declared.job.Job.{Ghosts as OfJob}
 use Rattle.lsp_jobs.specs.declared.job_server.JobServer.{Ghosts as WithJobs}
+use Rattle.lsp_jobs.specs.declared.names.JobName.{JobName}
+use Rattle.lsp_jobs.specs.declared.names.JobName.TheVariants.{Request, Slot}
 use Rattle.lsp_jobs.specs.declared.pooled_server.PooledServer.{PooledServer}
 
 -- ---- acts, and what they send
@@ -55,19 +59,6 @@ none_unless p true m is = refl
 none_unless p false m is = rw is refl
 
 module _ {P : Type 0} where
-  -- none of these acts replies under the id
-  abbrev Spares : Id → List (Act P) → Type 0
-  Spares id [] = Unit {0}
-  Spares id (replies i outcome ∷ acts) = (eq_by_cmp id_cmp id i ≡ false) × Spares id acts
-  Spares id (act ∷ acts) = Spares id acts
-
-  spares-append : (id : Id) (xs ys : List (Act P)) → Spares id xs → Spares id ys → Spares id (xs ++ ys)
-  spares-append id [] ys first second = second
-  spares-append id (replies i outcome ∷ xs) ys first second = (first.0, spares-append id xs ys first.1 second)
-  spares-append id (tells method params ∷ xs) ys first second = spares-append id xs ys first second
-  spares-append id (asks method params payload ∷ xs) ys first second = spares-append id xs ys first second
-  spares-append id (cancels z ∷ xs) ys first second = spares-append id xs ys first second
-
   -- so they send no reply under it
   mute_more : (id : Id) (d : Queues P) (act : Act P) (acts : List (Act P)) → how_many (is_reply_under id)
       (sends_by d act) ≡ 0
@@ -121,7 +112,7 @@ module _ {P : Type 0} where
         | inr came ↦ (let e = came.2 in absurd (cc (e)))
       ]))
     where
-      other : (cancelled : Option Id) → is_that id cancelled ≡ false → Spares id (cancelled_answer cancelled)
+      other : (cancelled : Option Id) → is_that id cancelled ≡ false → Spares {P = P} id (cancelled_answer cancelled)
       other None is = tt
       other (Some i) is = (is, tt)
 
@@ -134,241 +125,88 @@ module _ {P : Type 0} where
   spares_by_server id (asks method params payload ∷ acts) spares = spares_by_server id acts spares
   spares_by_server id (cancels z ∷ acts) spares = spares_by_server id acts spares
 
--- ---- pending
+-- ---- where the jobs of requests come from
 
-module _ {A : Type 0} where
-  without_has : (i : Id) (pending : PendingJobs A) (id : Id) (e : A) → without i pending id ≡ Some e
-      → (pending id ≡ Some e) × (eq_by_cmp id_cmp id i ≡ false)
-  without_has i pending id e has = at (eq_by_cmp id_cmp id i) refl has
-    where
-      at : (b : Bool) → eq_by_cmp id_cmp id i ≡ b → cond b None (pending id) ≡ Some e → (pending id ≡ Some e)
-          × (eq_by_cmp id_cmp id i ≡ false)
-      at true is has = absurd (cc (has))
-      at false is has = (has, is)
-
-module _ {A P : Type 0} where
-  unanswered_has : (acts : List (Act P)) (pending : PendingJobs A) (id : Id) (e : A) → unanswered acts pending id
-      ≡ Some e → (pending id ≡ Some e) × Spares id acts
-  unanswered_has [] pending id e has = (has, tt)
-  unanswered_has (replies i outcome ∷ acts) pending id e has =
-      let rest = unanswered_has acts (without i pending) id e has in
-      let own = without_has i pending id e rest.0 in
-      (own.0, (own.1, rest.1))
-  unanswered_has (tells method params ∷ acts) pending id e has = unanswered_has acts pending id e has
-  unanswered_has (asks method params payload ∷ acts) pending id e has = unanswered_has acts pending id e has
-  unanswered_has (cancels z ∷ acts) pending id e has = unanswered_has acts pending id e has
-
--- ---- where the pending jobs come from
-
-module _ {S J K P : Type 0} (plain : Plain S P) (may : WithJobs S J K P) (arrived : Option Message) where
-  abbrev State : Type 0
-  State = S × PendingJobs (J × K) × List (Act P)
-
-  -- A pending job was there before, and no act replied under its id. Or it was started.
-  abbrev Comes : (Id → J × K → Type 0) → List (Act P) → Id → J × K → Type 0
-  Comes from acts id e = (from id e × Spares id acts) ⊎ IsStarted plain may arrived id e.0 e.1
-
+module _ {S J K P : Type 0} (plain : Plain S P) (may : WithJobs S J K P) where
+  -- A pending job was there before, and no act replied under its id.
   abbrev AllCome : (Id → J × K → Type 0) → List (Act P) → PendingJobs (J × K) → Type 0
-  AllCome from acts pending = (id : Id) (e : J × K) → pending id ≡ Some e → Comes from acts id e
+  AllCome from acts pending = (id : Id) (e : J × K) → pending (Request id) ≡ Some e → from id e × Spares id acts
 
-  come_later : (from : Id → J × K → Type 0) (before acts : List (Act P)) (pending : PendingJobs (J × K))
-      → AllCome from before pending
-      → AllCome from acts (unanswered acts pending)
-  come_later from before acts pending all id e has =
-      let own = unanswered_has acts pending id e has in
-      elim (all id e own.0) [
-        | inl was ↦ inl (was.0, own.1)
-        | inr started ↦ inr started
-      ]
-
-  come_more : (from : Id → J × K → Type 0) (before acts : List (Act P)) (pending : PendingJobs (J × K))
-      → AllCome from before pending
-      → AllCome from (before ++ acts) (unanswered acts pending)
-  come_more from before acts pending all id e has =
-      let own = unanswered_has acts pending id e has in
-      elim (all id e own.0) [
-        | inl was ↦ inl (was.0, spares-append id before acts was.1 own.1)
-        | inr started ↦ inr started
-      ]
-
-  come_fewer : (from : Id → J × K → Type 0) (acts : List (Act P)) (i : Id) (pending : PendingJobs (J × K))
-      → AllCome from acts pending → AllCome from acts (without i pending)
-  come_fewer from acts i pending all id e has = all id e (without_has i pending id e has).0
-
-  come_with : (from : Id → J × K → Type 0) (acts : List (Act P)) (start : Id × J × K) (pending : PendingJobs (J × K))
-      → IsStarted plain may arrived start.0 start.1 start.2
-      → AllCome from acts pending → AllCome from acts (with_job start.0 (start.1, start.2) pending)
-  come_with from acts start pending own all id e has = at (eq_by_cmp id_cmp id start.0) refl has
+  -- When slots are changed, what is done then follows.
+  changes_slots : (from : Id → J × K → Type 0) (before : List (Act P)) (old new : S × PendingJobs (J × K))
+      (acts all : List (Act P)) → ChangesSlots may old acts all new → AllCome from before old.1 → AllCome from all new.1
+      × ((left : List (Left may)) × (all ≡ acts ++ at_ends may left))
+  changes_slots from before old new acts all c come = (after, (went.left, went.acts))
     where
-      at : (b : Bool) → eq_by_cmp id_cmp id start.0 ≡ b → cond b (Some (start.1, start.2)) (pending id) ≡ Some e
-          → Comes from acts id e
-      at true is has =
-          let same : id ≡ start.0 = (id_decides id start.0).0 is in
-          let it : ◌≡◌ {A = J × K} (start.1, start.2) e = cc (has) in
-          inr (subst (λ (x : Id × (J × K)). IsStarted plain may arrived x.0 x.1.0 x.1.1) (λ k. (sym same k, it k)) own)
-      at false is has = all id e has
+      went : Went plain may (c.mid, unanswered acts old.1, acts) (new.0, new.1, all)
+      went = went_all plain may c.changes (c.mid, unanswered acts old.1, acts) (new.0, new.1, all) c.made
 
-  refuse-append : (xs ys : List (Refusal plain may arrived)) → refuse plain may (xs ++ ys) ≡ refuse plain may xs
-      ++ refuse plain may ys
-  refuse-append [] ys = refl
-  refuse-append (r ∷ xs) ys =
-      ap (λ (l : List (Act P)). r.first ++ replies r.id (Err too_many) ∷ l) (refuse-append xs ys)
-      ∙ sym (append_assoc r.first (replies r.id (Err too_many) ∷ refuse plain may xs) (refuse plain may ys))
-
-  -- a job is started, or refused
-  one_starts : (from : Id → J × K → Type 0) (o n : S) (before others : List (Id × J × K)) (start : Id × J × K)
-      → IsAskedAt plain may arrived o → may.starts o (before ++ start ∷ others) n
-      → (old new : State) → StartsOne may old start new → AllCome from old.2 old.1
-      → AllCome from new.2 new.1 × ((refused : List (Refusal plain may arrived)) × (new.2 ≡ old.2 ++ refuse plain may
-      refused))
-  one_starts from o n before others start asked st old new one all = by one
-    where
-      own : IsStarted plain may arrived start.0 start.1 start.2
-      own = record { old = o; asked = asked; first = before; others = others; new = n; starts = st }
-
-      by : StartsOne may old start new → AllCome from new.2 new.1 × ((refused : List (Refusal plain may arrived))
-          × (new.2 ≡ old.2 ++ refuse plain may refused))
-      by (inl is) = (
-        subst (λ (x : State). AllCome from x.2 x.1) (sym is) (come_with from old.2 start old.1 own all),
-        ([], ap (λ (x : State). x.2) is ∙ sym (append-nil old.2)),
-      )
-      by (inr refusal) =
-          let e = refusal.1 in
-          let r : Refusal plain may arrived = record {
-            id = start.0;
-            job = start.1;
-            key = start.2;
-            started = own;
-            old = old.0;
-            first = e.0;
-            new = new.0;
-            saw = e.1;
-          } in (
-            subst (λ (x : PendingJobs (J × K) × List (Act P)). AllCome from x.1 x.0) (λ k. (sym e.3 k, sym refusal.2 k))
-                (come_more from old.2 refusal.0 (without start.0 old.1) (come_fewer from old.2 start.0 old.1 all)),
-            (r ∷ [], refusal.2 ∙ ap (λ (l : List (Act P)). old.2 ++ l) e.2),
+      after : AllCome from all new.1
+      after id e has =
+          let later = went.requests id e has in
+          let own = unanswered_has acts old.1 id e later.0 in (
+            (come id e own.0).0,
+            subst (Spares id) (sym went.acts) (spares-append id acts (at_ends may went.left) own.1 later.1),
           )
-
-  all_start : (from : Id → J × K → Type 0) (o n : S) (before jobs : List (Id × J × K)) → IsAskedAt plain may arrived o
-      → may.starts o (before ++ jobs) n
-      → (old new : State) → FoldsTo (StartsOne may) old jobs new → AllCome from old.2 old.1
-      → AllCome from new.2 new.1 × ((refused : List (Refusal plain may arrived)) × (new.2 ≡ old.2 ++ refuse plain may
-      refused))
-  all_start from o n before [] asked st old new run all = (
-    subst (λ (x : State). AllCome from x.2 x.1) run all,
-    ([], ap (λ (x : State). x.2) (sym run) ∙ sym (append-nil old.2)),
-  )
-  all_start from o n before (start ∷ jobs) asked st old new run all =
-      let one = one_starts from o n before jobs start asked st old run.0 run.1 all in
-      let rest = all_start from o n (before ++ start ∷ []) jobs asked (subst (λ (l : List (Id × J × K)). may.starts o l
-      n) (sym (append_assoc before (start ∷ []) jobs)) st)
-      run.0 new run.2 one.0 in (
-        rest.0,
-        (
-          one.1.0 ++ rest.1.0,
-          rest.1.1 ∙ ap (λ (l : List (Act P)). l ++ refuse plain may rest.1.0) one.1.1 ∙ append_assoc old.2
-              (refuse plain may one.1.0) (refuse plain may rest.1.0)
-              ∙ ap (λ (l : List (Act P)). old.2 ++ l) (sym (refuse-append one.1.0 rest.1.0)),
-        ),
-      )
-
-  starts_jobs : (from : Id → J × K → Type 0) (before : List (Act P)) (old new : S × PendingJobs (J × K))
-      (acts all : List (Act P)) → IsAskedAt plain may arrived old.0 → StartsJobs may old acts all new
-      → AllCome from before old.1 → AllCome from all new.1 × ((refused : List (Refusal plain may arrived))
-      × (all ≡ acts ++ refuse plain may refused))
-  starts_jobs from before old new acts all asked s come =
-      all_start from old.0 s.mid [] s.started asked s.starts (s.mid, unanswered acts old.1, acts) (
-        new.0,
-        new.1,
-        all,
-      ) s.taken
-      (come_later from before acts old.1 come)
 
 -- a pending job stays when the message does not concern its id, or the message is its request
 abbrev FromCall : {J K : Type 0} → OfJob J → PendingJobs (J × K) → Option Message → Id → J × K → Type 0
 FromCall of_job old arrived id e =
-    ((old id ≡ Some e) × (concerns id arrived ≡ false))
+    ((old (Request id) ≡ Some e) × (concerns id arrived ≡ false))
     ⊎ ((method : List ℕ) × (params : Data) × (arrived ≡ Some (request id method params)) × of_job.is_for e.0
     method params)
 
 module _ {S J K P : Type 0} (plain : Plain S P) (may : WithJobs S J K P) (of_job : OfJob J) where
   stay : (old : PendingJobs (J × K)) (arrived : Option Message) → ((id : Id) → concerns id arrived ≡ false)
       → (acts : List (Act P)) → ((id : Id) → Spares id acts)
-      → AllCome plain may arrived (FromCall of_job old arrived) acts old
-  stay old arrived none acts spares id e has = inl (inl (has, none id), spares id)
+      → AllCome plain may (FromCall of_job old arrived) acts old
+  stay old arrived none acts spares id e has = (inl (has, none id), spares id)
 
   stay_without : (old : PendingJobs (J × K)) (arrived : Option Message) (i : Id) → ((id : Id) → concerns id arrived
       ≡ eq_by_cmp id_cmp id i)
-      → AllCome plain may arrived (FromCall of_job old arrived) [] (without i old)
-  stay_without old arrived i same id e has = let own = without_has i old id e has in inl (
-    inl (
-      own.0,
-      same id
-          ∙ own.1,
-    ),
-    tt,
-  )
+      → AllCome plain may (FromCall of_job old arrived) [] (without (Request i) old)
+  stay_without old arrived i same id e has =
+      let own = without_request i old id e has in (inl (own.0, same id ∙ own.1), tt)
 
   stay_cancelled : (old : PendingJobs (J × K)) (method : List ℕ) (params : Data)
-      → AllCome plain may (Some (notification method params)) (FromCall of_job old (Some (notification method params)))
-      [] (without_cancelled (cancelled_by method params) old)
+      → AllCome plain may (FromCall of_job old (Some (notification method params))) []
+      (without_cancelled (cancelled_by method params) old)
   stay_cancelled old method params = at (cancelled_by method params) refl
     where
       at : (cancelled : Option Id) → cancelled_by method params ≡ cancelled
-          → AllCome plain may (Some (notification method params)) (FromCall of_job old
-          (Some (notification method params))) [] (without_cancelled cancelled old)
+          → AllCome plain may (FromCall of_job old (Some (notification method params))) []
+          (without_cancelled cancelled old)
       at None is = stay old (Some (notification method params)) (λ id. ap (is_that id) is) [] (λ id. tt)
       at (Some i) is = stay_without old (Some (notification method params)) i (λ id. ap (is_that id) is)
 
-  does_jobs : (arrived : Option Message) (from : Id → J × K → Type 0) (did : List (Act P) → S → Type 0)
+  does_jobs : (from : Id → J × K → Type 0) (did : List (Act P) → S → Type 0)
       (pending : PendingJobs (J × K)) (all : List (Act P)) (new : S × PendingJobs (J × K))
-      → ((acts : List (Act P)) (mid : S) → did acts mid → IsAskedAt plain may arrived mid)
-      → AllCome plain may arrived from [] pending → Does may did pending all new → AllCome plain may arrived from
-      all new.1
-  does_jobs arrived from did pending all new asked come d = (starts_jobs plain may arrived from [] (d.1, pending) new
-      d.0 all (asked d.0 d.1 d.2) d.3 come).0
+      → AllCome plain may from [] pending → Does may did pending all new → AllCome plain may from all new.1
+  does_jobs from did pending all new come d = (changes_slots plain may from [] (d.1, pending) new d.0 all d.3 come).0
 
   gives_job : (old new : S × PendingJobs (J × K)) (id : Id) (method : List ℕ) (params : Data) (all : List (Act P))
-      → GivesJob may of_job (old.0, without id old.1) id method params all new
-      → AllCome plain may (Some (request id method params)) (FromCall of_job old.1 (Some (request id method params)))
-      all new.1
+      → GivesJob may of_job (old.0, without (Request id) old.1) id method params all new
+      → AllCome plain may (FromCall of_job old.1 (Some (request id method params))) all new.1
   gives_job old new id method params all g =
-      (starts_jobs plain may (Some (request id method params)) (FromCall of_job old.1 (Some (request id method params)))
-      [] g.begins.did new g.begins.acts all (asked g.begins.started) g.begins.others (begun g.begins.started)).0
+      (changes_slots plain may from [] g.begins.did new g.begins.acts all g.begins.others (begun g.begins.started)).0
     where
-      asked : StartsOne may (g.mid, without id old.1, []) (id, g.job, g.key) (
-        g.begins.did.0,
-        g.begins.did.1,
-        g.begins.acts,
-      )
-          → IsAskedAt plain may (Some (request id method params)) g.begins.did.0
-      asked (inl is) = (
-        old.0,
-        inr (
-          g.job,
-          g.key,
-          g.mid,
-          g.gives,
-          inl (ap (λ (x : S × PendingJobs (J × K) × List (Act P)). x.0) is),
-        ),
-      )
-      asked (inr refusal) = (old.0, inr (g.job, g.key, g.mid, g.gives, inr (refusal.1.0, refusal.1.1)))
+      from : Id → J × K → Type 0
+      from = FromCall of_job old.1 (Some (request id method params))
 
-      before : AllCome plain may (Some (request id method params)) (FromCall of_job old.1
-          (Some (request id method params))) [] (without id old.1)
+      left : PendingJobs (J × K)
+      left = without (Request id) old.1
+
+      before : AllCome plain may from [] left
       before = stay_without old.1 (Some (request id method params)) id (λ i. refl)
 
-      given : AllCome plain may (Some (request id method params)) (FromCall of_job old.1
-          (Some (request id method params))) [] (with_job id (g.job, g.key) (without id old.1))
+      given : AllCome plain may from [] (with_job (Request id) (g.job, g.key) left)
       given i e has = at (eq_by_cmp id_cmp i id) refl has
         where
-          at : (b : Bool) → eq_by_cmp id_cmp i id ≡ b → cond b (Some (g.job, g.key)) (without id old.1 i) ≡ Some e
-              → Comes plain may (Some (request id method params)) (FromCall of_job old.1
-              (Some (request id method params))) [] i e
+          at : (b : Bool) → eq_by_cmp id_cmp i id ≡ b → cond b (Some (g.job, g.key)) (left (Request i)) ≡ Some e
+              → from i e × Spares {P = P} i []
           at true is has =
               let same : i ≡ id = (id_decides i id).0 is in
-              let it : ◌≡◌ {A = J × K} (g.job, g.key) e = cc (has) in
-              inl (
+              let it : ◌≡◌ {A = J × K} (g.job, g.key) e = cc (has) in (
                 inr (
                   method,
                   params,
@@ -379,22 +217,18 @@ module _ {S J K P : Type 0} (plain : Plain S P) (may : WithJobs S J K P) (of_job
               )
           at false is has = before i e has
 
-      begun : StartsOne may (g.mid, without id old.1, []) (id, g.job, g.key) (
+      begun : StartsOne may (Request id) g.job g.key (g.mid, left, []) (
         g.begins.did.0,
         g.begins.did.1,
         g.begins.acts,
       )
-          → AllCome plain may (Some (request id method params)) (FromCall of_job old.1
-          (Some (request id method params))) [] g.begins.did.1
+          → AllCome plain may from [] g.begins.did.1
       begun (inl is) =
-          subst (λ (t : PendingJobs (J × K)). AllCome plain may (Some (request id method params)) (FromCall of_job old.1
-          (Some (request id method params))) [] t)
+          subst (λ (t : PendingJobs (J × K)). AllCome plain may from [] t)
           (sym (ap (λ (x : S × PendingJobs (J × K) × List (Act P)). x.1) is)) given
-      begun (inr refusal) =
-          subst (λ (t : PendingJobs (J × K)). AllCome plain may (Some (request id method params)) (FromCall of_job old.1
-          (Some (request id method params))) [] t) (sym refusal.1.3)
-          (λ i e has. before i e (without_has id (without id old.1) i e (unanswered_has refusal.0
-          (without id (without id old.1)) i e has).0).0)
+      begun (inr refusal) = λ i e has.
+          before i e (fewer_requests (Request id) left i e (unanswered_has refusal.0 (without (Request id) left) i e
+          (ap (λ (t : PendingJobs (J × K)). t (Request i)) (sym refusal.1.3) ∙ has)).0)
 
 module _ (T : Type 0) {S J K P : Type 0} (plain : Plain S P) (may : WithJobs S J K P) (of_job : OfJob J) where
   abbrev W : Stated (PooledServer T S J K) (Asked P)
@@ -403,12 +237,12 @@ module _ (T : Type 0) {S J K P : Type 0} (plain : Plain S P) (may : WithJobs S J
   -- Where the pending jobs come from, by acts of the server's own that reply under no other ids than these.
   abbrev Handles : Option Message → PendingJobs (J × K) → List (Act (Asked P)) → PendingJobs (J × K) → Type 0
   Handles arrived old acts new =
-      (own : List (Act P)) × ((id : Id) → Spares id own → Spares id acts) × AllCome plain may arrived (FromCall of_job
+      (own : List (Act P)) × ((id : Id) → Spares id own → Spares id acts) × AllCome plain may (FromCall of_job
       old arrived) own new
 
   by_servers : (arrived : Option Message) (old new : PendingJobs (J × K)) (did : List (Act P) → Type 0)
       (all : List (Act (Asked P)))
-      → ((acts : List (Act P)) → did acts → AllCome plain may arrived (FromCall of_job old arrived) acts new)
+      → ((acts : List (Act P)) → did acts → AllCome plain may (FromCall of_job old arrived) acts new)
       → ByServers did all → Handles arrived old all new
   by_servers arrived old new did all come b = (
     b.0,
@@ -425,15 +259,10 @@ module _ (T : Type 0) {S J K P : Type 0} (plain : Plain S P) (may : WithJobs S J
   idles old did arrived acts none calm spares is same = (
     [],
     (λ id own. subst (Spares id) (sym is) (spares id)),
-    subst (λ (t : PendingJobs (J × K)). AllCome plain may arrived (FromCall of_job (pending_jobs old.pool) arrived) []
+    subst (λ (t : PendingJobs (J × K)). AllCome plain may (FromCall of_job (pending_jobs old.pool) arrived) []
         t) (sym same)
         (stay plain may of_job (pending_jobs old.pool) arrived calm [] (λ id. tt)),
   )
-
-  -- at a wake the server is asked after it saw how a job ended
-  at_end : {all : List (Act P)} {new : S × PendingJobs (J × K)} (old : PooledServer T S J K) (f : Finishes may of_job
-      (seen old) all new) → IsAskedAt plain may None f.did.0
-  at_end old f = (old.server, f.id, f.key, f.outcome, f.ended.0, f.ended.1)
 
   abbrev pended : PooledServer T S J K → PendingJobs (J × K)
   pended p = pending_jobs p.pool
@@ -453,46 +282,51 @@ module _ (T : Type 0) {S J K P : Type 0} (plain : Plain S P) (may : WithJobs S J
       (as_seen old did a.same)
   woken old did acts (inr (inr (inr b))) =
       by_servers None (pending_jobs old.pool) (pending_jobs did.pool) (λ own. Finishes may of_job (seen old) own
-      (seen did)) acts
-      (λ own f. (starts_jobs plain may None (FromCall of_job (pending_jobs old.pool) None) [] f.did (seen did) f.acts
-      own (at_end old f) f.others
-      (subst (λ (t : PendingJobs (J × K)). AllCome plain may None (FromCall of_job (pending_jobs old.pool) None) [] t)
-      (sym f.ended.3)
-      (λ i e has. stay plain may of_job (pending_jobs old.pool) None (λ id. refl) [] (λ id. tt) i e
-      (without_has f.id (pending_jobs old.pool) i e (unanswered_has f.acts (without f.id (pending_jobs old.pool)) i e
-      has).0).0))).0) b
+      (seen did)) acts ended b
+    where
+      from : Id → J × K → Type 0
+      from = FromCall of_job (pending_jobs old.pool) None
+
+      ended : (own : List (Act P)) → Finishes may of_job (seen old) own (seen did) → AllCome plain may from own
+          (pending_jobs did.pool)
+      ended own f = (changes_slots plain may from [] f.did (seen did) f.acts own f.others before).0
+        where
+          before : AllCome plain may from [] f.did.1
+          before i e has =
+              let left = without f.name (pending_jobs old.pool) in
+              stay plain may of_job (pending_jobs old.pool) None (λ id. refl) [] (λ id. tt) i e
+              (fewer_requests f.name (pending_jobs old.pool) i e (unanswered_has f.acts left i e
+              (ap (λ (t : PendingJobs (J × K)). t (Request i)) (sym f.ended.3) ∙ has)).0)
 
   handed_jobs : (old did : PooledServer T S J K) (arrived : Option Message) (payload : Option (Asked P))
       (acts : List (Act (Asked P))) → Handed W old arrived payload acts did
       → Handles arrived (pending_jobs old.pool) acts (pending_jobs did.pool)
   handed_jobs old did (Some (request id method params)) payload acts h =
+      let left = without (Request id) (pending_jobs old.pool) in
       by_servers (Some (request id method params)) (pending_jobs old.pool) (pending_jobs did.pool)
-      (λ own. GivesJob may of_job (old.server, without id (pending_jobs old.pool)) id method params own (seen did)
-      ⊎ Does may (plain.requested old.server id method params) (without id (pending_jobs old.pool)) own (seen did)) acts
+      (λ own. GivesJob may of_job (old.server, left) id method params own (seen did)
+      ⊎ (may.leaves old.server method params
+      × Does may (plain.requested old.server id method params) left own (seen did))) acts
       (λ own done. elim done [
         | inl g ↦ gives_job plain may of_job (seen old) (seen did) id method params own g
-        | inr d ↦ does_jobs plain may of_job (Some (request id method params)) (FromCall of_job (pending_jobs old.pool)
-            (Some (request id method params))) (plain.requested old.server id method params)
-            (without id (pending_jobs old.pool)) own (seen did)
-            (λ did mid does. (old.server, inl (did, does)))
-            (stay_without plain may of_job (pending_jobs old.pool) (Some (request id method params)) id (λ i. refl)) d
+        | inr d ↦ does_jobs plain may of_job (FromCall of_job (pending_jobs old.pool)
+            (Some (request id method params))) (plain.requested old.server id method params) left own (seen did)
+            (stay_without plain may of_job (pending_jobs old.pool) (Some (request id method params)) id (λ i. refl)) d.1
       ]) h.0
   handed_jobs old did (Some (notification method params)) payload acts h =
       by_servers (Some (notification method params)) (pending_jobs old.pool) (pending_jobs did.pool)
       (λ own. Does may (plain.notified old.server method params) (without_cancelled (cancelled_by method params)
       (pending_jobs old.pool)) own (seen did)) acts
-      (λ own d. does_jobs plain may of_job (Some (notification method params)) (FromCall of_job (pending_jobs old.pool)
+      (λ own d. does_jobs plain may of_job (FromCall of_job (pending_jobs old.pool)
       (Some (notification method params))) (plain.notified old.server method params)
       (without_cancelled (cancelled_by method params) (pending_jobs old.pool)) own (seen did)
-      (λ did mid does. (old.server, did, inl does)) (stay_cancelled plain may of_job (pending_jobs old.pool) method
-      params) d) h.0
+      (stay_cancelled plain may of_job (pending_jobs old.pool) method params) d) h.0
   handed_jobs old did (Some (response id outcome)) (Some (ByServer payload)) acts h =
       by_servers (Some (response id outcome)) (pending_jobs old.pool) (pending_jobs did.pool)
       (λ own. Does may (plain.replied old.server payload outcome) (pending_jobs old.pool) own (seen did)) acts
-      (λ own d. does_jobs plain may of_job (Some (response id outcome)) (FromCall of_job (pending_jobs old.pool)
+      (λ own d. does_jobs plain may of_job (FromCall of_job (pending_jobs old.pool)
       (Some (response id outcome))) (plain.replied old.server payload outcome) (pending_jobs old.pool) own
       (seen did)
-      (λ did mid does. (old.server, payload, did, does))
       (stay plain may of_job (pending_jobs old.pool) (Some (response id outcome)) (λ i. refl) [] (λ i. tt)) d) h
   handed_jobs old did (Some (response id outcome)) (Some (ByJob n)) acts h =
       idles old did (Some (response id outcome)) acts [] (λ i. refl) (λ i. tt) h.0 (as_seen old did h.1)
@@ -505,7 +339,8 @@ module _ (T : Type 0) {S J K P : Type 0} (plain : Plain S P) (may : WithJobs S J
   back_one (ByServer payload) old new back = back.1
   back_one (ByJob n) old new same = as_seen old new same
 
-  back_pending : (payloads : List (Asked P)) (old new : PooledServer T S J K) → TakesBack W.takes_back old payloads new
+  pub back_pending : (payloads : List (Asked P)) (old new : PooledServer T S J K)
+      → TakesBack W.takes_back old payloads new
       → pending_jobs new.pool ≡ pending_jobs old.pool
   back_pending [] old new same = ap pended same
   back_pending (payload ∷ payloads) old new back = back_pending payloads back.0 new back.2 ∙ back_one payload old
@@ -513,23 +348,15 @@ module _ (T : Type 0) {S J K P : Type 0} (plain : Plain S P) (may : WithJobs S J
 
   -- ---- exchanges
 
-  waits_more : (earlier : List Exchange) (x : Exchange) (id : Id) (job : J) → concerns id x.came ≡ false
-      → how_many (is_reply_under id) x.sent ≡ 0
-      → Waits plain may of_job earlier id job → Waits plain may of_job (earlier ++ x ∷ []) id job
-  waits_more earlier x id job calm none (inl r) = inl (r.0, r.1, r.2, waits_on earlier x id r.0 r.1 calm none r.3)
-  waits_more earlier x id job calm none (inr l) = inr (record {
-    before = l.before;
-    start = l.start;
-    since = l.since ++ x ∷ [];
-    cut = ap (λ (es : List Exchange). es ++ x ∷ []) l.cut ∙ append_assoc l.before (l.start ∷ l.since) (x ∷ []);
-    quiet = quiet_more id l.since x l.quiet calm none;
-    key = l.key;
-    started = l.started;
-  })
-
-  -- each pending job waits
+  -- each request that has a job waits for it
   abbrev AllWait : List Exchange → PendingJobs (J × K) → Type 0
-  AllWait earlier pending = (id : Id) (e : J × K) → pending id ≡ Some e → Waits plain may of_job earlier id e.0
+  AllWait earlier pending = (id : Id) (e : J × K) → pending (Request id) ≡ Some e
+      → Waits may of_job earlier (Request id) e.0
+
+  waits_at : (earlier : List Exchange) (pending : PendingJobs (J × K)) → AllWait earlier pending → (name : JobName)
+      (e : J × K) → pending name ≡ Some e → Waits may of_job earlier name e.0
+  waits_at earlier pending all (Request id) e has = all id e has
+  waits_at earlier pending all (Slot slot) e has = tt
 
   abbrev Calm : Id → Option Message → Type 0
   Calm id arrived = (concerns id arrived ≡ false) ⊎ ((method : List ℕ) × (params : Data)
@@ -537,91 +364,74 @@ module _ (T : Type 0) {S J K P : Type 0} (plain : Plain S P) (may : WithJobs S J
 
   wait_on : (earlier : List Exchange) (x : Exchange) (old new : PendingJobs (J × K)) (acts : List (Act P))
       → AllWait earlier old
-      → AllCome plain may x.came (FromCall of_job old x.came) acts new → ((id : Id) → Spares id acts → Calm id x.came
+      → AllCome plain may (FromCall of_job old x.came) acts new → ((id : Id) → Spares id acts → Calm id x.came
       → how_many (is_reply_under id) x.sent ≡ 0)
       → AllWait (earlier ++ x ∷ []) new
-  wait_on earlier x old new acts before come silent id e has = by (come id e has)
+  wait_on earlier x old new acts before come silent id e has = of own.0
     where
-      by : Comes plain may x.came (FromCall of_job old x.came) acts id e → Waits plain may of_job (earlier ++ x
-          ∷ []) id e.0
-      by (inl own) = of own.0
-        where
-          of : FromCall of_job old x.came id e → Waits plain may of_job (earlier ++ x ∷ []) id e.0
-          of (inl was) = waits_more earlier x id e.0 was.1 (silent id own.1 (inl was.1)) (before id e was.0)
-          of (inr given) = inl (
-            given.0,
-            given.1,
-            given.3,
-            waits_now earlier x id given.0 given.1 given.2
-                (silent id own.1 (inr (given.0, given.1, given.2))),
+      own : FromCall of_job old x.came id e × Spares id acts
+      own = come id e has
+
+      of : FromCall of_job old x.came id e → Waits may of_job (earlier ++ x ∷ []) (Request id) e.0
+      of (inl was) =
+          let r = before id e was.0 in (
+            r.0,
+            r.1,
+            r.2,
+            waits_on earlier x id r.0 r.1 was.1 (silent id own.1 (inl was.1)) r.3,
           )
-      by (inr started) = inr (record {
-        before = earlier;
-        start = x;
-        since = [];
-        cut = refl;
-        quiet = tt;
-        key = e.1;
-        started = started;
-      })
+      of (inr given) = (
+        given.0,
+        given.1,
+        given.3,
+        waits_now earlier x id given.0 given.1 given.2 (silent id own.1 (inr (given.0, given.1, given.2))),
+      )
 
   -- what is sent at a wake
   wake_sends : (earlier : List Exchange) (old did : PooledServer T S J K) (acts : List (Act (Asked P)))
       (output not_sent : List Message) (d : Queues (Asked P)) → all_sends d acts ≡ output ++ not_sent
-      → W.wakes old acts did → AllWait earlier (pending_jobs old.pool) → WakeSends plain may of_job earlier output
+      → W.wakes old acts did → AllWait earlier (pending_jobs old.pool) → WakeSends may of_job earlier output
   wake_sends earlier old did acts output not_sent d is (inl nothing) waits = inl (part_none output not_sent
       (all_sends d acts) (sym is) (ap (all_sends d) nothing.0))
   wake_sends earlier old did acts output not_sent d is (inr (inl r)) waits = inr (inl (record {
-    id = r.id;
+    name = r.name;
     job = r.job;
     method = r.method;
     params = r.params;
-    waits = waits r.id (r.job, r.key) r.waits;
+    waits = waits_at earlier (pending_jobs old.pool) waits r.name (r.job, r.key) r.waits;
     reports = r.reports;
     sent = (d, not_sent, sym (ap (all_sends d) r.acts) ∙ is);
   }))
   wake_sends earlier old did acts output not_sent d is (inr (inr (inl a))) waits = inr (inr (inl (record {
-    id = a.id;
+    name = a.name;
     job = a.job;
     method = a.method;
     params = a.params;
     number = a.number;
-    waits = waits a.id (a.job, a.key) a.waits;
+    waits = waits_at earlier (pending_jobs old.pool) waits a.name (a.job, a.key) a.waits;
     may_ask = a.may_ask;
     sent = (d, not_sent, sym (ap (all_sends d) a.acts) ∙ is);
   })))
   wake_sends earlier old did acts output not_sent d is (inr (inr (inr b))) waits =
       let own = b.0 in
       let f = b.2 in
-      let s = starts_jobs plain may None (λ id e. Unit {0}) [] f.did (seen did) f.acts own (at_end old f) f.others
-      (λ id e has. inl (tt, tt)) in
+      let s = changes_slots plain may (λ id e. Unit {0}) [] f.did (seen did) f.acts own f.others
+      (λ id e has. (tt, tt)) in
       let first = f.ended.0 in
-      let all : own ≡ first ++ replies f.id f.outcome ∷ refuse plain may s.1.0 =
-      s.1.1 ∙ ap (λ (l : List (Act P)). l ++ refuse plain may s.1.0) f.ended.2 ∙ append_assoc first
-      (replies f.id f.outcome ∷ []) (refuse plain may s.1.0) in
+      let all : own ≡ (first ++ reply_at f.name (came_to f.outcome)) ++ at_ends may s.1.0 =
+      s.1.1 ∙ ap (λ (l : List (Act P)). l ++ at_ends may s.1.0) f.ended.2 in
       inr (inr (inr (record {
-        id = f.id;
-        outcome = f.outcome;
-        by = elim (waits f.id (f.job, f.key) f.waits) [
-          | inl r ↦ inl (record {
-            method = r.0;
-            params = r.1;
-            waits = r.3;
-            job = f.job;
-            is_for = r.2;
-            allowed = elim f.comes [
-              | inl any ↦ inl (any r.0 r.1 r.2)
-              | inr failed ↦ inr failed
-            ];
-          })
-          | inr started ↦ inr (record { job = f.job; started = started; comes = f.comes })
-        ];
+        name = f.name;
+        job = f.job;
         key = f.key;
+        outcome = f.outcome;
+        waits = waits_at earlier (pending_jobs old.pool) waits f.name (f.job, f.key) f.waits;
+        comes = f.comes;
         old = old.server;
         first = first;
         new = f.did.0;
         saw = f.ended.1;
-        refused = s.1.0;
+        left = s.1.0;
         sent = (d, not_sent, sym (ap (all_sends d) (b.1 ∙ ap (map_list by_server) all)) ∙ is);
       })))
 
@@ -643,7 +453,7 @@ module _ (T : Type 0) {S J K P : Type 0} (plain : Plain S P) (may : WithJobs S J
   Ready earlier phase w = Unit {0}
 
   abbrev Wake : List Exchange → Exchange → Type 0
-  Wake earlier x = x.came ≡ None → WakeSends plain may of_job earlier x.sent × RepliesToLast earlier x.sent
+  Wake earlier x = x.came ≡ None → WakeSends may of_job earlier x.sent × RepliesToLast earlier x.sent
 
   abbrev Steps_on : List Exchange → Exchange → Phase → Working → Type 0
   Steps_on earlier x q w = Wake earlier x × Ready (earlier ++ x ∷ []) q w
@@ -680,7 +490,7 @@ module _ (T : Type 0) {S J K P : Type 0} (plain : Plain S P) (may : WithJobs S J
 
       wakes : (arrived : Option Message) (payload : Option (Asked P)) → Handed W w.server arrived payload a.acts a.did
           → full ≡ all_sends (queues_at (queues.queues_of w.queues) arrived payload) (acts_done_at arrived a.acts)
-          → arrived ≡ None → WakeSends plain may of_job earlier x.sent
+          → arrived ≡ None → WakeSends may of_job earlier x.sent
       wakes None payload handed sent none = wake_sends earlier w.server a.did a.acts x.sent more (queues.queues_of
           w.queues) (sym sent ∙ sym part) handed.0 ready.1
       wakes (Some m) payload handed sent none = absurd (cc (none))
@@ -727,27 +537,15 @@ module _ (T : Type 0) {S J K P : Type 0} (plain : Plain S P) (may : WithJobs S J
       silent id spares calm = fewer (is_reply_under id) x.sent more full part (ap (how_many (is_reply_under id)) sent
           ∙ mute id o.1.0 (queues.queues_of w.queues) spares)
 
-      none : (id : Id) (e : J × K) → pending w id ≡ Some e → ⊥
-      none id e has = let is = ap (λ (t : PendingJobs (J × K)). t id) (sym ready.1) ∙ has in absurd (cc (is))
-
-      at_initialized_asked : (m : Message) → is_initialized m ≡ true → (acts : List (Act P)) (mid : S)
-          → plain.at_initialized w.server.server acts mid → IsAskedAt plain may (Some m) mid
-      at_initialized_asked (notification method params) begins acts mid does = (
-        w.server.server,
-        acts,
-        inr (begins, does),
-      )
-      at_initialized_asked (request id method params) begins acts mid does = absurd (cc (begins))
-      at_initialized_asked (response id outcome) begins acts mid does = absurd (cc (begins))
+      none : (id : Id) (e : J × K) → pending w (Request id) ≡ Some e → ⊥
+      none id e has = let is = ap (λ (t : PendingJobs (J × K)). t (Request id)) (sym ready.1) ∙ has in absurd (cc (is))
 
       come : Handles x.came (pending w) o.1.0 (pending_jobs o.1.1.pool)
       come =
           by_servers x.came (pending w) (pending_jobs o.1.1.pool) (λ own. Does may (plain.at_initialized
           w.server.server) (pending w) own (seen o.1.1)) o.1.0
-          (λ own d. does_jobs plain may of_job x.came (FromCall of_job (pending w) x.came) (plain.at_initialized
-          w.server.server) (pending w) own (seen o.1.1)
-          (λ acts mid does. subst (λ (l : Option Message). IsAskedAt plain may l mid) (sym there) (at_initialized_asked
-          m begins acts mid does)) (λ id e has. absurd (none id e has)) d) o.1.2
+          (λ own d. does_jobs plain may of_job (FromCall of_job (pending w) x.came) (plain.at_initialized
+          w.server.server) (pending w) own (seen o.1.1) (λ id e has. absurd (none id e has)) d) o.1.2
 
       waits : AllWait (earlier ++ x ∷ []) (pending w')
       waits =
@@ -813,23 +611,23 @@ module _ (T : Type 0) {S J K P : Type 0} (plain : Plain S P) (may : WithJobs S J
 
   at_each : (earlier xs : List Exchange) → AllWakes earlier xs → (before later : List Exchange) (x : Exchange) → xs
       ≡ before ++ x ∷ later → x.came ≡ None
-      → WakeSends plain may of_job (earlier ++ before) x.sent × RepliesToLast (earlier ++ before) x.sent
+      → WakeSends may of_job (earlier ++ before) x.sent × RepliesToLast (earlier ++ before) x.sent
   at_each earlier [] all [] later x e none = absurd (cc (e))
   at_each earlier [] all (b ∷ before) later x e none = absurd (cc (e))
   at_each earlier (y ∷ xs) all [] later x e none =
       let same : y ≡ x = cc (e) in
-      subst (λ (es : List Exchange). WakeSends plain may of_job es x.sent × RepliesToLast es x.sent)
+      subst (λ (es : List Exchange). WakeSends may of_job es x.sent × RepliesToLast es x.sent)
       (sym (append-nil earlier)) (subst (Wake earlier) same all.0 none)
   at_each earlier (y ∷ xs) all (b ∷ before) later x e none =
       let same : y ≡ b = cc (e) in
       let rest : xs ≡ before ++ x ∷ later = cc (e) in
-      subst (λ (es : List Exchange). WakeSends plain may of_job es x.sent × RepliesToLast es x.sent)
+      subst (λ (es : List Exchange). WakeSends may of_job es x.sent × RepliesToLast es x.sent)
       (append_assoc earlier (y ∷ []) before ∙ ap (λ (z : Exchange). earlier ++ z ∷ before) same)
       (at_each (earlier ++ y ∷ []) xs all.1 before later x rest none)
 
   pub answers_by_jobs : (first last : S) (xs : List Exchange) (stop : Stop) (shutdown_reply : Option Message)
       (answer : SessionAnswer)
-      → JobSession T plain may of_job first last xs stop shutdown_reply answer → AnswersByJobs plain may of_job xs
+      → JobSession T plain may of_job first last xs stop shutdown_reply answer → AnswersByJobs may of_job xs
   answers_by_jobs first last xs stop shutdown_reply answer session =
       let s = session.session in
       let none : pending s.old ≡ no_jobs =

@@ -34,7 +34,7 @@ use Rattle.lsp_jobs.specs.contracts.channel.TicketsProtocolItemKnown.TheImpl as 
 use Rattle.lsp_jobs.specs.contracts.channel.WorkerMessage as saying
 use Rattle.lsp_jobs.specs.contracts.channel.Item as slip
 use Rattle.atomic_table.specs.contracts.badge.Badge as badge_row
-use Rattle.lsp_jobs.proofs.MessageSend.{both, id_send, notice_parts, tree_parts}
+use Rattle.lsp_jobs.proofs.MessageSend.{both, name_send, notice_parts, tree_parts}
 use Rattle.lsp_jobs.specs.declared.channel.AnyJob.{Ghosts}
 
 heap_frees : Frees ghosts ghosts.dealloc_token
@@ -129,7 +129,7 @@ module _ (R : RattleType) where
   item_send : IsSend R → IsSend (slip.the_row R)
   item_send t =
       let said = message_parts t in
-      let parts : IsSend (slip.the_field R).row = search (id_send, said, crosses, sendable) depth 40 in
+      let parts : IsSend (slip.the_field R).row = search (name_send, said, crosses, sendable) depth 40 in
       recorded_send (slip.the_field R).row _ _ (slip.the_type R).to_one parts
 
   option_send : IsSend R → IsSend (option.the_row (slip.the_row R))
@@ -159,7 +159,7 @@ module _ (R : RattleType) where
           (
             search sendable,
             (
-              id_send,
+              name_send,
               (
                 sender,
                 (

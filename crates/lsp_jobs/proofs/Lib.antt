@@ -1,10 +1,12 @@
 mod Answering
-mod Forgetting
 pub mod JobSenderSend
 mod JobSessions
+pub mod NameLemmas
 mod Tables
 mod Tickets
 mod Owed
+mod Slots
+mod SlotTurns
 pub mod QueuedJobSend
 pub mod Refused
 pub mod MessageSend

@@ -1,5 +1,6 @@
 -- What jobs say may go to another thread.
-use denote.Param.Send.{IsSend, sendable, struct_send}
+use denote.Enum.Declared.{shape as cases}
+use denote.Param.Send.{IsSend, sendable, enum_send, struct_send}
 use denote.Struct.Declared.{shape}
 use Rattle.std.proofs.Crossing.{Vec-send}
 use Rattle.std.proofs.MapsCrossing.{BTreeMap-send, String-send}
@@ -10,6 +11,8 @@ use Rattle.serde_json.specs.contracts.value.Value as tree
 use Rattle.lsp_message.specs.contracts.msg.Notification as notice
 use Rattle.lsp_message.specs.contracts.msg.ResponseError as error
 use Rattle.lsp_message.specs.contracts.msg.id.RequestId as id
+use Rattle.lsp_jobs.specs.contracts.names.JobName as name
+use Rattle.lsp_jobs.specs.contracts.names.Slot as slot
 
 pub both : {A B : Type 0} → A → B → A × B
 both a b = (a, b)
@@ -20,8 +23,14 @@ tree_send = search (send-Value, String-send, Vec-send, BTreeMap-send, both, send
 pub tree_parts : IsSend (tree.the_field).row
 tree_parts = search (send-Value, String-send, Vec-send, BTreeMap-send, both, sendable) depth 40
 
-pub id_send : IsSend (id.the_field).row
+id_send : IsSend (id.the_field).row
 id_send = search (Vec-send, both, sendable) depth 40
+
+slot_send : IsSend (slot.the_field).row
+slot_send = search (Vec-send, both, sendable) depth 40
+
+pub name_send : IsSend (name.the_field).row
+name_send = enum_send (cases name.the_type) ((id_send, tt), ((slot_send, tt), tt))
 
 pub error_send : IsSend error.the_row
 error_send = search (tree_send, Vec-send, both, sendable) depth 40

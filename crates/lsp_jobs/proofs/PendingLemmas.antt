@@ -1,21 +1,21 @@
--- Pending jobs, as maps from ids.
-use Rattle.serde_json.specs.Data.{Data}
+-- Pending jobs, as maps from names.
 use Rattle.serde_json.specs.declared.value.Value.{Value}
-use Rattle.std.proofs.Common.{◌≡◌, ◌∙◌, ap, sym, subst, refl, inl, inr, ℕ, Bool, true, false, cond, List, [], ◌∷◌, ◌++◌}
+use Rattle.std.proofs.Common.{◌≡◌, ◌∙◌, ap, sym, subst, refl, inl, inr, Bool, true, false, cond, List, [], ◌∷◌, ◌++◌}
 use Rattle.std.proofs.Common.{append-nil, arith, length, Option, Some, None, option_map, Result, Ok, Err, OnErr, OnOk}
-use Rattle.std.specs.FinMap.{FinMap, get-empty, get-insert, get-remove}
-use Rattle.std.specs.FinMap as map
-use Rattle.std.specs.Ordering.{eq_by_cmp}
-use Rattle.std.specs.Prelude.{if◌then◌else◌, is_ok, IfNone, IfOk}
+use Rattle.std.specs.Prelude.{if◌then◌else◌, is_ok, IfNone, IfOk, MatchOption}
 use Rattle.std.specs.declared.alloc.AllocError.{AllocError}
-use Rattle.lsp_message.specs.Id.{Id, id_cmp}
-use Rattle.lsp_message.specs.IdLaws.{id_total, id_decides}
 use Rattle.lsp_message.specs.View.{outcome_view}
 use Rattle.lsp_message.specs.declared.msg.ResponseError.{ResponseError}
-use Rattle.lsp_jobs.specs.Ends.{Outcome}
+use Rattle.lsp_jobs.proofs.NameLemmas.{name_decides}
+use Rattle.lsp_service.specs.Acts.{Act}
+use Rattle.lsp_jobs.specs.Ends.{Outcome, End}
+use Rattle.lsp_jobs.specs.Names.{same_name}
 use Rattle.lsp_jobs.specs.PoolView.{CameTo}
 use Rattle.lsp_jobs.specs.PendingJobs.{PendingJobs, ComesTo, no_jobs, without, with_job}
+use Rattle.lsp_jobs.specs.Pooled.{EndsThen, Frees}
 use Rattle.lsp_jobs.specs.declared.job.Job.{Ghosts as OfJob}
+use Rattle.lsp_jobs.specs.declared.job_server.JobServer.{Ghosts as WithJobs}
+use Rattle.lsp_jobs.specs.declared.names.JobName.{JobName}
 
 pub on_err : {T E P : Type 0} (r : Result T E) → P → OnErr r P
 on_err (Ok x) p = tt
@@ -24,6 +24,19 @@ on_err (Err e) p = p
 pub on_ok : {T E P : Type 0} (r : Result T E) → P → OnOk r P
 on_ok (Ok x) p = p
 on_ok (Err e) p = tt
+
+-- where one thing went well, so did another
+pub on_ok_as : {T E U F Q P : Type 0} (r : Result T E) (s : Result U F) → is_ok r ≡ is_ok s → OnOk s Q → (Q → P)
+    → OnOk r P
+on_ok_as (Ok x) (Ok y) same q gives = gives q
+on_ok_as (Ok x) (Err f) same q gives = absurd (cc (same))
+on_ok_as (Err e) s same q gives = tt
+
+pub on_err_as : {T E U F Q P : Type 0} (r : Result T E) (s : Result U F) → is_ok r ≡ is_ok s → OnErr s Q → (Q → P)
+    → OnErr r P
+on_err_as (Err e) (Err f) same q gives = gives q
+on_err_as (Err e) (Ok y) same q gives = absurd (cc (same))
+on_err_as (Ok x) s same q gives = tt
 
 pub if_none : {A P : Type 0} (o : Option A) → P → IfNone o P
 if_none None p = p
@@ -40,64 +53,68 @@ pub appended : {A T E Q : Type 0} (r : Result T E) (new old more : List A) → n
 appended (Ok x) new old more is holds = holds is
 appended (Err e) new old more is holds = tt
 
--- what a job came to, as its request gets it
+-- what a job came to, as it is got
 pub came : {J : Type 0} (may : OfJob J) (job : J) (ran : Result (Result Value ResponseError) AllocError) (got : Outcome)
-    → IfOk ran (λ outcome. (method : List ℕ) (params : Data) → may.is_for job method params → may.answers job method
-    params (outcome_view outcome))
-    → CameTo ran got → ComesTo may job got
-came may job (Ok outcome) got all is = inl (λ method params for. subst (λ o. may.answers job method params o) (sym is)
-    (all method params for))
-came may job (Err failed) got all is = inr is
+    → IfOk ran (λ outcome. may.finds job (outcome_view outcome)) → CameTo ran got → ComesTo may job got
+came may job (Ok outcome) got finds is = inl (subst (λ (o : Outcome). may.finds job o) (sym is) finds)
+came may job (Err failed) got finds is = inr is
 
 module _ {E J : Type 0} (f : E → J) where
   mapped_if : (b : Bool) (x y : Option E) → option_map f (cond b x y) ≡ cond b (option_map f x) (option_map f y)
   mapped_if true x y = refl
   mapped_if false x y = refl
 
-  abbrev pub jobs_in : FinMap id_cmp E → PendingJobs J
-  jobs_in m = λ i. option_map f (map.get m i)
+  abbrev pub jobs_in : PendingJobs E → PendingJobs J
+  jobs_in entries = λ name. option_map f (entries name)
 
-  pub pending_empty : (m : FinMap id_cmp E) → m ≡ map.empty → jobs_in m ≡ no_jobs
-  pending_empty m is = λ k i. (ap (λ x. option_map f (map.get x i)) is ∙ ap (option_map f) (get-empty id_cmp i)) k
+  pub pending_empty : (entries : PendingJobs E) → entries ≡ no_jobs → jobs_in entries ≡ no_jobs
+  pending_empty entries is = ap jobs_in is
 
-  pub pending_remove : (m n : FinMap id_cmp E) (id : Id) → n ≡ map.remove m id → jobs_in n ≡ without id (jobs_in m)
-  pending_remove m n id is = λ k i. at i k
-    where
-      at : (i : Id) → option_map f (map.get n i) ≡ (if eq_by_cmp id_cmp i id then None else option_map f (map.get m i))
-      at i = ap (λ x. option_map f (map.get x i)) is ∙ ap (option_map f) (get-remove id_total m id i)
-          ∙ mapped_if (eq_by_cmp id_cmp i id) None (map.get m i)
+  pub pending_remove : (old new : PendingJobs E) (name : JobName) → new ≡ without name old → jobs_in new
+      ≡ without name (jobs_in old)
+  pending_remove old new name is = ap jobs_in is ∙ (λ k n. mapped_if (same_name n name) None (old n) k)
 
-  pub pending_insert : (m n : FinMap id_cmp E) (id : Id) (e : E) → n ≡ map.insert m id e → jobs_in n ≡ with_job id (f e)
-      (jobs_in m)
-  pending_insert m n id e is = λ k i. at i k
-    where
-      at : (i : Id) → option_map f (map.get n i) ≡ (if eq_by_cmp id_cmp i id then Some (f e) else option_map f
-          (map.get m i))
-      at i = ap (λ x. option_map f (map.get x i)) is ∙ ap (option_map f) (get-insert id_total m id e i)
-          ∙ mapped_if (eq_by_cmp id_cmp i id) (Some e) (map.get m i)
+  pub pending_insert : (old new : PendingJobs E) (name : JobName) (e : E) → new ≡ with_job name e old → jobs_in new
+      ≡ with_job name (f e) (jobs_in old)
+  pending_insert old new name e is = ap jobs_in is ∙ (λ k n. mapped_if (same_name n name) (Some e) (old n) k)
 
 module _ {J : Type 0} where
-  same_at : (pending : PendingJobs J) (i id : Id) (x : Option J) → pending id ≡ x → (b : Bool) → eq_by_cmp id_cmp i id
-      ≡ b → cond b x (pending i) ≡ pending i
-  same_at pending i id x at true e = let same : i ≡ id = (id_decides i id).0 e in sym at ∙ ap pending (sym same)
-  same_at pending i id x at false e = refl
+  same_at : (pending : PendingJobs J) (n name : JobName) (x : Option J) → pending name ≡ x → (b : Bool)
+      → same_name n name ≡ b → cond b x (pending n) ≡ pending n
+  same_at pending n name x at true e =
+      let same : n ≡ name = (name_decides n name).0 e in sym at ∙ ap pending (sym same)
+  same_at pending n name x at false e = refl
 
   twice : (b : Bool) (x y z : Option J) → cond b x (cond b y z) ≡ cond b x z
   twice true x y z = refl
   twice false x y z = refl
 
-  -- no job was under the id
-  pub without_absent : (pending : PendingJobs J) (id : Id) → pending id ≡ None → without id pending ≡ pending
-  without_absent pending id at = λ k i. same_at pending i id None at (eq_by_cmp id_cmp i id) refl k
+  -- no job had the name
+  pub without_absent : (pending : PendingJobs J) (name : JobName) → pending name ≡ None → without name pending
+      ≡ pending
+  without_absent pending name at = λ k n. same_at pending n name None at (same_name n name) refl k
 
-  pub with_again : (pending : PendingJobs J) (id : Id) (job : J) → with_job id job (without id pending)
-      ≡ with_job id job pending
-  with_again pending id job = λ k i. twice (eq_by_cmp id_cmp i id) (Some job) None (pending i) k
+  pub with_again : (pending : PendingJobs J) (name : JobName) (job : J) → with_job name job (without name pending)
+      ≡ with_job name job pending
+  with_again pending name job = λ k n. twice (same_name n name) (Some job) None (pending n) k
 
-  -- no job is under the id, whatever was before
-  pub without_with : (pending : PendingJobs J) (id : Id) (job : J) → without id (with_job id job pending)
-      ≡ without id pending
-  without_with pending id job = λ k i. twice (eq_by_cmp id_cmp i id) None (Some job) (pending i) k
+  -- no job has the name, whatever was before
+  pub without_with : (pending : PendingJobs J) (name : JobName) (job : J) → without name (with_job name job pending)
+      ≡ without name pending
+  without_with pending name job = λ k n. twice (same_name n name) None (Some job) (pending n) k
 
-  pub without_again : (pending : PendingJobs J) (id : Id) → without id (without id pending) ≡ without id pending
-  without_again pending id = λ k i. twice (eq_by_cmp id_cmp i id) None None (pending i) k
+  pub without_again : (pending : PendingJobs J) (name : JobName) → without name (without name pending)
+      ≡ without name pending
+  without_again pending name = λ k n. twice (same_name n name) None None (pending n) k
+
+-- a name that no job has is free
+pub was_free : {S J K P : Type 0} (may : WithJobs S J K P) (name : JobName) (end : End) (s : S)
+    (old new : PendingJobs (J × K)) (acts : List (Act P)) → None ≡ option_map (λ (e : J × K). e.1) (old name) → new
+    ≡ without name old → Frees may name end (s, old, acts) (s, new, acts)
+was_free {S} {J} {K} {P} may name end s old new acts none is = at (old name) refl none
+  where
+    at : (o : Option (J × K)) → old name ≡ o → None ≡ option_map (λ (e : J × K). e.1) o
+        → MatchOption o (◌≡◌ {A = S × PendingJobs (J × K) × List (Act P)} (s, new, acts) (s, old, acts))
+        (λ (e : J × K). EndsThen may name e.1 end (s, without name old, acts) (s, new, acts))
+    at None absent none = λ k. (s, (is ∙ without_absent old name absent) k, acts)
+    at (Some e) there none = absurd (cc (none))

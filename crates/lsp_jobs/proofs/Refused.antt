@@ -1,28 +1,35 @@
--- Wakes and sessions that the laws of jobs refuse, where a server starts no job at another time than its request, and
--- does nothing when a job ended.
+-- Of each reply that is sent at a wake: whose it is. And wakes and sessions that the laws of jobs refuse.
 use Rattle.serde_json.specs.Data.{Data}
 use Rattle.std.proofs.Common.{◌≡◌, ◌⊎◌, refl, sym, ◌∙◌, ap, subst, inl, inr, ℕ, ◌+◌, ◌≤◌, Bool, true, false, List, []}
-use Rattle.std.proofs.Common.{◌∷◌, ◌++◌, append-nil, arith, Option, Some}
+use Rattle.std.proofs.Common.{◌∷◌, ◌++◌, append_assoc, append-nil, arith, Option, Some}
 use Rattle.std.specs.FinMap as map
 use Rattle.std.specs.Ordering.{eq_by_cmp}
 use Rattle.std.specs.Prelude.{Err, pos, map as map_list, if◌then◌else◌}
 use Rattle.lsp_message.specs.Id.{Id, id_cmp, number}
 use Rattle.lsp_message.specs.IdLaws.{id_decides}
 use Rattle.lsp_message.specs.Message.{Message, request, notification, response}
+use Rattle.lsp_queue.specs.Queue.{count_of, pending_of}
 use Rattle.lsp_session.proofs.Ran.{messages_both}
 use Rattle.lsp_session.specs.Session.{Exchange, SessionAnswer, Stop, messages_of, sends_of}
 use Rattle.lsp_service.proofs.Counting.{how_many-append}
-use Rattle.lsp_queue.specs.Queue.{count_of}
-use Rattle.lsp_service.specs.Acts.{Act, replies, cancelled_by, is_spent}
+use Rattle.lsp_service.specs.Acts.{Act, Queues, tells, asks, replies, cancels, cancelled_by, does, is_spent}
+use Rattle.lsp_service.specs.Acts.{cancel_method, cancel_params}
 use Rattle.lsp_service.specs.Law.{how_many, is_reply_under, is_request_under, one_if}
+use Rattle.lsp_service.specs.SentByActs.{all_sends}
 use Rattle.lsp_service.specs.declared.server.Server.{Ghosts as Plain}
 use Rattle.lsp_jobs.specs.Asking.{by_server}
 use Rattle.lsp_jobs.specs.Ends.{Outcome, came_to, no_memory, too_many}
-use Rattle.lsp_jobs.specs.JobLaw.{concerns, is_that, AnswersLater, AnswersRequest, IsQuiet, IsStarted, LastRequest}
-use Rattle.lsp_jobs.specs.JobLaw.{LawfulJobSession, Refusal, refuse, SendsRequest, SendsSo, SilentServer, WakeSends}
+use Rattle.lsp_jobs.specs.JobLaw.{concerns, is_that, AnswersRequest, IsQuiet, LastRequest, LawfulJobSession, Left}
+use Rattle.lsp_jobs.specs.JobLaw.{at_ends}
+use Rattle.lsp_jobs.specs.JobLaw.{RepliesItself, SendsOutcome, Waits, WakeSends}
+use Rattle.lsp_jobs.specs.PendingJobs.{ComesTo}
+use Rattle.lsp_jobs.specs.Pooled.{reply_at}
 use Rattle.lsp_jobs.specs.declared.asking.Asked.{Asked}
+use Rattle.lsp_jobs.specs.declared.asking.Asked.TheVariants.{ByJob, ByServer}
 use Rattle.lsp_jobs.specs.declared.job.Job.{Ghosts as OfJob}
 use Rattle.lsp_jobs.specs.declared.job_server.JobServer.{Ghosts as WithJobs}
+use Rattle.lsp_jobs.specs.declared.names.JobName.{JobName}
+use Rattle.lsp_jobs.specs.declared.names.JobName.TheVariants.{Request, Slot}
 
 same : (id : Id) → eq_by_cmp id_cmp id id ≡ true
 same id = (id_decides id id).1 refl
@@ -31,18 +38,100 @@ not_empty : {A B : Type 0} (xs rest : List A) (x : A) → [] ≡ xs ++ x ∷ res
 not_empty [] rest x e = absurd (cc (e))
 not_empty (first ∷ xs) rest x e = absurd (cc (e))
 
-rest_none : {A : Type 0} (xs rest : List A) → [] ≡ xs ++ rest → xs ≡ []
-rest_none [] rest e = refl
-rest_none (x ∷ xs) rest e = absurd (cc (e))
+-- ---- which act sends a reply
 
-one_or_none : (b : Bool) (m : Message) (output rest : List Message) → (if b then [] else m ∷ []) ++ [] ≡ output ++ rest
-    → (output ≡ []) ⊎ (output ≡ m ∷ [])
-one_or_none b m [] rest e = inl refl
-one_or_none true m (x ∷ output) rest e = absurd (cc (e))
-one_or_none false m (x ∷ output) rest e =
-    let same : m ≡ x = cc (e) in
-    let none : [] ≡ output ++ rest = cc (e) in
-    inr (λ k. sym same k ∷ rest_none output rest none k)
+abbrev Has : {A : Type 0} → A → List A → Type 0
+Has {A} x all = (xs : List A) × (ys : List A) × (all ≡ xs ++ x ∷ ys)
+
+has_later : {A : Type 0} (x y : A) (all : List A) → Has x all → Has x (y ∷ all)
+has_later {A} x y all has = (y ∷ has.0, has.1, ap (λ (l : List A). y ∷ l) has.2)
+
+has_either : {A : Type 0} (x : A) (first second xs ys : List A) → first ++ second ≡ xs ++ x ∷ ys → Has x first
+    ⊎ Has x second
+has_either x [] second xs ys e = inr (xs, ys, e)
+has_either {A} x (y ∷ first) second [] ys e = let is : y ≡ x = cc (e) in inl ([], first, ap (λ (z : A). z ∷ first) is)
+has_either x (y ∷ first) second (z ∷ xs) ys e =
+    let rest : first ++ second ≡ xs ++ x ∷ ys = cc (e) in
+    elim (has_either x first second xs ys rest) [
+      | inl own ↦ inl (has_later x y first own)
+      | inr other ↦ inr other
+    ]
+
+-- a message is the first of these, or follows it
+first_or_later : {A : Type 0} (m r : A) (rest before after : List A) → m ∷ rest ≡ before ++ r ∷ after → (m ≡ r)
+    ⊎ ((more : List A) × (rest ≡ more ++ r ∷ after))
+first_or_later m r rest [] after e = inl (cc (e))
+first_or_later m r rest (b ∷ before) after e = inr (before, cc (e))
+
+-- what an act sends, and then others
+sent_or_later : (b : Bool) (m r : Message) (rest before after : List Message) → (if b then m ∷ [] else []) ++ rest
+    ≡ before ++ r ∷ after → (m ≡ r) ⊎ ((more : List Message) × (rest ≡ more ++ r ∷ after))
+sent_or_later true m r rest before after e = first_or_later m r rest before after e
+sent_or_later false m r rest before after e = inr (before, e)
+
+asked_or_later : (b : Bool) (m r : Message) (rest before after : List Message) → (if b then [] else m ∷ []) ++ rest
+    ≡ before ++ r ∷ after → (m ≡ r) ⊎ ((more : List Message) × (rest ≡ more ++ r ∷ after))
+asked_or_later true m r rest before after e = inr (before, e)
+asked_or_later false m r rest before after e = first_or_later m r rest before after e
+
+no_notice : {A : Type 0} (method : List ℕ) (params : Data) (id : Id) (outcome : Outcome) → notification method params
+    ≡ response id outcome → A
+no_notice method params id outcome e = absurd (cc (e))
+
+no_request_is_reply : {A : Type 0} (i : Id) (method : List ℕ) (params : Data) (id : Id) (outcome : Outcome) → request i
+    method params ≡ response id outcome → A
+no_request_is_reply i method params id outcome e = absurd (cc (e))
+
+module _ {P : Type 0} where
+  -- a reply is sent by an act that gives it
+  by_an_act : (acts : List (Act P)) (d : Queues P) (id : Id) (outcome : Outcome) (before after : List Message)
+      → all_sends d acts ≡ before ++ response id outcome ∷ after → Has (replies id outcome) acts
+  by_an_act [] d id outcome before after e = not_empty before after (response id outcome) e
+  by_an_act (tells method params ∷ acts) d id outcome before after e =
+      elim (first_or_later (notification method params) (response id outcome) _ before after e) [
+        | inl wrong ↦ no_notice method params id outcome wrong
+        | inr later ↦ has_later _ _ acts (by_an_act acts (does d (tells method params)) id outcome later.0 after
+            later.1)
+      ]
+  by_an_act (asks method params payload ∷ acts) d id outcome before after e =
+      elim (asked_or_later (is_spent (count_of d.asked)) (request (number (pos (count_of d.asked))) method params)
+      (response id outcome) _ before after e) [
+        | inl wrong ↦ no_request_is_reply _ method params id outcome wrong
+        | inr later ↦ has_later _ _ acts (by_an_act acts (does d (asks method params payload)) id outcome later.0 after
+            later.1)
+      ]
+  by_an_act (replies i o ∷ acts) d id outcome before after e =
+      elim (sent_or_later (map.contains_key d.held i) (response i o) (response id outcome) _ before after e) [
+        | inl is ↦
+            let the : i ≡ id = cc (is) in
+            let it : o ≡ outcome = cc (is) in
+            ([], acts, λ k. replies (the k) (it k) ∷ acts)
+        | inr later ↦ has_later _ _ acts (by_an_act acts (does d (replies i o)) id outcome later.0 after later.1)
+      ]
+  by_an_act (cancels z ∷ acts) d id outcome before after e =
+      elim (sent_or_later (map.contains_key (pending_of d.asked) (number z)) (notification cancel_method
+      (cancel_params z)) (response id outcome) _ before after e) [
+        | inl wrong ↦ no_notice cancel_method (cancel_params z) id outcome wrong
+        | inr later ↦ has_later _ _ acts (by_an_act acts (does d (cancels z)) id outcome later.0 after later.1)
+      ]
+
+  -- an act of the server that gives it
+  own_reply : (act : Act P) (id : Id) (outcome : Outcome) → by_server act ≡ replies id outcome → act
+      ≡ replies id outcome
+  own_reply (tells method params) id outcome e = absurd (cc (e))
+  own_reply (asks method params payload) id outcome e = absurd (cc (e))
+  own_reply (replies i o) id outcome e =
+      let the : i ≡ id = cc (e) in let it : o ≡ outcome = cc (e) in λ k. replies (the k) (it k)
+  own_reply (cancels z) id outcome e = absurd (cc (e))
+
+  by_own : (acts : List (Act P)) (id : Id) (outcome : Outcome) → Has (replies id outcome) (map_list by_server acts)
+      → Has (replies id outcome) acts
+  by_own [] id outcome has = not_empty has.0 has.1 (replies id outcome) has.2
+  by_own (act ∷ acts) id outcome has =
+      elim (first_or_later (by_server act) (replies id outcome) (map_list by_server acts) has.0 has.1 has.2) [
+        | inl is ↦ ([], acts, ap (λ (a : Act P). a ∷ acts) (own_reply act id outcome is))
+        | inr later ↦ has_later _ act acts (by_own acts id outcome (later.0, has.1, later.1))
+      ]
 
 -- the last of a list is the one that is named, or follows it
 last_of : (xs : List Exchange) (x : Exchange) (before : List Exchange) (r : Exchange) (since : List Exchange) → xs ++ x
@@ -74,70 +163,122 @@ latest xs x id method params l =
       | inr later ↦ (let q = quiet_last id later.0 x (subst (IsQuiet id) later.1 l.quiet) in (inr q.0, q.1))
     ]
 
-module _ {S J K P : Type 0} (plain : Plain S P) (may : WithJobs S J K P) (of_job : OfJob J) where
+module _ {S J K P : Type 0} (may : WithJobs S J K P) (of_job : OfJob J) where
+  abbrev Whose : List Exchange → Id → Outcome → Type 0
+  Whose earlier id outcome = AnswersRequest of_job earlier id outcome ⊎ RepliesItself may id outcome
+
+  by_left : (left : List (Left may)) (id : Id) (outcome : Outcome) → Has (replies id outcome) (at_ends may left)
+      → RepliesItself may id outcome
+  by_left [] id outcome has = not_empty has.0 has.1 (replies id outcome) has.2
+  by_left (l ∷ left) id outcome has =
+      elim (has_either (replies id outcome) l.acts (at_ends may left) has.0 has.1 has.2) [
+        | inl own ↦ record {
+          name = Slot l.slot;
+          key = l.key;
+          end = l.end;
+          old = l.old;
+          before = own.0;
+          after = own.1;
+          new = l.new;
+          saw = subst (λ (acts : List (Act P)). may.finishes l.old (Slot l.slot) l.key l.end acts l.new) own.2 l.saw;
+        }
+        | inr later ↦ by_left left id outcome later
+      ]
+
+  by_outcome : {output : List Message} (earlier : List Exchange) (o : SendsOutcome may of_job earlier output) (id : Id)
+      (outcome : Outcome) → Has (replies id outcome) ((o.first ++ reply_at o.name (came_to o.outcome))
+      ++ at_ends may o.left) → Whose earlier id outcome
+  by_outcome {output} earlier o id outcome has =
+      elim (has_either (replies id outcome) (o.first ++ reply_at o.name (came_to o.outcome)) (at_ends may o.left)
+      has.0 has.1 has.2) [
+        | inr later ↦ inr (by_left o.left id outcome later)
+        | inl now ↦ elim (has_either (replies id outcome) o.first (reply_at o.name (came_to o.outcome)) now.0 now.1
+            now.2) [
+              | inl own ↦ inr (record {
+                name = o.name;
+                key = o.key;
+                end = came_to o.outcome;
+                old = o.old;
+                before = own.0;
+                after = own.1;
+                new = o.new;
+                saw = subst (λ (acts : List (Act P)). may.finishes o.old o.name o.key (came_to o.outcome) acts o.new)
+                    own.2 o.saw;
+              })
+              | inr reply ↦ inl (at o.name o.waits reply)
+            ]
+      ]
+    where
+      at : (name : JobName) → Waits may of_job earlier name o.job → Has {A = Act P} (replies id outcome)
+          (reply_at name (came_to o.outcome)) → AnswersRequest of_job earlier id outcome
+      at (Slot slot) waits has = not_empty has.0 has.1 (replies id outcome) has.2
+      at (Request i) waits has =
+          elim (first_or_later (replies i o.outcome) (replies id outcome) [] has.0 has.1 has.2) [
+            | inr later ↦ not_empty later.0 has.1 (replies id outcome) later.1
+            | inl is ↦
+                let the : i ≡ id = cc (is) in
+                let it : o.outcome ≡ outcome = cc (is) in record {
+                  method = waits.0;
+                  params = waits.1;
+                  waits = subst (λ (x : Id). LastRequest earlier x waits.0 waits.1) the waits.3;
+                  job = o.job;
+                  is_for = waits.2;
+                  comes = subst (λ (x : Outcome). ComesTo of_job o.job x) it o.comes;
+                }
+          ]
+
+  -- whose reply it is
+  pub whose : (earlier : List Exchange) (output before after : List Message) (id : Id) (outcome : Outcome)
+      → WakeSends may of_job earlier output → output ≡ before ++ response id outcome ∷ after
+      → Whose earlier id outcome
+  whose earlier output before after id outcome (inl nothing) cut =
+      not_empty before after (response id outcome) (sym nothing ∙ cut)
+  whose earlier output before after id outcome (inr (inl r)) cut =
+      let has = by_an_act (tells r.method r.params ∷ []) r.sent.0 id outcome before (after ++ r.sent.1)
+      (r.sent.2 ∙ ap (λ (l : List Message). l ++ r.sent.1) cut ∙ append_assoc before (response id outcome ∷ after)
+      r.sent.1) in
+      elim (first_or_later (tells r.method r.params) (replies id outcome) [] has.0 has.1 has.2) [
+        | inl wrong ↦ absurd (cc (wrong))
+        | inr later ↦ not_empty later.0 has.1 (replies id outcome) later.1
+      ]
+  whose earlier output before after id outcome (inr (inr (inl a))) cut =
+      let has = by_an_act (asks a.method a.params (ByJob a.number) ∷ []) a.sent.0 id outcome before (after ++ a.sent.1)
+      (a.sent.2 ∙ ap (λ (l : List Message). l ++ a.sent.1) cut ∙ append_assoc before (response id outcome ∷ after)
+      a.sent.1) in
+      elim (first_or_later (asks a.method a.params (ByJob a.number)) (replies id outcome) [] has.0 has.1 has.2) [
+        | inl wrong ↦ absurd (cc (wrong))
+        | inr later ↦ not_empty later.0 has.1 (replies id outcome) later.1
+      ]
+  whose earlier output before after id outcome (inr (inr (inr o))) cut =
+      by_outcome earlier o id outcome (by_own _ id outcome (by_an_act _ o.sent.0 id outcome before
+      (after ++ o.sent.1)
+      (o.sent.2 ∙ ap (λ (l : List Message). l ++ o.sent.1) cut ∙ append_assoc before (response id outcome ∷ after)
+      o.sent.1)))
+
+module _ {S J K P : Type 0} (may : WithJobs S J K P) (of_job : OfJob J) where
   -- at a wake, after these exchanges, one reply is sent, and no more
   abbrev Gives : List Exchange → Id → Outcome → Type 0
-  Gives earlier id outcome = WakeSends plain may of_job earlier (response id outcome ∷ [])
+  Gives earlier id outcome = WakeSends may of_job earlier (response id outcome ∷ [])
 
-  pub none_started : {B : Type 0} → SilentServer may → {came : Option Message} (id : Id) (job : J) (key : K)
-      → IsStarted plain may came id job key → B
-  none_started silent id job key s = not_empty s.first s.others (id, job, key) (sym (silent.0 s.old (s.first
-      ++ (id, job, key) ∷ s.others) s.new s.starts))
-
-  pub none_refused : SilentServer may → {came : Option Message} (refused : List (Refusal plain may came)) → refused ≡ []
-  none_refused silent [] = refl
-  none_refused silent (r ∷ refused) = none_started silent r.id r.job r.key r.started
-
-  -- a job that asks the client sends one request, or none is sent
-  pub asks_once : (earlier : List Exchange) (output : List Message) (asked : SendsRequest plain may of_job
-      earlier output)
-      → (output ≡ []) ⊎ ((i : Id) × (output ≡ request i asked.method asked.params ∷ []))
-  asks_once earlier output asked =
-      elim (one_or_none (is_spent (count_of asked.sent.0.asked)) (request (number (pos (count_of asked.sent.0.asked)))
-      asked.method asked.params) output asked.sent.1 asked.sent.2) [
-        | inl none ↦ inl none
-        | inr one ↦ inr (number (pos (count_of asked.sent.0.asked)), one)
+  its_own : (earlier : List Exchange) (id : Id) (outcome : Outcome) → (RepliesItself may id outcome → ⊥)
+      → Gives earlier id outcome → AnswersRequest of_job earlier id outcome
+  its_own earlier id outcome silent gives =
+      elim (whose may of_job earlier (response id outcome ∷ []) [] [] id outcome gives refl) [
+        | inl r ↦ r
+        | inr itself ↦ absurd (silent itself)
       ]
 
-  -- so it is what a job came to for the last request under its id
-  pub its_own : SilentServer may → (earlier : List Exchange) (id : Id) (outcome : Outcome) → Gives earlier id outcome
-      → AnswersRequest of_job earlier id outcome
-  its_own silent earlier id outcome (inl none) = absurd (cc (none))
-  its_own silent earlier id outcome (inr (inl report)) = let e = report.sent.2 in absurd (cc (e))
-  its_own silent earlier id outcome (inr (inr (inl asked))) =
-      elim (asks_once earlier (response id outcome ∷ []) asked) [
-        | inl none ↦ absurd (cc (none))
-        | inr one ↦ (let e = one.1 in absurd (cc (e)))
-      ]
-  its_own silent earlier id outcome (inr (inr (inr o))) = by o.by
-    where
-      sent : SendsSo {P = Asked P} (replies o.id o.outcome ∷ []) (response id outcome ∷ [])
-      sent = subst (λ (acts : List (Act P)). SendsSo (map_list by_server acts) (response id outcome ∷ []))
-          (λ k. silent.1 o.old o.id o.key (came_to o.outcome) o.first o.new o.saw k ++ replies o.id o.outcome
-          ∷ refuse plain may (none_refused silent o.refused k)) o.sent
-
-      those : (b : Bool) → (if b then response o.id o.outcome ∷ [] else []) ++ [] ≡ response id outcome ∷ sent.1
-          → (o.id ≡ id) × (o.outcome ≡ outcome)
-      those true e = (cc (e), cc (e))
-      those false e = absurd (cc (e))
-
-      by : AnswersRequest of_job earlier o.id o.outcome ⊎ AnswersLater plain may of_job earlier o.id o.outcome
-          → AnswersRequest of_job earlier id outcome
-      by (inl r) =
-          let it = those (map.contains_key sent.0.held o.id) sent.2 in
-          subst (λ (x : Id × Outcome). AnswersRequest of_job earlier x.0 x.1) (λ k. (it.0 k, it.1 k)) r
-      by (inr later) = none_started silent o.id later.job later.started.key later.started.started
-
-  module _ (silent : SilentServer may) where
-    -- an outcome that `answers` forbids for the last request under the id, be it that of an earlier or another one
+  module _ (silent : (id : Id) (outcome : Outcome) → RepliesItself may id outcome → ⊥) where
+    -- an outcome that no job may find which is for the last request under the id, be it that of an earlier or another
+    -- one
     forbidden : (xs : List Exchange) (id : Id) (method : List ℕ) (params : Data) (output : List Message)
         (outcome : Outcome)
-        → ((job : J) → of_job.is_for job method params → of_job.answers job method params outcome → ⊥)
+        → ((job : J) → of_job.is_for job method params → of_job.finds job outcome → ⊥)
         → (outcome ≡ Err no_memory → ⊥)
         → Gives (xs ++ record { came = Some (request id method params); sent = output } ∷ []) id outcome → ⊥
     forbidden xs id method params output outcome never other gives =
-        let r = its_own silent (xs ++ record { came = Some (request id method params); sent = output } ∷ []) id outcome
-        gives in
+        let r = its_own (xs ++ record { came = Some (request id method params); sent = output } ∷ []) id outcome
+        (silent id outcome) gives in
         at r (latest xs (record { came = Some (request id method params); sent = output }) id r.method r.params
         r.waits).0
       where
@@ -148,12 +289,11 @@ module _ {S J K P : Type 0} (plain : Plain S P) (may : WithJobs S J K P) (of_job
         at r (inl is) =
             let m : method ≡ r.method = cc (is) in
             let p : params ≡ r.params = cc (is) in
-            elim r.allowed [
-              | inl may ↦ never r.job (subst (λ (x : List ℕ × Data). of_job.is_for r.job x.0 x.1) (λ k. (
+            elim r.comes [
+              | inl found ↦ never r.job (subst (λ (x : List ℕ × Data). of_job.is_for r.job x.0 x.1) (λ k. (
                 sym m k,
                 sym p k,
-              )) r.is_for)
-                  (subst (λ (x : List ℕ × Data). of_job.answers r.job x.0 x.1 outcome) (λ k. (sym m k, sym p k)) may)
+              )) r.is_for) found
               | inr failed ↦ other failed
             ]
         at r (inr calm) = let e : true ≡ false = sym (same id) ∙ calm in absurd (cc (e))
@@ -163,8 +303,8 @@ module _ {S J K P : Type 0} (plain : Plain S P) (may : WithJobs S J K P) (of_job
         (outcome : Outcome) → cancelled_by method params ≡ Some id
         → Gives (xs ++ record { came = Some (notification method params); sent = output } ∷ []) id outcome → ⊥
     after_cancellation xs id method params output outcome is gives =
-        let r = its_own silent (xs ++ record { came = Some (notification method params); sent = output } ∷ []) id
-        outcome gives in
+        let r = its_own (xs ++ record { came = Some (notification method params); sent = output } ∷ []) id outcome
+        (silent id outcome) gives in
         elim (latest xs (record { came = Some (notification method params); sent = output }) id r.method r.params
         r.waits).0 [
           | inl wrong ↦ absurd (cc (wrong))
@@ -175,7 +315,8 @@ module _ {S J K P : Type 0} (plain : Plain S P) (may : WithJobs S J K P) (of_job
     second_reply : (xs : List Exchange) (id : Id) (came : Option Message) (one outcome : Outcome)
         → Gives (xs ++ record { came = came; sent = response id one ∷ [] } ∷ []) id outcome → ⊥
     second_reply xs id came one outcome gives =
-        let r = its_own silent (xs ++ record { came = came; sent = response id one ∷ [] } ∷ []) id outcome gives in
+        let r = its_own (xs ++ record { came = came; sent = response id one ∷ [] } ∷ []) id outcome
+        (silent id outcome) gives in
         let none : one_if (eq_by_cmp id_cmp id id) + 0 ≡ 0 = (latest xs (record {
           came = came;
           sent = response id one
@@ -194,7 +335,7 @@ module _ {S J K P : Type 0} (plain : Plain S P) (may : WithJobs S J K P) (of_job
     no_request : (earlier : List Exchange) (id : Id) (outcome : Outcome) → how_many (is_request_under id)
         (messages_of earlier) ≡ 0 → Gives earlier id outcome → ⊥
     no_request earlier id outcome none gives =
-        let r = its_own silent earlier id outcome gives in
+        let r = its_own earlier id outcome (silent id outcome) gives in
         let l = r.waits in
         let x : Exchange = record { came = Some (request id r.method r.params); sent = l.sent } in
         let all : messages_of earlier ≡ messages_of l.before ++ request id r.method r.params ∷ messages_of l.since = ap

@@ -1,4 +1,4 @@
--- How a job ended, and what its request is answered then.
+-- How a job ended, and what its request is answered then, if it is for one.
 use Rattle.serde_json.specs.Data.{Data}
 use Rattle.std.specs.Prelude.{None, Result, Err, codes}
 use Rattle.lsp_message.specs.ErrorCode.{number_of}
@@ -32,8 +32,12 @@ pub data End : Type 0 where
   came_to : Outcome → End
   -- it found no room, and never ran
   no_room : End
+  -- another job was started in its slot
+  replaced : End
+  -- the server stopped it
+  stopped : End
 
--- what its request is answered then
+-- What a request is answered whose job ended so: its outcome, or that it found no room.
 abbrev pub reply_of : End → Outcome
 reply_of (came_to outcome) = outcome
-reply_of no_room = Err too_many
+reply_of end = Err too_many

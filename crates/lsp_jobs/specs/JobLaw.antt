@@ -4,7 +4,6 @@ use Rattle.std.specs.Ordering.{eq_by_cmp}
 use Rattle.std.specs.Prelude.{◌≡◌, ◌⊎◌, ℕ, Bool, true, false, List, [], ◌∷◌, ◌++◌, map, Option, Some, None, Err}
 use Rattle.lsp_message.specs.Id.{Id, id_cmp}
 use Rattle.lsp_message.specs.Message.{Message, request, notification, response}
-use Rattle.lsp_message.specs.Methods.{is_initialized}
 use Rattle.lsp_session.specs.Session.{Exchange, SessionAnswer, Stop}
 use Rattle.lsp_service.specs.Acts.{Act, Queues, tells, asks, replies, cancelled_by}
 use Rattle.lsp_service.specs.Law.{KeepsLaws, how_many, is_reply_under}
@@ -12,13 +11,16 @@ use Rattle.lsp_service.specs.QueuedServer.{held_by}
 use Rattle.lsp_service.specs.SentByActs.{all_sends}
 use Rattle.lsp_service.specs.declared.server.Server.{Ghosts as Plain}
 use Rattle.lsp_jobs.specs.Asking.{by_server}
-use Rattle.lsp_jobs.specs.Ends.{Outcome, End, came_to, no_room, no_memory, too_many}
+use Rattle.lsp_jobs.specs.Ends.{Outcome, End, came_to, no_memory}
 use Rattle.lsp_jobs.specs.JobSession.{JobSession, seen_with_jobs}
 use Rattle.lsp_jobs.specs.PendingJobs.{ComesTo}
+use Rattle.lsp_jobs.specs.Pooled.{reply_at}
 use Rattle.lsp_jobs.specs.declared.asking.Asked.{Asked}
 use Rattle.lsp_jobs.specs.declared.asking.Asked.TheVariants.{ByJob}
 use Rattle.lsp_jobs.specs.declared.job.Job.{Ghosts as OfJob}
 use Rattle.lsp_jobs.specs.declared.job_server.JobServer.{Ghosts as WithJobs}
+use Rattle.lsp_jobs.specs.declared.names.JobName.{JobName}
+use Rattle.lsp_jobs.specs.declared.names.JobName.TheVariants.{Request, Slot}
 
 abbrev pub is_that : Id → Option Id → Bool
 is_that id None = false
@@ -60,63 +62,41 @@ abbrev pub SendsSo : {P : Type 0} → List (Act P) → List Message → Type 0
 SendsSo {P} acts output = (queues : Queues P) × (not_sent : List Message)
     × (all_sends queues acts ≡ output ++ not_sent)
 
-module _ {S J K P : Type 0} (plain : Plain S P) (may : WithJobs S J K P) where
-  -- The server is asked for jobs in this state. It came to it at this message, or at a wake when it saw how a job
-  -- ended, by what it states of that.
-  abbrev pub IsAskedAt : Option Message → S → Type 0
-  IsAskedAt (Some (request id method params)) new =
-      (old : S) × (((acts : List (Act P)) × plain.requested old id method params acts new)
-      ⊎ ((job : J) × (key : K) × (mid : S) × may.gives old id method params job key mid
-      × ((new ≡ mid) ⊎ ((acts : List (Act P)) × may.finishes mid id key no_room acts new))))
-  IsAskedAt (Some (notification method params)) new =
-      (old : S) × (acts : List (Act P)) × (plain.notified old method params acts new
-      ⊎ ((is_initialized (notification method params) ≡ true)
-      × plain.at_initialized old acts new))
-  IsAskedAt (Some (response id outcome)) new =
-      (old : S) × (payload : P) × (acts : List (Act P)) × plain.replied old payload outcome acts new
-  IsAskedAt None new =
-      (old : S) × (id : Id) × (key : K) × (outcome : Outcome) × (acts : List (Act P))
-      × may.finishes old id key (came_to outcome) acts new
+-- a job ended before it came to an outcome
+abbrev pub IsLeft : End → Type 0
+IsLeft (came_to outcome) = ⊥
+IsLeft end = Unit {0}
 
-  -- a job that the server starts for a request with this id, when it is asked at this message or wake
-  pub record IsStarted (came : Option Message) (id : Id) (job : J) (key : K) : Type 0 where
-    pub old : S
-    pub asked : IsAskedAt came old
-    pub first : List (Id × J × K)
-    pub others : List (Id × J × K)
-    pub new : S
-    pub starts : may.starts old (first ++ (id, job, key) ∷ others) new
-
-  -- In one of these exchanges such a job was started under this id. Since then no request under the id came, no
-  -- cancellation of it, and no reply under it was sent. In which state the server was then is not said, but by what it
-  -- states of the message or wake.
-  pub record LastStart (earlier : List Exchange) (id : Id) (job : J) : Type 0 where
-    pub before : List Exchange
-    pub start : Exchange
-    pub since : List Exchange
-    pub cut : earlier ≡ before ++ start ∷ since
-    pub quiet : IsQuiet id since
+module _ {S J K P : Type 0} (may : WithJobs S J K P) where
+  -- The job of a slot ended before it came to an outcome. The server sees that, and does this.
+  pub record Left : Type 0 where
+    pub slot : Id
     pub key : K
-    pub started : IsStarted start.came id job key
-
-  -- A job that the server started at this message or wake found no room. The server sees that and does something first,
-  -- and then the request is refused.
-  pub record Refusal (came : Option Message) : Type 0 where
-    pub id : Id
-    pub job : J
-    pub key : K
-    pub started : IsStarted came id job key
+    pub end : End
+    pub is_left : IsLeft end
     pub old : S
-    pub first : List (Act P)
+    pub acts : List (Act P)
     pub new : S
-    pub saw : may.finishes old id key no_room first new
+    pub saw : may.finishes old (Slot slot) key end acts new
 
-  abbrev pub refuse : {came : Option Message} → List (Refusal came) → List (Act P)
-  refuse [] = []
-  refuse (r ∷ rs) = r.first ++ replies r.id (Err too_many) ∷ refuse rs
+  -- what is done at these ends
+  abbrev pub at_ends : List Left → List (Act P)
+  at_ends [] = []
+  at_ends (l ∷ ls) = l.acts ++ at_ends ls
 
--- The last request under the id waits for a job that is for it, and may get this outcome: one that `answers` allows
--- from this job for it, or the error of a failed allocation.
+  -- The server sees how a job ended, and then answers this request by itself.
+  pub record RepliesItself (id : Id) (outcome : Outcome) : Type 0 where
+    pub name : JobName
+    pub key : K
+    pub end : End
+    pub old : S
+    pub before : List (Act P)
+    pub after : List (Act P)
+    pub new : S
+    pub saw : may.finishes old name key end (before ++ replies id outcome ∷ after) new
+
+-- The last request under the id waits for a job that is for it, and may get this outcome: one that this job may find,
+-- or the error of a failed allocation.
 pub record AnswersRequest {J : Type 0} (of_job : OfJob J) (earlier : List Exchange) (id : Id)
     (outcome : Outcome) : Type 0 where
   pub method : List ℕ
@@ -124,56 +104,51 @@ pub record AnswersRequest {J : Type 0} (of_job : OfJob J) (earlier : List Exchan
   pub waits : LastRequest earlier id method params
   pub job : J
   pub is_for : of_job.is_for job method params
-  pub allowed : of_job.answers job method params outcome ⊎ (outcome ≡ Err no_memory)
+  pub comes : ComesTo of_job job outcome
 
-module _ {S J K P : Type 0} (plain : Plain S P) (may : WithJobs S J K P) (of_job : OfJob J) where
-  -- a job that the server started at another time may come to this outcome
-  pub record AnswersLater (earlier : List Exchange) (id : Id) (outcome : Outcome) : Type 0 where
-    pub job : J
-    pub started : LastStart plain may earlier id job
-    pub comes : ComesTo of_job job outcome
+module _ {S J K P : Type 0} (may : WithJobs S J K P) (of_job : OfJob J) where
+  -- The last request under the id waits for this job, which is for it. Nobody waits for a job in a slot: see `SlotLaw`.
+  abbrev pub Waits : List Exchange → JobName → J → Type 0
+  Waits earlier (Request id) job =
+      (method : List ℕ) × (params : Data) × of_job.is_for job method params × LastRequest earlier id method params
+  Waits earlier (Slot slot) job = Unit {0}
 
-  -- the last request under the id waits for this job, which is for it; or the job was started at another time
-  abbrev pub Waits : List Exchange → Id → J → Type 0
-  Waits earlier id job =
-      ((method : List ℕ) × (params : Data) × of_job.is_for job method params
-      × LastRequest earlier id method params)
-      ⊎ LastStart plain may earlier id job
-
-  -- a job that waits under some id reports
+  -- a job that is pending under some name reports
   pub record SendsReport (earlier : List Exchange) (output : List Message) : Type 0 where
-    pub id : Id
+    pub name : JobName
     pub job : J
     pub method : List ℕ
     pub params : Data
-    pub waits : Waits earlier id job
+    pub waits : Waits earlier name job
     pub reports : of_job.reports job method params
     pub sent : SendsSo {P = Asked P} (tells method params ∷ []) output
 
-  -- a job that waits under some id asks the client
+  -- a job that is pending under some name asks the client
   pub record SendsRequest (earlier : List Exchange) (output : List Message) : Type 0 where
-    pub id : Id
+    pub name : JobName
     pub job : J
     pub method : List ℕ
     pub params : Data
     pub number : ℕ
-    pub waits : Waits earlier id job
+    pub waits : Waits earlier name job
     pub may_ask : of_job.asks job method params
     pub sent : SendsSo {P = Asked P} (asks method params (ByJob number) ∷ []) output
 
-  -- A job came to this outcome. The server sees that and does something first, then the request with this id gets it.
-  -- Then requests are refused whose jobs found no room.
+  -- A job came to this outcome. The server sees that and does something first, then the request gets it, if the job is
+  -- for one. Then the server sees how jobs ended whose slots it changed.
   pub record SendsOutcome (earlier : List Exchange) (output : List Message) : Type 0 where
-    pub id : Id
-    pub outcome : Outcome
-    pub by : AnswersRequest of_job earlier id outcome ⊎ AnswersLater earlier id outcome
+    pub name : JobName
+    pub job : J
     pub key : K
+    pub outcome : Outcome
+    pub waits : Waits earlier name job
+    pub comes : ComesTo of_job job outcome
     pub old : S
     pub first : List (Act P)
     pub new : S
-    pub saw : may.finishes old id key (came_to outcome) first new
-    pub refused : List (Refusal plain may None)
-    pub sent : SendsSo (map by_server (first ++ replies id outcome ∷ refuse plain may refused))
+    pub saw : may.finishes old name key (came_to outcome) first new
+    pub left : List (Left may)
+    pub sent : SendsSo (map by_server ((first ++ reply_at name (came_to outcome)) ++ at_ends may left))
         output
 
   -- what is sent at a wake, after these exchanges
@@ -189,14 +164,6 @@ module _ {S J K P : Type 0} (plain : Plain S P) (may : WithJobs S J K P) (of_job
       → x.came ≡ None
       → WakeSends earlier x.sent × RepliesToLast earlier x.sent
 
--- The server starts no job but at its request, and does nothing when one ended: so it is by the defaults of `starts`
--- and `finishes`.
-abbrev pub SilentServer : {S J K P : Type 0} → WithJobs S J K P → Type 0
-SilentServer {S} {J} {K} {P} may =
-    ((old : S) (jobs : List (Id × J × K)) (new : S) → may.starts old jobs new → jobs ≡ [])
-    × ((old : S) (id : Id) (key : K) (end : End) (acts : List (Act P)) (new : S)
-    → may.finishes old id key end acts new → acts ≡ [])
-
 module _ (T : Type 0) {S J K P : Type 0} (plain : Plain S P) (may : WithJobs S J K P)
     (of_job : OfJob J) where
   -- a session of a server with jobs, which keeps the laws of a session of a server, and in which each job answers its
@@ -208,4 +175,4 @@ module _ (T : Type 0) {S J K P : Type 0} (plain : Plain S P) (may : WithJobs S J
     pub laws : KeepsLaws (seen_with_jobs T plain may of_job) session.old session.new
         (held_by (seen_with_jobs T plain may of_job) session.session) exchanges stop shutdown_reply
         answer
-    pub jobs : AnswersByJobs plain may of_job exchanges
+    pub jobs : AnswersByJobs may of_job exchanges

@@ -1,4 +1,4 @@
--- A session of a server whose long requests are jobs.
+-- A session of a server with jobs.
 use Rattle.std.specs.Prelude.{◌≡◌, List, Option}
 use Rattle.lsp_message.specs.Message.{Message}
 use Rattle.lsp_session.specs.Session.{Exchange, SessionAnswer, Stop}
@@ -32,7 +32,7 @@ module _ (T : Type 0) {S J K P : Type 0} (plain : Plain S P) (may : WithJobs S J
         takes_back = λ old asked new. w.takes_back (seen old) asked (seen new);
       }
 
-  -- It is a session of the server with its jobs. No request waits for a job at first.
+  -- It is a session of the server with its jobs. No job is pending at first.
   pub record JobSession (first last : S) (exchanges : List Exchange) (stop : Stop)
       (shutdown_reply : Option Message) (answer : SessionAnswer) : Type 0 where
     pub old : PooledServer T S J K

@@ -2,11 +2,13 @@ pub mod Asking
 pub mod Ends
 pub mod JobLaw
 pub mod JobSession
+pub mod Names
 pub mod Outcomes
 pub mod PoolView
 pub mod Pooled
 pub mod Progress
 pub mod Seen
 pub mod ServerView
+pub mod SlotLaw
 pub mod PendingJobs
 pub mod Waiting

@@ -5,10 +5,10 @@ use Rattle.serde_json.specs.declared.value.Value.{Value}
 use Rattle.serde_json.specs.View.{view}
 use Rattle.lsp_message.specs.View.{outcome_view}
 use Rattle.lsp_message.specs.declared.msg.ResponseError.{ResponseError}
-use Rattle.lsp_jobs.specs.Ends.{End, Outcome as Reply, came_to, no_memory, no_room}
+use Rattle.lsp_jobs.specs.Ends.{End, Outcome as Reply, came_to, no_memory, no_room, replaced, stopped}
 use Rattle.lsp_jobs.specs.PendingJobs.{PendingJobs, FromJob, reports, asks, ends}
 use Rattle.lsp_jobs.specs.declared.job_server.JobEnd as rust_end
-use Rattle.lsp_jobs.specs.declared.job_server.JobEnd.TheVariants.{Outcome as Ended, Refused}
+use Rattle.lsp_jobs.specs.declared.job_server.JobEnd.TheVariants.{Outcome as Ended, Refused, Replaced, Stopped}
 use Rattle.lsp_jobs.specs.declared.pool.JobMessage as rust
 use Rattle.lsp_jobs.specs.declared.pool.JobMessage.TheVariants.{Report, Ask, Outcome}
 use Rattle.lsp_jobs.specs.declared.pool.JobPool.{JobPool}
@@ -16,7 +16,7 @@ use Rattle.lsp_jobs.specs.declared.pool.SubmitFault as fault
 use Rattle.lsp_jobs.specs.declared.pool.SubmitFault.TheVariants.{Full, Memory}
 use Rattle.lsp_jobs.specs.Waiting.{pending_of}
 
--- under each id the job that answers its request, and what is kept with it
+-- under each name the job, and what is kept with it
 abbrev pub pending_jobs : {T J K : Type 0} → JobPool T J K → PendingJobs (J × K)
 pending_jobs pool = pending_of pool.table.jobs
 
@@ -31,7 +31,7 @@ module _ {K : Type 0} where
   GivesBack kept (Full back) = back ≡ kept
   GivesBack kept Memory = Unit {0}
 
--- the request gets what its job came to, or an error if an allocation of the job failed
+-- what a job came to, or an error if an allocation of the job failed
 abbrev pub CameTo : Result (Result Value ResponseError) AllocError → Reply → Type 0
 CameTo (Ok outcome) got = got ≡ outcome_view outcome
 CameTo (Err failed) got = got ≡ Err no_memory
@@ -39,3 +39,5 @@ CameTo (Err failed) got = got ≡ Err no_memory
 abbrev pub end_view : rust_end.JobEnd → End
 end_view (Ended outcome) = came_to (outcome_view outcome)
 end_view Refused = no_room
+end_view Replaced = replaced
+end_view Stopped = stopped

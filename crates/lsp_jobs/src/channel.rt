@@ -11,11 +11,13 @@ ghost use Rattle.lsp_jobs.specs.declared.channel.Known.TheVariants.{All, One};
 use crate::asking::{Asker, Reply};
 use crate::cancellation::CancellationToken;
 use crate::job::Progress;
+use crate::names::JobName;
 use crate::notifier::Notifier;
 use crate::untaken_messages::UntakenMessages;
+use crate::waiting_jobs::RunningJobs;
 use crossbeam_channel::protocol::{Lesson, Outcome, Protocol, Split};
 use crossbeam_channel::{Pass, RuledReceiver, RuledSender, bounded_with};
-use lsp_message::{Notification, RequestId};
+use lsp_message::Notification;
 use serde_json::Value;
 use std::alloc::{AllocError, Global};
 use std::collections::LinkedList;
@@ -56,11 +58,11 @@ pub(crate) enum WorkerMessage<R> {
     Outcome(R),
 }
 
-/// What goes through the channel: the ticket of a job, the id of its request, and what the job says.
+/// What goes through the channel: the ticket of a job, its name, and what it says.
 #[derive(Drop)]
 pub(crate) struct Item<R> {
     pub(crate) ticket: u64,
-    pub(crate) id: RequestId,
+    pub(crate) name: JobName,
     pub(crate) message: WorkerMessage<R>,
 }
 
@@ -188,12 +190,12 @@ fn ticket_for<W: Picked<J>, J: AnyJob<R>, R: Drop>(
     sender.another::<NextTicket<W>>(pass)
 }
 
-/// A job with its ticket, the request that it answers, and two ends of the channel: one for its outcome, and one for its reports.
+/// A job with its ticket, its name, and two ends of the channel: one for its outcome, and one for its reports.
 #[derive(Drop)]
 pub(crate) struct JobSender<J: AnyJob<R>, R: Drop> {
     job: J,
     ticket: u64,
-    id: RequestId,
+    name: JobName,
     sender: ItemSender<J, R>,
     pass: ItemPass<J, R>,
     report_sender: ItemSender<J, R>,
@@ -208,7 +210,7 @@ pub(crate) fn sender_for<J: AnyJob<R>, R: Drop>(
     sender: &ItemSender<J, R>,
     pass: &mut ItemPass<J, R>,
     ticket: u64,
-    id: RequestId,
+    name: JobName,
     job: J,
     untaken: UntakenMessages,
 ) -> Result<JobSender<J, R>, AllocError>
@@ -225,7 +227,7 @@ pub(crate) fn sender_for<J: AnyJob<R>, R: Drop>(
     Ok(JobSender {
         job,
         ticket,
-        id,
+        name,
         sender: for_outcome,
         pass: job_pass,
         report_sender,
@@ -235,19 +237,20 @@ pub(crate) fn sender_for<J: AnyJob<R>, R: Drop>(
 }
 
 impl<J: AnyJob<R>, R: Drop> JobSender<J, R> {
-    /// Performs the job, and sends what it says. It waits while there is no room for the outcome; nothing is sent if nobody waits
-    /// for it any more.
+    /// Performs the job, and sends what it says. Once its work is done it counts no more among those that run. It waits while there is no
+    /// room for the outcome; nothing is sent if nobody waits for it any more.
     pub fn perform<T: Wait + Copy + Drop, N: Notifier>(
         self,
         rt: T,
         token: &CancellationToken,
         asker: Asker,
         notifier: N,
+        running: &RunningJobs,
     ) -> N {
         let JobSender {
             job,
             ticket,
-            id,
+            name,
             sender,
             mut pass,
             report_sender,
@@ -255,13 +258,14 @@ impl<J: AnyJob<R>, R: Drop> JobSender<J, R> {
             untaken,
         } = self;
         let ends = (report_sender, report_pass);
-        let (outcome, id, untaken, mut notifier) = perform_telling::<Brand, T, J, R, N>(
-            job, token, ends, untaken, rt, ticket, id, asker, notifier,
+        let (outcome, name, untaken, mut notifier) = perform_telling::<Brand, T, J, R, N>(
+            job, token, ends, untaken, rt, ticket, name, asker, notifier,
         );
+        running.end();
         if untaken.add(&rt) {
             let item = Item {
                 ticket,
-                id,
+                name,
                 message: WorkerMessage::Outcome(outcome),
             };
             if was_sent(sender.send_as::<Further, T>(&rt, &mut pass, item)) {
@@ -301,10 +305,10 @@ fn perform_telling<W: Reportable, T: Wait + Drop, J: AnyJob<R>, R: Drop, N: Noti
     untaken: UntakenMessages,
     rt: T,
     ticket: u64,
-    id: RequestId,
+    name: JobName,
     asker: Asker,
     notifier: N,
-) -> (R, RequestId, UntakenMessages, N)
+) -> (R, JobName, UntakenMessages, N)
     requires seat { IsSeatAt (sends_on ends.0) ends.1 }
     requires job { knows ends.1 ≡ One ticket «job» }
     requires reports { (method : List ℕ) (params : Data) → J.reports «job» method params
@@ -327,7 +331,7 @@ fn perform_telling<W: Reportable, T: Wait + Drop, J: AnyJob<R>, R: Drop, N: Noti
     };
     let mut reporter = Reporter {
         rt,
-        id,
+        name,
         untaken,
         asker,
         notifier,
@@ -335,12 +339,12 @@ fn perform_telling<W: Reportable, T: Wait + Drop, J: AnyJob<R>, R: Drop, N: Noti
     };
     let outcome = job.perform(token, &mut reporter);
     let Reporter {
-        id,
+        name,
         untaken,
         notifier,
         ..
     } = reporter;
-    (outcome, id, untaken, notifier)
+    (outcome, name, untaken, notifier)
 }
 
 /// The end of the channel that takes a job's reports. Contracts see the job.
@@ -374,12 +378,12 @@ impl<W: Reportable, J: AnyJob<R>, R: Drop> Model for Reports<W, J, R> {
 
 impl<W: Reportable, J: AnyJob<R>, R: Drop> Reports<W, J, R> {
     /// Sends a report, if there is room.
-    fn try_send<T: Wait>(&mut self, rt: &T, id: RequestId, notification: Notification) -> bool
+    fn try_send<T: Wait>(&mut self, rt: &T, name: JobName, notification: Notification) -> bool
         requires { W.what (string_bytes notification.method) (view notification.params) }
     {
         let item = Item {
             ticket: self.ticket,
-            id,
+            name,
             message: WorkerMessage::Report(notification),
         };
         was_sent(
@@ -389,12 +393,12 @@ impl<W: Reportable, J: AnyJob<R>, R: Drop> Reports<W, J, R> {
     }
 
     /// Sends a notification, and waits for room. False if nobody takes it any more.
-    fn send<T: Wait>(&mut self, rt: &T, id: RequestId, notification: Notification) -> bool
+    fn send<T: Wait>(&mut self, rt: &T, name: JobName, notification: Notification) -> bool
         requires { W.what (string_bytes notification.method) (view notification.params) }
     {
         let item = Item {
             ticket: self.ticket,
-            id,
+            name,
             message: WorkerMessage::Report(notification),
         };
         was_sent(self.sender.send_as::<Further, T>(rt, &mut self.pass, item))
@@ -406,7 +410,7 @@ impl<W: Reportable, J: AnyJob<R>, R: Drop> Reports<W, J, R> {
     fn ask<T: Wait>(
         &mut self,
         rt: &T,
-        id: RequestId,
+        name: JobName,
         method: String,
         params: Value,
         number: u64,
@@ -415,7 +419,7 @@ impl<W: Reportable, J: AnyJob<R>, R: Drop> Reports<W, J, R> {
     {
         let item = Item {
             ticket: self.ticket,
-            id,
+            name,
             message: WorkerMessage::Ask(method, params, number),
         };
         was_sent(self.sender.send_as::<Further, T>(rt, &mut self.pass, item))
@@ -426,7 +430,7 @@ impl<W: Reportable, J: AnyJob<R>, R: Drop> Reports<W, J, R> {
 #[derive(Drop)]
 struct Reporter<W: Reportable, T: Wait + Drop, J: AnyJob<R>, R: Drop, N: Notifier> {
     rt: T,
-    id: RequestId,
+    name: JobName,
     untaken: UntakenMessages,
     asker: Asker,
     notifier: N,
@@ -452,29 +456,29 @@ impl<W: Reportable, T: Wait + Drop, J: AnyJob<R>, R: Drop, N: Notifier> Progress
     ghost may_ask = { W.asked };
 
     fn report(&mut self, notification: Notification) -> bool {
-        let Ok(id) = self.id.clone() else {
+        let Ok(name) = self.name.clone() else {
             return false;
         };
         if !self.untaken.try_add() {
             return false;
         }
-        let is_sent = self.reports.try_send(&self.rt, id, notification);
+        let is_sent = self.reports.try_send(&self.rt, name, notification);
         self.counted(is_sent)
     }
 
     fn send(&mut self, notification: Notification) -> bool {
-        let Some(id) = self.untaken.copy_of(&self.rt, &self.id) else {
+        let Some(name) = self.untaken.copy_of(&self.rt, &self.name) else {
             return false;
         };
         if !self.untaken.add(&self.rt) {
             return false;
         }
-        let is_sent = self.reports.send(&self.rt, id, notification);
+        let is_sent = self.reports.send(&self.rt, name, notification);
         self.counted(is_sent)
     }
 
     fn ask(&mut self, method: String, params: Value) -> Result<Option<Reply>, AllocError> {
-        let id = self.id.clone()?;
+        let name = self.name.clone()?;
         let Some((number, replies)) = self.asker.begin(&self.rt)? else {
             return Ok(None);
         };
@@ -482,7 +486,7 @@ impl<W: Reportable, T: Wait + Drop, J: AnyJob<R>, R: Drop, N: Notifier> Progress
             self.asker.end(&self.rt, number);
             return Ok(None);
         }
-        let is_sent = self.reports.ask(&self.rt, id, method, params, number);
+        let is_sent = self.reports.ask(&self.rt, name, method, params, number);
         if !self.counted(is_sent) {
             self.asker.end(&self.rt, number);
             return Ok(None);

@@ -1,4 +1,4 @@
-// The work of a long request.
+// The work of a long request, or of a server's own.
 ghost use Rattle.serde_json.specs.View.{view};
 ghost use Rattle.std.specs.Prelude.{IfOk, string_bytes};
 ghost use Rattle.lsp_message.specs.View.{outcome_view};
@@ -9,7 +9,7 @@ use lsp_message::{Notification, ResponseError};
 use serde_json::Value;
 use std::alloc::AllocError;
 
-/// The work of one request, with all that it needs. It runs in a thread of a `JobPool`.
+/// The work of one request or slot, with all that it needs. It runs in a thread of a `JobPool`.
 ///
 /// The ghost members say what a job is for, what comes of it, what it reports, and what it asks the client. If an `impl` leaves one
 /// out, that may be anything.
@@ -21,8 +21,8 @@ pub trait Job: Drop {
     /// The job is for a request with this method and these params.
     ghost is_for: { Self → List ℕ → Data → Type 0 } = { λ _ _ _. ⊤ };
 
-    /// A request with this method and these params may get this outcome from the job, if the job is for it.
-    ghost answers: { Self → List ℕ → Data → Result Data ErrorObject → Type 0 } = { λ _ _ _ _. ⊤ };
+    /// The job may come to this: the outcome of its request, or what the server gets that started it in a slot.
+    ghost finds: { Self → Result Data ErrorObject → Type 0 } = { λ _ _. ⊤ };
 
     /// The job may send a notification with this method and these params while it runs.
     ghost reports: { Self → List ℕ → Data → Type 0 } = { λ _ _ _. ⊤ };
@@ -30,8 +30,9 @@ pub trait Job: Drop {
     /// The job may send the client a request with this method and these params while it runs.
     ghost asks: { Self → List ℕ → Data → Type 0 } = { λ _ _ _. ⊤ };
 
-    /// Comes to the outcome of the request. It may look at the token, and stop early with any outcome. It may tell by `progress` how
-    /// far it is. An outer `Err` is a failed allocation: its request gets the error -32603, `out of memory`, and all else goes on.
+    /// Comes to the outcome of the request, or to what is found for the slot. It may look at the token, and stop early with any outcome. It
+    /// may tell by `progress` how far it is. An outer `Err` is a failed allocation: the outcome is the error -32603, `out of memory`, and
+    /// all else goes on.
     fn run<P: Progress>(
         self,
         token: &CancellationToken,
@@ -41,8 +42,7 @@ pub trait Job: Drop {
             → P.may method params }
         requires asking { (method : List ℕ) (params : Data) → asks «self» method params
             → P.may_ask method params }
-        ensures { IfOk result (λ outcome. (method : List ℕ) (params : Data)
-            → is_for «self» method params → answers «self» method params (outcome_view outcome)) };
+        ensures { IfOk result (λ outcome. finds «self» (outcome_view outcome)) };
 }
 
 /// Tells the client how far a job is, and asks it.
@@ -95,8 +95,7 @@ impl<J: Job> AnyJob<Ran> for J {
     ghost use Rattle.std.specs.Prelude.{ℕ, List, IfOk};
     ghost use Rattle.lsp_message.specs.View.{outcome_view};
 
-    ghost comes_to = { λ job ran. IfOk ran (λ outcome. (method : List ℕ) (params : Data)
-        → J.is_for job method params → J.answers job method params (outcome_view outcome)) };
+    ghost comes_to = { λ job ran. IfOk ran (λ outcome. J.finds job (outcome_view outcome)) };
 
     ghost reports = { J.reports };
 

@@ -1,16 +1,22 @@
 //! What a session of a server with jobs does, in its user's words.
-ghost use Rattle.std.specs.Prelude.{◌≡◌, ◌∷◌, ◌++◌, [], true, None, ℕ, List, Option, Result};
+ghost use Rattle.std.specs.Prelude.{◌≡◌, ◌⊎◌, ◌∷◌, ◌++◌, true, None, Some, ℕ, List, Option, Result};
 ghost use Rattle.lsp_message.specs.Id.{Id};
 ghost use Rattle.lsp_message.specs.Message.{Message, response};
+ghost use Rattle.lsp_message.specs.Methods.{is_initialized};
 ghost use Rattle.lsp_message.specs.declared.frame.limits.Limits.{Limits};
+ghost use Rattle.lsp_service.specs.Law.{AnswersInitialize, TakesPart};
 ghost use Rattle.lsp_session.specs.PassingBytes.{PassesNothingOver};
 ghost use Rattle.lsp_session.specs.Session.{Exchange, SessionAnswer, Stop};
 ghost use Rattle.lsp_session.specs.declared.loops.handler.SessionEnd.{SessionEnd as EndOfSession};
 ghost use Rattle.lsp_session.specs.declared.loops.stream_session.SessionFault.{SessionFault as FaultOfSession};
 ghost use Rattle.lsp_threads.specs.Threads.{ThreadsGiveOver, ThreadsTellOver};
 ghost use Rattle.lsp_jobs.specs.Ends.{Outcome};
-ghost use Rattle.lsp_jobs.specs.JobLaw.{AnswersByJobs, AnswersRequest, LawfulJobSession, SilentServer};
-ghost use Rattle.lsp_jobs.specs.JobSession.{JobSession};
+ghost use Rattle.lsp_jobs.specs.JobLaw.{AnswersByJobs, AnswersRequest, LawfulJobSession, RepliesItself};
+ghost use Rattle.lsp_jobs.specs.JobSession.{JobSession, seen_with_jobs};
+ghost use Rattle.lsp_jobs.specs.PendingJobs.{no_jobs};
+ghost use Rattle.lsp_jobs.specs.PoolView.{pending_jobs};
+ghost use Rattle.lsp_jobs.specs.SlotLaw.{SlotHistory};
+ghost use Rattle.lsp_jobs.specs.declared.pooled_server.PooledServer.{PooledServer as Pooled};
 
 use crate::job::Job;
 use crate::job_server::JobServer;
@@ -18,7 +24,7 @@ use lsp_session::Listener;
 use std::sync::Wait;
 
 /// A session that was run by `run_jobs`, with a limit or without one, and that passes over nothing. At each wake nothing is sent, or one
-/// notification or request of a job that waits, or an outcome of a job that waits: see `AnswersByJobs`. And it keeps the laws of
+/// notification or request of a pending job, or what is done at its outcome: see `AnswersByJobs`. And it keeps the laws of
 /// `lsp_service::laws::server_keeps_laws`: under no id more replies than requests, whatever jobs come to and when; one reply for the last
 /// request under an id, unless it is still held or the session ended at it, and one for each that was cancelled; and before `initialized` nothing but errors and the result of `initialize`, nothing after the reply to `shutdown`.
 pub fn session_with_jobs_keeps_laws<T: Wait + Drop, S: JobServer<J>, J: Job>()
@@ -63,13 +69,30 @@ pub fn session_with_jobs_that_asks_keeps_laws<
         before after answer }
 {}
 
-/// Of a server that starts no job but at its request, and does nothing when one ended. If at a wake one reply is sent, the last request
-/// under its id came before, and since then no reply under the id was sent and no cancellation of it came. The outcome is one that
-/// `Job::answers` allows for that request from a job that is for it, or the error of a failed allocation.
+/// Of each reply that is sent at a wake. The last request under its id came before, and since then no reply under the id was sent and no
+/// cancellation of it came. The outcome is one that a job may find which is for that request, or the error of a failed allocation. Or the
+/// server saw how a job ended, and then answered the request by itself: a server that does nothing then, as by the default of `finishes`,
+/// never does.
 pub fn requests_are_answered_by_their_jobs<S: JobServer<J>, J: Job>()
-    ensures { SilentServer S.JobServer.own → (exchanges : List Exchange)
-        → AnswersByJobs S.Server S.JobServer.own J.Job exchanges
-        → (earlier later : List Exchange) (x : Exchange) (id : Id) (outcome : Outcome)
-        → exchanges ≡ earlier ++ x ∷ later → x.came ≡ None
-        → x.sent ≡ response id outcome ∷ [] → AnswersRequest J.Job earlier id outcome }
+    ensures { (exchanges : List Exchange) → AnswersByJobs S.JobServer.own J.Job exchanges
+        → (earlier later : List Exchange) (x : Exchange) (before after : List Message) (id : Id)
+        (outcome : Outcome) → exchanges ≡ earlier ++ x ∷ later → x.came ≡ None
+        → x.sent ≡ before ++ response id outcome ∷ after
+        → AnswersRequest J.Job earlier id outcome ⊎ RepliesItself S.JobServer.own id outcome }
+{}
+
+/// Of the jobs that a server starts in its slots, from the state at the result of `initialize` on (`GoesOn` in `lsp_service::laws`). Its turns
+/// are what it did at `initialized` and at its calls, each from the state that the one before left. At each wake nothing is done, or one
+/// pending job reports, asks or came to what it may find. If that is a job in a slot, it is the last that was started there: in an earlier
+/// turn, and since then the slot was not changed. So what is found of an earlier text never comes behind the start for a later one.
+/// Up to the result of `initialize` no job is pending (`first`).
+pub fn slots_hear_their_last_jobs<T: Wait + Drop, S: JobServer<J>, J: Job>()
+    ensures turns { (start last : Pooled T S J S.Key) (opening : Exchange)
+        (later : List Exchange) (m : Message) → pending_jobs start.pool ≡ no_jobs
+        → opening.came ≡ Some m → is_initialized m ≡ true
+        → (part : TakesPart (seen_with_jobs T S.Server S.JobServer.own J.Job) start last opening later)
+        → SlotHistory S.Server S.JobServer.own J.Job start.server opening part.begun part.calls }
+    ensures first { (early : List Exchange) (old start : Pooled T S J S.Key)
+        → AnswersInitialize (seen_with_jobs T S.Server S.JobServer.own J.Job) old early start
+        → pending_jobs start.pool ≡ pending_jobs old.pool }
 {}

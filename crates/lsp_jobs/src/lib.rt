@@ -1,13 +1,14 @@
-//! Long requests as jobs, which run in threads of their own: while a job runs, the loop of the server goes on.
+//! Long requests, and a server's own work, as jobs, which run in threads of their own: while a job runs, the loop of the server goes on.
 #![tactic(auto)]
 
 mod asking;
 mod cancellation;
 mod channel;
-mod either_job;
+mod entries;
 mod job;
 mod job_server;
 pub mod laws;
+mod names;
 mod notifier;
 mod pool;
 mod pooled_server;
@@ -21,7 +22,8 @@ mod workers;
 pub use asking::Asked;
 pub use cancellation::CancellationToken;
 pub use job::{Job, Progress};
-pub use job_server::{AnsweredBy, JobEnd, JobServer, NewJob};
+pub use job_server::{AnsweredBy, JobEnd, JobServer, SlotChange};
+pub use names::{JobName, Slot};
 pub use pool::{JobMessage, JobPool, PoolSize, SubmitFault};
 pub use pooled_server::PooledServer;
 pub use progress::{PartialResults, WorkDone};

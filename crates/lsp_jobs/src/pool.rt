@@ -1,5 +1,5 @@
-//! The pool: threads that run jobs, and the requests that wait for them.
-ghost use Rattle.std.specs.Prelude.{◌≡◌, Some, IfErr, IfOk, IfNone, IfSome, OnErr, OnOk};
+//! The pool: threads that run jobs, and the jobs that are pending.
+ghost use Rattle.std.specs.Prelude.{◌≡◌, Some, option_map, IfErr, IfOk, IfNone, IfSome, OnErr, OnOk};
 ghost use Rattle.std.specs.Option.{is_some};
 ghost use Rattle.lsp_message.specs.View.{outcome_view};
 ghost use Rattle.lsp_jobs.specs.PendingJobs.{no_jobs, without, with_job, Tells};
@@ -9,26 +9,45 @@ use crate::asking::Replies;
 use crate::cancellation::CancellationToken;
 use crate::channel::{AnyJob, WorkerMessage};
 use crate::job::{Job, Ran};
+use crate::names::JobName;
 use crate::notifier::Notifier;
-use crate::table::JobTable;
+use crate::table::{Entry, JobTable};
 use crate::waiting_jobs::{JobSource, WaitingJobs, queue_of_jobs};
 use crate::workers::{QueuedJob, join_all, start_job_workers};
 use crossbeam_channel::{Receiver, bounded};
-use lsp_message::{ErrorCode, Notification, RequestId, ResponseError};
+use lsp_message::{ErrorCode, Notification, ResponseError};
 use lsp_threads::StartFault;
 use serde_json::Value;
 use std::alloc::{AllocError, Global};
 use std::sync::Wait;
-use std::thread::{JoinHandle, Threads};
+use std::thread::{Builder, JoinHandle, Threads};
 
 /// How many jobs run, and how many may wait for a thread.
 #[derive(Clone, Copy, Debug, PartialEq, Eq)]
 pub struct PoolSize {
     /// How many threads run jobs: at least one.
     pub workers: usize,
-    /// How many jobs may wait for a thread: at least one. A job that is forgotten or replaced waits no more, whether a thread is free
-    /// or not. `None` sets no bound.
+    /// How many jobs may wait for a thread while all threads run one: at least one. A job that is forgotten or replaced waits no more,
+    /// whether a thread is free or not. `None` sets no bound.
     pub waiting: Option<usize>,
+    /// How many bytes the stack of each thread has. `None` leaves that to the system.
+    pub stack: Option<usize>,
+}
+
+impl PoolSize {
+    /// How many jobs may wait or run, if there is a bound.
+    fn room(&self) -> Option<usize> {
+        let waiting = self.waiting?;
+        Some(self.workers.max(1).saturating_add(waiting.max(1)))
+    }
+
+    /// Starts a thread.
+    pub(crate) fn builder(&self) -> Builder {
+        match self.stack {
+            Some(bytes) => Builder::new().stack_size(bytes),
+            None => Builder::new(),
+        }
+    }
 }
 
 impl From<usize> for PoolSize {
@@ -39,6 +58,7 @@ impl From<usize> for PoolSize {
         PoolSize {
             workers,
             waiting: None,
+            stack: None,
         }
     }
 }
@@ -46,7 +66,7 @@ impl From<usize> for PoolSize {
 /// Why a job was not submitted.
 #[derive(Clone, Copy, Debug, PartialEq, Eq)]
 pub enum SubmitFault<K> {
-    /// 1: as many jobs wait for a thread as may. It gives back what was to be kept.
+    /// 1: as many jobs wait and run as may. It gives back what was to be kept.
     Full(K),
     /// 2: an allocation failed.
     Memory,
@@ -60,12 +80,12 @@ pub enum JobMessage<K> {
     /// A request to send to the client, with this method and these params. The job waits until `JobPool::reply` gets the reply with this
     /// number.
     Ask(String, Value, u64),
-    /// The outcome of its request, with what was kept for it.
+    /// What it came to, with what was kept for it.
     Outcome(Result<Value, ResponseError>, K),
 }
 
-/// Threads that run jobs, and the requests that wait for them. Contracts see the jobs that are pending: under the id of each such request, its job, and
-/// what the caller keeps with it, a `K`: `()` if that is nothing.
+/// Threads that run jobs, and the jobs that are pending. Contracts see these: under the name of each, the job, and what the caller keeps with
+/// it, a `K`: `()` if that is nothing.
 ///
 /// No clause says that a job runs or comes to its end, nor that a token is cancelled.
 #[derive(Drop)]
@@ -143,12 +163,11 @@ where
     ensures { IfOk result (λ pool. pending_jobs pool ≡ no_jobs) }
 {
     let mut notifier = notifier;
-    let (mut pool, taken) = match pool_without_workers(*rt, alloc, size.waiting) {
+    let (mut pool, taken) = match pool_without_workers(*rt, alloc, size.room()) {
         Ok(made) => made,
         Err(_) => return Err(StartFault::Memory),
     };
-    let workers = size.workers.max(1);
-    match start_job_workers(rt, workers, taken, &mut notifier, &mut pool.workers) {
+    match start_job_workers(rt, size, taken, &mut notifier, &mut pool.workers) {
         Ok(()) => Ok(pool),
         Err(fault) => {
             pool.end();
@@ -157,15 +176,14 @@ where
     }
 }
 
-/// A pool in which so many jobs may wait, and the end of its queue at which workers take them.
+/// A pool in which so many jobs may wait or run, and the end of its queue at which workers take them.
 fn pool_without_workers<T: Wait + Drop, J: Job, K: Drop>(
     rt: T,
     alloc: Global,
-    waiting: Option<usize>,
+    room: Option<usize>,
 ) -> Result<(JobPool<T, J, K>, JobSource<QueuedJob<J, Ran>>), AllocError>
     ensures { IfOk result (λ made. pending_jobs made.0 ≡ no_jobs) }
 {
-    let room = waiting.map(|waiting| waiting.max(1));
     let tokens = CancellationToken::new(alloc)?;
     let replies = Replies::new(alloc)?;
     let (waiting, taken) = queue_of_jobs(alloc, room)?;
@@ -183,38 +201,40 @@ fn pool_without_workers<T: Wait + Drop, J: Job, K: Drop>(
 }
 
 impl<T: Wait + Drop, J: Job, K: Drop> JobPool<T, J, K> {
-    /// Gives the job of a request to the threads, and keeps `kept` with it; it never waits for one. An earlier job under the id is
-    /// forgotten, and what was kept with it is dropped. After a fault no job is under the id, and this one never runs.
-    pub fn submit(&mut self, id: RequestId, job: J, kept: K) -> Result<(), SubmitFault<K>>
+    /// Gives a job to the threads, and keeps `kept` with it; it never waits for one. An earlier job with the name is forgotten, and what was
+    /// kept with it is dropped. After a fault no job has the name, and this one never runs.
+    pub fn submit(&mut self, name: JobName, job: J, kept: K) -> Result<(), SubmitFault<K>>
         ensures ok { OnOk result
-            (pending_jobs self.new ≡ with_job id («job», «kept») (pending_jobs self.old)) }
-        ensures err { OnErr result (pending_jobs self.new ≡ without id (pending_jobs self.old)) }
+            (pending_jobs self.new ≡ with_job name («job», «kept») (pending_jobs self.old)) }
+        ensures err { OnErr result (pending_jobs self.new ≡ without name (pending_jobs self.old)) }
         ensures back { IfErr result (GivesBack «kept») }
     {
-        self.forget(&id);
+        let earlier = self.forget(&name);
+        drop(earlier);
         if !self.waiting.has_room(&self.rt) {
             return Err(SubmitFault::Full(kept));
         }
-        match self.hand_over(&id, job, kept) {
+        match self.hand_over(&name, job, kept) {
             Ok(()) => Ok(()),
             Err(_) => {
-                self.forget(&id);
+                let kept = self.forget(&name);
+                drop(kept);
                 Err(SubmitFault::Memory)
             }
         }
     }
 
-    /// Keeps a job for its request, and gives it to the workers. After a fault it may be kept.
-    fn hand_over(&mut self, id: &RequestId, job: J, kept: K) -> Result<(), AllocError>
+    /// Keeps a job, and gives it to the workers. After a fault it may be kept.
+    fn hand_over(&mut self, name: &JobName, job: J, kept: K) -> Result<(), AllocError>
         ensures ok { OnOk result
-            (pending_jobs self.new ≡ with_job id.now («job», «kept») (pending_jobs self.old)) }
-        ensures err { without id.now (pending_jobs self.new)
-            ≡ without id.now (pending_jobs self.old) }
+            (pending_jobs self.new ≡ with_job name.now («job», «kept») (pending_jobs self.old)) }
+        ensures err { without name.now (pending_jobs self.new)
+            ≡ without name.now (pending_jobs self.old) }
     {
         let token = self.tokens.of_pool(self.alloc)?;
         let theirs = token.share()?;
         let asker = self.replies.asker(&token)?;
-        let (ticket, job_sender) = self.table.enter(id.clone()?, job, kept, token)?;
+        let (ticket, job_sender) = self.table.enter(name.clone()?, job, kept, token)?;
         let queued = QueuedJob {
             job_sender,
             token: theirs,
@@ -223,35 +243,43 @@ impl<T: Wait + Drop, J: Job, K: Drop> JobPool<T, J, K> {
         self.waiting.add(&self.rt, ticket, queued)
     }
 
-    /// Whether the request with this id waits for its job.
-    pub fn is_waiting(&self, id: &RequestId) -> bool
-        ensures { result ≡ is_some (pending_jobs self.now id.now) }
+    /// Whether a job with this name is pending.
+    pub fn is_waiting(&self, name: &JobName) -> bool
+        ensures { result ≡ is_some (pending_jobs self.now name.now) }
     {
-        self.table.is_waiting(id)
+        self.table.is_waiting(name)
     }
 
-    /// The request with this id needs no outcome any more, since it was cancelled or answered otherwise: cancels the job's token, and
-    /// what it says is dropped, as is what was kept with it. A job that still waits for a thread is dropped at once, and another may wait
-    /// in its place.
-    pub fn forget(&mut self, id: &RequestId)
-        ensures { pending_jobs self.new ≡ without id.now (pending_jobs self.old) }
+    /// Nobody needs what the job with this name comes to any more: its request was cancelled or answered otherwise, or its slot is needed.
+    /// Cancels the job's token, and what it says is dropped. A job that still waits for a thread is dropped at once, and another may wait
+    /// in its place. It gives back what was kept with the job, if one was pending.
+    pub fn forget(&mut self, name: &JobName) -> Option<K>
+        ensures pending { pending_jobs self.new ≡ without name.now (pending_jobs self.old) }
+        ensures kept { result ≡ option_map (λ (e : J × K). e.1) (pending_jobs self.old name.now) }
     {
-        if let Some(entry) = self.table.complete(id) {
-            self.waiting.take_back(&self.rt, entry.ticket);
-            drop(entry);
-            self.replies.let_cancelled_go(&self.rt);
+        match self.table.complete(name) {
+            Some(entry) => Some(self.let_go(entry)),
+            None => None,
         }
     }
 
-    /// No request needs an outcome any more, since its client shuts the session down: `forget`, of each. An `Err` is a failed allocation.
-    pub fn forget_all(&mut self) -> Result<(), AllocError>
-        ensures { OnOk result (pending_jobs self.new ≡ no_jobs) }
+    /// The job that was pending so is let go. It gives what was kept with it.
+    fn let_go(&self, entry: Entry<J, K>) -> K
+        ensures { result ≡ entry.kept }
     {
-        let ids = self.table.ids()?;
-        for id in ids {
-            self.forget(&id);
-        }
-        Ok(())
+        let (ticket, kept) = entry.cancel();
+        self.waiting.take_back(&self.rt, ticket);
+        self.replies.let_cancelled_go(&self.rt);
+        kept
+    }
+
+    /// Nobody needs what jobs come to any more, since the client shuts the session down: `forget`, of each.
+    pub fn forget_all(&mut self)
+        ensures { pending_jobs self.new ≡ no_jobs }
+    {
+        self.table.complete_all(self.alloc);
+        self.waiting.take_all_back(&self.rt);
+        self.replies.let_cancelled_go(&self.rt);
     }
 
     /// The client replied to a request of a job: hands the reply to the job that waits under this number. If it waits no more, the reply is
@@ -265,58 +293,58 @@ impl<T: Wait + Drop, J: Job, K: Drop> JobPool<T, J, K> {
         self.replies.give_up(&self.rt, number);
     }
 
-    /// What a job said next that a request waits for, with the id of this request: a report or a request to the client, and the request
-    /// goes on waiting; or the outcome, with what was kept for it, and it waits no more. If an allocation failed in the job, its
-    /// outcome is the error -32603, `out of memory`. `None` means that no such job said anything new. It doesn't wait.
+    /// What a pending job said next, with its name: a report or a request to the client, and the job goes on; or what it came to, with what
+    /// was kept for it, and it is pending no more. If an allocation failed in the job, that is the error -32603, `out of memory`. `None`
+    /// means that no pending job said anything new. It doesn't wait.
     ///
-    /// The error is a failed allocation: the request with this id has no job any more then, so it is still yours to answer.
-    pub fn take_message(&mut self) -> Result<Option<(RequestId, JobMessage<K>)>, RequestId>
+    /// The error is a failed allocation: the job with this name is pending no more then, so its request is still yours to answer.
+    pub fn take_message(&mut self) -> Result<Option<(JobName, JobMessage<K>)>, JobName>
         ensures some { IfOk result (λ found. IfSome found (λ said.
             Tells J.Job said.0 (pending_jobs self.old) (job_message_view said.1)
             (pending_jobs self.new))) }
         ensures none { IfOk result (λ found. IfNone found (pending_jobs self.new ≡ pending_jobs self.old)) }
-        ensures err { IfErr result (λ id. pending_jobs self.new ≡ without id (pending_jobs self.old)) }
+        ensures err { IfErr result (λ name. pending_jobs self.new ≡ without name (pending_jobs self.old)) }
     {
         let Some(said) = self.table.take(&self.rt) else {
             return Ok(None);
         };
-        let (id, message) = said;
+        let (name, message) = said;
         match message {
             WorkerMessage::Report(notification) => {
-                Ok(Some((id, JobMessage::Report(notification))))
+                Ok(Some((name, JobMessage::Report(notification))))
             }
             WorkerMessage::Ask(method, params, number) => {
-                Ok(Some((id, JobMessage::Ask(method, params, number))))
+                Ok(Some((name, JobMessage::Ask(method, params, number))))
             }
-            WorkerMessage::Outcome(ran) => self.finish(id, ran),
+            WorkerMessage::Outcome(ran) => self.finish(name, ran),
         }
     }
 
-    /// The job of this request came to this.
+    /// The job with this name came to this.
     fn finish(
         &mut self,
-        id: RequestId,
+        name: JobName,
         ran: Ran,
-    ) -> Result<Option<(RequestId, JobMessage<K>)>, RequestId>
-        requires { (job : J) × (kept : K) × (pending_jobs self.old id ≡ Some (job, kept))
+    ) -> Result<Option<(JobName, JobMessage<K>)>, JobName>
+        requires { (job : J) × (kept : K) × (pending_jobs self.old name ≡ Some (job, kept))
             × ⟦<J as AnyJob<Ran>>⟧.comes_to job «ran» }
         ensures some { IfOk result (λ found. IfSome found (λ said.
             Tells J.Job said.0 (pending_jobs self.old) (job_message_view said.1)
             (pending_jobs self.new))) }
         ensures none { IfOk result (λ found. IfNone found (pending_jobs self.new ≡ pending_jobs self.old)) }
-        ensures err { IfErr result (λ id. pending_jobs self.new ≡ without id (pending_jobs self.old)) }
+        ensures err { IfErr result (λ name. pending_jobs self.new ≡ without name (pending_jobs self.old)) }
     {
-        let Some(entry) = self.table.complete(&id) else {
+        let Some(entry) = self.table.complete(&name) else {
             return Ok(None);
         };
         match outcome_of(self.alloc, ran) {
-            Ok(outcome) => Ok(Some((id, JobMessage::Outcome(outcome, entry.kept)))),
-            Err(_) => Err(id),
+            Ok(outcome) => Ok(Some((name, JobMessage::Outcome(outcome, entry.kept)))),
+            Err(_) => Err(name),
         }
     }
 }
 
-/// What a request gets when its job came to this.
+/// What is got of a job that came to this.
 fn outcome_of(alloc: Global, ran: Ran) -> Result<Result<Value, ResponseError>, AllocError>
     ensures { IfOk result (λ outcome. CameTo «ran» (outcome_view outcome)) }
 {

@@ -9,22 +9,22 @@ ghost use Rattle.lsp_service.specs.View.{act_view};
 ghost use Rattle.lsp_jobs.specs.Asking.{by_server, ByServers};
 ghost use Rattle.lsp_jobs.specs.Ends.{reply_of, too_many};
 ghost use Rattle.lsp_jobs.specs.PoolView.{end_view, pending_jobs};
-ghost use Rattle.lsp_jobs.specs.Pooled.{unanswered, without_cancelled, BeginsJob, Ends, StartsOne, StartsJobs};
+ghost use Rattle.lsp_jobs.specs.Pooled.{reply_at, unanswered, without_cancelled, BeginsJob, Changes, ChangesSlots, Ends, EndsThen, Frees, StartsOne};
 ghost use Rattle.lsp_jobs.specs.Seen.{seen};
-ghost use Rattle.lsp_jobs.specs.ServerView.{new_job_view};
 
 use crate::asking::Asked;
 use crate::job::Job;
-use crate::job_server::{AnsweredBy, JobEnd, JobServer, NewJob};
+use crate::job_server::{AnsweredBy, JobEnd, JobServer, SlotChange};
+use crate::names::JobName;
 use crate::pool::{JobMessage, JobPool, SubmitFault};
-use lsp_message::{ErrorCode, Notification, Request, RequestId, ResponseError};
+use lsp_message::{ErrorCode, Notification, Request, ResponseError};
 use lsp_service::{Act, Server, WokenServer, cancelled_id};
 use serde_json::Value;
 use std::alloc::{AllocError, Global};
 use std::sync::Wait;
 
-/// A server with the pool that runs its jobs. Contracts see the server, and under the id of each request that waits for a job, this job
-/// and what is kept with it.
+/// A server with the pool that runs its jobs. Contracts see the server, and under the name of each pending job, this job and what is kept
+/// with it.
 #[derive(Drop)]
 pub struct PooledServer<T: Wait + Drop, S: Drop, J: Job, K: Drop> {
     alloc: Global,
@@ -62,21 +62,24 @@ impl<T: Wait + Drop, S: Drop, J: Job, K: Drop> PooledServer<T, S, J, K> {
         )) }
     {
         if let Some(id) = cancelled_id(notification)? {
-            self.pool.forget(&id);
+            let kept = self.pool.forget(&JobName::Request(id));
+            drop(kept);
         }
         Ok(())
     }
 
     /// A request that the server answers by itself needs no job any more.
-    fn forget_answered<P: Drop>(&mut self, acts: &[Act<P>])
-        ensures { seen self.new
-            ≡ (self.old.server, unanswered (map act_view acts.now) (pending_jobs self.old.pool)) }
+    fn forget_answered<P: Drop>(&mut self, acts: &[Act<P>]) -> Result<(), AllocError>
+        ensures { IfOk result (λ _. seen self.new
+            ≡ (self.old.server, unanswered (map act_view acts.now) (pending_jobs self.old.pool))) }
     {
         for act in acts {
             if let Act::Reply(id, _) = act {
-                self.pool.forget(id);
+                let kept = self.pool.forget(&JobName::Request(id.clone()?));
+                drop(kept);
             }
         }
+        Ok(())
     }
 }
 
@@ -86,106 +89,180 @@ where
     S: JobServer<J> + Drop,
     J: Job,
 {
-    /// The job of the request with this id ended so: the request is answered, after what the server does when it sees that.
+    /// The job with this name ended so. If it is for a request, that is answered after what the server does when it sees the end.
     fn end_job(
         &mut self,
-        id: RequestId,
+        name: JobName,
         key: S::Key,
         end: JobEnd,
     ) -> Result<Vec<Act<S::Payload>>, AllocError>
         ensures { IfOk result (λ acts.
-            Ends S.JobServer.own id «key» (end_view «end») (seen self.old) (map act_view acts.items)
+            Ends S.JobServer.own name «key» (end_view «end») (seen self.old) (map act_view acts.items)
             (seen self.new)) }
     {
-        let mut acts = self.server.finished(&id, key, &end, self.alloc)?;
-        let outcome = reply_to(self.alloc, end)?;
-        match acts.push(Act::Reply(id, outcome)) {
-            Ok(()) => {
-                self.forget_answered(&acts);
-                Ok(acts)
-            }
-            Err(_) => Err(AllocError),
-        }
+        let mut acts = self.server.finished(&name, key, &end, self.alloc)?;
+        push_reply(self.alloc, &mut acts, name, end)?;
+        self.forget_answered(&acts)?;
+        Ok(acts)
     }
 
-    /// Starts the job of a request that came, and then the others that the server starts now.
+    /// The same, behind these acts.
+    fn end_job_then(
+        &mut self,
+        name: JobName,
+        key: S::Key,
+        end: JobEnd,
+        acts: &mut Vec<Act<S::Payload>>,
+    ) -> Result<(), AllocError>
+        ensures { IfOk result (λ _. EndsThen S.JobServer.own name «key» (end_view «end»)
+            (self.old.server, pending_jobs self.old.pool, map act_view acts.old.items)
+            (self.new.server, pending_jobs self.new.pool, map act_view acts.new.items)) }
+    {
+        let mut more = self.end_job(name, key, end)?;
+        acts.append(&mut more)
+    }
+
+    /// Starts the job of a request that came, and then changes slots.
     fn begin_job(
         &mut self,
-        start: NewJob<J, S::Key>,
+        name: JobName,
+        job: J,
+        key: S::Key,
     ) -> Result<Vec<Act<Asked<S::Payload>>>, AllocError>
         ensures { IfOk result (λ all. ByServers (λ own.
-            BeginsJob S.JobServer.own (seen self.old) (new_job_view «start») own (seen self.new))
+            BeginsJob S.JobServer.own (seen self.old) name «job» «key» own (seen self.new))
             (map act_view all.items)) }
     {
         let mut acts = Vec::new(self.alloc);
-        self.start_one(start, &mut acts)?;
-        self.acts_with_jobs(acts)
+        self.start_one(name, job, key, &mut acts)?;
+        self.acts_with_changes(acts)
     }
 
-    /// What the server did, and then starts: `start_jobs`, as acts of the server.
-    fn acts_with_jobs(
+    /// What the server did, and then does with its slots: `change_slots`, as acts of the server.
+    fn acts_with_changes(
         &mut self,
         acts: Vec<Act<S::Payload>>,
     ) -> Result<Vec<Act<Asked<S::Payload>>>, AllocError>
         ensures { IfOk result (λ all. ByServers (λ own.
-            StartsJobs S.JobServer.own (seen self.old) (map act_view acts.items) own
+            ChangesSlots S.JobServer.own (seen self.old) (map act_view acts.items) own
             (seen self.new)) (map act_view all.items)) }
     {
-        let all = self.start_jobs(acts)?;
+        let all = self.change_slots(acts)?;
         acts_by_server(self.alloc, all)
     }
 
-    /// Starts the jobs that the server starts now, after it did these acts. What is done for a job that found no room follows them.
-    fn start_jobs(&mut self, acts: Vec<Act<S::Payload>>) -> Result<Vec<Act<S::Payload>>, AllocError>
-        ensures { IfOk result (λ all.
-            StartsJobs S.JobServer.own (seen self.old) (map act_view acts.items)
-            (map act_view all.items) (seen self.new)) }
-    {
-        self.forget_answered(&acts);
-        let jobs = self.server.take_jobs(self.alloc)?;
-        self.start_all(jobs, acts)
-    }
-
-    /// Starts jobs, in order.
-    fn start_all(
+    /// Changes the slots that the server changes now, after it did these acts. What is done at the end of a job follows them.
+    fn change_slots(
         &mut self,
-        jobs: Vec<NewJob<J, S::Key>>,
         acts: Vec<Act<S::Payload>>,
     ) -> Result<Vec<Act<S::Payload>>, AllocError>
         ensures { IfOk result (λ all.
-            FoldsTo (StartsOne S.JobServer.own)
-            (self.old.server, pending_jobs self.old.pool, map act_view acts.items)
-            (map new_job_view jobs.items)
+            ChangesSlots S.JobServer.own (seen self.old) (map act_view acts.items)
+            (map act_view all.items) (seen self.new)) }
+    {
+        self.forget_answered(&acts)?;
+        let changes = self.server.take_changes(self.alloc)?;
+        self.change_all(changes, acts)
+    }
+
+    /// Changes slots, in order.
+    fn change_all(
+        &mut self,
+        changes: Vec<SlotChange<J, S::Key>>,
+        acts: Vec<Act<S::Payload>>,
+    ) -> Result<Vec<Act<S::Payload>>, AllocError>
+        ensures { IfOk result (λ all.
+            FoldsTo (Changes S.JobServer.own)
+            (self.old.server, pending_jobs self.old.pool, map act_view acts.items) changes.items
             (self.new.server, pending_jobs self.new.pool, map act_view all.items)) }
     {
         let mut acts = acts;
-        for start in jobs {
-            self.start_one(start, &mut acts)?;
+        for change in changes {
+            self.change(change, &mut acts)?;
         }
         Ok(acts)
     }
 
-    /// Starts a job, or answers its request if too many wait.
+    /// Changes a slot.
+    fn change(
+        &mut self,
+        change: SlotChange<J, S::Key>,
+        acts: &mut Vec<Act<S::Payload>>,
+    ) -> Result<(), AllocError>
+        ensures { IfOk result (λ _. Changes S.JobServer.own
+            (self.old.server, pending_jobs self.old.pool, map act_view acts.old.items) «change»
+            (self.new.server, pending_jobs self.new.pool, map act_view acts.new.items)) }
+    {
+        match change {
+            SlotChange::Start(slot, job, key) => {
+                let name = JobName::Slot(slot);
+                self.free(&name, JobEnd::Replaced, acts)?;
+                self.start_one(name, job, key, acts)
+            }
+            SlotChange::Stop(slot) => self.free(&JobName::Slot(slot), JobEnd::Stopped, acts),
+        }
+    }
+
+    /// If a job has this name, it ends so.
+    fn free(
+        &mut self,
+        name: &JobName,
+        end: JobEnd,
+        acts: &mut Vec<Act<S::Payload>>,
+    ) -> Result<(), AllocError>
+        ensures { IfOk result (λ _. Frees S.JobServer.own name.now (end_view «end»)
+            (self.old.server, pending_jobs self.old.pool, map act_view acts.old.items)
+            (self.new.server, pending_jobs self.new.pool, map act_view acts.new.items)) }
+    {
+        match self.pool.forget(name) {
+            Some(key) => self.end_job_then(name.clone()?, key, end, acts),
+            None => {
+                drop(end);
+                Ok(())
+            }
+        }
+    }
+
+    /// Starts a job under a name that none has. If too many wait and run, it ends.
     fn start_one(
         &mut self,
-        start: NewJob<J, S::Key>,
+        name: JobName,
+        job: J,
+        key: S::Key,
         acts: &mut Vec<Act<S::Payload>>,
     ) -> Result<(), AllocError>
         ensures { IfOk result (λ _.
-            StartsOne S.JobServer.own
+            StartsOne S.JobServer.own name «job» «key»
             (self.old.server, pending_jobs self.old.pool, map act_view acts.old.items)
-            (new_job_view «start»)
             (self.new.server, pending_jobs self.new.pool, map act_view acts.new.items)) }
     {
-        let NewJob { id, job, key } = start;
-        match self.pool.submit(id.clone()?, job, key) {
+        match self.pool.submit(name.clone()?, job, key) {
             Ok(()) => Ok(()),
-            Err(SubmitFault::Full(key)) => {
-                let mut more = self.end_job(id, key, JobEnd::Refused)?;
-                acts.append(&mut more)
-            }
+            Err(SubmitFault::Full(key)) => self.end_job_then(name, key, JobEnd::Refused, acts),
             Err(SubmitFault::Memory) => Err(AllocError),
         }
+    }
+}
+
+/// Adds the reply to the request of a job that ended so. A job in a slot has none.
+fn push_reply<P: Drop>(
+    alloc: Global,
+    acts: &mut Vec<Act<P>>,
+    name: JobName,
+    end: JobEnd,
+) -> Result<(), AllocError>
+    ensures { IfOk result (λ _. map act_view acts.new.items
+        ≡ map act_view acts.old.items ++ reply_at name (end_view «end»)) }
+{
+    match name {
+        JobName::Request(id) => {
+            let outcome = reply_to(alloc, end)?;
+            match acts.push(Act::Reply(id, outcome)) {
+                Ok(()) => Ok(()),
+                Err(_) => Err(AllocError),
+            }
+        }
+        JobName::Slot(_) => Ok(()),
     }
 }
 
@@ -195,7 +272,7 @@ fn reply_to(alloc: Global, end: JobEnd) -> Result<Result<Value, ResponseError>, 
 {
     match end {
         JobEnd::Outcome(outcome) => Ok(outcome),
-        JobEnd::Refused => Ok(Err(refusal(alloc)?)),
+        _ => Ok(Err(refusal(alloc)?)),
     }
 }
 
@@ -289,17 +366,18 @@ where
 
     fn initialized(&mut self) -> Result<Vec<Act<Asked<S::Payload>>>, AllocError> {
         let acts = self.server.initialized()?;
-        self.acts_with_jobs(acts)
+        self.acts_with_changes(acts)
     }
 
     fn request(&mut self, request: Request) -> Result<Vec<Act<Asked<S::Payload>>>, AllocError> {
-        self.pool.forget(&request.id);
-        let id = request.id.clone()?;
+        let name = JobName::Request(request.id.clone()?);
+        let kept = self.pool.forget(&name);
+        drop(kept);
         match self.server.job(request)? {
-            AnsweredBy::Job(job, key) => self.begin_job(NewJob { id, job, key }),
+            AnsweredBy::Job(job, key) => self.begin_job(name, job, key),
             AnsweredBy::Server(request) => {
                 let acts = self.server.request(request)?;
-                self.acts_with_jobs(acts)
+                self.acts_with_changes(acts)
             }
         }
     }
@@ -310,7 +388,7 @@ where
     ) -> Result<Vec<Act<Asked<S::Payload>>>, AllocError> {
         self.forget_cancelled(&notification)?;
         let acts = self.server.notification(notification)?;
-        self.acts_with_jobs(acts)
+        self.acts_with_changes(acts)
     }
 
     fn response(
@@ -321,7 +399,7 @@ where
         match payload {
             Asked::ByServer(payload) => {
                 let acts = self.server.response(payload, outcome)?;
-                self.acts_with_jobs(acts)
+                self.acts_with_changes(acts)
             }
             Asked::ByJob(number) => {
                 self.pool.reply(number, outcome);
@@ -331,7 +409,7 @@ where
     }
 
     fn shutdown(&mut self, alloc: Global) -> Result<Vec<Act<Asked<S::Payload>>>, AllocError> {
-        self.pool.forget_all()?;
+        self.pool.forget_all();
         let acts = self.server.shutdown(alloc)?;
         acts_by_server(self.alloc, acts)
     }
@@ -364,15 +442,15 @@ where
         let Some(said) = found else {
             return Ok(Vec::new(alloc));
         };
-        let (id, message) = said;
+        let (name, message) = said;
         match message {
             JobMessage::Report(notification) => one_act(alloc, Act::Tell(notification)),
             JobMessage::Ask(method, params, number) => {
                 one_act(alloc, Act::Ask(method, params, Asked::ByJob(number)))
             }
             JobMessage::Outcome(outcome, key) => {
-                let acts = self.end_job(id, key, JobEnd::Outcome(outcome))?;
-                self.acts_with_jobs(acts)
+                let acts = self.end_job(name, key, JobEnd::Outcome(outcome))?;
+                self.acts_with_changes(acts)
             }
         }
     }

@@ -1,13 +1,13 @@
 // What a job tells its client while it runs: how far it is, and parts of its result.
 ghost use Rattle.serde_json.specs.Data.{Data};
 ghost use Rattle.serde_json.specs.View.{view};
-ghost use Rattle.std.specs.Prelude.{◌≡◌, IfOk, IfSome, option_map, string_bytes};
+ghost use Rattle.std.specs.Prelude.{◌≡◌, IfOk, IfSome, codes, option_map, string_bytes};
 ghost use Rattle.lsp_message.specs.Message.{notification};
 ghost use Rattle.lsp_message.specs.View.{notification_view};
-ghost use Rattle.lsp_jobs.specs.Progress.{create_method, create_params, progress_method, progress_params};
+ghost use Rattle.lsp_jobs.specs.Progress.{create_method, create_params, if_token as if_token_spec, progress_method, progress_params, token_of};
 
 use crate::job::Progress;
-use lsp_message::Notification;
+use lsp_message::{Notification, RequestId};
 use serde_json::{Value, json, put};
 use std::alloc::{AllocError, Global};
 use std::marker::Model;
@@ -39,7 +39,10 @@ impl Model for WorkDone {
 impl WorkDone {
     /// Reads the token from the params of a request: a text, or an integer of 32 bits. Without such a token nothing is ever sent.
     /// The error means that an allocation failed.
-    pub fn of(alloc: Global, params: &Value) -> Result<WorkDone, AllocError> {
+    pub fn of(alloc: Global, params: &Value) -> Result<WorkDone, AllocError>
+        ensures { IfOk result (λ work.
+            option_map view work ≡ token_of (codes "workDoneToken") (view params.now)) }
+    {
         Ok(WorkDone {
             alloc,
             token: token_in(params, "workDoneToken")?,
@@ -137,7 +140,10 @@ impl Model for PartialResults {
 impl PartialResults {
     /// Reads the token from the params of a request: a text, or an integer of 32 bits. Without such a token nothing is ever sent.
     /// The error means that an allocation failed.
-    pub fn of(alloc: Global, params: &Value) -> Result<PartialResults, AllocError> {
+    pub fn of(alloc: Global, params: &Value) -> Result<PartialResults, AllocError>
+        ensures { IfOk result (λ parts.
+            option_map view parts ≡ token_of (codes "partialResultToken") (view params.now)) }
+    {
         Ok(PartialResults {
             alloc,
             token: token_in(params, "partialResultToken")?,
@@ -180,16 +186,27 @@ fn put_both(
 }
 
 /// The token that is a member of params: a text or an integer of 32 bits.
-fn token_in(params: &Value, name: &str) -> Result<Option<Value>, AllocError> {
+fn token_in(params: &Value, name: &str) -> Result<Option<Value>, AllocError>
+    ensures { IfOk result (λ token.
+        option_map view token ≡ token_of name.now (view params.now)) }
+{
     match params.get(name) {
-        Some(token) if is_token(token) => Ok(Some(token.clone()?)),
-        _ => Ok(None),
+        Some(value) => if_token(value),
+        None => Ok(None),
     }
 }
 
-/// Whether a value may be a token (LSP 3.17, `ProgressToken`).
-fn is_token(value: &Value) -> bool {
-    value.is_string() || value.as_i64().is_some_and(|n| i32::try_from(n).is_ok())
+/// The value, if it may be a token (LSP 3.17, `ProgressToken`).
+fn if_token(value: &Value) -> Result<Option<Value>, AllocError>
+    ensures { IfOk result (λ token. option_map view token ≡ if_token_spec (view value.now)) }
+{
+    match RequestId::from_value(value)? {
+        Some(id) => {
+            drop(id);
+            Ok(Some(value.clone()?))
+        }
+        None => Ok(None),
+    }
 }
 
 /// Sends a value for whoever gave the token, if there is one.

@@ -1,5 +1,5 @@
 // How many messages of a job wait to be taken, and whether anybody waits for them.
-use lsp_message::RequestId;
+use crate::names::JobName;
 use std::alloc::{AllocError, Global};
 use std::sync::atomic::{AtomicU64, Ordering};
 use std::sync::{Arc, Wait};
@@ -63,10 +63,10 @@ impl UntakenMessages {
         unreachable!()
     }
 
-    /// A copy of the id of a request. While memory for it is missing, it waits until there is some, or nobody waits for the job.
-    pub fn copy_of<T: Wait>(&self, rt: &T, id: &RequestId) -> Option<RequestId> {
+    /// A copy of the name of a job. While memory for it is missing, it waits until there is some, or nobody waits for the job.
+    pub fn copy_of<T: Wait>(&self, rt: &T, name: &JobName) -> Option<JobName> {
         for _ in rt.forever() {
-            if let Ok(copy) = id.clone() {
+            if let Ok(copy) = name.clone() {
                 return Some(copy);
             }
             if self.is_cancelled() {

@@ -2,7 +2,45 @@
 use crossbeam_channel::{Receiver, Sender, unbounded};
 use std::alloc::{AllocError, Global};
 use std::collections::BTreeMap;
+use std::sync::atomic::{AtomicU64, Ordering};
 use std::sync::{Arc, Mutex, Wait};
+
+/// Counts the jobs that run. A worker counts one under the lock of the queue as it takes it, and no more once its work is done: before
+/// what it came to is sent, so that whoever hears of that finds the room.
+#[derive(Drop)]
+pub(crate) struct RunningJobs {
+    count: Arc<AtomicU64, Global>,
+}
+
+impl RunningJobs {
+    /// None runs. The error means that an allocation failed.
+    fn new(alloc: Global) -> Result<RunningJobs, AllocError> {
+        match Arc::new(alloc, AtomicU64::new(0)) {
+            Ok(count) => Ok(RunningJobs { count }),
+            Err(_) => Err(AllocError),
+        }
+    }
+
+    /// The same count, for another thread.
+    fn share(&self) -> Result<RunningJobs, AllocError> {
+        Ok(RunningJobs {
+            count: Arc::try_clone(&self.count)?,
+        })
+    }
+
+    fn begin(&self) {
+        let _ = self.count.fetch_add(1, Ordering::SeqCst);
+    }
+
+    /// The work of one is done.
+    pub fn end(&self) {
+        let _ = self.count.fetch_sub(1, Ordering::SeqCst);
+    }
+
+    fn count(&self) -> u64 {
+        self.count.load(Ordering::SeqCst)
+    }
+}
 
 /// The end of the queue at which jobs are added, and taken back: under their tickets, of which an older one is smaller. With each goes a
 /// signal. A worker takes a signal first, and then the oldest job: so it sleeps at a channel, and sees its end. With a job that is
@@ -13,6 +51,7 @@ pub(crate) struct WaitingJobs<E: Drop> {
     jobs: Arc<Mutex<BTreeMap<u64, E>>>,
     signals: Sender<()>,
     given: Receiver<()>,
+    running: RunningJobs,
     room: Option<usize>,
 }
 
@@ -21,9 +60,10 @@ pub(crate) struct WaitingJobs<E: Drop> {
 pub(crate) struct JobSource<E: Drop> {
     jobs: Arc<Mutex<BTreeMap<u64, E>>>,
     signals: Receiver<()>,
+    running: RunningJobs,
 }
 
-/// A queue in which so many jobs may wait.
+/// A queue of which so many jobs may wait or run.
 pub(crate) fn queue_of_jobs<E: Drop>(
     alloc: Global,
     room: Option<usize>,
@@ -35,23 +75,28 @@ pub(crate) fn queue_of_jobs<E: Drop>(
     let source = JobSource {
         jobs: Arc::try_clone(&jobs)?,
         signals: receiver.clone()?,
+        running: RunningJobs::new(alloc)?,
     };
     let waiting = WaitingJobs {
         jobs,
         signals: sender,
         given: receiver,
+        running: source.running.share()?,
         room,
     };
     Ok((waiting, source))
 }
 
 impl<E: Drop> WaitingJobs<E> {
-    /// Whether one more job may wait.
+    /// Whether one more job may wait or run. A job that waits for an idle worker takes that worker's room.
     pub fn has_room<T: Wait>(&self, rt: &T) -> bool {
-        match self.room {
-            Some(room) => self.jobs.lock(rt).len() < room,
-            None => true,
-        }
+        let Some(room) = self.room else {
+            return true;
+        };
+        let jobs = self.jobs.lock(rt);
+        let taken = (jobs.len() as u64).saturating_add(self.running.count());
+        drop(jobs);
+        taken < room as u64
     }
 
     /// Adds a job behind all others, whose tickets are smaller. After a failed allocation it is dropped, but if a worker took it.
@@ -77,13 +122,42 @@ impl<E: Drop> WaitingJobs<E> {
     }
 }
 
+impl<E: Drop> WaitingJobs<E> {
+    /// Takes all jobs back, each with a signal, and drops them.
+    pub fn take_all_back<T: Wait>(&self, rt: &T) {
+        for _ in rt.forever() {
+            let oldest = self.jobs.lock(rt).pop_first();
+            let Some((_, job)) = oldest else {
+                return;
+            };
+            let _ = self.given.try_recv(rt);
+            drop(job);
+        }
+        unreachable!()
+    }
+}
+
 impl<E: Drop> JobSource<E> {
     /// The same, for another worker. The error means that an allocation failed.
     pub fn another(&self) -> Result<JobSource<E>, AllocError> {
         Ok(JobSource {
             jobs: Arc::try_clone(&self.jobs)?,
             signals: self.signals.clone()?,
+            running: self.running.share()?,
         })
+    }
+
+    /// The count of the jobs that run.
+    pub fn running(&self) -> &RunningJobs {
+        &self.running
+    }
+
+    /// The oldest job, which runs from now on.
+    fn take<T: Wait>(&self, rt: &T) -> Option<E> {
+        let mut jobs = self.jobs.lock(rt);
+        let (_, job) = jobs.pop_first()?;
+        self.running.begin();
+        Some(job)
     }
 
     /// Waits for the oldest job. `None` means that no more come.
@@ -92,8 +166,7 @@ impl<E: Drop> JobSource<E> {
             if self.signals.recv(rt).is_err() {
                 return None;
             }
-            let oldest = self.jobs.lock(rt).pop_first();
-            if let Some((_, job)) = oldest {
+            if let Some(job) = self.take(rt) {
                 return Some(job);
             }
         }

@@ -5,18 +5,24 @@ use crate::cancellation::CancellationToken;
 use crate::channel::{AnyJob, JobSender};
 use crate::job::{Job, Ran};
 use crate::notifier::Notifier;
-use crate::waiting_jobs::JobSource;
+use crate::pool::PoolSize;
+use crate::waiting_jobs::{JobSource, RunningJobs};
 use lsp_threads::StartFault;
 use std::sync::Wait;
-use std::thread::{JoinHandle, Threads, spawn};
+use std::thread::{Builder, JoinHandle, Threads};
 
 /// What a worker is given.
 pub(crate) trait Work: Drop {
     /// Whether somebody waits for what comes of it.
     fn is_wanted(&self) -> bool;
 
-    /// Runs it to its end, and tells the notifier whenever it said something.
-    fn run<T: Wait + Copy + Drop, N: Notifier>(self, rt: T, notifier: N) -> N;
+    /// Runs it to its end, and tells the notifier whenever it said something. It is counted among those that run until its work is done.
+    fn run<T: Wait + Copy + Drop, N: Notifier>(
+        self,
+        rt: T,
+        notifier: N,
+        running: &RunningJobs,
+    ) -> N;
 }
 
 /// A job for a worker.
@@ -32,13 +38,18 @@ impl<J: AnyJob<R>, R: Drop> Work for QueuedJob<J, R> {
         !self.token.is_cancelled()
     }
 
-    fn run<T: Wait + Copy + Drop, N: Notifier>(self, rt: T, notifier: N) -> N {
+    fn run<T: Wait + Copy + Drop, N: Notifier>(
+        self,
+        rt: T,
+        notifier: N,
+        running: &RunningJobs,
+    ) -> N {
         let QueuedJob {
             job_sender,
             token,
             asker,
         } = self;
-        job_sender.perform(rt, &token, asker, notifier)
+        job_sender.perform(rt, &token, asker, notifier, running)
     }
 }
 
@@ -50,7 +61,10 @@ fn run_queued<T: Wait + Copy + Drop, E: Work, N: Notifier>(rt: T, jobs: JobSourc
             return;
         };
         if job.is_wanted() {
-            notifier = job.run(rt, notifier);
+            notifier = job.run(rt, notifier, jobs.running());
+        } else {
+            jobs.running().end();
+            drop(job);
         }
     }
 }
@@ -58,6 +72,7 @@ fn run_queued<T: Wait + Copy + Drop, E: Work, N: Notifier>(rt: T, jobs: JobSourc
 /// Starts a worker.
 fn start_worker<T, E, N>(
     rt: &T,
+    builder: Builder,
     jobs: &JobSource<E>,
     notifier: &mut N,
 ) -> Result<JoinHandle<()>, StartFault>
@@ -73,17 +88,17 @@ where
         return Err(StartFault::Memory);
     };
     let theirs = *rt;
-    match spawn(rt, move || run_queued(theirs, jobs, notifier)) {
+    match builder.spawn(rt, move || run_queued(theirs, jobs, notifier)) {
         Ok(handle) => Ok(handle),
         Err(_) => Err(StartFault::Thread),
     }
 }
 
-/// Starts this many workers. Those that were started before a fault are left in `workers`, which has room for all before the first
+/// Starts as many workers as the size says. Those that were started before a fault are left in `workers`, which has room for all before the first
 /// starts.
 pub(crate) fn start_workers<T, E, N>(
     rt: &T,
-    count: usize,
+    size: PoolSize,
     jobs: JobSource<E>,
     notifier: &mut N,
     workers: &mut Vec<JoinHandle<()>>,
@@ -93,11 +108,12 @@ where
     E: Work + Send + 'static,
     N: Notifier + Send + 'static,
 {
+    let count = size.workers.max(1);
     if workers.try_reserve(count).is_err() {
         return Err(StartFault::Memory);
     }
     for _ in 0..count {
-        let worker = start_worker(rt, &jobs, notifier)?;
+        let worker = start_worker(rt, size.builder(), &jobs, notifier)?;
         if workers.push(worker).is_err() {
             return Err(StartFault::Memory);
         }
@@ -108,7 +124,7 @@ where
 /// The same, of jobs.
 pub(crate) fn start_job_workers<T, J, N>(
     rt: &T,
-    count: usize,
+    size: PoolSize,
     waiting: JobSource<QueuedJob<J, Ran>>,
     notifier: &mut N,
     workers: &mut Vec<JoinHandle<()>>,
@@ -118,7 +134,7 @@ where
     J: Job + Send + 'static,
     N: Notifier + Send + 'static,
 {
-    start_workers::<T, QueuedJob<J, Ran>, N>(rt, count, waiting, notifier, workers)
+    start_workers::<T, QueuedJob<J, Ran>, N>(rt, size, waiting, notifier, workers)
 }
 
 /// Joins threads.

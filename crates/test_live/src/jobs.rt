@@ -3,9 +3,8 @@ ghost use Rattle.serde_json.specs.Data.{Data};
 ghost use Rattle.std.specs.Prelude.{ℕ, List};
 
 use crate::signals::{Signal, Signals};
-use either::Either;
-use lsp_jobs::{CancellationToken, Job, PartialResults, Progress, WorkDone};
-use lsp_message::{ErrorCode, Notification, RequestId, ResponseError};
+use lsp_jobs::{CancellationToken, Job, PartialResults, Progress, Slot, WorkDone};
+use lsp_message::{ErrorCode, Notification, ResponseError};
 use serde_json::Value;
 use std::alloc::{AllocError, Global};
 use std::sync::Arc;
@@ -323,26 +322,7 @@ impl Course {
     }
 }
 
-/// A job of another kind, which comes to a value at once.
-#[derive(Drop)]
-pub struct Fixed {
-    pub value: Value,
-}
-
-impl Job for Fixed {
-    fn run<P: Progress>(
-        self,
-        _token: &CancellationToken,
-        _progress: &mut P,
-    ) -> Result<Result<Value, ResponseError>, AllocError> {
-        Ok(Ok(self.value))
-    }
-}
-
-/// The job of a pool by hand: one with a script, or a fixed one.
-pub type AnyJob = Either<Scripted, Fixed>;
-
-/// The id of a job that answers no request.
-pub fn own_id(alloc: Global) -> Result<RequestId, AllocError> {
-    Ok(RequestId::from(String::from_str(alloc, "own")?))
+/// The slot of a job that answers no request.
+pub fn own_slot(alloc: Global) -> Result<Slot, AllocError> {
+    Ok(Slot::from(String::from_str(alloc, "own")?))
 }

@@ -1,8 +1,8 @@
 // A pool by hand: `pool WORKERS STEP; STEP ..`, or `WORKERS:WAITING` if only so many jobs may wait. A step is one of these, with what is
 // told of it:
 //
-// - `submit ID KEY SCRIPT`: gives the pool a job (`jobs.rt`), which comes to the list of the key: `taken`, `full KEY` or `no memory`. With the
-//   script `fixed` it is one of another kind.
+// - `submit NAME KEY SCRIPT`: gives the pool a job (`jobs.rt`), which comes to the list of the key: `taken`, `full KEY` or `no memory`. The
+//   name is a request's number, or that of a slot behind an `s`.
 // - `begun N`, `ended N`, `reported N`: waits until N jobs began, ended or were done with their reports; nothing is told.
 // - `hear`: waits for a signal: `heard`, or `closed`.
 // - `message`: takes the next message: `ID report PARAMS`, `ID ask NUMBER METHOD PARAMS`, `ID outcome VALUE of KEY`,
@@ -13,12 +13,11 @@
 //
 // The client of such a job gave the tokens `w` and 7. At the end the pool is ended, nothing more may be heard then, and it is told how many jobs began and how many saw their cancellation.
 use crate::attempt::{Attempt, Stop};
-use crate::jobs::{AnyJob, Fixed, Means, Scripted, list_of};
+use crate::jobs::{Means, Scripted, list_of};
 use crate::signals::{Signal, Signals};
 use crate::table::pool_of;
 use crossbeam_channel::Receiver;
-use either::Either;
-use lsp_jobs::{JobMessage, JobPool, SubmitFault};
+use lsp_jobs::{JobMessage, JobName, JobPool, Slot, SubmitFault};
 use lsp_message::RequestId;
 use serde_json::Value;
 use std::alloc::{AllocError, Global};
@@ -31,7 +30,7 @@ struct Bench<R: Wait + Drop> {
     rt: R,
     alloc: Global,
     signals: Arc<Signals>,
-    pool: JobPool<R, AnyJob, i32>,
+    pool: JobPool<R, Scripted, i32>,
     woken: Receiver<()>,
     told: String,
 }
@@ -67,9 +66,20 @@ fn small_of(text: &str) -> i32 {
     text.parse::<i32>().unwrap_or(0)
 }
 
-/// The id of this number.
-fn id_of(number: &str) -> RequestId {
-    RequestId::from(small_of(number))
+/// The request with this number as its id, or the slot of this number behind an `s`.
+fn name_of(word: &str) -> JobName {
+    match word.strip_prefix("s") {
+        Some(number) => JobName::Slot(Slot::from(small_of(number))),
+        None => JobName::Request(RequestId::from(small_of(word))),
+    }
+}
+
+/// As it is told: a slot's number behind an `s`.
+fn tell_name(told: &mut String, name: &JobName) -> Result<(), AllocError> {
+    match name {
+        JobName::Request(id) => write!(told, "{id}"),
+        JobName::Slot(slot) => write!(told, "s{slot}"),
+    }
 }
 
 /// A count. What is no number is 0.
@@ -132,7 +142,9 @@ impl<R: Wait + Drop> Bench<R> {
     /// A step of which nothing is told.
     fn go_silently(&mut self, name: &str, rest: &str) {
         match name {
-            "forget" => self.pool.forget(&id_of(rest)),
+            "forget" => {
+                let _ = self.pool.forget(&name_of(rest));
+            }
             "reply" => self.pool.reply(count_of(rest), Ok(Value::Bool(true))),
             _ => self.pool.give_up(count_of(rest)),
         }
@@ -144,7 +156,7 @@ impl<R: Wait + Drop> Bench<R> {
             "submit" => self.submit(rest),
             "hear" => self.hear(),
             "listen" => self.listen(count_of(rest)),
-            "waits" => self.tell_waiting(id_of(rest)),
+            "waits" => self.tell_waiting(name_of(rest)),
             _ => match self.take_message(true) {
                 Ok(_) => Ok(()),
                 Err(error) => Err(error),
@@ -157,7 +169,7 @@ impl<R: Wait + Drop> Bench<R> {
         let (key, script) = words.split_once(" ").unwrap_or(("", words));
         let key = small_of(key);
         let submitted = match job_of(self.alloc, &self.signals, script, key) {
-            Ok(job) => self.pool.submit(id_of(id), job, key),
+            Ok(job) => self.pool.submit(name_of(id), job, key),
             Err(error) => return Err(error),
         };
         match submitted {
@@ -198,18 +210,20 @@ impl<R: Wait + Drop> Bench<R> {
     fn take_message(&mut self, tells: bool) -> Result<bool, AllocError> {
         let found = match self.pool.take_message() {
             Ok(found) => found,
-            Err(id) => {
-                let told = write!(self.told, "{id} no memory, ");
-                drop(id);
-                told?;
+            Err(name) => {
+                tell_name(&mut self.told, &name)?;
+                self.told.push_str(" no memory, ")?;
                 return Ok(true);
             }
         };
         match found {
-            Some((id, message)) => {
-                let told = self.tell_message(&id, &message);
+            Some((name, message)) => {
+                let told = match tell_name(&mut self.told, &name) {
+                    Ok(()) => self.tell_message(&message),
+                    Err(error) => Err(error),
+                };
                 drop(message);
-                drop(id);
+                drop(name);
                 told?;
                 Ok(true)
             }
@@ -222,26 +236,22 @@ impl<R: Wait + Drop> Bench<R> {
         }
     }
 
-    fn tell_message(
-        &mut self,
-        id: &RequestId,
-        message: &JobMessage<i32>,
-    ) -> Result<(), AllocError> {
+    fn tell_message(&mut self, message: &JobMessage<i32>) -> Result<(), AllocError> {
         match message {
-            JobMessage::Report(report) => write!(self.told, "{id} report {}, ", report.params),
+            JobMessage::Report(report) => write!(self.told, " report {}, ", report.params),
             JobMessage::Ask(method, params, number) => {
-                write!(self.told, "{id} ask {number} {method} {params}, ")
+                write!(self.told, " ask {number} {method} {params}, ")
             }
             JobMessage::Outcome(outcome, key) => match outcome {
-                Ok(value) => write!(self.told, "{id} outcome {value} of {key}, "),
-                Err(error) => write!(self.told, "{id} error {} of {key}, ", error.code),
+                Ok(value) => write!(self.told, " outcome {value} of {key}, "),
+                Err(error) => write!(self.told, " error {} of {key}, ", error.code),
             },
         }
     }
 
-    fn tell_waiting(&mut self, id: RequestId) -> Result<(), AllocError> {
-        let is_waiting = self.pool.is_waiting(&id);
-        drop(id);
+    fn tell_waiting(&mut self, name: JobName) -> Result<(), AllocError> {
+        let is_waiting = self.pool.is_waiting(&name);
+        drop(name);
         if is_waiting {
             self.told.push_str("waits, ")
         } else {
@@ -255,17 +265,14 @@ fn job_of(
     signals: &Arc<Signals>,
     script: &str,
     key: i32,
-) -> Result<AnyJob, AllocError> {
+) -> Result<Scripted, AllocError> {
     let value = list_of(alloc, Value::from(key))?;
-    if script == "fixed" {
-        return Ok(Either::Right(Fixed { value }));
-    }
     match means_of(alloc, signals, script) {
-        Ok(means) => Ok(Either::Left(Scripted {
+        Ok(means) => Ok(Scripted {
             alloc,
             means,
             value,
-        })),
+        }),
         Err(error) => {
             drop(value);
             Err(error)

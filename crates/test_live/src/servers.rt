@@ -1,7 +1,7 @@
 // The handler of all rows, and their server: it speaks, asks, and starts jobs.
-use crate::jobs::{Means, Scripted, list_of, own_id};
+use crate::jobs::{Means, Scripted, list_of, own_slot};
 use crate::signals::{Signal, Signals};
-use lsp_jobs::{AnsweredBy, JobEnd, JobServer, NewJob};
+use lsp_jobs::{AnsweredBy, JobEnd, JobName, JobServer, Slot, SlotChange};
 use lsp_message::{Notification, Request, RequestId, ResponseError};
 use lsp_service::{Act, Server};
 use lsp_session::{Handler, initialize_result};
@@ -57,10 +57,10 @@ pub enum Asked {
 /// - It says `demo/hello` first, and asks for the configuration.
 /// - It answers `demo/echo` with its params, asks its client `demo/asked` at `demo/ask` and answers with the reply, keeps `demo/hold`
 ///   until the next notification, and knows no other method but two:
-/// - `job SCRIPT` gives a job with this script (`jobs.rt`), which comes to the params. `later SCRIPT` is one that it starts at the
-///   notification `start`. What it keeps for a job is the job's number, from 1.
-/// - The notification `job SCRIPT` starts a job under an id of its own, whose outcome it publishes. At `answer` it answers the request
-///   whose id is the first of the params itself. At one whose method begins with `$/` it does nothing.
+/// - `job SCRIPT` gives a job with this script (`jobs.rt`), which comes to the params. `later SCRIPT` is one that it starts in a slot at the
+///   notification `start`, and whose result it gives as the reply. What it keeps for a job is the job's number, from 1.
+/// - The notification `job SCRIPT` starts a job in a slot of its own, whose outcome it publishes; `stop` stops it. At `answer` it answers the
+///   request whose id is the first of the params itself. At one whose method begins with `$/` it does nothing.
 /// - At another notification it pushes its params, asks for the configuration and answers what it keeps.
 /// - At a reply with the configuration it pushes the number of the question.
 /// - Of a job that found no room it first pushes the number.
@@ -71,16 +71,17 @@ pub struct Talker {
     questions: u64,
     held: Vec<RequestId>,
     numbered: u64,
-    starts: Vec<Numbered>,
-    later: Vec<Numbered>,
-    /// The ids and numbers of the jobs whose end it saw, each behind a space.
+    changes: Vec<Change>,
+    later: Vec<Change>,
+    /// The requests that jobs in slots answer, each with the number of its job.
+    kept: Vec<(RequestId, u64)>,
+    /// The names and numbers of the jobs whose end it saw, each behind a space.
     pub finished: String,
 }
 
 type Acts = Vec<Act<Asked>>;
 
-/// A job with its number.
-type Numbered = NewJob<Scripted, u64>;
+type Change = SlotChange<Scripted, u64>;
 
 impl Talker {
     /// A server to which nothing came.
@@ -91,8 +92,9 @@ impl Talker {
             questions: 0,
             held: Vec::new(alloc),
             numbered: 0,
-            starts: Vec::new(alloc),
+            changes: Vec::new(alloc),
             later: Vec::new(alloc),
+            kept: Vec::new(alloc),
             finished: String::new(alloc),
         }
     }
@@ -160,44 +162,27 @@ impl Talker {
         }
     }
 
-    /// A job with this script, and its number, for the request of this id.
-    fn new_job(
-        &mut self,
-        id: RequestId,
-        script: &str,
-        params: Value,
-    ) -> Result<Numbered, AllocError> {
-        match self.job_of(script, params) {
-            Ok((job, key)) => Ok(NewJob { id, job, key }),
-            Err(error) => {
-                drop(id);
-                Err(error)
-            }
-        }
-    }
-
     /// Keeps the job of a request `later SCRIPT`.
     fn keep_job(&mut self, id: RequestId, script: &str, params: Value) -> Result<Acts, AllocError> {
-        match self.new_job(id, script, params) {
-            Ok(job) => self.later.push(job)?,
-            Err(error) => return Err(error),
-        }
+        let (job, key) = match self.job_of(script, params) {
+            Ok(made) => made,
+            Err(error) => {
+                drop(id);
+                return Err(error);
+            }
+        };
+        let name = format!(in self.alloc; "later {id}")?;
+        self.later
+            .push(SlotChange::Start(Slot::from(name), job, key))?;
+        self.kept.push((id, key))?;
         Ok(Vec::new(self.alloc))
     }
 
-    /// Starts a job under an id of its own.
+    /// Starts a job in a slot of its own.
     fn start_job(&mut self, script: &str, params: Value) -> Result<Acts, AllocError> {
-        let started = match own_id(self.alloc) {
-            Ok(id) => self.new_job(id, script, params),
-            Err(error) => {
-                drop(params);
-                Err(error)
-            }
-        };
-        match started {
-            Ok(job) => self.starts.push(job)?,
-            Err(error) => return Err(error),
-        }
+        let (job, key) = self.job_of(script, params)?;
+        self.changes
+            .push(SlotChange::Start(own_slot(self.alloc)?, job, key))?;
         Ok(Vec::new(self.alloc))
     }
 
@@ -227,16 +212,19 @@ impl Talker {
         }
     }
 
-    /// Publishes what a job came to that has an id of its own.
-    fn publish(&self, id: &RequestId, value: &Value) -> Result<Acts, AllocError> {
-        let own = own_id(self.alloc)?;
-        let is_own = *id == own;
-        drop(own);
-        if is_own {
-            self.tell("published", value.clone()?)
-        } else {
-            Ok(Vec::new(self.alloc))
+    /// What it does when a job in a slot found this: it answers the request for which it kept the job, or publishes it.
+    fn found(&mut self, key: u64, value: &Value) -> Result<Acts, AllocError> {
+        match self.kept_for(key) {
+            Some(id) => self.one(Act::Reply(id, Ok(value.clone()?))),
+            None => self.tell("published", value.clone()?),
         }
+    }
+
+    /// The request that this job answers, if it is one that was kept.
+    fn kept_for(&mut self, key: u64) -> Option<RequestId> {
+        let at = self.kept.iter().position(|kept| kept.1 == key)?;
+        let (id, _) = self.kept.swap_remove(at);
+        Some(id)
     }
 
     /// Pushes these params, asks for the configuration and answers what it keeps.
@@ -290,7 +278,12 @@ impl Server for Talker {
         match method.as_str() {
             "start" => {
                 drop(params);
-                self.starts = mem::replace(&mut self.later, Vec::new(self.alloc));
+                self.changes = mem::replace(&mut self.later, Vec::new(self.alloc));
+                Ok(Vec::new(self.alloc))
+            }
+            "stop" => {
+                drop(params);
+                self.changes.push(SlotChange::Stop(own_slot(self.alloc)?))?;
                 Ok(Vec::new(self.alloc))
             }
             "answer" => {
@@ -334,7 +327,7 @@ impl JobServer<Scripted> for Talker {
 
     type Key = u64;
 
-    ghost starts = { λ _ _ _. ⊤ };
+    ghost changes = { λ _ _ _. ⊤ };
 
     ghost finishes = { λ _ _ _ _ _ _. ⊤ };
 
@@ -350,25 +343,39 @@ impl JobServer<Scripted> for Talker {
         }
     }
 
-    fn take_jobs(&mut self, alloc: Global) -> Result<Vec<Numbered>, AllocError> {
-        Ok(mem::replace(&mut self.starts, Vec::new(alloc)))
+    fn take_changes(&mut self, alloc: Global) -> Result<Vec<Change>, AllocError> {
+        Ok(mem::replace(&mut self.changes, Vec::new(alloc)))
     }
 
     fn finished(
         &mut self,
-        id: &RequestId,
+        name: &JobName,
         key: u64,
         end: &JobEnd,
         alloc: Global,
     ) -> Result<Acts, AllocError> {
-        write!(self.finished, " {id}:{key}")?;
+        match name {
+            JobName::Request(id) => write!(self.finished, " {id}:{key}")?,
+            JobName::Slot(slot) => write!(self.finished, " {slot}:{key}")?,
+        }
         match end {
             JobEnd::Refused => {
                 self.finished.push_str(" refused")?;
                 self.tell("refused", list_of(alloc, Value::from(key))?)
             }
-            JobEnd::Outcome(Ok(value)) => self.publish(id, value),
-            JobEnd::Outcome(Err(_)) => Ok(Vec::new(alloc)),
+            JobEnd::Outcome(Ok(value)) if matches!(name, JobName::Slot(_)) => self.found(
+                key, value,
+            ),
+            JobEnd::Outcome(_) => Ok(Vec::new(alloc)),
+            JobEnd::Replaced => self.note_end(" replaced"),
+            JobEnd::Stopped => self.note_end(" stopped"),
         }
+    }
+}
+
+impl Talker {
+    fn note_end(&mut self, end: &str) -> Result<Acts, AllocError> {
+        self.finished.push_str(end)?;
+        Ok(Vec::new(self.alloc))
     }
 }

@@ -202,6 +202,7 @@ pub fn pool_of(word: &str) -> Option<PoolSize> {
         Some((workers, waiting)) => Some(PoolSize {
             workers: number(Some(workers))?,
             waiting: Some(number(Some(waiting))?),
+            stack: Some(1048576),
         }),
         None => Some(PoolSize::from(number(Some(word))?)),
     }

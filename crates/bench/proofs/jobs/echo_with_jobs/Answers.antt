@@ -1,4 +1,4 @@
-use Rattle.std.proofs.Common.{true}
+use Rattle.std.proofs.Common.{ap, true, Ok, ◌∙◌}
 use Rattle.lsp_message.specs.Frame.{no_limit}
 use Rattle.lsp_threads.proofs.Sessions.{started_as, started_untold}
 use Rattle.lsp_threads.specs.declared.run.Threaded.{Threaded}
@@ -8,9 +8,10 @@ use Rattle.bench.proofs.jobs.echo_with_jobs.Goals as goal
 pub returns : goal.returns
 returns g c =
     started_as _ _ (λ exchanges stop shutdown_reply answer session.
-    echo_at_wakes _ _ _ (λ old jobs new starts. starts.0, λ old id key end acts new finishes. finishes.0)
-    (λ job method params outcome answers. answers) exchanges
-    (c.session_with_jobs_keeps_laws.ensures.exchanges _ _ exchanges stop shutdown_reply answer session).jobs)
+    echo_at_wakes _ _ (λ old name key end acts new finishes. finishes.0)
+    (λ job method params outcome for found. found ∙ ap Ok for) exchanges
+    (c.requests_are_answered_by_their_jobs.ensures exchanges
+    (c.session_with_jobs_keeps_laws.ensures.exchanges _ _ exchanges stop shutdown_reply answer session).jobs))
     true no_limit (λ (done : Threaded _). g.W.Write.contents done.writer) (λ (done : Threaded _). done.answer) _ _ _
     (started_untold true _ no_limit _ _ (λ old fault new heard. heard) _
     (λ (done : Threaded _). g.W.Write.contents done.writer) (λ (done : Threaded _). done.answer) _ _ _

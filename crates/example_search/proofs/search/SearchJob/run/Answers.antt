@@ -1,7 +1,7 @@
-use Rattle.example_search.proofs.Words.{answers_search}
+use Rattle.example_search.proofs.Words.{finds_symbols}
 use Rattle.example_search.proofs.search.SearchJob.run.Goals as goal
 
 pub returns : goal.returns
-returns g c = λ method params asked.
-    answers_search _ _ params c.in_ok-found.found (rw c.as_str.ensures.value asked)
-    (rw c.as_slice.ensures.value at c.in_ok-found.ensures)
+returns g c =
+    finds_symbols _ _ c.in_ok-found.found
+    (rw (c.as_slice.ensures.value, c.as_str.ensures.value) at c.in_ok-found.ensures)

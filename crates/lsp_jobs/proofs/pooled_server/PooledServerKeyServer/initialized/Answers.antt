@@ -5,7 +5,7 @@ use Rattle.lsp_jobs.proofs.pooled_server.PooledServerKeyServer.initialized.Goals
 
 pub returns : goal.returns
 returns g c =
-    IfOk-weaker c.acts_with_jobs.result _ _ (λ all others. (
+    IfOk-weaker c.acts_with_changes.result _ _ (λ all others. (
       others.0,
       others.1,
       (
@@ -14,4 +14,4 @@ returns g c =
         c.in_ok-acts.ensures,
         others.2,
       ),
-    )) c.acts_with_jobs.ensures
+    )) c.acts_with_changes.ensures

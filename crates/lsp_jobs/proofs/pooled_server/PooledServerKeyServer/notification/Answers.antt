@@ -11,15 +11,15 @@ pub returns : goal.returns
 returns g c =
     let method = string_bytes c.args.notification.method in
     let params = view c.args.notification.params in
-    IfOk-weaker c.acts_with_jobs.result _ _ (λ all others. (
+    IfOk-weaker c.acts_with_changes.result _ _ (λ all others. (
       others.0,
       others.1,
       subst (λ (x : g.row.S.Denot × PendingJobs (g.row.J.Denot × g.row.S-Key.Denot)).
-          Does g.S.JobServer (g.S.Server.notified x.0 method params) x.1 others.0 (seen c.acts_with_jobs.new.self))
+          Does g.S.JobServer (g.S.Server.notified x.0 method params) x.1 others.0 (seen c.acts_with_changes.new.self))
           c.in_ok-forget_cancelled.ensures (
             map (act_view {P = g.row.S-Payload.Denot}) c.in_ok-acts.acts.items,
             c.notification.new.self,
             c.in_ok-acts.ensures,
             others.2,
           ),
-    )) c.acts_with_jobs.ensures
+    )) c.acts_with_changes.ensures

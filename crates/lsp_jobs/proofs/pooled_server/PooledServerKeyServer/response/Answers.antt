@@ -6,7 +6,7 @@ use Rattle.lsp_jobs.proofs.pooled_server.PooledServerKeyServer.response.Goals as
 pub returns-in_ok-acts-in-ByServer : goal.returns-in_ok-acts-in-ByServer
 returns-in_ok-acts-in-ByServer g c =
     rw c.in-ByServer.is
-    (IfOk-weaker c.acts_with_jobs.result _ _ (λ all others. (
+    (IfOk-weaker c.acts_with_changes.result _ _ (λ all others. (
       others.0,
       others.1,
       (
@@ -15,4 +15,4 @@ returns-in_ok-acts-in-ByServer g c =
         c.in_ok-acts-in-ByServer.ensures,
         others.2,
       ),
-    )) c.acts_with_jobs.ensures)
+    )) c.acts_with_changes.ensures)

@@ -7,5 +7,5 @@ pub returns : goal.returns
 returns g c =
     IfOk-weaker c.acts_by_server.result _ _ (λ all made. (
       (map (act_view {P = g.row.S-Payload.Denot}) c.in_ok-acts.acts.items, made, c.in_ok-acts.ensures),
-      c.in_ok-forget_all.ensures,
+      c.forget_all.ensures,
     )) c.acts_by_server.ensures

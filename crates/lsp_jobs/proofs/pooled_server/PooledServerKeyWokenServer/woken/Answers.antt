@@ -10,16 +10,16 @@ use Rattle.lsp_jobs.proofs.pooled_server.PooledServerKeyWokenServer.woken.Goals 
 pub returns-in_ok-acts-in-Outcome : goal.returns-in_ok-acts-in-Outcome
 returns-in_ok-acts-in-Outcome g c =
     let tells = (rw (c.in-Some.is, c.in-Outcome.is) at c.in-Ok.ensures.some) in
-    let id = c.in-Some.said.0 in
+    let name = c.in-Some.said.0 in
     let acts = map (act_view {P = g.row.S-Payload.Denot}) c.in_ok-acts-in-Outcome.acts.items in
     let outcome = outcome_view c.in-Outcome.outcome in
-    let ended = subst (λ t. Ends g.S.JobServer id c.in-Outcome.key (came_to outcome) (c.args.self.now.server, t) acts
+    let ended = subst (λ t. Ends g.S.JobServer name c.in-Outcome.key (came_to outcome) (c.args.self.now.server, t) acts
     (seen c.end_job.new.self)) tells.3 c.in_ok-acts-in-Outcome.ensures in
-    IfOk-weaker c.acts_with_jobs.result _ _ (λ all others. inr (inr (inr (
+    IfOk-weaker c.acts_with_changes.result _ _ (λ all others. inr (inr (inr (
       others.0,
       others.1,
       record {
-        id = id;
+        name = name;
         job = tells.0;
         key = c.in-Outcome.key;
         outcome = outcome;
@@ -30,4 +30,4 @@ returns-in_ok-acts-in-Outcome g c =
         ended = ended;
         others = others.2;
       },
-    )))) c.acts_with_jobs.ensures
+    )))) c.acts_with_changes.ensures

@@ -12,10 +12,9 @@ invariant_of-self g c =
         known.1,
         known.2,
         known.3,
-        fewer _ c.args.self.now.jobs c.complete.new.self c.args.id.now
-            c.complete.ensures.removed known.4,
+        fewer _ _ _ c.args.name.now c.remove.ensures.removed known.4,
       );
     }
 
 pub returns-clause-removed : goal.returns-clause-removed
-returns-clause-removed g c = pending_remove job_of _ _ c.args.id.now c.complete.ensures.removed
+returns-clause-removed g c = pending_remove job_of _ _ c.args.name.now c.remove.ensures.removed

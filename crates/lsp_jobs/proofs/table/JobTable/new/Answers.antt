@@ -7,9 +7,8 @@ use Rattle.lsp_jobs.proofs.table.JobTable.new.Goals as goal
 pub invariant_of-result : goal.invariant_of-result
 invariant_of-result g c =
     let ends = c.in_ok-sender.ensures.ends in
-    let none = c.in_ok-sender.ensures.none in
-    let all = known_all _ [] none in
-    record { known = (ends.0, ends.1, all.0, ap length all.1, none_wait _ _ none c.default-queue.ensures.incoming) }
+    let all = known_all _ [] c.in_ok-sender.ensures.none in
+    record { known = (ends.0, ends.1, all.0, ap length all.1, none_wait _ _ c.new.ensures) }
 
 pub returns : goal.returns
-returns g c = pending_empty job_of _ c.default-queue.ensures.incoming
+returns g c = pending_empty job_of _ c.new.ensures

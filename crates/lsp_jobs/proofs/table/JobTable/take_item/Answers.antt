@@ -3,7 +3,7 @@ use Rattle.crossbeam_channel.specs.Claims.{view as knows}
 use Rattle.lsp_jobs.proofs.Tables.{same_view}
 use Rattle.lsp_jobs.proofs.Tickets.{takes}
 use Rattle.lsp_jobs.specs.Outcomes.{KnowsAll, all_jobs}
-use Rattle.lsp_jobs.specs.Waiting.{HaveTickets}
+use Rattle.lsp_jobs.specs.Waiting.{HaveTickets, entry_of}
 use Rattle.lsp_jobs.specs.declared.channel.Known.{Known}
 use Rattle.lsp_jobs.proofs.table.JobTable.take_item.Goals as goal
 
@@ -22,6 +22,7 @@ invariant_of-self g c =
         seat,
         subst (λ (k : Known g.row.J.Denot). KnowsAll k) (sym same) known.2,
         subst (λ (k : Known g.row.J.Denot). length (all_jobs k) ≡ c.args.self.now.next) (sym same) known.3,
-        subst (λ (k : Known g.row.J.Denot). HaveTickets (all_jobs k) c.args.self.now.jobs) (sym same) known.4,
+        subst (λ (k : Known g.row.J.Denot). HaveTickets (all_jobs k) (entry_of c.args.self.now.jobs)) (sym same)
+            known.4,
       );
     }

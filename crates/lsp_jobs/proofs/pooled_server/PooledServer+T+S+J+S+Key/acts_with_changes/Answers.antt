@@ -1,7 +1,7 @@
 use Rattle.std.proofs.Common.{map}
 use Rattle.std.proofs.lemmas.Result.{IfOk-weaker}
 use Rattle.lsp_service.specs.View.{act_view}
-use Rattle.lsp_jobs.proofs.pooled_server.«PooledServer+T+S+J+S+Key».acts_with_jobs.Goals as goal
+use Rattle.lsp_jobs.proofs.pooled_server.«PooledServer+T+S+J+S+Key».acts_with_changes.Goals as goal
 
 pub returns : goal.returns
 returns g c =

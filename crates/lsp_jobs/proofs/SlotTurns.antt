@@ -1,0 +1,443 @@
+-- The turns of a server with jobs, and which job of a slot has a say in each.
+use Rattle.serde_json.specs.Data.{Data}
+use Rattle.std.proofs.Common.{◌≡◌, ◌⊎◌, refl, sym, ◌∙◌, ap, subst, inl, inr, ℕ, Bool, true, false, cond, List, [], ◌∷◌}
+use Rattle.std.proofs.Common.{◌++◌, append_assoc, append-nil, Option, Some, None}
+use Rattle.std.specs.Bool.{MatchBool}
+use Rattle.std.specs.Prelude.{map as map_list, IsSomeAnd}
+use Rattle.lsp_message.specs.Id.{Id}
+use Rattle.lsp_message.specs.Message.{Message, request, notification, response}
+use Rattle.lsp_message.specs.Methods.{is_initialize, is_initialized}
+use Rattle.lsp_session.specs.Session.{Exchange}
+use Rattle.lsp_service.specs.Acts.{Act, TakesBack, cancelled_by, unsent}
+use Rattle.lsp_service.specs.Law.{AnswersInitialize, Call, Handed, Initializes, TakesCalls, TakesPart, ids_after_all}
+use Rattle.lsp_service.specs.Stated.{Stated}
+use Rattle.lsp_service.specs.declared.server.Server.{Ghosts as Plain}
+use Rattle.lsp_jobs.proofs.Answering.{back_pending}
+use Rattle.lsp_jobs.proofs.Slots.{fewer_slots, moves_all, unanswered_slot, went_all, Went}
+use Rattle.lsp_jobs.specs.Asking.{by_server, ByServers}
+use Rattle.lsp_jobs.specs.Ends.{came_to, no_room}
+use Rattle.lsp_jobs.specs.JobLaw.{at_ends, Left}
+use Rattle.lsp_jobs.specs.JobSession.{seen_with_jobs}
+use Rattle.lsp_jobs.specs.PendingJobs.{PendingJobs, no_jobs, without}
+use Rattle.lsp_jobs.specs.PoolView.{pending_jobs}
+use Rattle.lsp_jobs.specs.Pooled.{reply_at, unanswered, without_cancelled, ChangesSlots, Does, Finishes, GivesJob}
+use Rattle.lsp_jobs.specs.Pooled.{StartsOne}
+use Rattle.lsp_jobs.specs.Seen.{seen}
+use Rattle.lsp_jobs.specs.SlotLaw.{AllLeaveAlone, AreTurns, IsCalled, IsTurn, LastStart, LeavesAlone, MayPass, SeesLeft}
+use Rattle.lsp_jobs.specs.SlotLaw.{SlotHistory, Stands, StartsLast, Turn, WakeDoes}
+use Rattle.lsp_jobs.specs.declared.asking.Asked.{Asked}
+use Rattle.lsp_jobs.specs.declared.asking.Asked.TheVariants.{ByJob, ByServer}
+use Rattle.lsp_jobs.specs.declared.job.Job.{Ghosts as OfJob}
+use Rattle.lsp_jobs.specs.declared.job_server.JobServer.{Ghosts as WithJobs}
+use Rattle.lsp_jobs.specs.declared.job_server.SlotChange.{SlotChange}
+use Rattle.lsp_jobs.specs.declared.names.JobName.{JobName}
+use Rattle.lsp_jobs.specs.declared.names.JobName.TheVariants.{Request, Slot}
+use Rattle.lsp_jobs.specs.declared.pooled_server.PooledServer.{PooledServer}
+
+module _ {S J K P : Type 0} (plain : Plain S P) (may : WithJobs S J K P) where
+  -- what becomes of the jobs in slots
+  abbrev MovesTo : List (SlotChange J K) → PendingJobs (J × K) → PendingJobs (J × K) → Type 0
+  MovesTo changes old new = (slot : Id) (e : J × K) → new (Slot slot) ≡ Some e
+      → ((old (Slot slot) ≡ Some e) × LeavesAlone slot changes) ⊎ StartsLast changes slot e.0 e.1
+
+  -- the server changed its slots, and saw which jobs that ended
+  record Made (asked : S) (old : PendingJobs (J × K)) (acts all : List (Act P)) (new : S × PendingJobs (J × K))
+      : Type 0 where
+    changes : List (SlotChange J K)
+    mid : S
+    gives : may.changes asked changes mid
+    left : List (Left may)
+    linked : SeesLeft plain may mid left new.0
+    done : all ≡ acts ++ at_ends may left
+    moves : MovesTo changes old new.1
+
+  made : (asked : S) (old : PendingJobs (J × K)) (acts all : List (Act P)) (new : S × PendingJobs (J × K))
+      → ChangesSlots may (asked, old) acts all new → Made asked old acts all new
+  made asked old acts all new c = record {
+    changes = c.changes;
+    mid = c.mid;
+    gives = c.gives;
+    left = went.left;
+    linked = went.linked;
+    done = went.acts;
+    moves = λ slot e has. elim (moves_all plain may c.changes (c.mid, unanswered acts old, acts) (new.0, new.1, all)
+        c.made slot e has) [
+          | inl was ↦ inl (sym (unanswered_slot acts old slot) ∙ was.0, was.1)
+          | inr last ↦ inr last
+        ];
+  }
+    where
+      went : Went plain may (c.mid, unanswered acts old, acts) (new.0, new.1, all)
+      went = went_all plain may c.changes (c.mid, unanswered acts old, acts) (new.0, new.1, all) c.made
+
+  -- each job that is pending in a slot is the last that was started there
+  abbrev AllStand : List (Turn plain may) → PendingJobs (J × K) → Type 0
+  AllStand earlier pending = (slot : Id) (e : J × K) → pending (Slot slot) ≡ Some e
+      → LastStart plain may earlier slot e.0 e.1
+
+  alone_more : (slot : Id) (turns : List (Turn plain may)) (t : Turn plain may) → AllLeaveAlone plain may slot turns
+      → LeavesAlone slot t.changes → AllLeaveAlone plain may slot (turns ++ t ∷ [])
+  alone_more slot [] t all one = (one, tt)
+  alone_more slot (x ∷ turns) t all one = (all.0, alone_more slot turns t all.1 one)
+
+  stand_on : (earlier : List (Turn plain may)) (t : Turn plain may) (old new : PendingJobs (J × K))
+      → AllStand earlier old → MovesTo t.changes old new → AllStand (earlier ++ t ∷ []) new
+  stand_on earlier t old new before moves slot e has =
+      elim (moves slot e has) [
+        | inl was ↦
+            let l = before slot e was.0 in record {
+              before = l.before;
+              turn = l.turn;
+              since = l.since ++ t ∷ [];
+              cut = ap (λ (ts : List (Turn plain may)). ts ++ t ∷ []) l.cut
+                  ∙ append_assoc l.before (l.turn ∷ l.since) (t ∷ []);
+              started = l.started;
+              alone = alone_more slot l.since t l.alone was.1;
+            }
+        | inr last ↦ record {
+          before = earlier;
+          turn = t;
+          since = [];
+          cut = refl;
+          started = last;
+          alone = tt;
+        }
+      ]
+
+  stands_at : (earlier : List (Turn plain may)) (pending : PendingJobs (J × K)) → AllStand earlier pending
+      → (name : JobName) (e : J × K) → pending name ≡ Some e → Stands plain may earlier name e.0 e.1
+  stands_at earlier pending all (Request id) e has = tt
+  stands_at earlier pending all (Slot slot) e has = all slot e has
+
+module _ (T : Type 0) {S J K P : Type 0} (plain : Plain S P) (may : WithJobs S J K P) (of_job : OfJob J) where
+  abbrev W : Stated (PooledServer T S J K) (Asked P)
+  W = seen_with_jobs T plain may of_job
+
+  abbrev pended : PooledServer T S J K → PendingJobs (J × K)
+  pended p = pending_jobs p.pool
+
+  -- a call as a turn
+  record TurnOf (old did : PooledServer T S J K) (call : Call (Asked P)) : Type 0 where
+    turn : Turn plain may
+    of_call : turn.call ≡ call
+    from : turn.old ≡ old.server
+    to : turn.new ≡ did.server
+    is_turn : IsTurn plain may turn
+    moves : MovesTo plain may turn.changes (pended old) (pended did)
+    wake : (earlier : List (Turn plain may)) → AllStand plain may earlier (pended old) → call.came ≡ None
+        → WakeDoes plain may of_job earlier turn
+
+  -- the server was not called
+  passes : (old did : PooledServer T S J K) (call : Call (Asked P)) → MayPass plain may call.came → seen did ≡ seen old
+      → ((turn : Turn plain may) → turn.call ≡ call → (earlier : List (Turn plain may))
+      → AllStand plain may earlier (pended old) → call.came ≡ None → WakeDoes plain may of_job earlier turn)
+      → TurnOf old did call
+  passes old did call may_pass same does =
+      let turn : Turn plain may = record {
+        call = call;
+        old = old.server;
+        asked = old.server;
+        changes = [];
+        made = old.server;
+        left = [];
+        new = did.server;
+      } in record {
+        turn = turn;
+        of_call = refl;
+        from = refl;
+        to = refl;
+        is_turn = inr (may_pass, refl, refl, ap (λ (x : S × PendingJobs (J × K)). x.0) same);
+        moves = λ slot e has. inl (ap (λ (x : S × PendingJobs (J × K)). x.1 (Slot slot)) (sym same) ∙ has, tt);
+        wake = does turn refl;
+      }
+
+  -- the server was called, and then asked for changes
+  called : (old did : PooledServer T S J K) (call : Call (Asked P)) (asked : S) (mid : PendingJobs (J × K))
+      (acts own : List (Act P)) → IsCalled plain may old.server call.came asked
+      → ((slot : Id) (e : J × K) → mid (Slot slot) ≡ Some e → pended old (Slot slot) ≡ Some e)
+      → (m : Made plain may asked mid acts own (seen did))
+      → ((turn : Turn plain may) → turn.call ≡ call → turn.old ≡ old.server → turn.asked ≡ asked → turn.left ≡ m.left
+      → (earlier : List (Turn plain may)) → AllStand plain may earlier (pended old) → call.came ≡ None
+      → WakeDoes plain may of_job earlier turn) → TurnOf old did call
+  called old did call asked mid acts own is_called same m does =
+      let turn : Turn plain may = record {
+        call = call;
+        old = old.server;
+        asked = asked;
+        changes = m.changes;
+        made = m.mid;
+        left = m.left;
+        new = did.server;
+      } in record {
+        turn = turn;
+        of_call = refl;
+        from = refl;
+        to = refl;
+        is_turn = inl (is_called, m.gives, m.linked);
+        moves = λ slot e has. elim (m.moves slot e has) [
+          | inl was ↦ inl (same slot e was.0, was.1)
+          | inr last ↦ inr last
+        ];
+        wake = does turn refl refl refl refl;
+      }
+
+  -- a call of the server, in which it did what it stated
+  does_turn : (old did : PooledServer T S J K) (call : Call (Asked P)) (pending : PendingJobs (J × K))
+      (stated : List (Act P) → S → Type 0) → ByServers (λ own. Does may stated pending own (seen did)) call.acts
+      → ((acts : List (Act P)) (mid : S) → stated acts mid → IsCalled plain may old.server call.came mid)
+      → ((slot : Id) (e : J × K) → pending (Slot slot) ≡ Some e → pended old (Slot slot) ≡ Some e)
+      → (call.came ≡ None → ⊥) → TurnOf old did call
+  does_turn old did call pending stated b is_called same message =
+      let d = b.2 in
+      called old did call d.1 pending d.0 b.0 (is_called d.0 d.1 d.2) same (made plain may d.1 pending d.0 b.0
+      (seen did) d.3) (λ turn a b c d earlier stand none. absurd (message none))
+
+  slots_cancelled : (cancelled : Option Id) (pending : PendingJobs (J × K)) (slot : Id) (e : J × K)
+      → without_cancelled cancelled pending (Slot slot) ≡ Some e → pending (Slot slot) ≡ Some e
+  slots_cancelled None pending slot e has = has
+  slots_cancelled (Some id) pending slot e has = has
+
+  -- a job was started for a request
+  gives_turn : (old did : PooledServer T S J K) (id : Id) (method : List ℕ) (params : Data) (payload : Option (Asked P))
+      (acts : List (Act (Asked P))) (own : List (Act P))
+      → GivesJob may of_job (old.server, without (Request id) (pended old)) id method params own (seen did)
+      → TurnOf old did (record { came = Some (request id method params); payload = payload; acts = acts })
+  gives_turn old did id method params payload acts own g =
+      called old did (record { came = Some (request id method params); payload = payload; acts = acts })
+      g.begins.did.0 g.begins.did.1 g.begins.acts own (is_called g.begins.started) (same g.begins.started)
+      (made plain may g.begins.did.0 g.begins.did.1 g.begins.acts own (seen did) g.begins.others)
+      (λ turn a b c d earlier stand none. absurd (cc (none)))
+    where
+      left : PendingJobs (J × K)
+      left = without (Request id) (pended old)
+
+      Started : Type 0
+      Started = StartsOne may (Request id) g.job g.key (g.mid, left, []) (g.begins.did.0, g.begins.did.1, g.begins.acts)
+
+      is_called : Started → IsCalled plain may old.server (Some (request id method params)) g.begins.did.0
+      is_called (inl is) =
+          inr (g.job, g.key, g.mid, g.gives, inl (ap (λ (x : S × PendingJobs (J × K) × List (Act P)). x.0) is))
+      is_called (inr refusal) = inr (g.job, g.key, g.mid, g.gives, inr (refusal.1.0, refusal.1.1))
+
+      same : Started → (slot : Id) (e : J × K) → g.begins.did.1 (Slot slot) ≡ Some e → pended old (Slot slot) ≡ Some e
+      same (inl is) slot e has = ap (λ (x : S × PendingJobs (J × K) × List (Act P)). x.1 (Slot slot)) (sym is) ∙ has
+      same (inr refusal) slot e has =
+          sym (unanswered_slot refusal.0 (without (Request id) left) slot)
+          ∙ ap (λ (p : PendingJobs (J × K)). p (Slot slot)) (sym refusal.1.3) ∙ has
+
+  -- a job came to an outcome
+  finishes_turn : (old did : PooledServer T S J K) (payload : Option (Asked P)) (acts : List (Act (Asked P)))
+      (own : List (Act P)) → acts ≡ map_list by_server own → Finishes may of_job (seen old) own (seen did)
+      → TurnOf old did (record { came = None; payload = payload; acts = acts })
+  finishes_turn old did payload acts own by_own f =
+      called old did (record { came = None; payload = payload; acts = acts }) f.did.0 f.did.1 f.acts own
+      (f.name, f.key, f.outcome, f.ended.0, f.ended.1) same m does
+    where
+      m : Made plain may f.did.0 f.did.1 f.acts own (seen did)
+      m = made plain may f.did.0 f.did.1 f.acts own (seen did) f.others
+
+      same : (slot : Id) (e : J × K) → f.did.1 (Slot slot) ≡ Some e → pended old (Slot slot) ≡ Some e
+      same slot e has =
+          fewer_slots f.name (pended old) slot e (sym (unanswered_slot f.acts (without f.name (pended old)) slot)
+          ∙ ap (λ (p : PendingJobs (J × K)). p (Slot slot)) (sym f.ended.3) ∙ has)
+
+      all : own ≡ (f.ended.0 ++ reply_at f.name (came_to f.outcome)) ++ at_ends may m.left
+      all = m.done ∙ ap (λ (l : List (Act P)). l ++ at_ends may m.left) f.ended.2
+
+      does : (turn : Turn plain may) → turn.call ≡ record { came = None; payload = payload; acts = acts }
+          → turn.old ≡ old.server → turn.asked ≡ f.did.0 → turn.left ≡ m.left → (earlier : List (Turn plain may))
+          → AllStand plain may earlier (pended old) → ◌≡◌ {A = Option Message} None None
+          → WakeDoes plain may of_job earlier turn
+      does turn is from asked left earlier stand none = inr (
+        f.name,
+        f.job,
+        f.key,
+        stands_at plain may earlier (pended old) stand f.name (f.job, f.key) f.waits,
+        inr (inr (
+          f.outcome,
+          f.ended.0,
+          f.comes,
+          subst (λ (x : S × S). may.finishes x.0 f.name f.key (came_to f.outcome) f.ended.0 x.1)
+              (λ k. (sym from k, sym asked k)) f.ended.1,
+          ap (λ (c : Call (Asked P)). c.acts) is ∙ by_own ∙ ap (map_list by_server) all
+              ∙ ap (λ (ls : List (Left may)). map_list by_server ((f.ended.0 ++ reply_at f.name (came_to f.outcome))
+              ++ at_ends may ls)) (sym left),
+        )),
+      )
+
+  handed_turn : (old did : PooledServer T S J K) (arrived : Option Message) (payload : Option (Asked P))
+      (acts : List (Act (Asked P))) → Handed W old arrived payload acts did
+      → TurnOf old did (record { came = arrived; payload = payload; acts = acts })
+  handed_turn old did (Some (request id method params)) payload acts h = elim h.0.2 [
+    | inl g ↦ gives_turn old did id method params payload acts h.0.0 g
+    | inr d ↦ does_turn old did (record { came = Some (request id method params); payload = payload; acts = acts })
+        (without (Request id) (pended old)) (plain.requested old.server id method params) (h.0.0, h.0.1, d.1)
+        (λ did mid does. inl (d.0, (did, does))) (λ slot e has. has) (λ none. absurd (cc (none)))
+  ]
+  handed_turn old did (Some (notification method params)) payload acts h =
+      does_turn old did (record { came = Some (notification method params); payload = payload; acts = acts })
+      (without_cancelled (cancelled_by method params) (pended old)) (plain.notified old.server method params) h.0
+      (λ did mid does. (did, inl does)) (slots_cancelled (cancelled_by method params) (pended old))
+      (λ none. absurd (cc (none)))
+  handed_turn old did (Some (response id outcome)) (Some (ByServer payload)) acts h =
+      does_turn old did (record {
+        came = Some (response id outcome);
+        payload = Some (ByServer payload);
+        acts = acts;
+      }) (pended old) (plain.replied old.server payload outcome) h (λ did mid does. (payload, did, does))
+      (λ slot e has. has) (λ none. absurd (cc (none)))
+  handed_turn old did (Some (response id outcome)) (Some (ByJob n)) acts h =
+      passes old did (record { came = Some (response id outcome); payload = Some (ByJob n); acts = acts }) tt h.1
+      (λ turn is earlier stand none. absurd (cc (none)))
+  handed_turn old did (Some (response id outcome)) None acts h =
+      passes old did (record { came = Some (response id outcome); payload = None; acts = acts }) tt (ap seen h.0)
+      (λ turn is earlier stand none. absurd (cc (none)))
+  handed_turn old did None payload acts h = woken h.0
+    where
+      now : Call (Asked P)
+      now = record { came = None; payload = payload; acts = acts }
+
+      woken : W.wakes old acts did → TurnOf old did now
+      woken (inl nothing) = passes old did now tt nothing.1 (λ turn is earlier stand none.
+          inl (ap (λ (c : Call (Asked P)). c.acts) is ∙ nothing.0))
+      woken (inr (inl r)) = passes old did now tt r.same (λ turn is earlier stand none. inr (
+        r.name,
+        r.job,
+        r.key,
+        stands_at plain may earlier (pended old) stand r.name (r.job, r.key) r.waits,
+        inl (r.method, r.params, r.reports, ap (λ (c : Call (Asked P)). c.acts) is ∙ r.acts),
+      ))
+      woken (inr (inr (inl a))) = passes old did now tt a.same (λ turn is earlier stand none. inr (
+        a.name,
+        a.job,
+        a.key,
+        stands_at plain may earlier (pended old) stand a.name (a.job, a.key) a.waits,
+        inr (inl (a.method, a.params, a.number, a.may_ask, ap (λ (c : Call (Asked P)). c.acts) is ∙ a.acts)),
+      ))
+      woken (inr (inr (inr b))) = finishes_turn old did payload acts b.0 b.1 b.2
+
+  -- what the server took back
+  took_back : (payloads : List (Asked P)) (old new : PooledServer T S J K) → TakesBack W.takes_back old payloads new
+      → (own : List P) × TakesBack plain.takes_back old.server own new.server
+  took_back [] old new same = ([], ap (λ (p : PooledServer T S J K). p.server) same)
+  took_back (ByServer payload ∷ payloads) old new back =
+      let rest = took_back payloads back.0 new back.2 in
+      (payload ∷ rest.0, (back.0.server, back.1.0, rest.1))
+  took_back (ByJob n ∷ payloads) old new back =
+      let rest = took_back payloads back.0 new back.2 in (
+        rest.0,
+        subst (λ (s : S). TakesBack plain.takes_back s rest.0 new.server)
+            (ap (λ (x : S × PendingJobs (J × K)). x.0) back.1) rest.1,
+      )
+
+  record Turns (start : S) (earlier : List (Turn plain may)) (calls : List (Call (Asked P))) : Type 0 where
+    turns : List (Turn plain may)
+    are : map_list (λ (t : Turn plain may). t.call) turns ≡ calls
+    linked : AreTurns plain may start turns
+    wakes : (before later : List (Turn plain may)) (t : Turn plain may) → turns ≡ before ++ t ∷ later
+        → t.call.came ≡ None → WakeDoes plain may of_job (earlier ++ before) t
+
+  no_turns : (start : S) (earlier : List (Turn plain may)) → Turns start earlier []
+  no_turns start earlier = record {
+    turns = [];
+    are = refl;
+    linked = tt;
+    wakes = never;
+  }
+    where
+      never : (before later : List (Turn plain may)) (t : Turn plain may) → [] ≡ before ++ t ∷ later
+          → t.call.came ≡ None → WakeDoes plain may of_job (earlier ++ before) t
+      never [] later t e = absurd (cc (e))
+      never (x ∷ before) later t e = absurd (cc (e))
+
+  one_turn : (start : S) (old did : PooledServer T S J K) (earlier : List (Turn plain may)) (call : Call (Asked P))
+      (calls : List (Call (Asked P))) → ((own : List P) × TakesBack plain.takes_back start own old.server)
+      → (t : TurnOf old did call) → AllStand plain may earlier (pended old)
+      → Turns did.server (earlier ++ t.turn ∷ []) calls → Turns start earlier (call ∷ calls)
+  one_turn start old did earlier call calls between t stand rest = record {
+    turns = t.turn ∷ rest.turns;
+    are = λ k. t.of_call k ∷ rest.are k;
+    linked = (
+      subst (λ (s : S). (own : List P) × TakesBack plain.takes_back start own s) (sym t.from) between,
+      t.is_turn,
+      subst (λ (s : S). AreTurns plain may s rest.turns) (sym t.to) rest.linked,
+    );
+    wakes = at;
+  }
+    where
+      at : (before later : List (Turn plain may)) (x : Turn plain may) → t.turn ∷ rest.turns ≡ before ++ x ∷ later
+          → x.call.came ≡ None → WakeDoes plain may of_job (earlier ++ before) x
+      at [] later x e none =
+          let same : t.turn ≡ x = cc (e) in
+          let came : call.came ≡ None = ap (λ (c : Call (Asked P)). c.came) (sym t.of_call)
+          ∙ ap (λ (y : Turn plain may). y.call.came) same ∙ none in
+          subst (λ (y : List (Turn plain may) × Turn plain may). WakeDoes plain may of_job y.0 y.1)
+          (λ k. (sym (append-nil earlier) k, same k)) (t.wake earlier stand came)
+      at (b ∷ before) later x e none =
+          let same : t.turn ≡ b = cc (e) in
+          let more : rest.turns ≡ before ++ x ∷ later = cc (e) in
+          subst (λ (ts : List (Turn plain may)). WakeDoes plain may of_job ts x)
+          (append_assoc earlier (t.turn ∷ []) before
+          ∙ ap (λ (y : Turn plain may). earlier ++ y ∷ before) same) (rest.wakes before later x more none)
+
+  all_turns : (count : ℕ) (calls : List (Call (Asked P))) (start : S) (old last : PooledServer T S J K)
+      (earlier : List (Turn plain may)) → ((own : List P) × TakesBack plain.takes_back start own old.server)
+      → AllStand plain may earlier (pended old) → TakesCalls W count old calls last → Turns start earlier calls
+  all_turns count [] start old last earlier between stand same = no_turns start earlier
+  all_turns count (call ∷ calls) start old last earlier between stand run =
+      let did = run.0 in
+      let mid = run.1 in
+      let t = handed_turn old did call.came call.payload call.acts run.2 in
+      let stands = stand_on plain may earlier t.turn (pended old) (pended did) stand t.moves in
+      one_turn start old did earlier call calls between t stand
+      (all_turns (ids_after_all count call.acts) calls did.server mid last (earlier ++ t.turn ∷ [])
+      (took_back (unsent count call.acts) did mid run.3)
+      (subst (AllStand plain may (earlier ++ t.turn ∷ []))
+      (sym (back_pending T plain may of_job (unsent count call.acts) did mid run.3)) stands) run.4)
+
+  pub slot_history : (start last : PooledServer T S J K) (opening : Exchange) (later : List Exchange) (m : Message)
+      → pended start ≡ no_jobs → opening.came ≡ Some m → is_initialized m ≡ true
+      → (part : TakesPart W start last opening later)
+      → SlotHistory plain may of_job start.server opening part.begun part.calls
+  slot_history start last opening later m none came begins part =
+      let stand : AllStand plain may [] (pended start) = λ slot e has.
+      let no = ap (λ (p : PendingJobs (J × K)). p (Slot slot)) (sym none) ∙ has in absurd (cc (no)) in
+      let t = opened in
+      let all = one_turn start.server start part.did [] now part.calls ([], refl) t stand
+      (all_turns (ids_after_all 0 part.begun) part.calls part.did.server part.first part.called ([] ++ t.turn ∷ [])
+      (took_back (unsent 0 part.begun) part.did part.first part.took_back)
+      (subst (AllStand plain may ([] ++ t.turn ∷ []))
+      (sym (back_pending T plain may of_job (unsent 0 part.begun) part.did part.first part.took_back))
+      (stand_on plain may [] t.turn (pended start) (pended part.did) stand t.moves)) part.took_calls) in
+      record { turns = all.turns; are = all.are; linked = all.linked; wakes = all.wakes }
+    where
+      now : Call (Asked P)
+      now = record { came = opening.came; payload = None; acts = part.begun }
+
+      is_called : (m : Message) → is_initialized m ≡ true → (acts : List (Act P)) (mid : S)
+          → plain.at_initialized start.server acts mid → IsCalled plain may start.server (Some m) mid
+      is_called (notification method params) begins acts mid does = (acts, inr (begins, does))
+      is_called (request id method params) begins acts mid does = absurd (cc (begins))
+      is_called (response id outcome) begins acts mid does = absurd (cc (begins))
+
+      opened : TurnOf start part.did now
+      opened = does_turn start part.did now (pended start) (plain.at_initialized start.server) part.began
+          (λ acts mid does. subst (λ (l : Option Message). IsCalled plain may start.server l mid) (sym came)
+          (is_called m begins acts mid does)) (λ slot e has. has)
+          (λ none. absurd (cc (came, none)))
+
+  -- up to the result of `initialize` no job is started
+  pub early_pending : (early : List Exchange) (old start : PooledServer T S J K) → AnswersInitialize W old early start
+      → pended start ≡ pended old
+  early_pending [] old start same = ap pended same
+  early_pending (x ∷ early) old start run = early_pending early run.0 start run.2 ∙ at x.came run.1
+    where
+      by : (b : Bool) (m : Message) → MatchBool b (Initializes W old m x.sent run.0) (run.0 ≡ old)
+          → pended run.0 ≡ pended old
+      by true m i = i.gave.1
+      by false m same = ap pended same
+
+      at : (came : Option Message) → IsSomeAnd came (λ m. MatchBool (is_initialize m) (Initializes W old m x.sent run.0)
+          (run.0 ≡ old)) → pended run.0 ≡ pended old
+      at None none = absurd none
+      at (Some m) answered = by (is_initialize m) m answered

@@ -1,0 +1,89 @@
+// What is kept under the names of jobs: the requests and the slots in two maps, so that no name of one kind is one of the other.
+ghost use Rattle.std.specs.Prelude.{◌≡◌, is_ok, option_copied, OnErr, OnOk};
+ghost use Rattle.lsp_jobs.specs.PendingJobs.{no_jobs, without, with_job};
+ghost use Rattle.lsp_jobs.specs.Waiting.{entry_of};
+ghost use Rattle.lsp_jobs.specs.declared.names.JobName.TheVariants.{Request, Slot as InSlot};
+
+use crate::names::{JobName, Slot};
+use lsp_message::RequestId;
+use lsp_queue::{Incoming, ReqQueue};
+use std::alloc::{AllocError, Global};
+
+/// What is kept under the names of jobs. Contracts see the name's entry, for each name.
+#[derive(Drop)]
+pub(crate) struct Entries<E: Drop> {
+    requests: Incoming<E>,
+    slots: Incoming<E>,
+}
+
+impl<E: Drop> Entries<E> {
+    /// Nothing is kept. It takes no memory.
+    pub fn new(alloc: Global) -> Entries<E>
+        ensures { entry_of result ≡ no_jobs }
+    {
+        let requests: ReqQueue<E, ()> = ReqQueue::default(alloc);
+        let slots: ReqQueue<E, ()> = ReqQueue::default(alloc);
+        Entries {
+            requests: requests.incoming,
+            slots: slots.incoming,
+        }
+    }
+
+    /// Keeps an entry. One that was under the name is dropped. The error means that an allocation failed, and nothing changed.
+    pub fn add(&mut self, name: JobName, entry: E) -> Result<(), AllocError>
+        ensures ok { OnOk result (entry_of self.new ≡ with_job name «entry» (entry_of self.old)) }
+        ensures err { OnErr result (entry_of self.new ≡ entry_of self.old) }
+    {
+        match name {
+            JobName::Request(id) => self.add_request(id, entry),
+            JobName::Slot(slot) => self.add_slot(slot, entry),
+        }
+    }
+
+    fn add_request(&mut self, id: RequestId, entry: E) -> Result<(), AllocError>
+        ensures ok { OnOk result
+            (entry_of self.new ≡ with_job (Request id) «entry» (entry_of self.old)) }
+        ensures err { OnErr result (entry_of self.new ≡ entry_of self.old) }
+    {
+        done(self.requests.register(id, entry))
+    }
+
+    fn add_slot(&mut self, slot: Slot, entry: E) -> Result<(), AllocError>
+        ensures ok { OnOk result
+            (entry_of self.new ≡ with_job (InSlot slot) «entry» (entry_of self.old)) }
+        ensures err { OnErr result (entry_of self.new ≡ entry_of self.old) }
+    {
+        done(self.slots.register(slot.into_key(), entry))
+    }
+
+    /// The entry under a name.
+    pub fn get(&self, name: &JobName) -> Option<&E>
+        ensures { option_copied result ≡ entry_of self.now name.now }
+    {
+        match name {
+            JobName::Request(id) => self.requests.data(id),
+            JobName::Slot(slot) => self.slots.data(slot.key()),
+        }
+    }
+
+    /// Takes the entry under a name out.
+    pub fn remove(&mut self, name: &JobName) -> Option<E>
+        ensures value { result ≡ entry_of self.old name.now }
+        ensures removed { entry_of self.new ≡ without name.now (entry_of self.old) }
+    {
+        match name {
+            JobName::Request(id) => self.requests.complete(id),
+            JobName::Slot(slot) => self.slots.complete(slot.key()),
+        }
+    }
+}
+
+/// Whether it was done. What is given back is dropped.
+fn done<F: Drop>(registered: Result<(), F>) -> Result<(), AllocError>
+    ensures { is_ok result ≡ is_ok registered }
+{
+    match registered {
+        Ok(()) => Ok(()),
+        Err(_) => Err(AllocError),
+    }
+}

@@ -1,0 +1,106 @@
+// What a job is called: by the request that it answers, or by its slot.
+ghost use Rattle.std.specs.Prelude.{◌≡◌, IfOk};
+
+use lsp_message::RequestId;
+use std::alloc::AllocError;
+use std::fmt;
+use std::marker::Model;
+
+/// A place for one job that answers no request, such as the analysis of a document. It is named by a text or a number, as the document's
+/// URI, and is no request's id, whatever ids a client uses. Make one by `Slot::from`.
+#[derive(Debug, Drop)]
+pub struct Slot {
+    name: RequestId,
+}
+
+impl Model for Slot {
+    ghost use Rattle.lsp_message.specs.Id.{Id};
+    ghost use Rattle.lsp_message.specs.IdKeys.{coded_id};
+
+    ghost Value = { Id };
+
+    ghost coded = { coded_id };
+
+    ghost view = { λ slot. slot.name };
+}
+
+impl From<i32> for Slot {
+    ghost use Rattle.lsp_message.specs.Id.{number};
+
+    ghost from_gives = { λ z slot. slot ≡ number z };
+
+    fn from(name: i32) -> Slot {
+        Slot {
+            name: RequestId::from(name),
+        }
+    }
+}
+
+impl From<String> for Slot {
+    ghost use Rattle.std.specs.Prelude.{string_bytes};
+    ghost use Rattle.lsp_message.specs.Id.{text};
+
+    ghost from_gives = { λ name slot. slot ≡ text (string_bytes name) };
+
+    fn from(name: String) -> Slot {
+        Slot {
+            name: RequestId::from(name),
+        }
+    }
+}
+
+impl fmt::Display for Slot {
+    ghost use Rattle.lsp_message.specs.Id.{printed};
+
+    ghost output = { printed };
+
+    fn fmt<W: fmt::Write>(&self, f: &mut fmt::Formatter<W>) -> fmt::Result {
+        write!(f, "{}", self.name)
+    }
+}
+
+impl Slot {
+    /// The same slot. The error means that an allocation failed.
+    pub fn clone(&self) -> Result<Slot, AllocError>
+        ensures { IfOk result (λ slot. slot ≡ self.now) }
+    {
+        Ok(Slot {
+            name: self.name.clone()?,
+        })
+    }
+
+    /// Its name, as a key.
+    pub(crate) fn key(&self) -> &RequestId
+        ensures { result.now ≡ self.now }
+    {
+        &self.name
+    }
+
+    /// Its name, as a key.
+    pub(crate) fn into_key(self) -> RequestId
+        ensures { result ≡ «self» }
+    {
+        self.name
+    }
+}
+
+/// What a job is called.
+#[derive(Debug, Drop)]
+pub enum JobName {
+    /// By the id of the request that it answers.
+    Request(RequestId),
+    /// By its slot. It answers no request.
+    Slot(Slot),
+}
+
+impl JobName {
+    /// The same name. The error means that an allocation failed.
+    pub fn clone(&self) -> Result<JobName, AllocError>
+        ensures { IfOk result (λ name. name ≡ self.now) }
+    {
+        match self {
+            JobName::Request(id) => Ok(JobName::Request(id.clone()?)),
+            JobName::Slot(slot) => Ok(JobName::Slot(slot.clone()?)),
+        }
+    }
+}
