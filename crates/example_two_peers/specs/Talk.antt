@@ -10,7 +10,6 @@ use Rattle.lsp_queue.specs.Queue.{pending_of}
 use Rattle.lsp_peers.specs.Exchange.{WorldAfter, seen_at}
 use Rattle.lsp_peers.specs.History.{Entry, written_in, entries_of, frames_written}
 use Rattle.lsp_peers.specs.SentFrame.{messages}
-use Rattle.lsp_peers.specs.Shallow.{AreReadable}
 use Rattle.lsp_peers.specs.Sides.{side_of, other}
 use Rattle.lsp_peers.specs.declared.step.Side.{Side}
 use Rattle.lsp_peers.specs.declared.step.Side.TheVariants.{A, B}
@@ -26,11 +25,9 @@ pub record Begins (history : List Entry) : Type 0 where
   pub wrote : written_in first.step first.outcome ≡ message ∷ []
   pub initializes : is_initialize message ≡ true
 
--- The world is what it is after some entries. The first wrote `initialize`, and each message that was written can be
--- read back.
+-- The world is what it is after some entries. The first wrote `initialize`.
 abbrev pub IsTalk : World → Type 0
-IsTalk world = (history : List Entry) × WorldAfter world (λ side. []) history × AreReadable history
-    × Begins history
+IsTalk world = (history : List Entry) × WorldAfter world (λ side. []) history × Begins history
 
 -- after these entries each side took exactly the messages that the other one wrote, in order
 abbrev pub TookAll : World → List Entry → Type 0

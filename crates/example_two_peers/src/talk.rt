@@ -1,19 +1,15 @@
 //! A test client and a server in one world, from the handshake to `exit` (LSP 3.17, "Server lifecycle"). The client is A and the
 //! server is B. Bytes arrive one by one, and each side does what the message that it took asks for.
 ghost use Rattle.std.specs.FinMap as map;
-ghost use Rattle.std.specs.Prelude.{◌≡◌, ◌≤◌, true, IfOk, IfSome, OnOk};
-ghost use Rattle.serde_json.specs.Data.{depth};
-ghost use Rattle.serde_json.specs.View.{view};
+ghost use Rattle.std.specs.Prelude.{◌≡◌, true, IfOk, OnOk};
 ghost use Rattle.example_two_peers.specs.Talk.{IsTalk, HasEnded, last_is_exit};
 ghost use Rattle.lsp_message.specs.Methods.{is_exit as exit_spec};
 ghost use Rattle.lsp_message.specs.View.{message_view};
 ghost use Rattle.lsp_peers.specs.Exchange.{seen_at};
-ghost use Rattle.lsp_peers.specs.Shallow.{IsShallow};
 ghost use Rattle.lsp_queue.specs.Queue.{pending_of};
 
 use crate::exchange::is_idle;
 use lsp_message::{ErrorCode, Message, RequestId};
-use lsp_peers::laws::{a_readable_history_takes_any_step, a_shallow_step_keeps_a_history_readable};
 use lsp_peers::{Outcome, Side, Step, World, WorldFault};
 use serde_json::{Value, json};
 use std::alloc::{AllocError, Global};
@@ -85,7 +81,6 @@ fn has_ended(world: &World) -> bool
 fn begin(alloc: Global) -> Result<World, WorldFault>
     ensures { IfOk result (λ world. IsTalk world) }
 {
-    a_shallow_step_keeps_a_history_readable();
     let params = no_capabilities(alloc)?;
     let method = String::from_str(alloc, "initialize")?;
     let step = Step::Register {
@@ -100,9 +95,7 @@ fn begin(alloc: Global) -> Result<World, WorldFault>
 }
 
 /// What both sides say of themselves.
-fn no_capabilities(alloc: Global) -> Result<Value, AllocError>
-    ensures { IfOk result (λ value. depth (view value) ≤ 126) }
-{
+fn no_capabilities(alloc: Global) -> Result<Value, AllocError> {
     json!(in alloc; { "capabilities": {} })
 }
 
@@ -205,9 +198,11 @@ fn server(alloc: Global, world: &mut World, outcome: Outcome) -> Result<(), Worl
 }
 
 /// The server's step for the last message that it took, if it takes one at once: a reply, or the cancellation that was asked for.
-fn step_for(alloc: Global, outcome: Outcome, taken: &[Message]) -> Result<Option<Step>, AllocError>
-    ensures { IfOk result (λ step. IfSome step IsShallow) }
-{
+fn step_for(
+    alloc: Global,
+    outcome: Outcome,
+    taken: &[Message],
+) -> Result<Option<Step>, AllocError> {
     let side = Side::B;
     match outcome {
         Outcome::Arrived(id) => reply_to(alloc, id, taken),
@@ -223,9 +218,7 @@ fn step_for(alloc: Global, outcome: Outcome, taken: &[Message]) -> Result<Option
 }
 
 /// The server's reply to the last request, if it gives one at once.
-fn reply_to(alloc: Global, id: RequestId, taken: &[Message]) -> Result<Option<Step>, AllocError>
-    ensures { IfOk result (λ reply. IfSome reply IsShallow) }
-{
+fn reply_to(alloc: Global, id: RequestId, taken: &[Message]) -> Result<Option<Step>, AllocError> {
     let side = Side::B;
     let Some(Message::Request(request)) = taken.last() else {
         return Ok(None);
@@ -280,8 +273,7 @@ fn ask(alloc: Global, world: &mut World, method: &str, payload: u64) -> Result<(
 
 /// The client sends a notification.
 fn tell(alloc: Global, world: &mut World, method: &str, params: Value) -> Result<(), WorldFault>
-    requires talk { IsTalk world.old }
-    requires shallow { depth (view params) ≤ 126 }
+    requires { IsTalk world.old }
     ensures { OnOk result (IsTalk world.new) }
 {
     let method = String::from_str(alloc, method)?;
@@ -294,13 +286,10 @@ fn tell(alloc: Global, world: &mut World, method: &str, params: Value) -> Result
     Ok(())
 }
 
-/// One step. What it writes can be read back, so each step after it may be taken too.
+/// One step of a talk.
 fn act(world: &mut World, step: Step) -> Result<Outcome, WorldFault>
-    requires talk { IsTalk world.old }
-    requires shallow { IsShallow step }
+    requires { IsTalk world.old }
     ensures { OnOk result (IsTalk world.new) }
 {
-    a_readable_history_takes_any_step();
-    a_shallow_step_keeps_a_history_readable();
     world.step(step)
 }

@@ -19,7 +19,7 @@ use Rattle.lsp_peers.specs.History.{entries_of, AllFollow}
 use Rattle.lsp_peers.specs.HistoryLaw.{TakenAs, AnsweredBy}
 use Rattle.lsp_peers.specs.SentFrame.{SentFrame, messages}
 use Rattle.lsp_peers.specs.Sides.{side_of, other}
-use Rattle.lsp_peers.proofs.ExchangeLemmas.{of_other}
+use Rattle.lsp_peers.proofs.Entries.{of_other}
 use Rattle.lsp_peers.proofs.FactLemmas.{last_taken}
 
 -- an entry of the history that wrote this message, and is one of the side

@@ -25,11 +25,10 @@ use Rattle.lsp_peers.specs.HistoryLaw.{IsFact, bare, AllFacts, FactsOf, TakenAs}
 use Rattle.lsp_peers.specs.Ids.{nth_id, item_at, has}
 use Rattle.lsp_peers.specs.SentFrame.{SentFrame, messages}
 use Rattle.lsp_peers.specs.Sides.{side_of, other}
-use Rattle.lsp_peers.proofs.ExchangeLemmas.{of_own, of_other}
-use Rattle.lsp_peers.proofs.HistoryLaws.{beginning_of, last_of, back_law, arrival_law}
-use Rattle.lsp_peers.proofs.Kept.{taking, payload_of, label_of_arrival, closed_id, returned_id}
-use Rattle.lsp_peers.proofs.MailLemmas.{count_push}
-use Rattle.lsp_peers.proofs.PlaceLemmas.{next_first_of}
+use Rattle.lsp_peers.proofs.Entries.{of_own, of_other, beginning_of, last_of, taking, payload_of, label_of_arrival}
+use Rattle.lsp_peers.proofs.Entries.{closed_id}
+use Rattle.lsp_peers.proofs.Entries.{returned_id, count_push, next_first}
+use Rattle.lsp_peers.proofs.HistoryLaws.{back_law, arrival_law}
 
 -- ---- what an entry says without what it wrote
 
@@ -205,7 +204,7 @@ module _ (own others : List Entry) (label : ℕ) (side : Side) where
       (messages (take n (frames_written others)))) (sym comes)
       (ap (λ (j : ℕ). messages (take j (frames_written others))) k)
   taken_sent_frame (Some sent_frame) outcome n is comes count =
-      let first = next_first_of _ _ (frames_left own others) sent_frame is in
+      let first = next_first _ _ (frames_left own others) sent_frame is in
       taken_message sent_frame first.0 sent_frame.message outcome n first.1 refl comes count
 
 pub taken_law : (before : List Entry) (e : Entry) → IsHistory (before ++ e ∷ []) → (side : Side) (label : ℕ) → e.step

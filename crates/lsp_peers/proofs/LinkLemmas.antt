@@ -17,9 +17,8 @@ use Rattle.lsp_message.specs.declared.frame.ReadFault.TheVariants.{Memory, TooLo
 use Rattle.lsp_message.specs.declared.frame.Front.TheVariants.{Whole, Fault, More}
 use Rattle.lsp_peers.specs.WorldFault.{fault_of}
 use Rattle.lsp_peers.specs.declared.fault.WorldFault.TheVariants.{Memory as NoMemory}
-use Rattle.lsp_peers.specs.Post.{SentFrame, Post, Line, frames, ReadsBack, IsTooDeep, HasNext, line_of, Carries, posted}
+use Rattle.lsp_peers.specs.Post.{SentFrame, Post, Line, frames, ReadsBack, line_of, Carries, posted}
 use Rattle.lsp_peers.specs.Post.{passed_on, unpassed, next, one_taken, message_of, after_take, IfNext}
-use Rattle.lsp_peers.proofs.DeepText.{unread_frame}
 use Rattle.lsp_peers.proofs.LineLemmas.{line_written, line_passed, line_taken}
 use Rattle.lsp_peers.proofs.PostLemmas.{take_cases, unpassed_is, carries_written, carries_passed}
 
@@ -164,25 +163,3 @@ module _ (bytes : List ℕ) (start end : ℕ) (ordered : start ≤ end) (within 
         let shown = whole_shows count is in
         let reads : ReadsBack shown.0.message = (rw shown.1 at readable) in
         (shown.0, shown.1, frame_read shown.0 (take count (line_of bytes start end).arrived) shown.3 reads)
-
-    -- a message that nests too deeply is not read from its frame
-    pub never_read : (count : ℕ) → front_of (line_of bytes start end).arrived ≡ Whole count → HasNext IsTooDeep post
-        → (other : Option Message) → (reading_of (take count (line_of bytes start end).arrived)).outcome ≡ Ok other → ⊥
-    never_read count is deep other came =
-        let shown = whole_shows count is in
-        let sent_frame : SentFrame = shown.0 in
-        let too_deep : IsTooDeep sent_frame.message = (rw shown.1 at deep) in
-        let few : length sent_frame.frame < 2 ^ 64 = omega (
-          arith,
-          room,
-          ap (λ (l : List ℕ). length l) shown.3,
-          length-take count (take (end - start) (drop start bytes)),
-          length-take (end - start) (drop start bytes),
-          length-drop start bytes,
-        ) in
-        unread_frame sent_frame.message sent_frame.frame sent_frame.framed few too_deep.nests too_deep.range other
-        (ap (λ (text : List ℕ). (reading_of text).outcome) (sym shown.3) ∙ came)
-
-    -- if the front isn't whole, there is none
-    pub never_deep : front_of (line_of bytes start end).arrived ≡ More → HasNext IsTooDeep post → ⊥
-    never_deep more deep = let none : next post ≡ None = more_none more in (rw none at deep)

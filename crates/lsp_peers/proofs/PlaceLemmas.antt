@@ -1,100 +1,179 @@
--- Where the tracked request of a frame is, and how the counts of frames change.
-use Rattle.std.proofs.Common.{◌≡◌, ◌≢◌, ℕ, ◌+◌, ◌<◌, List, [], ◌∷◌, ◌++◌, length, refl, sym, ap, ◌∙◌, arith}
-use Rattle.std.proofs.lemmas.Bool.{cond-true, cond-false}
-use Rattle.std.specs.Prelude.{Option, None, Some, Bool, true, false, if◌then◌else◌, nat_le, Result}
-use Rattle.serde_json.specs.Data.{Data}
+-- Each request of a history is in one place.
+use Rattle.std.proofs.Common.{◌≡◌, ℕ, suc, ◌+◌, ◌≤◌, List, [], ◌∷◌, ◌++◌, length, refl, sym, ap, subst, arith, ⊎_elim}
+use Rattle.std.specs.Option.{option_map_or}
+use Rattle.std.specs.Prelude.{Option, None, Some, Bool, true, false, if◌then◌else◌, is_some, option_map}
 use Rattle.lsp_message.specs.Id.{Id, same_id}
-use Rattle.lsp_message.specs.Message.{Message, ErrorObject, request, response}
-use Rattle.lsp_peers.specs.TrackedRequest.{Place, OnTheWay, AtOther, ComingBack, Done, GivenUp, TrackedRequest}
-use Rattle.lsp_peers.specs.TrackedRequest.{tracked_request, label_in, label_of}
-use Rattle.lsp_peers.specs.Post.{SentFrame, Post, next, first_passed, frames}
-use Rattle.lsp_peers.specs.InOnePlace.{request_of, reply_of, requests, replies, on_the_way, coming_back, going}
-use Rattle.lsp_peers.specs.InOnePlace.{returning}
-use Rattle.lsp_message.proofs.Ids.{same_own, same_other}
+use Rattle.lsp_message.specs.Message.{Message, request, notification, response}
+use Rattle.lsp_message.proofs.Ids.{cases_id}
+use Rattle.lsp_peers.specs.History.{Entry, payloads, labels, closed, replied, returned, frames_left, entries_of}
+use Rattle.lsp_peers.specs.History.{IsHistory}
+use Rattle.lsp_peers.specs.Ids.{nth_id, item_at, has}
+use Rattle.lsp_peers.specs.InOnePlace.{Place, OnTheWay, AtOther, ComingBack, Done, GivenUp, on_the_way, coming_back}
+use Rattle.lsp_peers.specs.InOnePlace.{label_in, owed, request_of, requests, replies, InOnePlace}
+use Rattle.lsp_peers.specs.SentFrame.{SentFrame}
+use Rattle.lsp_peers.specs.Sides.{other}
+use Rattle.lsp_peers.specs.declared.step.Side.{Side}
+use Rattle.lsp_peers.proofs.Entries.{length-push}
+use Rattle.lsp_peers.proofs.IdLemmas.{get-push, get-push_other, get-end, one_some, item_shorter}
+use Rattle.lsp_peers.proofs.KeptItems.{occurs, occurs-append, never, present, here_once, not_there}
+use Rattle.lsp_peers.proofs.Orderly.{Orderly, orderly_of, ids_in, request_ids, Ascends, ascends_at}
 
--- a tracked request that is held is at the other side
-held_at : (place : Place) (label : ℕ) → label_in place ≡ Some label → place ≡ AtOther label
-held_at (AtOther other) label is = let e : other ≡ label = cc in ap (λ l. AtOther l) e
-held_at OnTheWay label is = cc
-held_at ComingBack label is = cc
-held_at Done label is = cc
-held_at GivenUp label is = cc
+-- where a request is, by whether its reply was taken, written, and it was closed, and by its label and its payload
+abbrev place : Bool → Bool → Bool → Option ℕ → Option ℕ → Option Place
+place returned replied closed label payload =
+    if returned then Some Done else if replied then Some ComingBack else if closed then Some GivenUp
+    else option_map_or (λ l. Some (AtOther l)) label (option_map (λ p. OnTheWay) payload)
 
-pub held_request : (o : Option TrackedRequest) (label : ℕ) → label_of o ≡ Some label → (payload : ℕ)
-    × (o ≡ Some (tracked_request payload (AtOther label)))
-held_request None label is = cc
-held_request (Some t) label is = (t.payload, ap (λ p. Some (tracked_request t.payload p)) (held_at t.place label is))
+record Placed (r p c : Bool) (l x : Option ℕ) (requested answered : ℕ) : Type 0 where
+  pub known : is_some (place r p c l x) ≡ is_some x
+  pub out : requested ≡ on_the_way (place r p c l x)
+  pub back : answered ≡ coming_back (place r p c l x)
+  pub there : (if c then None else l) ≡ label_in (place r p c l x)
+  pub asked : (if r then None else x) ≡ owed (place r p c l x) x
 
-going_at : (place : Place) → 0 < on_the_way place → place ≡ OnTheWay
-going_at OnTheWay some = refl
-going_at (AtOther label) some = absurd (omega arith)
-going_at ComingBack some = absurd (omega arith)
-going_at Done some = absurd (omega arith)
-going_at GivenUp some = absurd (omega arith)
+-- a number that is not 0 exactly if this is true
+record Counts (b : Bool) (n : ℕ) : Type 0 where
+  pub some : b ≡ true → 1 ≤ n
+  pub none : b ≡ false → n ≡ 0
 
-pub going_request : (o : Option TrackedRequest) → 0 < going o → (payload : ℕ)
-    × (o ≡ Some (tracked_request payload OnTheWay))
-going_request None some = absurd (omega arith)
-going_request (Some t) some = (t.payload, ap (λ p. Some (tracked_request t.payload p)) (going_at t.place some))
+counts : (id : Id) (ids : List Id) → Counts (has id ids) (occurs id ids)
+counts id ids = record { some = present id ids; none = never id ids }
 
-returning_at : (place : Place) → 0 < coming_back place → place ≡ ComingBack
-returning_at ComingBack some = refl
-returning_at (AtOther label) some = absurd (omega arith)
-returning_at OnTheWay some = absurd (omega arith)
-returning_at Done some = absurd (omega arith)
-returning_at GivenUp some = absurd (omega arith)
+module _ (m n k requested answered : ℕ) (all : answered + m ≡ n) (less : n ≤ k) where
+  placed : (r p c : Bool) (l x : Option ℕ) → Counts r m → Counts p n → Counts c k → k ≤ one_some l
+      → requested + one_some l ≡ one_some x → Placed r p c l x requested answered
+  placed true p c None x rs ps cs bound out = absurd (omega (arith, all, less, rs.some refl, bound))
+  placed true p c (Some l) None rs ps cs bound out = absurd (omega (arith, out))
+  placed true p false (Some l) (Some x) rs ps cs bound out = absurd (omega (
+    arith,
+    all,
+    less,
+    rs.some refl,
+    cs.none refl,
+  ))
+  placed true p true (Some l) (Some x) rs ps cs bound out = record {
+    known = refl;
+    out = omega (arith, out);
+    back = omega (arith, all, less, rs.some refl, bound);
+    there = refl;
+    asked = refl;
+  }
+  placed false true c None x rs ps cs bound out = absurd (omega (arith, less, ps.some refl, bound))
+  placed false true c (Some l) None rs ps cs bound out = absurd (omega (arith, out))
+  placed false true false (Some l) (Some x) rs ps cs bound out = absurd (omega (
+    arith,
+    less,
+    ps.some refl,
+    cs.none refl,
+  ))
+  placed false true true (Some l) (Some x) rs ps cs bound out = record {
+    known = refl;
+    out = omega (arith, out);
+    back = omega (arith, all, less, rs.none refl, ps.some refl, bound);
+    there = refl;
+    asked = refl;
+  }
+  placed false false true None x rs ps cs bound out = absurd (omega (arith, cs.some refl, bound))
+  placed false false true (Some l) None rs ps cs bound out = absurd (omega (arith, out))
+  placed false false true (Some l) (Some x) rs ps cs bound out = record {
+    known = refl;
+    out = omega (arith, out);
+    back = omega (arith, all, ps.none refl);
+    there = refl;
+    asked = refl;
+  }
+  placed false false false None None rs ps cs bound out = record {
+    known = refl;
+    out = omega (arith, out);
+    back = omega (arith, all, ps.none refl);
+    there = refl;
+    asked = refl;
+  }
+  placed false false false None (Some x) rs ps cs bound out = record {
+    known = refl;
+    out = omega (arith, out);
+    back = omega (arith, all, ps.none refl);
+    there = refl;
+    asked = refl;
+  }
+  placed false false false (Some l) None rs ps cs bound out = absurd (omega (arith, out))
+  placed false false false (Some l) (Some x) rs ps cs bound out = record {
+    known = refl;
+    out = omega (arith, out);
+    back = omega (arith, all, ps.none refl);
+    there = refl;
+    asked = refl;
+  }
 
-pub returning_request : (o : Option TrackedRequest) → 0 < returning o → (payload : ℕ)
-    × (o ≡ Some (tracked_request payload ComingBack))
-returning_request None some = absurd (omega arith)
-returning_request (Some t) some = (t.payload, ap (λ p. Some (tracked_request t.payload p)) (returning_at t.place some))
+-- ---- the requests that wait
 
--- the next frame is the first that waits
-pub next_first_of : (before passed : ℕ) (waiting : List SentFrame) (sent_frame : SentFrame) → first_passed before passed
-    waiting ≡ Some sent_frame → (rest : List SentFrame) × (waiting ≡ sent_frame ∷ rest)
-next_first_of before passed [] sent_frame is = cc
-next_first_of before passed (l ∷ sent_frames) sent_frame is =
-    (sent_frames, go (nat_le (before + length l.frame) passed) is)
+one_request : (m : Message) (id : Id) → request_of m id ≡ occurs id (ids_in m)
+one_request (request key method params) id = omega arith
+one_request (notification method params) id = refl
+one_request (response key answer) id = refl
+
+requests_are : (fs : List SentFrame) (id : Id) → requests fs id ≡ occurs id (request_ids fs)
+requests_are [] id = refl
+requests_are (f ∷ fs) id = omega (
+  arith,
+  one_request f.message id,
+  requests_are fs id,
+  occurs-append id (ids_in f.message) (request_ids fs),
+)
+
+push_one : (xs : List ℕ) (id : Id) → one_some (item_at (xs ++ 0 ∷ []) id) ≡ (if same_id (nth_id (length xs)) id then 1
+    else 0) + one_some (item_at xs id)
+push_one xs id =
+    let key : Id = nth_id (length xs) in
+    ⊎_elim
+    (λ here. subst (λ (n : Id). one_some (item_at (xs ++ 0 ∷ []) n) ≡ (if same_id key n then 1 else 0) + one_some
+    (item_at xs n)) (sym here) (omega (
+      arith,
+      ap (λ (o : Option ℕ). one_some o) (get-push xs 0),
+      ap (λ (o : Option ℕ). one_some o) (get-end xs),
+      here_once key,
+    )))
+    (λ apart. omega (
+      arith,
+      ap (λ (o : Option ℕ). one_some o) (get-push_other xs 0 id apart),
+      not_there key id apart,
+    ))
+    (cases_id id key)
+
+counted : (xs ys : List ℕ) (ids : List Id) (id : Id) → Ascends (length xs) ids (length ys) → occurs id ids + one_some
+    (item_at xs id) ≡ one_some (item_at ys id)
+counted xs ys [] id up = omega (
+  arith,
+  item_shorter xs ys id (omega (arith, up)),
+  item_shorter ys xs id (omega (arith, up)),
+)
+counted xs ys (i ∷ ids) id up = omega (
+  arith,
+  counted (xs ++ 0 ∷ []) ys ids id (ascends_at (suc (length xs)) (length (xs ++ 0 ∷ [])) ids ids (length ys)
+      (length ys) (omega (arith, length-push xs 0)) refl refl up.1),
+  push_one xs id,
+  ap {B = ℕ} (λ (k : Id). if same_id k id then 1 else 0) up.0,
+)
+
+pub in_one_place : (own others : List Entry) → Orderly own others → InOnePlace own others
+in_one_place own others mine = record {
+  known = λ id. (at id).known;
+  out = λ id. (at id).out;
+  back = λ id. (at id).back;
+  there = λ id. (at id).there;
+  asked = λ id. (at id).asked;
+}
   where
-    go : (b : Bool) → (if b then Some l else None) ≡ Some sent_frame → l ∷ sent_frames ≡ sent_frame ∷ sent_frames
-    go true e = let f : l ≡ sent_frame = cc in ap (λ x. x ∷ sent_frames) f
-    go false e = cc
+    at : (id : Id) → Placed (has id (returned own)) (has id (replied others)) (has id (closed others))
+        (item_at (labels others) id) (item_at (payloads own) id) (requests (frames_left others own) id)
+        (replies (frames_left own others) id)
+    at id = placed _ _ _ (requests (frames_left others own) id) _ (mine.once id) (mine.less id) _ _ _ _ _ (counts id
+        (returned own)) (counts id (replied others)) (counts id (closed others)) (mine.bound id) (omega (
+          arith,
+          requests_are (frames_left others own) id,
+          counted (labels others) (payloads own) (request_ids (frames_left others own)) id mine.order,
+        ))
 
-pub next_first : (post : Post) (sent_frame : SentFrame) → next post ≡ Some sent_frame → (rest : List SentFrame)
-    × (post.waiting ≡ sent_frame ∷ rest)
-next_first post sent_frame is = next_first_of (length (frames post.taken)) post.passed post.waiting sent_frame is
-
--- counts of frames, one more at the end
-pub requests-push : (sent_frames : List SentFrame) (sent_frame : SentFrame) (id : Id) → requests (sent_frames
-    ++ sent_frame ∷ []) id ≡ requests sent_frames id + request_of sent_frame.message id
-requests-push [] sent_frame id = omega arith
-requests-push (l ∷ sent_frames) sent_frame id = omega (arith, requests-push sent_frames sent_frame id)
-
-pub replies-push : (sent_frames : List SentFrame) (sent_frame : SentFrame) (id : Id) → replies (sent_frames
-    ++ sent_frame ∷ []) id ≡ replies sent_frames id + reply_of sent_frame.message id
-replies-push [] sent_frame id = omega arith
-replies-push (l ∷ sent_frames) sent_frame id = omega (arith, replies-push sent_frames sent_frame id)
-
--- what one message counts for
-module _ (message : Message) (id : Id) where
-  module _ (method : List ℕ) (params : Data) (is : message ≡ request id method params) where
-    pub request_of_own : request_of message id ≡ 1
-    request_of_own = ap (λ m. request_of m id) is ∙ cond-true (same_id id id) 1 0 (same_own id)
-
-    pub request_of_other : (other : Id) → other ≢ id → request_of message other ≡ 0
-    request_of_other other apart = ap (λ m. request_of m other) is ∙ cond-false (same_id id other) 1 0 (same_other id
-        other (λ e. apart (sym e)))
-
-    pub no_reply : (other : Id) → reply_of message other ≡ 0
-    no_reply other = ap (λ m. reply_of m other) is
-
-  module _ (answer : Result Data ErrorObject) (is : message ≡ response id answer) where
-    pub reply_of_own : reply_of message id ≡ 1
-    reply_of_own = ap (λ m. reply_of m id) is ∙ cond-true (same_id id id) 1 0 (same_own id)
-
-    pub reply_of_other : (other : Id) → other ≢ id → reply_of message other ≡ 0
-    reply_of_other other apart = ap (λ m. reply_of m other) is ∙ cond-false (same_id id other) 1 0 (same_other id other
-        (λ e. apart (sym e)))
-
-    pub no_request : (other : Id) → request_of message other ≡ 0
-    no_request other = ap (λ m. request_of m other) is
+pub one_place : (history : List Entry) → IsHistory history → (side : Side) → InOnePlace (entries_of side history)
+    (entries_of (other side) history)
+one_place history lawful side = in_one_place _ _ (orderly_of history lawful side)

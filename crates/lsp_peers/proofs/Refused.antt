@@ -1,13 +1,14 @@
 -- Outcomes that no history and no run has: these lists of steps and outcomes are refused, whatever the messages' frames
 -- are.
-use Rattle.std.proofs.Common.{◌≡◌, ◌≢◌, ℕ, ℤ, ◌+◌, ◌-◌, ◌≤◌, List, [], ◌∷◌, ◌++◌, String, Global, length, codes, min}
+use Rattle.std.proofs.Common.{◌≡◌, ◌≢◌, ℕ, ℤ, ◌+◌, ◌-◌, ◌<◌, ◌≤◌, List, [], ◌∷◌, ◌++◌, String, Global, length, codes}
+use Rattle.std.proofs.Common.{min}
 use Rattle.std.proofs.Common.{refl, sym, ap, ◌∙◌, subst, arith, length-append}
 use Rattle.std.proofs.lemmas.Bool.{le-leb, cond-true}
 use Rattle.std.proofs.lemmas.List.{append_cancel_left, length-map}
 use Rattle.std.specs.Fmt.{decimal}
 use Rattle.std.specs.Prelude.{pos, Option, None, Some, Result, Ok, Err, Bool, true, false, if◌then◌else◌, nat_le}
 use Rattle.std.specs.Prelude.{string_bytes, map as each}
-use Rattle.serde_json.specs.Data.{Data}
+use Rattle.serde_json.specs.Data.{Data, depth}
 use Rattle.serde_json.specs.View.{view}
 use Rattle.serde_json.specs.declared.value.Value.{Value}
 use Rattle.lsp_message.specs.Id.{Id}
@@ -16,7 +17,7 @@ use Rattle.lsp_message.specs.View.{message_view}
 use Rattle.lsp_message.specs.Written.{frame_text}
 use Rattle.lsp_peers.specs.declared.world.World.{World}
 use Rattle.lsp_peers.specs.Exchange.{WorldAfter, IsWholeRun, seen_at}
-use Rattle.lsp_peers.specs.Shallow.{TakesReadable, AllTakeReadable}
+use Rattle.lsp_peers.specs.Shallow.{AllShallow}
 use Rattle.lsp_peers.specs.Sides.{side_of, other}
 use Rattle.lsp_peers.specs.History.{Entry, written_in, IsHistory, outcome_of_taking, outcome_of, next_sent, entries_of}
 use Rattle.lsp_peers.specs.Ids.{nth_id}
@@ -28,8 +29,8 @@ use Rattle.lsp_peers.specs.declared.step.Side.TheVariants.{A, B}
 use Rattle.lsp_peers.specs.declared.step.Step.{Step}
 use Rattle.lsp_peers.specs.declared.step.Step.TheVariants.{Register, Pass, Take, Answer, Refuse}
 use Rattle.lsp_peers.proofs.AnswerLemmas.{answered_law}
-use Rattle.lsp_peers.proofs.Kept.{taking}
-use Rattle.lsp_peers.proofs.LawLemmas.{entry, one_sent_frame}
+use Rattle.lsp_peers.proofs.Entries.{entry, taking}
+use Rattle.lsp_peers.proofs.ShallowLemmas.{shallow_of}
 
 -- a frame is not empty
 frame_some : (l : SentFrame) → 16 ≤ length l.frame
@@ -42,6 +43,13 @@ frame_some l =
       length-append (codes "Content-Length: ") (decimal (length body)
           ++ 13 ∷ 10 ∷ 13 ∷ 10 ∷ body),
     )
+
+-- the one frame that was written
+one_sent_frame : (wrote : List SentFrame) (m : Message) → messages wrote ≡ m ∷ [] → (sent_frame : SentFrame)
+    × (wrote ≡ sent_frame ∷ [])
+one_sent_frame [] m is = cc
+one_sent_frame (l ∷ []) m is = (l, refl)
+one_sent_frame (l ∷ k ∷ ls) m is = cc
 
 -- what comes of taking a request, if it may have arrived
 not_returned : (own others : List Entry) (l : SentFrame) (b : Bool) (key id : Id) (method : List ℕ) (params : _)
@@ -240,22 +248,11 @@ module _ (world : World) where
     length-map run.0 (λ (e : Entry). e.outcome),
   )
 
-  -- a run in which B takes a request that nests too deeply, whatever its outcomes are
-  pub takes_too_deep : (method : String Global) (params : Value) (payload bytes label : ℕ) (outcomes : List Outcome)
-      → IsWholeRun (Register A method params payload ∷ Pass B bytes ∷ Take B label ∷ []) outcomes world
-      → ((before : List Entry) → each (λ e. e.step) before ≡ Register A method params payload ∷ Pass B bytes ∷ []
-      → IsHistory before → TakesReadable before (Take B label) → ⊥) → ⊥
-  takes_too_deep method params payload bytes label outcomes run deep = at run.0 run.1 run.3.lawful run.4
-    where
-      at : (history : List Entry) → each (λ e. e.step) history ≡ Register A method params payload ∷ Pass B bytes
-          ∷ Take B label ∷ [] → IsHistory history → AllTakeReadable [] history → ⊥
-      at [] steps lawful reads = cc
-      at (x ∷ []) steps lawful reads = cc
-      at (x ∷ y ∷ []) steps lawful reads = cc
-      at (x ∷ y ∷ z ∷ []) steps lawful reads =
-          let first : x.step ≡ Register A method params payload = cc in
-          let second : y.step ≡ Pass B bytes = cc in
-          let third : z.step ≡ Take B label = cc in
-          deep (x ∷ y ∷ []) (λ i. first i ∷ second i ∷ []) (lawful.0, (lawful.1.0, tt)) (subst (TakesReadable (x ∷ y
-          ∷ [])) third reads.1.1.0)
-      at (x ∷ y ∷ z ∷ u ∷ more) steps lawful reads = cc
+  -- a run that begins with a request that nests too deeply
+  pub registers_too_deep : (method : String Global) (params : Value) (payload : ℕ) (rest : List Step)
+      (outcomes : List Outcome) → 126 < depth (view params)
+      → IsWholeRun (Register A method params payload ∷ rest) outcomes world → ⊥
+  registers_too_deep method params payload rest outcomes deep run =
+      let shallow : AllShallow (Register A method params payload ∷ rest) = subst AllShallow run.1 (shallow_of run.0
+      run.3.lawful) in
+      absurd (omega (arith, deep, shallow.0))

@@ -1,6 +1,6 @@
 -- What a user sees of two peers, what it is after the entries of a run, and what a run promises.
 use Rattle.std.specs.FinMap as map
-use Rattle.std.specs.Prelude.{◌≡◌, ◌+◌, ℕ, List, [], ◌∷◌, ◌++◌, length, map as each}
+use Rattle.std.specs.Prelude.{◌≡◌, ◌+◌, ℕ, List, [], ◌++◌, length, map as each}
 use Rattle.lsp_message.specs.Id.{Id}
 use Rattle.lsp_message.specs.Message as plain
 use Rattle.lsp_message.specs.View.{message_view}
@@ -16,7 +16,6 @@ use Rattle.lsp_peers.specs.declared.world.World.{World}
 use Rattle.lsp_peers.specs.History.{Entry, held, pending, payloads, passed_count, frames_taken, frames_left, entries_of}
 use Rattle.lsp_peers.specs.History.{IsHistory}
 use Rattle.lsp_peers.specs.SentFrame.{messages, frames}
-use Rattle.lsp_peers.specs.Shallow.{TakesReadable, AllTakeReadable}
 use Rattle.lsp_peers.specs.Sides.{other}
 
 -- one side: its queues, the bytes that have arrived there, those on the way to it, and the messages that it took and
@@ -31,9 +30,8 @@ abbrev pub peer_at : Side → World → Peer
 peer_at A world = world.a
 peer_at B world = world.b
 
-abbrev pub seen_at : Side → World → Seen
-seen_at side world =
-    let peer = peer_at side world in
+abbrev pub seen : Peer → Seen
+seen peer =
     record {
       queue = peer.queue;
       arrived = peer.link.arrived;
@@ -41,6 +39,9 @@ seen_at side world =
       taken =
           peer.taken.items;
     }
+
+abbrev pub seen_at : Side → World → Seen
+seen_at side world = seen (peer_at side world)
 
 -- a side after its own entries and those of the other side, where it handed these messages out
 pub record SideAfter (side : Seen) (handed : List plain.Message) (own others : List Entry) :
@@ -67,22 +68,12 @@ pub record WorldAfter (world : World) (handed : Side
       → SideAfter (seen_at side world) (handed side) (entries_of side history)
       (entries_of (other side) history)
 
--- The steps and outcomes are a history in which each message that is taken nests at most 127 levels, and the world is
--- what it is after it, with nothing handed out.
+-- The steps and outcomes are a history, and the world is what it is after it, with nothing handed out.
 abbrev pub IsWholeRun : List Step → List Outcome → World → Type 0
 IsWholeRun steps outcomes world =
     (history : List Entry) × (each (λ entry. entry.step) history ≡ steps)
     × (each (λ entry. entry.outcome) history ≡ outcomes)
-    × WorldAfter world (λ side. []) history × AllTakeReadable [] history
-
--- some history begins these steps, and the step behind it takes a message that nests more than 127 levels
-pub record MeetsDeep (steps : List Step) : Type 0 where
-  pub history : List Entry
-  pub step : Step
-  pub rest : List Step
-  pub steps_are : each (λ entry. entry.step) history ++ step ∷ rest ≡ steps
-  pub lawful : IsHistory history
-  pub deep : ¬ TakesReadable history step
+    × WorldAfter world (λ side. []) history
 
 -- a side that has handed out all that it took
 abbrev pub handed_out : Seen → Seen

@@ -16,6 +16,7 @@ use Rattle.lsp_peers.specs.declared.step.Outcome.TheVariants.{Registered, Spent,
 use Rattle.lsp_peers.specs.declared.step.Outcome.TheVariants.{Notified, Waiting, Answered, Cancelled, GaveUp, Absent}
 use Rattle.lsp_peers.specs.Ids.{nth_id, item_at, has}
 use Rattle.lsp_peers.specs.SentFrame.{SentFrame, refused, messages, frames, first_passed}
+use Rattle.lsp_peers.specs.Shallow.{IsShallow}
 use Rattle.lsp_peers.specs.Sides.{side_of, other}
 
 -- a step with its outcome, and the frame that it wrote to the other side, if it wrote one
@@ -55,6 +56,13 @@ closed_in (Cancel side id) Cancelled = id ∷ []
 closed_in (GiveUp side id) (GaveUp label) = id ∷ []
 closed_in step outcome = []
 
+-- the id of a request that was answered, refused or cancelled
+abbrev pub replied_in : Step → Outcome → List Id
+replied_in (Answer side id value) (Answered label) = id ∷ []
+replied_in (Refuse side id code message) (Answered label) = id ∷ []
+replied_in (Cancel side id) Cancelled = id ∷ []
+replied_in step outcome = []
+
 -- the id of a reply that was taken
 abbrev pub returned_in : Step → Outcome → List Id
 returned_in (Take side label) (Returned id payload) = id ∷ []
@@ -86,6 +94,10 @@ labels entries = flat_map (λ entry. arrival_in entry.step entry.outcome) entrie
 -- the ids of the requests that it answered, refused, cancelled or gave up
 abbrev pub closed : List Entry → List Id
 closed entries = flat_map (λ entry. closed_in entry.step entry.outcome) entries
+
+-- the ids of those to which it wrote a reply: it answered, refused or cancelled them
+abbrev pub replied : List Entry → List Id
+replied entries = flat_map (λ entry. replied_in entry.step entry.outcome) entries
 
 -- the ids of the replies that it took
 abbrev pub returned : List Entry → List Id
@@ -154,8 +166,10 @@ module _ (own others : List Entry) where
   outcome_of (Cancel side id) = where_held (held own id) (λ label. Cancelled)
   outcome_of (GiveUp side id) = where_held (held own id) (λ label. GaveUp label)
 
-  -- An entry of this side: its outcome is what comes of its step, and it writes what its step and outcome say.
+  -- An entry of this side: its outcome is what comes of its step, and it writes what its step and outcome say. What it
+  -- writes nests so little that it can be read back.
   pub record Follows (entry : Entry) : Type 0 where
+    pub shallow : IsShallow entry.step
     pub outcome_is : entry.outcome ≡ outcome_of entry.step
     pub wrote_is : messages entry.wrote ≡ written_in entry.step entry.outcome
 

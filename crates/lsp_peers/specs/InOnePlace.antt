@@ -1,12 +1,40 @@
--- Each tracked request is in one place: the requests and replies among the frames that wait are exactly those that are
--- on the way, and the replies to those that are coming back. A notification is not tracked.
-use Rattle.std.specs.Prelude.{◌≡◌, ℕ, ◌+◌, List, [], ◌∷◌, Option, None, Some, if◌then◌else◌}
+-- Where each request is. It is in one place: the requests and replies among the frames that wait are exactly those that
+-- are on the way and those that are coming back, and each queue holds what its places say.
+use Rattle.std.specs.Option.{option_map_or}
+use Rattle.std.specs.Prelude.{◌≡◌, ℕ, ◌+◌, List, [], ◌∷◌, Option, None, Some, if◌then◌else◌, is_some, option_map}
 use Rattle.lsp_message.specs.Id.{Id, same_id}
 use Rattle.lsp_message.specs.Message.{Message, request, response}
-use Rattle.lsp_peers.specs.Ids.{item_at}
+use Rattle.lsp_peers.specs.History.{Entry, payloads, labels, closed, replied, returned, held, pending, frames_left}
+use Rattle.lsp_peers.specs.Ids.{item_at, has}
 use Rattle.lsp_peers.specs.SentFrame.{SentFrame}
-use Rattle.lsp_peers.specs.TrackedRequest.{Place, OnTheWay, ComingBack, TrackedRequest}
-use Rattle.lsp_peers.specs.Steps.{Accounts}
+
+-- where a request is: the label is what the other side holds under its id
+pub data Place : Type 0 where
+  OnTheWay : Place
+  AtOther : (label : ℕ) → Place
+  ComingBack : Place
+  Done : Place
+  GivenUp : Place
+
+-- 1 for this place, else 0
+abbrev pub on_the_way : Option Place → ℕ
+on_the_way (Some OnTheWay) = 1
+on_the_way place = 0
+
+-- 1 for this place, else 0
+abbrev pub coming_back : Option Place → ℕ
+coming_back (Some ComingBack) = 1
+coming_back place = 0
+
+-- the label under which the other side holds it
+abbrev pub label_in : Option Place → Option ℕ
+label_in (Some (AtOther label)) = Some label
+label_in place = None
+
+-- its payload, unless it is done
+abbrev pub owed : Option Place → Option ℕ → Option ℕ
+owed (Some Done) payload = None
+owed place payload = payload
 
 -- 1 if the message is the request of this id, else 0
 abbrev pub request_of : Message → Id → ℕ
@@ -28,34 +56,25 @@ abbrev pub replies : List SentFrame → Id → ℕ
 replies [] id = 0
 replies (sent_frame ∷ sent_frames) id = reply_of sent_frame.message id + replies sent_frames id
 
--- 1 for this place, else 0
-abbrev pub on_the_way : Place → ℕ
-on_the_way OnTheWay = 1
-on_the_way place = 0
+-- the entries of the side whose requests these are, and those of the other side
+module _ (own others : List Entry) where
+  -- where the request of this id is, if it was registered
+  abbrev pub place_of : Id → Option Place
+  place_of id =
+      if has id (returned own) then Some Done
+      else if has id (replied others) then Some ComingBack
+      else if has id (closed others) then Some GivenUp
+      else option_map_or (λ label. Some (AtOther label)) (item_at (labels others) id)
+      (option_map (λ payload. OnTheWay) (item_at (payloads own) id))
 
--- 1 for this place, else 0
-abbrev pub coming_back : Place → ℕ
-coming_back ComingBack = 1
-coming_back place = 0
-
--- 1 if there is a tracked request and it is on the way, else 0
-abbrev pub going : Option TrackedRequest → ℕ
-going None = 0
-going (Some t) = on_the_way t.place
-
--- 1 if there is a tracked request and it is coming back, else 0
-abbrev pub returning : Option TrackedRequest → ℕ
-returning None = 0
-returning (Some t) = coming_back t.place
-
--- The tracked requests of a side match the frames that wait for the other side and those that wait for this one: a
--- request for each that is on the way, a reply for each that is coming back, once, and no other request or reply.
-pub record MatchFrames (tracked : List TrackedRequest) (outbound inbound : List SentFrame) :
-    Type 0 where
-  pub out : (id : Id) → requests outbound id ≡ going (item_at tracked id)
-  pub back : (id : Id) → replies inbound id ≡ returning (item_at tracked id)
-
--- both sides' tracked requests match the frames that wait
-pub record InOnePlace (p : Accounts) : Type 0 where
-  pub here_once : MatchFrames p.here.tracked p.there.post.waiting p.here.post.waiting
-  pub there_once : MatchFrames p.there.tracked p.here.post.waiting p.there.post.waiting
+  pub record InOnePlace : Type 0 where
+    -- the requests that were registered have a place, and no others
+    pub known : (id : Id) → is_some (place_of id) ≡ is_some (item_at (payloads own) id)
+    -- a request waits for each that is on the way, once, and no other request
+    pub out : (id : Id) → requests (frames_left others own) id ≡ on_the_way (place_of id)
+    -- a reply waits for each that is coming back, once, and no other reply
+    pub back : (id : Id) → replies (frames_left own others) id ≡ coming_back (place_of id)
+    -- the other side holds those that are there
+    pub there : (id : Id) → held others id ≡ label_in (place_of id)
+    -- the payloads are pending of those that aren't done
+    pub asked : (id : Id) → pending own id ≡ owed (place_of id) (item_at (payloads own) id)

@@ -1,14 +1,11 @@
-pub mod Agreement
+pub mod Delivery
 pub mod Exchange
 pub mod History
 pub mod HistoryLaw
 pub mod Ids
 pub mod InOnePlace
-pub mod SentFrame
 pub mod Post
-pub mod Delivery
+pub mod SentFrame
 pub mod Shallow
 pub mod Sides
-pub mod Steps
-pub mod TrackedRequest
 pub mod WorldFault

@@ -1,9 +1,9 @@
 -- The post of one direction: all frames that were written, in order, and how far they have come.
-use Rattle.std.specs.Prelude.{◌≡◌, ◌≤◌, ◌<◌, ℕ, ◌+◌, ◌-◌, List, [], ◌∷◌, ◌++◌, length, take, drop, Option, None, Some}
-use Rattle.std.specs.Prelude.{if◌then◌else◌, min, IfSome, IsSomeAnd, is_some}
+use Rattle.std.specs.Prelude.{◌≡◌, ◌≤◌, ℕ, ◌+◌, ◌-◌, List, [], ◌∷◌, ◌++◌, length, take, drop, Option, None, Some}
+use Rattle.std.specs.Prelude.{if◌then◌else◌, min, IfSome, is_some}
 use Rattle.lsp_message.specs.Message.{Message}
 use Rattle.serde_json.specs.Read.{max_depth}
-use Rattle.lsp_message.specs.Ranges.{IsInRange, nesting}
+use Rattle.lsp_message.specs.Ranges.{nesting}
 use Rattle.lsp_message.specs.Tree.{without_null_details}
 pub use Rattle.lsp_peers.specs.SentFrame.{SentFrame, frames, first_passed}
 
@@ -75,15 +75,6 @@ message_of (Some sent_frame) = Some sent_frame.message
 pub record ReadsBack (m : Message) : Type 0 where
   pub nests : nesting m ≤ max_depth
   pub same : without_null_details m ≡ m
-
--- The message nests more than 127 levels. Its numbers have 32 signed bits, as those of each message that is written.
-pub record IsTooDeep (m : Message) : Type 0 where
-  pub nests : max_depth < nesting m
-  pub range : IsInRange m
-
--- there is a next frame, and this holds of its message
-abbrev pub HasNext : (Message → Type 0) → Post → Type 0
-HasNext P post = IsSomeAnd (next post) (λ sent_frame. P sent_frame.message)
 
 -- if there is a next frame, this holds of its message
 abbrev pub IfNext : (Message → Type 0) → Post → Type 0

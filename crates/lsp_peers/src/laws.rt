@@ -5,15 +5,13 @@ ghost use Rattle.serde_json.specs.Data.{Data};
 ghost use Rattle.lsp_message.specs.Message as plain;
 ghost use Rattle.lsp_message.specs.Message.{ErrorObject, response};
 ghost use Rattle.lsp_message.specs.View.{message_view};
-ghost use Rattle.lsp_peers.specs.Agreement.{WorldAgrees};
-ghost use Rattle.lsp_peers.specs.Exchange.{WorldAfter, MeetsDeep, seen_at};
+ghost use Rattle.lsp_peers.specs.Exchange.{WorldAfter, seen_at};
 ghost use Rattle.lsp_peers.specs.History.{Entry, IsHistory, entries_of, payloads, labels, returned};
 ghost use Rattle.lsp_peers.specs.HistoryLaw.{FactsOf, TakenAs, AnsweredBy};
 ghost use Rattle.lsp_peers.specs.Ids.{nth_id, item_at, has};
 ghost use Rattle.lsp_peers.specs.InOnePlace.{InOnePlace};
-ghost use Rattle.lsp_peers.specs.Shallow.{TakesReadable, AreReadable, IsShallow, AllShallow};
+ghost use Rattle.lsp_peers.specs.Shallow.{AllShallow};
 ghost use Rattle.lsp_peers.specs.Sides.{other};
-ghost use Rattle.lsp_peers.specs.Steps.{Accounts, Run, nothing};
 ghost use Rattle.lsp_peers.specs.declared.step.Outcome.{Outcome};
 ghost use Rattle.lsp_peers.specs.declared.step.Outcome.TheVariants.{Arrived, Returned};
 ghost use Rattle.lsp_peers.specs.declared.step.Side.{Side};
@@ -26,27 +24,10 @@ pub fn a_beginning_is_a_history()
     ensures { (before after : List Entry) → IsHistory (before ++ after) → IsHistory before }
 {}
 
-/// Among steps whose params and results nest at most 126 levels none takes a message that nests more than 127 levels. So the only fault is a failed allocation.
-pub fn a_shallow_run_meets_nothing_deep()
-    ensures { (steps : List Step) → AllShallow steps → MeetsDeep steps → ⊥ }
-{}
-
-/// What shallow steps write nests at most 127 levels.
-pub fn shallow_steps_are_readable()
-    ensures { (history : List Entry) → AllShallow (each (λ entry. entry.step) history)
-        → AreReadable history }
-{}
-
-/// One more shallow step keeps that.
-pub fn a_shallow_step_keeps_a_history_readable()
-    ensures { (history : List Entry) (entry : Entry) → AreReadable history → IsShallow entry.step
-        → AreReadable (history ++ entry ∷ []) }
-{}
-
-/// After such a history, each step may be taken: no message nests too deeply.
-pub fn a_readable_history_takes_any_step()
-    ensures { (history : List Entry) (step : Step) → IsHistory history → AreReadable history
-        → TakesReadable history step }
+/// Each step of a history has params and a result that nest at most 126 levels: each message that a side takes is read back.
+pub fn a_history_is_shallow()
+    ensures { (history : List Entry) → IsHistory history
+        → AllShallow (each (λ entry. entry.step) history) }
 {}
 
 /// What the outcomes of a history say, over its steps and outcomes alone: requests are registered and arrive as 0, 1, 2, .., each
@@ -97,12 +78,9 @@ pub fn a_reply_is_the_answer_of_the_other_side()
         ++ response id answer ∷ []) × AnsweredBy (other side) id answer before }
 {}
 
-/// A history over tracked requests: its steps do this to them, and to the sent frames of two posts, each request in one place;
-/// and a world after the history agrees with these requests and posts.
-pub fn a_history_moves_requests()
-    ensures { (history : List Entry) → IsHistory history → (p : Accounts)
-        × Run nothing (each (λ entry. entry.step) history) (each (λ entry. entry.outcome) history) p
-        × InOnePlace p
-        × ((world : World) (handed : Side → List plain.Message) → WorldAfter world handed history
-        → WorldAgrees world handed p) }
+/// Each request that a side registered is in one place: on the way, with the other side, coming back, done, or given up. The
+/// frames that wait, the requests that the other side holds and the payloads that are pending are those of these places.
+pub fn each_request_is_in_one_place()
+    ensures { (history : List Entry) → IsHistory history → (side : Side)
+        → InOnePlace (entries_of side history) (entries_of (other side) history) }
 {}

@@ -6,6 +6,7 @@ mod fault;
 pub mod laws;
 mod link;
 mod peer;
+mod shallow;
 mod step;
 mod world;
 

@@ -1,9 +1,9 @@
 //! The bytes of one direction between two peers.
-ghost use Rattle.std.specs.Prelude.{◌≡◌, ◌≤◌, ℕ, length, Ok, Err, None, OnOk, OnErr, IfOk, IsErr, option_map, is_some, min, drop, vec_len};
+ghost use Rattle.std.specs.Prelude.{◌≡◌, ◌≤◌, ℕ, length, Ok, Err, None, OnOk, OnErr, IfOk, option_map, is_some, min, drop, vec_len};
 ghost use Rattle.lsp_message.specs.Front.{front_of};
 ghost use Rattle.lsp_message.specs.View.{message_view};
 ghost use Rattle.lsp_peers.specs.WorldFault.{fault_of};
-ghost use Rattle.lsp_peers.specs.Post.{SentFrame, Post, Carries, ReadsBack, IsTooDeep, HasNext, posted, passed_on, unpassed, next, message_of, empty_post, IfNext, after_take};
+ghost use Rattle.lsp_peers.specs.Post.{SentFrame, Post, Carries, ReadsBack, posted, passed_on, unpassed, next, message_of, empty_post, IfNext, after_take};
 
 use crate::fault::WorldFault;
 use lsp_message::{Front, Message, ReadFault, front};
@@ -107,8 +107,6 @@ impl Link {
         ensures idle { (post : Post) → Carries self.old post → next post ≡ None → result ≡ Ok None }
         ensures comes { (post : Post) → Carries self.old post → result ≡ Ok None
             → next post ≡ None }
-        ensures deep { (post : Post) → Carries self.old post → HasNext IsTooDeep post
-            → IsErr result }
     {
         let arrived = &self.bytes[self.start..self.end];
         match front(arrived) {

@@ -1,15 +1,15 @@
 //! One side: its queues, the link to it, and the messages that it took.
-ghost use Rattle.std.specs.Prelude.{◌≡◌, [], List, Err, Ok, None, OnErr, IfOk, IsOk, IsErr, string_bytes};
+ghost use Rattle.std.specs.Prelude.{◌≡◌, [], ◌∷◌, List, Err, Ok, None, OnErr, IfOk, IsOk};
 ghost use Rattle.std.specs.FinMap as map;
-ghost use Rattle.serde_json.specs.View.{view};
 ghost use Rattle.lsp_message.specs.Message as plain;
 ghost use Rattle.lsp_message.specs.View.{message_view, response_view};
-ghost use Rattle.lsp_queue.specs.Queue.{cancelled, count_of, all_ids};
-ghost use Rattle.lsp_peers.specs.Agreement.{PeerAgrees, Agrees};
-ghost use Rattle.lsp_peers.specs.Steps.{Accounts, Registers, Tells, Passes, Takes, Replies, GivesUp, StepDoes};
-ghost use Rattle.lsp_peers.specs.Post.{ReadsBack, IsTooDeep, IfNext, HasNext, next, empty_post};
-ghost use Rattle.lsp_peers.specs.Delivery.{Delivers, ReadsNext, TakesTooDeep, IsFree, HasNothing};
-ghost use Rattle.lsp_peers.specs.InOnePlace.{InOnePlace};
+ghost use Rattle.lsp_queue.specs.Queue.{count_of, all_ids};
+ghost use Rattle.lsp_peers.specs.Delivery.{Delivers, PeersAfter, Continues};
+ghost use Rattle.lsp_peers.specs.Exchange.{SideAfter, seen};
+ghost use Rattle.lsp_peers.specs.History.{Entry, entries_of, next_sent, outcome_of, written_in};
+ghost use Rattle.lsp_peers.specs.HistoryLaw.{NeedsNoMemory};
+ghost use Rattle.lsp_peers.specs.Sides.{side_of, other};
+ghost use Rattle.lsp_peers.specs.declared.step.Side.{Side};
 
 use crate::fault::WorldFault;
 use crate::link::Link;
@@ -30,7 +30,7 @@ pub(crate) struct Peer {
 
 impl Peer {
     pub(crate) fn new(alloc: Global) -> Peer
-        ensures { PeerAgrees result [] (record { tracked = []; post = empty_post }) [] }
+        ensures { SideAfter (seen result) [] [] [] }
     {
         Peer {
             queue: ReqQueue::default(alloc),
@@ -41,23 +41,17 @@ impl Peer {
 
     /// A step of this side.
     pub(crate) fn step(&mut self, far: &mut Peer, step: Step) -> Result<Outcome, WorldFault>
-        ensures ok { (mine theirs : List plain.Message) (old : Accounts)
-            → Agrees self.old far.old mine theirs old → InOnePlace old → ReadsNext old step
-            → IfOk result (λ outcome.
-            (new : Accounts) × StepDoes old step outcome new
-            × Agrees self.new far.new mine theirs new) }
-        ensures err { (mine theirs : List plain.Message) (old : Accounts)
-            → Agrees self.old far.old mine theirs old → InOnePlace old → ReadsNext old step
+        ensures ok { Continues self.old far.old self.new far.new step result }
+        ensures err { (handed : Side → List plain.Message) (history : List Entry)
+            → PeersAfter self.old far.old (side_of step) handed history
             → OnErr result (result ≡ Err WorldFault.Memory) }
-        ensures free { (mine theirs : List plain.Message) (old : Accounts)
-            → Agrees self.old far.old mine theirs old → IsFree old step → IsOk result }
+        ensures free { (handed : Side → List plain.Message) (history : List Entry)
+            → PeersAfter self.old far.old (side_of step) handed history →
+            NeedsNoMemory
+            (outcome_of (entries_of (side_of step) history)
+            (entries_of (other (side_of step)) history) step) → IsOk result }
         ensures same { result ≡ Err WorldFault.NotReadBack → (self.new ≡ self.old)
             × (far.new ≡ far.old) }
-        ensures comes { (mine theirs : List plain.Message) (old : Accounts)
-            → Agrees self.old far.old mine theirs old → result ≡ Ok Outcome.Waiting
-            → HasNothing old step }
-        ensures deep { (mine theirs : List plain.Message) (old : Accounts)
-            → Agrees self.old far.old mine theirs old → TakesTooDeep old step → IsErr result }
     {
         match step {
             Step::Register {
@@ -102,10 +96,8 @@ impl Peer {
         params: Value,
         payload: u64,
     ) -> Result<Outcome, WorldFault>
-        ensures ok { (mine theirs : List plain.Message) (old : Accounts)
-            → Agrees self.old far.old mine theirs old → IfOk result (λ outcome.
-            (new : Accounts) × Registers (string_bytes method) (view params) payload old outcome new
-            × Agrees self.new far.new mine theirs new) }
+        ensures ok { (side : Side) → Continues self.old far.old self.new far.new
+            (Step.Register side method params payload) result }
         ensures err { OnErr result (result ≡ Err WorldFault.Memory) }
         ensures spent { count_of self.old.queue.outgoing ≡ all_ids → result ≡ Ok Outcome.Spent }
     {
@@ -128,10 +120,8 @@ impl Peer {
     }
 
     fn tell(&self, far: &mut Peer, method: String, params: Value) -> Result<Outcome, WorldFault>
-        ensures ok { (mine theirs : List plain.Message) (old : Accounts)
-            → Agrees self.now far.old mine theirs old → IfOk result (λ outcome.
-            (new : Accounts) × Tells (string_bytes method) (view params) old outcome new
-            × Agrees self.now far.new mine theirs new) }
+        ensures ok { (side : Side) → Continues self.now far.old self.now far.new
+            (Step.Tell side method params) result }
         ensures err { OnErr result (result ≡ Err WorldFault.Memory) }
     {
         let notification = Notification { method, params };
@@ -143,20 +133,16 @@ impl Peer {
     }
 
     fn pass(&mut self, far: &Peer, bytes: usize) -> Outcome
-        ensures { (mine theirs : List plain.Message) (old : Accounts)
-            → Agrees self.old far.now mine theirs old →
-            (new : Accounts) × Passes bytes old result new
-            × Agrees self.new far.now mine theirs new }
+        ensures { (side : Side) → Continues self.old far.now self.new far.now
+            (Step.Pass side bytes) (Ok result) }
     {
         Outcome::Passed(self.link.pass(bytes))
     }
 
     fn answer(&mut self, far: &mut Peer, reply: Response) -> Result<Outcome, WorldFault>
-        ensures ok { (mine theirs : List plain.Message) (old : Accounts)
-            → Agrees self.old far.old mine theirs old → IfOk result (λ outcome.
-            (new : Accounts)
-            × Replies reply.id (response_view reply) (λ label. Outcome.Answered label) old outcome
-            new × Agrees self.new far.new mine theirs new) }
+        ensures ok { (step : Step)
+            → written_in step (Outcome.Answered 0) ≡ response_view reply ∷ []
+            → Continues self.old far.old self.new far.new step result }
         ensures err { OnErr result (result ≡ Err WorldFault.Memory) }
         ensures absent { map.get self.old.queue.incoming reply.id ≡ None
             → result ≡ Ok Outcome.Absent }
@@ -177,11 +163,8 @@ impl Peer {
     }
 
     fn cancel(&mut self, far: &mut Peer, id: RequestId) -> Result<Outcome, WorldFault>
-        ensures ok { (mine theirs : List plain.Message) (old : Accounts)
-            → Agrees self.old far.old mine theirs old → IfOk result (λ outcome.
-            (new : Accounts)
-            × Replies id (cancelled id) (λ label. Outcome.Cancelled) old outcome new
-            × Agrees self.new far.new mine theirs new) }
+        ensures ok { (side : Side) → Continues self.old far.old self.new far.new
+            (Step.Cancel side id) result }
         ensures err { OnErr result (result ≡ Err WorldFault.Memory) }
         ensures absent { map.get self.old.queue.incoming id ≡ None → result ≡ Ok Outcome.Absent }
     {
@@ -199,9 +182,8 @@ impl Peer {
     }
 
     fn give_up(&mut self, far: &Peer, id: RequestId) -> Outcome
-        ensures { (mine theirs : List plain.Message) (old : Accounts)
-            → Agrees self.old far.now mine theirs old →
-            (new : Accounts) × GivesUp id old result new × Agrees self.new far.now mine theirs new }
+        ensures { (side : Side) → Continues self.old far.now self.new far.now
+            (Step.GiveUp side id) (Ok result) }
     {
         match self.queue.incoming.complete(&id) {
             Some(label) => Outcome::GaveUp(label),
@@ -210,24 +192,16 @@ impl Peer {
     }
 
     fn take(&mut self, far: &Peer, label: u64) -> Result<Outcome, WorldFault>
-        ensures ok { (mine theirs : List plain.Message) (old : Accounts)
-            → Agrees self.old far.now mine theirs old → InOnePlace old
-            → IfNext ReadsBack old.here.post → IfOk result (λ outcome.
-            (new : Accounts) × Takes label (next old.here.post) old outcome new
-            × Agrees self.new far.now mine theirs new) }
-        ensures err { (mine theirs : List plain.Message) (old : Accounts)
-            → Agrees self.old far.now mine theirs old → InOnePlace old
-            → IfNext ReadsBack old.here.post → OnErr result (result ≡ Err WorldFault.Memory) }
-        ensures waits { (mine theirs : List plain.Message) (old : Accounts)
-            → Agrees self.old far.now mine theirs old → next old.here.post ≡ None
+        ensures ok { (side : Side) → Continues self.old far.now self.new far.now
+            (Step.Take side label) result }
+        ensures err { (side : Side) (handed : Side → List plain.Message) (history : List Entry)
+            → PeersAfter self.old far.now side handed history
+            → OnErr result (result ≡ Err WorldFault.Memory) }
+        ensures waits { (side : Side) (handed : Side → List plain.Message) (history : List Entry)
+            → PeersAfter self.old far.now side handed history
+            → next_sent (entries_of side history) (entries_of (other side) history) ≡ None
             → result ≡ Ok Outcome.Waiting }
         ensures same { result ≡ Err WorldFault.NotReadBack → self.new ≡ self.old }
-        ensures comes { (mine theirs : List plain.Message) (old : Accounts)
-            → Agrees self.old far.now mine theirs old → result ≡ Ok Outcome.Waiting
-            → next old.here.post ≡ None }
-        ensures deep { (mine theirs : List plain.Message) (old : Accounts)
-            → Agrees self.old far.now mine theirs old → HasNext IsTooDeep old.here.post
-            → IsErr result }
     {
         let Some(message) = self.link.take()? else {
             return Ok(Outcome::Waiting);

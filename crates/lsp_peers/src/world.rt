@@ -1,15 +1,16 @@
 //! Two peers with their queues, joined by two links.
-ghost use Rattle.std.specs.Prelude.{◌≡◌, ◌∷◌, ◌++◌, [], List, Ok, Err, IfOk, IsOk, IsErr, OnErr, map as each};
+ghost use Rattle.std.specs.Prelude.{◌≡◌, ◌∷◌, ◌++◌, [], List, Err, IfOk, IsOk, OnErr, map as each};
 ghost use Rattle.lsp_message.specs.Message as plain;
 ghost use Rattle.lsp_message.specs.View.{message_view};
-ghost use Rattle.lsp_peers.specs.Exchange.{WorldAfter, IsWholeRun, MeetsDeep, handed_on, handed_out, peer_at, seen_at};
+ghost use Rattle.lsp_peers.specs.Exchange.{WorldAfter, IsWholeRun, handed_on, handed_out, peer_at, seen_at};
 ghost use Rattle.lsp_peers.specs.History.{Entry, entries_of, outcome_of};
 ghost use Rattle.lsp_peers.specs.HistoryLaw.{NeedsNoMemory};
-ghost use Rattle.lsp_peers.specs.Shallow.{TakesReadable};
+ghost use Rattle.lsp_peers.specs.Shallow.{IsShallow, AllShallow};
 ghost use Rattle.lsp_peers.specs.Sides.{side_of, other};
 
 use crate::fault::WorldFault;
 use crate::peer::Peer;
+use crate::shallow::is_shallow;
 use crate::step::{Outcome, Side, Step};
 use lsp_message::Message;
 use lsp_queue::ReqQueue;
@@ -41,15 +42,14 @@ impl World {
     ///
     /// This holds however the steps of the two sides interleave, and whatever pieces the bytes arrive in.
     ///
-    /// After a fault there is no world. `WorldFault::Memory` means that an allocation failed, and `WorldFault::NotReadBack` that a
-    /// side was to take a message that nests more than 127 levels. No side takes such a message. It comes only of steps whose
-    /// params or results nest more than 126 levels.
+    /// After a fault there is no world. `WorldFault::Memory` means that an allocation failed, and `WorldFault::NotReadBack` that the
+    /// params or the result of a step nest more than 126 levels.
     pub fn run(alloc: Global, steps: Vec<Step>) -> Result<(World, Vec<Outcome>), WorldFault>
         // The steps and outcomes are a history of the two sides: each outcome follows from the entries before it, and the world is
-        // what it is after them. In it no side takes a message that nests more than 127 levels.
+        // what it is after them.
         ensures exchanged { IfOk result (λ r. IsWholeRun steps.items r.1.items r.0) }
-        // The other fault comes only at a step that takes such a message.
-        ensures deep { result ≡ Err WorldFault.NotReadBack → MeetsDeep steps.items }
+        // The other fault comes only at a step that nests too deeply.
+        ensures deep { AllShallow steps.items → OnErr result (result ≡ Err WorldFault.Memory) }
     {
         let mut world = World::new(alloc);
         let mut outcomes = Vec::new(alloc);
@@ -64,8 +64,8 @@ impl World {
 
     /// Takes one step, and gives its outcome.
     ///
-    /// `WorldFault::NotReadBack` means that the side was to take a message that nests more than 127 levels, which is never taken.
-    /// The world is then as it was, so all but this side's takes go on.
+    /// `WorldFault::NotReadBack` means that the step's params or result nest more than 126 levels. Its message would nest more than
+    /// 127, so the other side could not read it. The world is then as it was, and goes on.
     ///
     /// `WorldFault::Memory` means that an allocation failed. Let the world go then: a request may be registered and not written.
     /// A step that comes to `Spent`, `Passed`, `Waiting`, `GaveUp` or `Absent` needs no memory.
@@ -74,28 +74,25 @@ impl World {
     pub fn step(&mut self, step: Step) -> Result<Outcome, WorldFault>
         // The outcome follows from the entries that led to this world, and the new world is what it is after one more entry.
         ensures exchanged { (handed : Side → List plain.Message) (old : List Entry)
-            → WorldAfter self.old handed old → TakesReadable old step → IfOk result (λ outcome.
+            → WorldAfter self.old handed old → IfOk result (λ outcome.
             (entry : Entry) × (entry.step ≡ step) × (entry.outcome ≡ outcome)
             × WorldAfter self.new handed (old ++ entry ∷ [])) }
-        // The other fault comes only if the message that is taken nests too deeply, and nothing has changed then.
+        // The other fault comes at a step that nests too deeply, and only there, and nothing has changed then.
         ensures err { (handed : Side → List plain.Message) (old : List Entry)
-            → WorldAfter self.old handed old → TakesReadable old step →
+            → WorldAfter self.old handed old → IsShallow step →
             OnErr result (result ≡ Err WorldFault.Memory) }
+        ensures deep { (IsShallow step → ⊥) → result ≡ Err WorldFault.NotReadBack }
         ensures same { result ≡ Err WorldFault.NotReadBack → self.new ≡ self.old }
         ensures free { (handed : Side → List plain.Message) (old : List Entry)
-            → WorldAfter self.old handed old →
+            → WorldAfter self.old handed old → IsShallow step →
             NeedsNoMemory
             (outcome_of (entries_of (side_of step) old) (entries_of (other (side_of step)) old)
             step) → IsOk result }
-        // A message that nests too deeply is never taken.
-        ensures unread { (handed : Side → List plain.Message) (old : List Entry)
-            → WorldAfter self.old handed old → ¬ TakesReadable old step → IsErr result }
-        // Nor is it waited for.
-        ensures waits { (handed : Side → List plain.Message) (old : List Entry)
-            → WorldAfter self.old handed old → result ≡ Ok Outcome.Waiting →
-            outcome_of (entries_of (side_of step) old) (entries_of (other (side_of step)) old) step
-            ≡ Outcome.Waiting }
     {
+        if !is_shallow(&step) {
+            drop(step);
+            return Err(WorldFault::NotReadBack);
+        }
         let side = step.side();
         match side {
             Side::A => self.a.step(&mut self.b, step),

@@ -30,7 +30,6 @@ pub use Rattle.lsp_message.specs.Text
 pub use Rattle.lsp_message.specs.Tree
 pub use Rattle.lsp_message.specs.View
 pub use Rattle.lsp_message.specs.Written
-pub use Rattle.lsp_peers.specs.Agreement
 pub use Rattle.lsp_peers.specs.Exchange
 pub use Rattle.lsp_peers.specs.History
 pub use Rattle.lsp_peers.specs.HistoryLaw
@@ -41,8 +40,6 @@ pub use Rattle.lsp_peers.specs.Post
 pub use Rattle.lsp_peers.specs.Delivery
 pub use Rattle.lsp_peers.specs.Shallow
 pub use Rattle.lsp_peers.specs.Sides
-pub use Rattle.lsp_peers.specs.Steps
-pub use Rattle.lsp_peers.specs.TrackedRequest
 pub use Rattle.lsp_peers.specs.WorldFault
 pub use Rattle.lsp_queue.specs.Queue
 pub use Rattle.lsp_queue.specs.QueueRun

@@ -3,6 +3,6 @@ use Rattle.example_two_peers.proofs.Left.{begun}
 use Rattle.example_two_peers.proofs.talk.begin.Goals as goal
 
 pub returns : goal.returns
-returns c = begun _ _ c.in_ok-params.params _ _ c.in_ok-method.ensures.ok c.in_ok-params.ensures
-    c.a_shallow_step_keeps_a_history_readable.ensures (c.in_ok-step.ensures.exchanged (λ side. []) []
-    c.new-world.ensures tt)
+returns c = begun _ _ c.in_ok-params.params _ _ c.in_ok-method.ensures.ok (c.in_ok-step.ensures.exchanged (λ side. [])
+    []
+    c.new-world.ensures)

@@ -1,4 +1,4 @@
-use Rattle.lsp_peers.proofs.HistoryLaws.{beginning_of}
+use Rattle.lsp_peers.proofs.Entries.{beginning_of}
 use Rattle.lsp_peers.proofs.laws.a_beginning_is_a_history.Goals as goal
 
 pub returns : goal.returns

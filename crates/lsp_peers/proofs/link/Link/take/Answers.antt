@@ -9,8 +9,8 @@ use Rattle.lsp_message.specs.View.{message_view}
 use Rattle.lsp_message.specs.declared.frame.ReadFault.{ReadFault}
 use Rattle.lsp_peers.specs.Post.{Line, Carries, after_take}
 use Rattle.lsp_peers.proofs.LineLemmas.{line_taken}
-use Rattle.lsp_peers.proofs.LinkLemmas.{carries_at, more_keeps, more_none, never_fault, never_whole, never_read}
-use Rattle.lsp_peers.proofs.LinkLemmas.{never_deep, whole_shows, read_is, no_other_fault}
+use Rattle.lsp_peers.proofs.LinkLemmas.{carries_at, more_keeps, more_none, never_fault, never_whole}
+use Rattle.lsp_peers.proofs.LinkLemmas.{whole_shows, read_is, no_other_fault}
 use Rattle.lsp_peers.proofs.link.Link.take.Goals as goal
 
 pub returns-in-More-clause-ok : goal.returns-in-More-clause-ok
@@ -197,36 +197,3 @@ returns-in-Err-clause-idle c = λ post carries none.
     ) in
     absurd (never_whole l.bytes.items l.start l.end c.self.invariant.0 within post before room c.in-Whole.count none
     (sym seen ∙ sym c.in-Whole.ensures.value))
-
--- the clause on a message that nests too deeply
-pub returns-in-More-clause-deep : goal.returns-in-More-clause-deep
-returns-in-More-clause-deep c = λ post carries deep.
-    let l = c.self.inside in
-    let seen = ap (λ (b : List ℕ). front_of (take (l.end - l.start) (drop l.start b))) c.deref.ensures.value in
-    let before = subst (λ (line : Line). Carries line post) (sym c.self.view_is) carries in
-    let within : l.end ≤ length l.bytes.items = omega (arith, l.bytes.ok.0, c.self.invariant) in
-    let room : length l.bytes.items < 2 ^ 64 = omega (
-      arith,
-      c.deref.type_inv.0,
-      ap (λ (b : List ℕ). length b)
-          c.deref.ensures.value,
-    ) in
-    absurd (never_deep l.bytes.items l.start l.end c.self.invariant.0 within post before room (sym seen
-    ∙ sym c.in-More.ensures.value) deep)
-
-pub returns-in-Ok-Some-clause-deep : goal.returns-in-Ok-Some-clause-deep
-returns-in-Ok-Some-clause-deep c = λ post carries deep.
-    let l = c.self.inside in
-    let seen = ap (λ (b : List ℕ). front_of (take (l.end - l.start) (drop l.start b))) c.deref.ensures.value in
-    let text = ap (λ (b : List ℕ). (reading_of (take c.in-Whole.count (take (l.end - l.start)
-    (drop l.start b)))).outcome) c.deref.ensures.value in
-    let before = subst (λ (line : Line). Carries line post) (sym c.self.view_is) carries in
-    let within : l.end ≤ length l.bytes.items = omega (arith, l.bytes.ok.0, c.self.invariant) in
-    let room : length l.bytes.items < 2 ^ 64 = omega (
-      arith,
-      c.deref.type_inv.0,
-      ap (λ (b : List ℕ). length b)
-          c.deref.ensures.value,
-    ) in
-    absurd (never_read l.bytes.items l.start l.end c.self.invariant.0 within post before room c.in-Whole.count (sym seen
-    ∙ sym c.in-Whole.ensures.value) deep _ (sym text ∙ c.in-Ok-Some.ensures.exact.0))

@@ -1,13 +1,13 @@
-use Rattle.std.proofs.Common.{◌≡◌, List, [], ◌∷◌, ◌++◌, ◌∙◌, sym, ap, subst, append_assoc}
+use Rattle.std.proofs.Common.{◌≡◌, List, [], ◌∷◌, ◌++◌, ◌∙◌, refl, sym, ap, subst, append_assoc}
 use Rattle.std.proofs.ResultArms.{chosen}
 use Rattle.std.proofs.lemmas.Result.{err_from_is_err_and}
-use Rattle.std.specs.Prelude.{not}
+use Rattle.std.specs.Prelude.{not, Err, OnErr}
 use Rattle.std.specs.Vec.Iter.{into_iter_items}
 use Rattle.lsp_peers.specs.Exchange.{IsWholeRun}
-use Rattle.lsp_peers.specs.declared.fault.WorldFault.TheVariants.{NotReadBack}
+use Rattle.lsp_peers.specs.declared.fault.WorldFault.TheVariants.{Memory}
 use Rattle.lsp_peers.specs.declared.step.Outcome.{Outcome}
 use Rattle.lsp_peers.specs.declared.step.Step.{Step}
-use Rattle.lsp_peers.proofs.WholeLemmas.{whole_nothing, whole_more, whole_fault}
+use Rattle.lsp_peers.proofs.WorldLemmas.{whole_nothing, whole_more, shallow_at}
 use Rattle.lsp_message.proofs.Joined.{all_taken}
 use Rattle.lsp_peers.proofs.world.World.run.Goals as goal
 
@@ -31,23 +31,21 @@ loop-step-preserved c =
       tt,
       tt,
       append_assoc c.loop-step.yielded (c.in-Some.step ∷ []) rest ∙ whole,
-      whole_more _ _ _ _ _ _ _ before.3 pushed (λ handed old after readable. c.in_ok-outcome.ensures.exchanged handed
-          old after readable) (λ handed old after deep. let err = c.in_ok-outcome.ensures.unread handed old after deep
-          in cc),
+      whole_more _ _ _ _ _ _ _ before.3 pushed (λ handed old after. c.in_ok-outcome.ensures.exchanged handed old after),
     )
 
 pub returns-in_err-outcome-clause-deep : goal.returns-in_err-outcome-clause-deep
-returns-in_err-outcome-clause-deep c = λ deep.
+returns-in_err-outcome-clause-deep c = λ shallow.
     let before = c.loop-step.invariant in
     let rest : List Step = into_iter_items c.next.new.self in
     let turn : into_iter_items c.loop-step.step-iterator ≡ c.in-Some.step ∷ rest = c.in-Some.ensures.steps.0 in
     let whole : c.loop-step.yielded ++ c.in-Some.step ∷ rest ≡ c.args.steps.items = ap
     (λ (l : List Step). c.loop-step.yielded ++ l) (sym turn) ∙ before.2 in
+    let memory = c.in_err-outcome.ensures.err (λ side. []) before.3.0 before.3.3 (shallow_at c.loop-step.yielded rest
+    c.args.steps.items c.in-Some.step whole shallow) in
+    let fault : c.in_err-outcome.field-0.0 ≡ Memory = cc in
     let told = err_from_is_err_and c.from_residual.result c.from_residual.ensures.1 in
-    let same : told.0 ≡ NotReadBack = cc in
-    let fault : c.in_err-outcome.field-0.0 ≡ NotReadBack = sym told.2 ∙ same in
-    whole_fault _ _ _ _ _ _ before.3 whole (λ history after readable. let memory = c.in_err-outcome.ensures.err
-    (λ side. []) history after readable in cc)
+    subst (λ r. OnErr r (r ≡ Err Memory)) (sym (told.1 ∙ ap (λ f. Err f) (told.2 ∙ fault))) refl
 
 pub returns-clause-exchanged : goal.returns-clause-exchanged
 returns-clause-exchanged c =
