@@ -111,7 +111,8 @@ registered : (b : Bool) (id : Id) (n : ℕ) → Registered id ≡ (if b then Spe
 registered true id n is = cc
 registered false id n is = cc
 
-fact_of : (before : List Entry) (e : Entry) (step : Step) (outcome : Outcome) → IsHistory (before ++ e ∷ []) → e.step
+pub fact_of : (before : List Entry) (e : Entry) (step : Step) (outcome : Outcome) → IsHistory (before ++ e ∷ []) →
+    e.step
     ≡ step → e.outcome ≡ outcome → IsFact (entries_of (side_of step) before) (entries_of (other (side_of step)) before)
     step outcome
 fact_of before e (Register side method params payload) (Registered id) history is comes = registered

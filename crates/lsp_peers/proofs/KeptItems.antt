@@ -57,11 +57,11 @@ true_or : (b rest : Bool) → rest ≡ true → (if b then true else rest) ≡ t
 true_or true rest is = refl
 true_or false rest is = is
 
-has-push_own : (id : Id) (xs : List Id) → has id (xs ++ id ∷ []) ≡ true
+pub has-push_own : (id : Id) (xs : List Id) → has id (xs ++ id ∷ []) ≡ true
 has-push_own id [] = cond-true (same_id id id) true false (same_own id)
 has-push_own id (x ∷ xs) = true_or (same_id x id) (has id (xs ++ id ∷ [])) (has-push_own id xs)
 
-has-push_other : (id other : Id) (xs : List Id) → other ≢ id → has other (xs ++ id ∷ []) ≡ has other xs
+pub has-push_other : (id other : Id) (xs : List Id) → other ≢ id → has other (xs ++ id ∷ []) ≡ has other xs
 has-push_other id other [] apart = cond-false (same_id id other) true false (same_other id other (λ e. apart (sym e)))
 has-push_other id other (x ∷ xs) apart = ap (λ b. if same_id x other then true else b) (has-push_other id other xs
     apart)

@@ -7,6 +7,7 @@ mod IdLemmas
 mod KeptItems
 mod LineLemmas
 mod LinkLemmas
+mod MoveLemmas
 mod Orderly
 mod PeerLemmas
 mod PlaceLemmas

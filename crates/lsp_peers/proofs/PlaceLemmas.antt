@@ -19,7 +19,7 @@ use Rattle.lsp_peers.proofs.KeptItems.{occurs, occurs-append, never, present, he
 use Rattle.lsp_peers.proofs.Orderly.{Orderly, orderly_of, ids_in, request_ids, Ascends, ascends_at}
 
 -- where a request is, by whether its reply was taken, written, and it was closed, and by its label and its payload
-abbrev place : Bool → Bool → Bool → Option ℕ → Option ℕ → Option Place
+abbrev pub place : Bool → Bool → Bool → Option ℕ → Option ℕ → Option Place
 place returned replied closed label payload =
     if returned then Some Done else if replied then Some ComingBack else if closed then Some GivenUp
     else option_map_or (λ l. Some (AtOther l)) label (option_map (λ p. OnTheWay) payload)

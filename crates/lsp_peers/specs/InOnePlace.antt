@@ -7,6 +7,11 @@ use Rattle.lsp_message.specs.Message.{Message, request, response}
 use Rattle.lsp_peers.specs.History.{Entry, payloads, labels, closed, replied, returned, held, pending, frames_left}
 use Rattle.lsp_peers.specs.Ids.{item_at, has}
 use Rattle.lsp_peers.specs.SentFrame.{SentFrame}
+use Rattle.lsp_peers.specs.declared.step.Outcome.{Outcome}
+use Rattle.lsp_peers.specs.declared.step.Outcome.TheVariants.{Registered, Arrived, Returned, Answered, Cancelled}
+use Rattle.lsp_peers.specs.declared.step.Outcome.TheVariants.{GaveUp}
+use Rattle.lsp_peers.specs.declared.step.Step.{Step}
+use Rattle.lsp_peers.specs.declared.step.Step.TheVariants.{Register, Take, Answer, Refuse, Cancel, GiveUp}
 
 -- where a request is: the label is what the other side holds under its id
 pub data Place : Type 0 where
@@ -78,3 +83,25 @@ module _ (own others : List Entry) where
     pub there : (id : Id) → held others id ≡ label_in (place_of id)
     -- the payloads are pending of those that aren't done
     pub asked : (id : Id) → pending own id ≡ owed (place_of id) (item_at (payloads own) id)
+
+-- where the request of this id is after one more entry of the side that registered it
+abbrev pub moved_by_owner : Step → Outcome → Id → Option Place → Option Place
+moved_by_owner (Register side method params payload) (Registered key) id place =
+    if same_id key id then Some OnTheWay else place
+moved_by_owner (Take side label) (Returned key payload) id place =
+    if same_id key id then Some Done else place
+moved_by_owner step outcome id place = place
+
+-- where it is after one more entry of the other side
+abbrev pub moved_by_other : Step → Outcome → Id → Option Place → Option Place
+moved_by_other (Take side label) (Arrived key) id place =
+    if same_id key id then Some (AtOther label) else place
+moved_by_other (Answer side key value) (Answered label) id place =
+    if same_id key id then Some ComingBack else place
+moved_by_other (Refuse side key code message) (Answered label) id place =
+    if same_id key id then Some ComingBack else place
+moved_by_other (Cancel side key) Cancelled id place =
+    if same_id key id then Some ComingBack else place
+moved_by_other (GiveUp side key) (GaveUp label) id place =
+    if same_id key id then Some GivenUp else place
+moved_by_other step outcome id place = place

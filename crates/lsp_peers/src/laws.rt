@@ -9,9 +9,9 @@ ghost use Rattle.lsp_peers.specs.Exchange.{WorldAfter, seen_at};
 ghost use Rattle.lsp_peers.specs.History.{Entry, IsHistory, entries_of, payloads, labels, returned};
 ghost use Rattle.lsp_peers.specs.HistoryLaw.{FactsOf, TakenAs, AnsweredBy};
 ghost use Rattle.lsp_peers.specs.Ids.{nth_id, item_at, has};
-ghost use Rattle.lsp_peers.specs.InOnePlace.{InOnePlace};
+ghost use Rattle.lsp_peers.specs.InOnePlace.{InOnePlace, place_of, moved_by_owner, moved_by_other};
 ghost use Rattle.lsp_peers.specs.Shallow.{AllShallow};
-ghost use Rattle.lsp_peers.specs.Sides.{other};
+ghost use Rattle.lsp_peers.specs.Sides.{side_of, other};
 ghost use Rattle.lsp_peers.specs.declared.step.Outcome.{Outcome};
 ghost use Rattle.lsp_peers.specs.declared.step.Outcome.TheVariants.{Arrived, Returned};
 ghost use Rattle.lsp_peers.specs.declared.step.Side.{Side};
@@ -83,4 +83,14 @@ pub fn a_reply_is_the_answer_of_the_other_side()
 pub fn each_request_is_in_one_place()
     ensures { (history : List Entry) → IsHistory history → (side : Side)
         → InOnePlace (entries_of side history) (entries_of (other side) history) }
+{}
+
+/// An entry moves one request at most: the one that its outcome names, to the place that its step says.
+pub fn an_entry_moves_its_request()
+    ensures { (before : List Entry) (entry : Entry) → IsHistory (before ++ entry ∷ []) →
+        (side : Side) → side_of entry.step ≡ side → (id : Id) →
+        (place_of (entries_of side (before ++ entry ∷ [])) (entries_of (other side) (before ++ entry ∷ [])) id
+        ≡ moved_by_owner entry.step entry.outcome id (place_of (entries_of side before) (entries_of (other side) before) id))
+        × (place_of (entries_of (other side) (before ++ entry ∷ [])) (entries_of side (before ++ entry ∷ [])) id
+        ≡ moved_by_other entry.step entry.outcome id (place_of (entries_of (other side) before) (entries_of side before) id)) }
 {}

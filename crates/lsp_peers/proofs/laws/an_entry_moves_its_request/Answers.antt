@@ -1,0 +1,5 @@
+use Rattle.lsp_peers.proofs.MoveLemmas.{moves}
+use Rattle.lsp_peers.proofs.laws.an_entry_moves_its_request.Goals as goal
+
+pub returns : goal.returns
+returns c = moves
