@@ -11,7 +11,7 @@ mod talk;
 
 use anyhow::Result;
 use exchange::run_through;
-use long::{Long, ask_often};
+use long::ask_often;
 use lsp_message::Message;
 use lsp_peers::{Outcome, Side, Step, World, WorldFault};
 use script::{side_of, step_of};
@@ -118,12 +118,7 @@ fn show_talked<R: Print>(rt: &R, alloc: Global, world: &World, ended: bool) -> R
 /// Lets A ask so often, and shows how many replies came back to their own request, and how many messages were handed out.
 fn show_long<R: Print>(rt: &R, alloc: Global, requests: &str) -> Result<()> {
     match ask_often(alloc, requests.parse()?) {
-        Ok(
-            Long {
-                returned,
-                handed_out,
-            },
-        ) => Ok(println!(rt;
+        Ok((returned, handed_out)) => Ok(println!(rt;
             "{returned} of {requests} replies gave back the payload of their request.\n\
             {handed_out} messages were handed out.\n"
         )?),
