@@ -1,8 +1,8 @@
-"""Builds the programs that the scaffold is measured beside. Each is left out, with a line that says why, where what it needs
-is missing.
+"""Builds the programs that ours are measured beside: the Rust crate, RapidJSON, a copy of frames, and servers over the libraries
+of Python and Node. Each is left out, with a line that says why, where what it needs is missing.
 
-All that is made lies in `bench/out`. The Rust crate is built from the folder of its sources that the caller names, over
-Debian's packages of its dependencies: those that are installed, or else those that `apt-get download` brings.
+All that is made lies in `bench/out`. Debian's packages are unpacked there, not installed. The crate's dependencies and Node's library
+are those of `SUITE`, whose serde_json is newer than that of Debian 12.
 """
 import re
 import shutil
@@ -14,9 +14,11 @@ from pathlib import Path
 HERE = Path(__file__).resolve().parent
 SOURCES = HERE / "peers"
 MADE = HERE / "out"
-REGISTRY = Path("usr/share/cargo/registry")
-PACKAGES = ("cfg-if crossbeam-channel crossbeam-utils itoa log proc-macro2 quote ryu serde serde-derive serde-json syn "
-            "unicode-ident").split()
+SUITE = "trixie"
+KEYS = "/usr/share/keyrings/debian-archive-keyring.gpg"
+CRATES = ("cfg-if crossbeam-channel crossbeam-utils itoa log memchr proc-macro2 quote ryu serde serde-derive serde-json syn "
+          "unicode-ident").split()
+NODE = ["vscode-jsonrpc", *("vscode-languageserver" + part for part in ("", "-protocol", "-types", "-textdocument"))]
 CRATE_MANIFEST = """[package]
 name = "lsp-server"
 version = "0.10.0"
@@ -46,17 +48,13 @@ class Missing(Exception):
 
 @dataclass
 class Program:
-    """A program with the words `pump`, `serve` and `tcp ADDR`, as far as it knows them; or one that has other words for all."""
+    """A program: the words that it is started with for each kind of row that it knows, and what it needs of its environment."""
 
     name: str
-    path: Path
-    version: str
-    modes: tuple = ("pump", "serve", "tcp")
+    commands: dict
+    version: str = ""
+    environment: tuple = ()
     copies: bool = False
-    words: tuple | None = None
-
-    def command(self, *words):
-        return [self.path, *(words if self.words is None else self.words)]
 
 
 def run(words, folder=None):
@@ -76,6 +74,37 @@ def write_if_other(path, text):
         path.write_text(text)
 
 
+def lists_of(suite):
+    """The options with which `apt-get` sees that suite of Debian alone. The machine's own lists stay as they are."""
+    folder = MADE / "apt" / suite
+    options = [f"-oDir::Etc::SourceList={folder}/list", "-oDir::Etc::SourceParts=/dev/null", f"-oDir::State::Lists={folder}/lists",
+               f"-oDir::Cache={folder}/cache"]
+    if not (folder / "lists").exists():
+        write_if_other(folder / "list", f"deb [signed-by={KEYS}] http://deb.debian.org/debian {suite} main\n")
+        for name in ("lists/partial", "cache/archives/partial"):
+            (folder / name).mkdir(parents=True)
+        run(["apt-get", "-qq", *options, "update"])
+    return options
+
+
+def unpacked(names, suite=""):
+    """The folder where these packages of Debian are unpacked."""
+    found, packages = MADE / "debian" / suite, MADE / "packages" / suite
+    for folder in (found, packages):
+        folder.mkdir(parents=True, exist_ok=True)
+    for name in names:
+        if not (found / "usr/share/doc" / name).exists():
+            run(["apt-get", "-qq", *(lists_of(suite) if suite else []), "download", name], packages)
+            run(["dpkg-deb", "-x", *packages.glob(name + "_*.deb"), found])
+    return found
+
+
+def version_of(package, suite=""):
+    """The version of a package that was unpacked, without Debian's own part."""
+    name = next((MADE / "packages" / suite).glob(package + "_*.deb")).name.split("_")[1]
+    return re.split("[+~-]", name.replace("%3a", ":").split(":")[-1])[0]
+
+
 def crate_files(folder):
     """The crate's files below `src`. A flat folder has `--` for each `/` of their paths, and may have `.txt` at the end."""
     files = {}
@@ -90,65 +119,79 @@ def crate_files(folder):
     return {name.removeprefix(root): text for name, text in files.items() if name.startswith(root)}
 
 
-def registry():
-    """The folder with the sources of the crate's dependencies."""
-    installed = Path("/") / REGISTRY
-    if installed.is_dir() and any(installed.glob("serde_json-*")):
-        return installed
-    found, packages = MADE / "debian", MADE / "packages"
-    for name in (f"librust-{package}-dev" for package in PACKAGES):
-        if not (found / "usr/share/doc" / name).exists():
-            packages.mkdir(parents=True, exist_ok=True)
-            run(["apt-get", "-qq", "download", name], packages)
-            run(["dpkg-deb", "-x", *packages.glob(name + "_*.deb"), found])
-    return found / REGISTRY
-
-
 def build_crate(folder):
     if folder is None:
         raise Missing("no folder of its sources was named by --crate")
     for name, text in crate_files(folder).items():
         write_if_other(MADE / "lsp-server/src" / name, text)
-    dependencies = registry()
+    packages = [f"librust-{name}-dev" for name in CRATES]
+    registry = unpacked(packages, SUITE) / "usr/share/cargo/registry"
     write_if_other(MADE / "lsp-server/Cargo.toml", CRATE_MANIFEST)
-    write_if_other(MADE / "crate/.cargo/config.toml", CARGO_SETTINGS.format(registry=dependencies))
+    write_if_other(MADE / "crate/.cargo/config.toml", CARGO_SETTINGS.format(registry=registry))
     for name in ["Cargo.toml", "src/main.rs"]:
         write_if_other(MADE / "crate" / name, (SOURCES / "crate" / name).read_text())
     run(["cargo", "build", "--quiet", "--offline", "--release"], MADE / "crate")
-    used = [next(dependencies.glob(name + "-[0-9]*")).name for name in ["serde_json", "crossbeam-channel"]]
-    version = ", ".join([*used, run(["rustc", "--version"]).split(" (")[0]])
-    return Program("crate", MADE / "crate/target/release/crate_peer", version)
+    path = MADE / "crate/target/release/crate_peer"
+    used = [f"{name} {version_of(f'librust-{name}-dev', SUITE)}" for name in ("serde-json", "crossbeam-channel")]
+    version = ", ".join(["lsp-server 0.10.0", *used, run(["rustc", "--version"]).split(" (")[0]])
+    return Program("crate", serving([path]) | {"pump": [path, "pump"]}, version)
 
 
-def build_cpp(name, source, copies=False):
-    MADE.mkdir(parents=True, exist_ok=True)
+def serving(command):
+    """The words of the kinds that a server knows."""
+    return {"echo": [*command, "serve"], "result": [*command, "drops", "PLACES"], "text": [*command, "texts"]}
+
+
+def built_by_cpp(source, *options):
     path = MADE / source.removesuffix(".cpp")
-    run(["g++", "-std=c++17", "-O3", "-DNDEBUG", "-o", path, SOURCES / source])
-    return Program(name, path, run(["g++", "--version"]).splitlines()[0], copies=copies)
+    run(["g++", "-std=c++17", "-O3", "-DNDEBUG", *options, "-o", path, SOURCES / source])
+    return path
 
 
 def build_rapid():
-    header = next((path for path in map(Path, ["/usr/include", "/usr/local/include"])
-                   if (path / "rapidjson/rapidjson.h").exists()), None)
-    if header is None:
-        raise Missing("no rapidjson/rapidjson.h: install rapidjson-dev")
-    text = (header / "rapidjson/rapidjson.h").read_text()
-    version = ".".join(re.findall(r"^#define RAPIDJSON_(?:MAJOR|MINOR|PATCH)_VERSION (\d+)", text, re.MULTILINE))
-    program = build_cpp("RapidJSON", "rapid.cpp")
-    program.version = f"RapidJSON {version}, {program.version}"
-    return program
+    headers = unpacked(["rapidjson-dev"]) / "usr/include"
+    path = built_by_cpp("rapid.cpp", "-I", headers)
+    version = f"RapidJSON {version_of('rapidjson-dev')}, {run(['g++', '--version']).splitlines()[0]}"
+    commands = serving([path]) | {"pump": [path, "pump"]}
+    del commands["text"]
+    return Program("RapidJSON", commands, version)
 
 
-def build_all(crate_folder):
-    """The peers that can be built here."""
+def build_copy():
+    path = built_by_cpp("copy.cpp")
+    return Program("copy", {"pump": [path, "pump"], "echo": [path, "serve"]}, copies=True)
+
+
+def build_python():
+    root = unpacked(["python3-pylsp-jsonrpc", "python3-ujson", "libdouble-conversion3"])
+    libraries = next(root.glob("usr/lib/*-linux-gnu"))
+    environment = (("PYTHONPATH", f"{root}/usr/lib/python3/dist-packages"), ("LD_LIBRARY_PATH", str(libraries)))
+    versions = [f"{name} {version_of('python3-' + name)}" for name in ("pylsp-jsonrpc", "ujson")]
+    version = ", ".join([*versions, run([sys.executable, "--version"]).strip()])
+    return Program("Python", serving([sys.executable, SOURCES / "server.py"]), version, environment)
+
+
+def build_node():
+    root = unpacked(["node-" + name for name in NODE], SUITE)
+    version = f"vscode-languageserver {version_of('node-vscode-languageserver', SUITE)}, Node {run(['node', '--version']).strip()}"
+    command = ["node", SOURCES / "server.js"]
+    return Program("Node", serving(command), version, (("NODE_PATH", f"{root}/usr/share/nodejs"),))
+
+
+def tcmalloc():
+    """The library that is loaded before a program to give it another allocator, and its version."""
+    root = unpacked(["libtcmalloc-minimal4"])
+    return str(next(root.glob("usr/lib/*/libtcmalloc_minimal.so.4"))), version_of("libtcmalloc-minimal4")
+
+
+def build_all(names, crate_folder):
+    """The peers of these names that can be built here."""
+    builds = {"crate": lambda: build_crate(crate_folder), "RapidJSON": build_rapid, "copy": build_copy, "Python": build_python,
+              "Node": build_node}
     programs = []
-    for name, build in [
-        ("crate", lambda: build_crate(crate_folder)),
-        ("RapidJSON", build_rapid),
-        ("copy", lambda: build_cpp("copy", "copy.cpp", copies=True)),
-    ]:
+    for name in names:
         try:
-            programs.append(build())
+            programs.append(builds[name]())
         except Missing as missing:
             print(f"left out: {name}: {missing}", file=sys.stderr)
     return programs

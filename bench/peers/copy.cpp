@@ -1,4 +1,4 @@
-// Frames without JSON: `pump` writes each again, `serve` and `tcp ADDR` those that the bench made as requests. One thread.
+// Frames without JSON: `pump` writes each again, `serve` those that the bench made as requests. One thread.
 // It is what the bytes and the system calls cost alone.
 #include <algorithm>
 
@@ -9,7 +9,6 @@ static const char EXIT[] = "{\"jsonrpc\":\"2.0\",\"method\":\"exit\"}";
 
 int main(int count, char **words) {
     bool is_pump = count > 1 && !strcmp(words[1], "pump");
-    if (count > 2 && !strcmp(words[1], "tcp") && !take_client(words[2])) return 1;
     auto frames = new Frames;
     std::string body, frame;
     while (frames->body(body)) {

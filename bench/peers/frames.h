@@ -1,8 +1,5 @@
-// What the peers in C++ share: frames through standard input and output, or through the one client of an address.
+// What the peers in C++ share: frames through standard input and output.
 #pragma once
-#include <arpa/inet.h>
-#include <netinet/tcp.h>
-#include <sys/socket.h>
 #include <unistd.h>
 
 #include <cstdio>
@@ -69,20 +66,4 @@ inline bool write_frame(std::string &frame, const char *body, size_t length) {
         sent += count;
     }
     return true;
-}
-
-// Puts the one client of 127.0.0.1:PORT in the place of standard input and output.
-inline bool take_client(const char *address) {
-    const char *port = strrchr(address, ':');
-    if (!port) return false;
-    int listener = socket(AF_INET, SOCK_STREAM, 0), yes = 1;
-    sockaddr_in place{};
-    place.sin_family = AF_INET;
-    place.sin_port = htons(atoi(port + 1));
-    place.sin_addr.s_addr = htonl(INADDR_LOOPBACK);
-    if (bind(listener, reinterpret_cast<sockaddr *>(&place), sizeof place) || listen(listener, 1)) return false;
-    int client = accept(listener, nullptr, nullptr);
-    close(listener);
-    setsockopt(client, IPPROTO_TCP, TCP_NODELAY, &yes, sizeof yes);
-    return dup2(client, 0) == 0 && dup2(client, 1) == 1;
 }
