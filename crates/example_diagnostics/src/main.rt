@@ -108,9 +108,8 @@ impl Server for Checker {
 
     fn notification(&mut self, notification: Notification) -> Result<Acts, AllocError> {
         let mut acts = Vec::new(self.alloc);
-        let noted = self.note(&notification, &mut acts);
-        drop(notification);
-        noted.and(Ok(acts))
+        self.note(&notification, &mut acts)?;
+        Ok(acts)
     }
 
     fn response(
@@ -225,9 +224,7 @@ impl Checker {
             Some(document) => long_lines(self.alloc, document.text(), self.longest.value)?,
             None => Vec::new(self.alloc),
         };
-        let marks = Act::publish(self.alloc, uri, version, found.as_slice());
-        drop(found);
-        acts.push(marks?)?;
+        acts.push(Act::publish(self.alloc, uri, version, found.as_slice())?)?;
         Ok(())
     }
 

@@ -56,17 +56,13 @@ impl Server for Sums {
     fn initialize(&mut self, params: Value) -> Result<Result<Value, ResponseError>, AllocError> {
         let path = "/capabilities/workspace/configuration";
         self.configures = matches!(params.pointer(path), Some(Value::Bool(true)));
-        let about = self.agree(&params);
-        drop(params);
-        match about {
-            Ok(about) => Ok(Ok(about)),
-            Err(fault) => Err(fault),
-        }
+        Ok(Ok(self.agree(&params)?))
     }
 
     fn initialized(&mut self) -> Result<Acts, AllocError> {
         let mut acts = Vec::new(self.alloc);
-        self.ask_configuration(&mut acts).and(Ok(acts))
+        self.ask_configuration(&mut acts)?;
+        Ok(acts)
     }
 
     fn request(&mut self, request: Request) -> Result<Acts, AllocError> {
@@ -78,9 +74,8 @@ impl Server for Sums {
 
     fn notification(&mut self, notification: Notification) -> Result<Acts, AllocError> {
         let mut acts = self.lose_texts()?;
-        let noted = self.note(&notification, &mut acts);
-        drop(notification);
-        noted.and(Ok(acts))
+        self.note(&notification, &mut acts)?;
+        Ok(acts)
     }
 
     fn response(
@@ -89,15 +84,11 @@ impl Server for Sums {
         outcome: Result<Value, ResponseError>,
     ) -> Result<Acts, AllocError> {
         let mut acts = Vec::new(self.alloc);
-        let marked = match &outcome {
-            Ok(values) => {
-                self.largest = largest_in(values).unwrap_or(i64::MAX);
-                self.mark_all(&mut acts)
-            }
-            Err(_error) => Ok(()),
-        };
-        drop(outcome);
-        marked.and(Ok(acts))
+        if let Ok(values) = &outcome {
+            self.largest = largest_in(values).unwrap_or(i64::MAX);
+            self.mark_all(&mut acts)?;
+        }
+        Ok(acts)
     }
 
     fn shutdown(&mut self, alloc: Global) -> Result<Vec<Act<()>>, AllocError> {
@@ -118,16 +109,9 @@ impl JobServer<Search> for Sums {
         if request.method.as_str() != "workspace/symbol" || self.passed_over.has_happened() {
             return Ok(AnsweredBy::Server(request));
         }
-        match self.search_in(&request.params) {
-            Ok(None) => Ok(AnsweredBy::Server(request)),
-            Ok(Some(search)) => {
-                drop(request);
-                Ok(AnsweredBy::Job(search, ()))
-            }
-            Err(fault) => {
-                drop(request);
-                Err(fault)
-            }
+        match self.search_in(&request.params)? {
+            Some(search) => Ok(AnsweredBy::Job(search, ())),
+            None => Ok(AnsweredBy::Server(request)),
         }
     }
 
@@ -171,14 +155,11 @@ impl Sums {
     /// What is done at a request.
     fn reply_to(&mut self, request: Request) -> Result<Acts, AllocError> {
         match request.method.as_str() {
-            "textDocument/hover" => self.reply(self.hover(&request.params), request),
-            "sums/text" => self.reply(self.text(&request.params), request),
+            "textDocument/hover" => self.reply(request.id, self.hover(&request.params)?),
+            "sums/text" => self.reply(request.id, self.text(&request.params)?),
             "sums/solved" => self.wait(request),
             "workspace/symbol" => self.search(request),
-            _ => {
-                let id = id_of(request);
-                Act::one(self.alloc, Act::method_not_found(self.alloc, id)?)
-            }
+            _ => Act::one(self.alloc, Act::method_not_found(self.alloc, request.id)?),
         }
     }
 
@@ -194,17 +175,9 @@ impl Sums {
         Ok(acts)
     }
 
-    /// The reply to a request, unless an allocation failed.
-    fn reply(
-        &self,
-        found: Result<Value, AllocError>,
-        request: Request,
-    ) -> Result<Acts, AllocError> {
-        let id = id_of(request);
-        match found {
-            Ok(found) => Act::one(self.alloc, Act::Reply(id, Ok(found))),
-            Err(fault) => Err(fault),
-        }
+    /// The reply to a request.
+    fn reply(&self, id: RequestId, found: Value) -> Result<Acts, AllocError> {
+        Act::one(self.alloc, Act::Reply(id, Ok(found)))
     }
 
     /// The error for a request whose params lack something.
@@ -216,7 +189,7 @@ impl Sums {
     /// Keeps a request until nothing is wrong with its text.
     fn wait(&mut self, request: Request) -> Result<Acts, AllocError> {
         if uri_in(&request.params).is_none() {
-            return self.refuse(id_of(request), "which text?");
+            return self.refuse(request.id, "which text?");
         }
         self.waiting.push(request)?;
         Ok(Vec::new(self.alloc))
@@ -224,14 +197,12 @@ impl Sums {
 
     /// Finds the headings of all texts that contain a word, at once (LSP 3.17, "Workspace Symbols Request").
     fn search(&mut self, request: Request) -> Result<Acts, AllocError> {
-        let search = self.search_in(&request.params);
-        let id = id_of(request);
-        match search? {
+        match self.search_in(&request.params)? {
             Some(search) => {
                 let outcome = outcome_of(self.alloc, search)?;
-                Act::one(self.alloc, Act::Reply(id, outcome))
+                Act::one(self.alloc, Act::Reply(request.id, outcome))
             }
-            None => self.refuse(id, "which word?"),
+            None => self.refuse(request.id, "which word?"),
         }
     }
 
@@ -313,7 +284,7 @@ impl Sums {
         }
         for request in mem::replace(&mut self.waiting, Vec::new(self.alloc)) {
             if uri_in(&request.params) == Some(uri) {
-                acts.push(Act::Reply(id_of(request), Ok(Value::Bool(true))))?;
+                acts.push(Act::Reply(request.id, Ok(Value::Bool(true))))?;
             } else {
                 self.waiting.push(request)?;
             }
@@ -399,9 +370,7 @@ impl Sums {
     /// What is shown of a word, if it has a value.
     fn shown(&self, text: &Text, word: Word<'_>) -> Result<Value, AllocError> {
         let sheet = sheet_of(self.alloc, text, i64::MAX)?;
-        let value = value_of(sheet.names.as_slice(), word.text);
-        drop(sheet);
-        match value {
+        match value_of(sheet.names.as_slice(), word.text) {
             Some(value) => self.shown_as(text, word, value),
             None => Ok(Value::Null),
         }
@@ -429,20 +398,8 @@ fn tree(made: Result<Value, serde_json::Error>) -> Result<Value, AllocError> {
 
 /// What comes of a search that nobody cancels.
 fn outcome_of(alloc: Global, search: Search) -> Result<Result<Value, ResponseError>, AllocError> {
-    match CancellationToken::new(alloc) {
-        Ok(token) => search.run(&token, &mut Silence),
-        Err(fault) => {
-            drop(search);
-            Err(fault)
-        }
-    }
-}
-
-fn id_of(request: Request) -> RequestId {
-    let Request { id, method, params } = request;
-    drop(method);
-    drop(params);
-    id
+    let token = CancellationToken::new(alloc)?;
+    search.run(&token, &mut Silence)
 }
 
 fn query_in(params: &Value) -> Option<&str>
