@@ -70,12 +70,15 @@ class Pool:
 
     def submit(self, name, job):
         self.forget(name)
-        if self.waiting is not None and len(self.queue) + self.running() >= len(self.workers) + max(self.waiting, 1):
+        if not self.has_room():
             return False
         job.name = name
         self.table[name] = job
         self.queue.append(job)
         return True
+
+    def has_room(self):
+        return self.waiting is None or len(self.queue) + self.running() < len(self.workers) + max(self.waiting, 1)
 
     def running(self):
         return sum(job is not None for job in self.workers)
@@ -200,11 +203,16 @@ class Working(Talker):
         self.numbered += 1
         return Job(script, self.numbered, params, params)
 
-    def job(self, came):
-        """The job that a request gives, if it gives one."""
-        if "id" in came and came.get("method", "").startswith("job "):
-            return self.make(came["method"][4:], came.get("params"))
-        return None
+    def is_long(self, came):
+        return "id" in came and came.get("method", "").startswith(("job ", "long "))
+
+    def answer_to(self, came):
+        """The job that a long request gets, or its reply at once."""
+        if came["method"] == "long known":
+            return {"result": came["params"]}
+        if came["method"] == "long unmade":
+            return {"error": NO_MEMORY}
+        return self.make(came["method"][4:], came.get("params"))
 
     def replied(self, came):
         """A reply to a job's request is the job's, if it still waits."""
@@ -313,15 +321,19 @@ class JobSession:
             self.finished += f" {json.dumps(slot)}:{self.pool.table[slot].key} {end}"
             self.pool.forget(slot)
 
-    def submit(self, name, job):
-        """A job without room is refused: its server sees that, and then the request has its reply."""
-        if self.pool.submit(name, job):
-            return
-        self.finished += f" {json.dumps(name)}:{job.key} refused"
-        self.send({"method": "refused", "params": [job.key]})
-        if name in self.pending:
-            self.pending.remove(name)
-            self.send({"id": name, "error": TOO_MANY})
+    def submit(self, slot, job):
+        """A job without room is refused, and its server sees that."""
+        if not self.pool.submit(slot, job):
+            self.finished += f" {json.dumps(slot)}:{job.key} refused"
+            self.send({"method": "refused", "params": [job.key]})
+
+    def take(self, came):
+        """A long request has its job. Without room its server is not asked for one, and nothing is told to it."""
+        answer = self.server.answer_to(came) if self.pool.has_room() else {"error": TOO_MANY}
+        if isinstance(answer, Job):
+            self.pool.submit(came["id"], answer)
+        else:
+            self.act([{"id": came["id"], **answer}])
 
     def serve_next(self):
         came = self.queue.pop(0)
@@ -374,10 +386,10 @@ class JobSession:
         elif "id" in came and "method" in came:
             self.pool.forget(came["id"])
             self.pending.add(came["id"])
-        job = self.server.job(came)
-        if job:
-            self.submit(came["id"], job)
-        self.act([] if job else self.server.heard(came))
+        if self.server.is_long(came):
+            self.take(came)
+        else:
+            self.act(self.server.heard(came))
         if cancels is not False and cancels in self.pending:
             self.act([{"id": cancels, "error": CANCELED}])
 

@@ -33,7 +33,11 @@ type Acts = Vec<Act<()>>;
 impl JobServer<Computation> for Speaking {
     type Key = ();
 
-    fn job(&mut self, request: Request) -> Result<AnsweredBy<Computation, ()>, AllocError> {
+    fn is_long(&self, _request: &Request) -> bool {
+        true
+    }
+
+    fn job(&self, request: Request) -> Result<AnsweredBy<Computation, ()>, AllocError> {
         let Request { id, method, params } = request;
         drop(id);
         drop(method);

@@ -104,14 +104,15 @@ impl Server for Sums {
 impl JobServer<Search> for Sums {
     type Key = ();
 
-    fn job(&mut self, request: Request) -> Result<AnsweredBy<Search, ()>, AllocError> {
+    fn is_long(&self, request: &Request) -> bool {
         // If texts are to be lost first, the server does both.
-        if request.method.as_str() != "workspace/symbol" || self.passed_over.has_happened() {
-            return Ok(AnsweredBy::Server(request));
-        }
+        request.method.as_str() == "workspace/symbol" && !self.passed_over.has_happened()
+    }
+
+    fn job(&self, request: Request) -> Result<AnsweredBy<Search, ()>, AllocError> {
         match self.search_in(&request.params)? {
             Some(search) => Ok(AnsweredBy::Job(search, ())),
-            None => Ok(AnsweredBy::Server(request)),
+            None => Ok(AnsweredBy::Reply(Err(self.no_word()?))),
         }
     }
 
@@ -202,8 +203,16 @@ impl Sums {
                 let outcome = outcome_of(self.alloc, search)?;
                 Act::one(self.alloc, Act::Reply(request.id, outcome))
             }
-            None => self.refuse(request.id, "which word?"),
+            None => {
+                let error = self.no_word()?;
+                Act::one(self.alloc, Act::Reply(request.id, Err(error)))
+            }
         }
+    }
+
+    /// The error for a search without a word.
+    fn no_word(&self) -> Result<ResponseError, AllocError> {
+        ResponseError::new(self.alloc, ErrorCode::InvalidParams, "which word?")
     }
 
     /// The search that a client asks for, over the texts as they are now. Without a word there is none.

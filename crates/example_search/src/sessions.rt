@@ -90,8 +90,9 @@ where
     ensures told { IfOk result.1 (λ done. OfTaken done.taken.parts (λ text.
         ThreadsTellOver true ⟦<PassedOver as Listener>⟧.hears client.limits (LawfulJobSession T ⟦<Sums as Server>⟧
         (record {
+          sorts = ⟦<Sums as JobServer<Search>>⟧.sorts;
           gives = ⟦<Sums as JobServer<Search>>⟧.gives;
-          leaves = ⟦<Sums as JobServer<Search>>⟧.leaves;
+          knows = ⟦<Sums as JobServer<Search>>⟧.knows;
           changes = ⟦<Sums as JobServer<Search>>⟧.changes;
           finishes = ⟦<Sums as JobServer<Search>>⟧.finishes;
         }) ⟦<Search as Job>⟧ sums result.0)

@@ -3,9 +3,8 @@ use Rattle.serde_json.specs.Data.{Data}
 use Rattle.std.proofs.Common.{◌≡◌, ◌⊎◌, refl, sym, ◌∙◌, ap, subst, inl, inr, ℕ, ◌+◌, Bool, true, false, cond, List, []}
 use Rattle.std.proofs.Common.{◌∷◌, ◌++◌, append_assoc, append-nil, arith, Option, Some, None}
 use Rattle.std.specs.FinMap as map
-use Rattle.std.specs.List.{FoldsTo}
 use Rattle.std.specs.Ordering.{eq_by_cmp}
-use Rattle.std.specs.Prelude.{Result, Ok, Err, pos, map as map_list, if◌then◌else◌, MatchOption}
+use Rattle.std.specs.Prelude.{Result, Ok, Err, pos, map as map_list, if◌then◌else◌}
 use Rattle.lsp_message.specs.Id.{Id, id_cmp, number}
 use Rattle.lsp_message.specs.IdLaws.{id_decides}
 use Rattle.lsp_message.specs.Message.{Message, ErrorObject, request, notification, response}
@@ -27,7 +26,7 @@ use Rattle.lsp_service.specs.SentByActs.{ActsAt, all_sends, queues_at, sends_by,
 use Rattle.lsp_service.specs.View as queues
 use Rattle.lsp_service.specs.declared.queued_server.QueuedServer.{QueuedServer}
 use Rattle.lsp_service.specs.declared.server.Server.{Ghosts as Plain}
-use Rattle.lsp_jobs.proofs.Owed.{fewer, quiet_more, waits_now, waits_on, replies_at_wake, waits_called, waits_opened}
+use Rattle.lsp_jobs.proofs.Owed.{fewer, waits_now, waits_on, replies_at_wake, waits_called, waits_opened}
 use Rattle.lsp_jobs.proofs.Owed.{HeldWaits}
 use Rattle.lsp_jobs.proofs.Slots.{Spares, spares-append, fewer_requests, unanswered_has, went_all, without_request}
 use Rattle.lsp_jobs.proofs.Slots.{Went}
@@ -35,8 +34,7 @@ use Rattle.lsp_jobs.specs.Asking.{by_server, ByServers}
 use Rattle.lsp_jobs.specs.Ends.{came_to}
 use Rattle.lsp_jobs.specs.JobLaw.{concerns, is_that, AnswersByJobs, Left, at_ends, RepliesToLast, Waits, WakeSends}
 use Rattle.lsp_jobs.specs.JobSession.{JobSession, seen_with_jobs}
-use Rattle.lsp_jobs.specs.Pooled.{reply_at, unanswered, without_cancelled, ChangesSlots, Does, Finishes, GivesJob}
-use Rattle.lsp_jobs.specs.Pooled.{StartsOne}
+use Rattle.lsp_jobs.specs.Pooled.{reply_at, unanswered, without_cancelled, ChangesSlots, Does, Finishes, TakesLong}
 use Rattle.lsp_jobs.specs.PoolView.{pending_jobs}
 use Rattle.lsp_jobs.specs.Seen.{seen}
 use Rattle.lsp_jobs.specs.PendingJobs.{PendingJobs, no_jobs, without, with_job}
@@ -184,51 +182,27 @@ module _ {S J K P : Type 0} (plain : Plain S P) (may : WithJobs S J K P) (of_job
       → AllCome plain may from [] pending → Does may did pending all new → AllCome plain may from all new.1
   does_jobs from did pending all new come d = (changes_slots plain may from [] (d.1, pending) new d.0 all d.3 come).0
 
-  gives_job : (old new : S × PendingJobs (J × K)) (id : Id) (method : List ℕ) (params : Data) (all : List (Act P))
-      → GivesJob may of_job (old.0, without (Request id) old.1) id method params all new
-      → AllCome plain may (FromCall of_job old.1 (Some (request id method params))) all new.1
-  gives_job old new id method params all g =
-      (changes_slots plain may from [] g.begins.did new g.begins.acts all g.begins.others (begun g.begins.started)).0
+  -- a job was started for a request
+  started_job : (old : PendingJobs (J × K)) (id : Id) (method : List ℕ) (params : Data) (job : J) (key : K)
+      → of_job.is_for job method params
+      → AllCome plain may (FromCall of_job old (Some (request id method params))) []
+      (with_job (Request id) (job, key) old)
+  started_job old id method params job key is_for i e has = at (eq_by_cmp id_cmp i id) refl has
     where
-      from : Id → J × K → Type 0
-      from = FromCall of_job old.1 (Some (request id method params))
-
-      left : PendingJobs (J × K)
-      left = without (Request id) old.1
-
-      before : AllCome plain may from [] left
-      before = stay_without old.1 (Some (request id method params)) id (λ i. refl)
-
-      given : AllCome plain may from [] (with_job (Request id) (g.job, g.key) left)
-      given i e has = at (eq_by_cmp id_cmp i id) refl has
-        where
-          at : (b : Bool) → eq_by_cmp id_cmp i id ≡ b → cond b (Some (g.job, g.key)) (left (Request i)) ≡ Some e
-              → from i e × Spares {P = P} i []
-          at true is has =
-              let same : i ≡ id = (id_decides i id).0 is in
-              let it : ◌≡◌ {A = J × K} (g.job, g.key) e = cc (has) in (
-                inr (
-                  method,
-                  params,
-                  ap (λ (j : Id). Some (request j method params)) (sym same),
-                  subst (λ (x : J × K). of_job.is_for x.0 method params) it g.is_for,
-                ),
-                tt,
-              )
-          at false is has = before i e has
-
-      begun : StartsOne may (Request id) g.job g.key (g.mid, left, []) (
-        g.begins.did.0,
-        g.begins.did.1,
-        g.begins.acts,
-      )
-          → AllCome plain may from [] g.begins.did.1
-      begun (inl is) =
-          subst (λ (t : PendingJobs (J × K)). AllCome plain may from [] t)
-          (sym (ap (λ (x : S × PendingJobs (J × K) × List (Act P)). x.1) is)) given
-      begun (inr refusal) = λ i e has.
-          before i e (fewer_requests (Request id) left i e (unanswered_has refusal.0 (without (Request id) left) i e
-          (ap (λ (t : PendingJobs (J × K)). t (Request i)) (sym refusal.1.3) ∙ has)).0)
+      at : (b : Bool) → eq_by_cmp id_cmp i id ≡ b → cond b (Some (job, key)) (old (Request i)) ≡ Some e
+          → FromCall of_job old (Some (request id method params)) i e × Spares {P = P} i []
+      at true is has =
+          let same : i ≡ id = (id_decides i id).0 is in
+          let it : ◌≡◌ {A = J × K} (job, key) e = cc (has) in (
+            inr (
+              method,
+              params,
+              ap (λ (j : Id). Some (request j method params)) (sym same),
+              subst (λ (x : J × K). of_job.is_for x.0 method params) it is_for,
+            ),
+            tt,
+          )
+      at false is has = (inl (has, is), tt)
 
 module _ (T : Type 0) {S J K P : Type 0} (plain : Plain S P) (may : WithJobs S J K P) (of_job : OfJob J) where
   abbrev W : Stated (PooledServer T S J K) (Asked P)
@@ -298,21 +272,39 @@ module _ (T : Type 0) {S J K P : Type 0} (plain : Plain S P) (may : WithJobs S J
               (fewer_requests f.name (pending_jobs old.pool) i e (unanswered_has f.acts left i e
               (ap (λ (t : PendingJobs (J × K)). t (Request i)) (sym f.ended.3) ∙ has)).0)
 
+  long_jobs : (old did : PooledServer T S J K) (id : Id) (method : List ℕ) (params : Data) (acts : List (Act (Asked P)))
+      → TakesLong may of_job (seen old) id method params acts (seen did)
+      → Handles (Some (request id method params)) (pending_jobs old.pool) acts (pending_jobs did.pool)
+  long_jobs old did id method params acts (inl j) = (
+    [],
+    (λ i own. subst (Spares i) (sym j.acts) tt),
+    subst (AllCome plain may (FromCall of_job (pended old) (Some (request id method params))) [])
+        (sym (ap (λ (x : S × PendingJobs (J × K)). x.1) j.started))
+        (started_job plain may of_job (pended old) id method params j.job j.key j.is_for),
+  )
+  long_jobs old did id method params acts (inr a) = (
+    replies id a.outcome ∷ [],
+    (λ i own. subst (Spares i) (sym a.acts) own),
+    subst (AllCome plain may (FromCall of_job (pended old) (Some (request id method params)))
+        (replies id a.outcome ∷ [])) (sym (ap (λ (x : S × PendingJobs (J × K)). x.1) a.left))
+        (λ i e has. let own = without_request id (pended old) i e has in (inl own, (own.1, tt))),
+  )
+
   handed_jobs : (old did : PooledServer T S J K) (arrived : Option Message) (payload : Option (Asked P))
       (acts : List (Act (Asked P))) → Handed W old arrived payload acts did
       → Handles arrived (pending_jobs old.pool) acts (pending_jobs did.pool)
   handed_jobs old did (Some (request id method params)) payload acts h =
-      let left = without (Request id) (pending_jobs old.pool) in
-      by_servers (Some (request id method params)) (pending_jobs old.pool) (pending_jobs did.pool)
-      (λ own. GivesJob may of_job (old.server, left) id method params own (seen did)
-      ⊎ (may.leaves old.server method params
-      × Does may (plain.requested old.server id method params) left own (seen did))) acts
-      (λ own done. elim done [
-        | inl g ↦ gives_job plain may of_job (seen old) (seen did) id method params own g
-        | inr d ↦ does_jobs plain may of_job (FromCall of_job (pending_jobs old.pool)
-            (Some (request id method params))) (plain.requested old.server id method params) left own (seen did)
-            (stay_without plain may of_job (pending_jobs old.pool) (Some (request id method params)) id (λ i. refl)) d.1
-      ]) h.0
+      elim h.0 [
+        | inl long ↦ long_jobs old did id method params acts long.1
+        | inr own ↦
+            let left = without (Request id) (pending_jobs old.pool) in
+            by_servers (Some (request id method params)) (pending_jobs old.pool) (pending_jobs did.pool)
+            (λ made. Does may (plain.requested old.server id method params) left made (seen did)) acts
+            (λ made d. does_jobs plain may of_job (FromCall of_job (pending_jobs old.pool)
+            (Some (request id method params))) (plain.requested old.server id method params) left made (seen did)
+            (stay_without plain may of_job (pending_jobs old.pool) (Some (request id method params)) id (λ i. refl)) d)
+            own.1
+      ]
   handed_jobs old did (Some (notification method params)) payload acts h =
       by_servers (Some (notification method params)) (pending_jobs old.pool) (pending_jobs did.pool)
       (λ own. Does may (plain.notified old.server method params) (without_cancelled (cancelled_by method params)

@@ -1,9 +1,8 @@
 -- What jobs are called, and what is kept under their names.
-use Rattle.std.proofs.Common.{◌≡◌, refl, ◌∙◌, ap, true, false, Some, None, option_map, cond, Bool, Option}
+use Rattle.std.proofs.Common.{◌≡◌, refl, ◌∙◌, ap, true, false, None, Bool}
 use Rattle.std.specs.Bool.{Decides}
 use Rattle.std.specs.FinMap.{FinMap, get-empty, get-insert, get-remove}
 use Rattle.std.specs.FinMap as map
-use Rattle.std.specs.Prelude.{if◌then◌else◌}
 use Rattle.lsp_message.specs.Id.{Id, id_cmp, same_id}
 use Rattle.lsp_message.specs.IdLaws.{id_total, id_decides}
 use Rattle.lsp_jobs.specs.Names.{same_name}

@@ -1,21 +1,25 @@
 -- Pending jobs, as maps from names.
+use Rattle.serde_json.specs.Data.{Data}
 use Rattle.serde_json.specs.declared.value.Value.{Value}
-use Rattle.std.proofs.Common.{◌≡◌, ◌∙◌, ap, sym, subst, refl, inl, inr, Bool, true, false, cond, List, [], ◌∷◌, ◌++◌}
+use Rattle.std.proofs.Common.{◌≡◌, ◌∙◌, ap, sym, subst, refl, inl, inr, ℕ, Bool, true, false, cond, List, [], ◌∷◌, ◌++◌}
 use Rattle.std.proofs.Common.{append-nil, arith, length, Option, Some, None, option_map, Result, Ok, Err, OnErr, OnOk}
 use Rattle.std.specs.Prelude.{if◌then◌else◌, is_ok, IfNone, IfOk, MatchOption}
 use Rattle.std.specs.declared.alloc.AllocError.{AllocError}
+use Rattle.lsp_message.specs.Id.{Id}
 use Rattle.lsp_message.specs.View.{outcome_view}
 use Rattle.lsp_message.specs.declared.msg.ResponseError.{ResponseError}
-use Rattle.lsp_jobs.proofs.NameLemmas.{name_decides}
+use Rattle.lsp_jobs.proofs.NameLemmas.{name_decides, name_same}
 use Rattle.lsp_service.specs.Acts.{Act}
 use Rattle.lsp_jobs.specs.Ends.{Outcome, End}
 use Rattle.lsp_jobs.specs.Names.{same_name}
 use Rattle.lsp_jobs.specs.PoolView.{CameTo}
 use Rattle.lsp_jobs.specs.PendingJobs.{PendingJobs, ComesTo, no_jobs, without, with_job}
-use Rattle.lsp_jobs.specs.Pooled.{EndsThen, Frees}
+use Rattle.lsp_jobs.specs.Pooled.{EndsThen, Frees, TakesLong}
 use Rattle.lsp_jobs.specs.declared.job.Job.{Ghosts as OfJob}
 use Rattle.lsp_jobs.specs.declared.job_server.JobServer.{Ghosts as WithJobs}
+use Rattle.lsp_jobs.specs.declared.asking.Asked.{Asked}
 use Rattle.lsp_jobs.specs.declared.names.JobName.{JobName}
+use Rattle.lsp_jobs.specs.declared.names.JobName.TheVariants.{Request}
 
 pub on_err : {T E P : Type 0} (r : Result T E) → P → OnErr r P
 on_err (Ok x) p = tt
@@ -103,9 +107,33 @@ module _ {J : Type 0} where
       ≡ without name pending
   without_with pending name job = λ k n. twice (same_name n name) None (Some job) (pending n) k
 
+  -- no job has the name that was given up
+  pub given_up : (pending : PendingJobs J) (name : JobName) → without name pending name ≡ None
+  given_up pending name = ap (λ b. cond b None (pending name)) (name_same name)
+
   pub without_again : (pending : PendingJobs J) (name : JobName) → without name (without name pending)
       ≡ without name pending
   without_again pending name = λ k n. twice (same_name n name) None None (pending n) k
+
+-- an earlier job under the id of a long request was forgotten
+pub long_again : {S J K P : Type 0} (may : WithJobs S J K P) (of_job : OfJob J) (s : S) (pending : PendingJobs (J × K))
+    (id : Id) (method : List ℕ) (params : Data) (all : List (Act (Asked P))) (new : S × PendingJobs (J × K))
+    → TakesLong may of_job (s, without (Request id) pending) id method params all new
+    → TakesLong may of_job (s, pending) id method params all new
+long_again {S} may of_job s pending id method params all new (inl j) = inl (record {
+  job = j.job;
+  key = j.key;
+  is_for = j.is_for;
+  gives = j.gives;
+  acts = j.acts;
+  started = j.started ∙ ap (λ (p : PendingJobs _). (s, p)) (with_again pending (Request id) (j.job, j.key));
+})
+long_again {S} may of_job s pending id method params all new (inr a) = inr (record {
+  outcome = a.outcome;
+  is = a.is;
+  acts = a.acts;
+  left = a.left ∙ ap (λ (p : PendingJobs _). (s, p)) (without_again pending (Request id));
+})
 
 -- a name that no job has is free
 pub was_free : {S J K P : Type 0} (may : WithJobs S J K P) (name : JobName) (end : End) (s : S)

@@ -23,9 +23,10 @@ use Rattle.lsp_jobs.specs.JobLaw.{concerns, is_that, AnswersRequest, IsQuiet, La
 use Rattle.lsp_jobs.specs.JobLaw.{at_ends}
 use Rattle.lsp_jobs.specs.JobLaw.{RepliesItself, SendsOutcome, Waits, WakeSends}
 use Rattle.lsp_jobs.specs.PendingJobs.{ComesTo}
-use Rattle.lsp_jobs.specs.Pooled.{reply_at}
+use Rattle.lsp_jobs.specs.Pooled.{reply_at, IsAtOnce}
+use Rattle.lsp_jobs.specs.SlotLaw.{IsCalled, IsTurn, MayPass, Turn}
 use Rattle.lsp_jobs.specs.declared.asking.Asked.{Asked}
-use Rattle.lsp_jobs.specs.declared.asking.Asked.TheVariants.{ByJob, ByServer}
+use Rattle.lsp_jobs.specs.declared.asking.Asked.TheVariants.{ByJob}
 use Rattle.lsp_jobs.specs.declared.job.Job.{Ghosts as OfJob}
 use Rattle.lsp_jobs.specs.declared.job_server.JobServer.{Ghosts as WithJobs}
 use Rattle.lsp_jobs.specs.declared.names.JobName.{JobName}
@@ -367,3 +368,30 @@ module _ (T : Type 0) {S J K P : Type 0} (plain : Plain S P) (may : WithJobs S J
       let few : how_many (is_reply_under id) (sends_of exchanges) ≤ how_many (is_request_under id)
       (messages_of exchanges) = session.laws.never_more id exchanges [] (sym (append-nil exchanges)) in
       absurd (omega (arith, none, one, few))
+
+module _ {S J K P : Type 0} (plain : Plain S P) (may : WithJobs S J K P) where
+  -- a long request has a reply at once that its server does not know, and that is no error for want of room or memory
+  unknown_reply : (t : Turn plain may) (id : Id) (method : List ℕ) (params : Data) (outcome : Outcome)
+      → t.call.came ≡ Some (request id method params) → t.call.acts ≡ replies id outcome ∷ []
+      → (may.sorts t.old method params false → ⊥) → (IsAtOnce may t.old id method params outcome → ⊥)
+      → IsTurn plain may t → ⊥
+  unknown_reply t id method params outcome came said short unknown (inl called) =
+      short (subst (λ (l : Option Message). IsCalled plain may t.old l called.0 t.asked) came called.1).0
+  unknown_reply t id method params outcome came said short unknown (inr passed) =
+      let long = subst (λ (l : Option Message). MayPass plain may t.old l t.call.acts) came passed.0 in
+      elim long.1 [
+        | inl given ↦ (let none : replies id outcome ∷ [] ≡ [] = sym said ∙ given.3 in absurd (cc (none)))
+        | inr known ↦
+            let same : ◌≡◌ {A = List (Act (Asked P))} (replies id outcome ∷ []) (replies id known.0 ∷ []) =
+            sym said ∙ known.2 in
+            let it : outcome ≡ known.0 = cc (same) in
+            unknown (subst (IsAtOnce may t.old id method params) (sym it) known.1)
+      ]
+
+  -- the server changes at a long request
+  changed_when_long : (t : Turn plain may) (id : Id) (method : List ℕ) (params : Data)
+      → t.call.came ≡ Some (request id method params) → (may.sorts t.old method params false → ⊥)
+      → (t.new ≡ t.old → ⊥) → IsTurn plain may t → ⊥
+  changed_when_long t id method params came short changed (inl called) =
+      short (subst (λ (l : Option Message). IsCalled plain may t.old l called.0 t.asked) came called.1).0
+  changed_when_long t id method params came short changed (inr passed) = changed passed.3

@@ -1,6 +1,6 @@
 -- The turns of a server with jobs, and which job of a slot has a say in each.
 use Rattle.serde_json.specs.Data.{Data}
-use Rattle.std.proofs.Common.{◌≡◌, ◌⊎◌, refl, sym, ◌∙◌, ap, subst, inl, inr, ℕ, Bool, true, false, cond, List, [], ◌∷◌}
+use Rattle.std.proofs.Common.{◌≡◌, ◌⊎◌, refl, sym, ◌∙◌, ap, subst, inl, inr, ℕ, Bool, true, false, List, [], ◌∷◌}
 use Rattle.std.proofs.Common.{◌++◌, append_assoc, append-nil, Option, Some, None}
 use Rattle.std.specs.Bool.{MatchBool}
 use Rattle.std.specs.Prelude.{map as map_list, IsSomeAnd}
@@ -15,13 +15,12 @@ use Rattle.lsp_service.specs.declared.server.Server.{Ghosts as Plain}
 use Rattle.lsp_jobs.proofs.Answering.{back_pending}
 use Rattle.lsp_jobs.proofs.Slots.{fewer_slots, moves_all, unanswered_slot, went_all, Went}
 use Rattle.lsp_jobs.specs.Asking.{by_server, ByServers}
-use Rattle.lsp_jobs.specs.Ends.{came_to, no_room}
+use Rattle.lsp_jobs.specs.Ends.{came_to}
 use Rattle.lsp_jobs.specs.JobLaw.{at_ends, Left}
 use Rattle.lsp_jobs.specs.JobSession.{seen_with_jobs}
 use Rattle.lsp_jobs.specs.PendingJobs.{PendingJobs, no_jobs, without}
 use Rattle.lsp_jobs.specs.PoolView.{pending_jobs}
-use Rattle.lsp_jobs.specs.Pooled.{reply_at, unanswered, without_cancelled, ChangesSlots, Does, Finishes, GivesJob}
-use Rattle.lsp_jobs.specs.Pooled.{StartsOne}
+use Rattle.lsp_jobs.specs.Pooled.{reply_at, unanswered, without_cancelled, ChangesSlots, Does, Finishes, TakesLong}
 use Rattle.lsp_jobs.specs.Seen.{seen}
 use Rattle.lsp_jobs.specs.SlotLaw.{AllLeaveAlone, AreTurns, IsCalled, IsTurn, LastStart, LeavesAlone, MayPass, SeesLeft}
 use Rattle.lsp_jobs.specs.SlotLaw.{SlotHistory, Stands, StartsLast, Turn, WakeDoes}
@@ -127,12 +126,14 @@ module _ (T : Type 0) {S J K P : Type 0} (plain : Plain S P) (may : WithJobs S J
     wake : (earlier : List (Turn plain may)) → AllStand plain may earlier (pended old) → call.came ≡ None
         → WakeDoes plain may of_job earlier turn
 
-  -- the server was not called
-  passes : (old did : PooledServer T S J K) (call : Call (Asked P)) → MayPass plain may call.came → seen did ≡ seen old
+  -- the server did nothing
+  passes : (old did : PooledServer T S J K) (call : Call (Asked P))
+      → MayPass plain may old.server call.came call.acts → did.server ≡ old.server
+      → ((slot : Id) → pended did (Slot slot) ≡ pended old (Slot slot))
       → ((turn : Turn plain may) → turn.call ≡ call → (earlier : List (Turn plain may))
       → AllStand plain may earlier (pended old) → call.came ≡ None → WakeDoes plain may of_job earlier turn)
       → TurnOf old did call
-  passes old did call may_pass same does =
+  passes old did call may_pass same slots does =
       let turn : Turn plain may = record {
         call = call;
         old = old.server;
@@ -146,20 +147,31 @@ module _ (T : Type 0) {S J K P : Type 0} (plain : Plain S P) (may : WithJobs S J
         of_call = refl;
         from = refl;
         to = refl;
-        is_turn = inr (may_pass, refl, refl, ap (λ (x : S × PendingJobs (J × K)). x.0) same);
-        moves = λ slot e has. inl (ap (λ (x : S × PendingJobs (J × K)). x.1 (Slot slot)) (sym same) ∙ has, tt);
+        is_turn = inr (may_pass, refl, refl, same);
+        moves = λ slot e has. inl (sym (slots slot) ∙ has, tt);
         wake = does turn refl;
       }
 
+  -- at a wake, or at a reply, nothing changed
+  stays : (old did : PooledServer T S J K) (call : Call (Asked P))
+      → MayPass plain may old.server call.came call.acts → seen did ≡ seen old
+      → ((turn : Turn plain may) → turn.call ≡ call → (earlier : List (Turn plain may))
+      → AllStand plain may earlier (pended old) → call.came ≡ None → WakeDoes plain may of_job earlier turn)
+      → TurnOf old did call
+  stays old did call may_pass same =
+      passes old did call may_pass (ap (λ (x : S × PendingJobs (J × K)). x.0) same)
+      (λ slot. ap (λ (x : S × PendingJobs (J × K)). x.1 (Slot slot)) same)
+
   -- the server was called, and then asked for changes
   called : (old did : PooledServer T S J K) (call : Call (Asked P)) (asked : S) (mid : PendingJobs (J × K))
-      (acts own : List (Act P)) → IsCalled plain may old.server call.came asked
+      (acts own : List (Act P)) → call.acts ≡ map_list by_server own
+      → IsCalled plain may old.server call.came acts asked
       → ((slot : Id) (e : J × K) → mid (Slot slot) ≡ Some e → pended old (Slot slot) ≡ Some e)
       → (m : Made plain may asked mid acts own (seen did))
       → ((turn : Turn plain may) → turn.call ≡ call → turn.old ≡ old.server → turn.asked ≡ asked → turn.left ≡ m.left
       → (earlier : List (Turn plain may)) → AllStand plain may earlier (pended old) → call.came ≡ None
       → WakeDoes plain may of_job earlier turn) → TurnOf old did call
-  called old did call asked mid acts own is_called same m does =
+  called old did call asked mid acts own by_own is_called same m does =
       let turn : Turn plain may = record {
         call = call;
         old = old.server;
@@ -173,7 +185,7 @@ module _ (T : Type 0) {S J K P : Type 0} (plain : Plain S P) (may : WithJobs S J
         of_call = refl;
         from = refl;
         to = refl;
-        is_turn = inl (is_called, m.gives, m.linked);
+        is_turn = inl (acts, is_called, m.gives, m.linked, by_own ∙ ap (map_list by_server) m.done);
         moves = λ slot e has. elim (m.moves slot e has) [
           | inl was ↦ inl (same slot e was.0, was.1)
           | inr last ↦ inr last
@@ -184,12 +196,12 @@ module _ (T : Type 0) {S J K P : Type 0} (plain : Plain S P) (may : WithJobs S J
   -- a call of the server, in which it did what it stated
   does_turn : (old did : PooledServer T S J K) (call : Call (Asked P)) (pending : PendingJobs (J × K))
       (stated : List (Act P) → S → Type 0) → ByServers (λ own. Does may stated pending own (seen did)) call.acts
-      → ((acts : List (Act P)) (mid : S) → stated acts mid → IsCalled plain may old.server call.came mid)
+      → ((acts : List (Act P)) (mid : S) → stated acts mid → IsCalled plain may old.server call.came acts mid)
       → ((slot : Id) (e : J × K) → pending (Slot slot) ≡ Some e → pended old (Slot slot) ≡ Some e)
       → (call.came ≡ None → ⊥) → TurnOf old did call
   does_turn old did call pending stated b is_called same message =
       let d = b.2 in
-      called old did call d.1 pending d.0 b.0 (is_called d.0 d.1 d.2) same (made plain may d.1 pending d.0 b.0
+      called old did call d.1 pending d.0 b.0 b.1 (is_called d.0 d.1 d.2) same (made plain may d.1 pending d.0 b.0
       (seen did) d.3) (λ turn a b c d earlier stand none. absurd (message none))
 
   slots_cancelled : (cancelled : Option Id) (pending : PendingJobs (J × K)) (slot : Id) (e : J × K)
@@ -197,41 +209,29 @@ module _ (T : Type 0) {S J K P : Type 0} (plain : Plain S P) (may : WithJobs S J
   slots_cancelled None pending slot e has = has
   slots_cancelled (Some id) pending slot e has = has
 
-  -- a job was started for a request
-  gives_turn : (old did : PooledServer T S J K) (id : Id) (method : List ℕ) (params : Data) (payload : Option (Asked P))
-      (acts : List (Act (Asked P))) (own : List (Act P))
-      → GivesJob may of_job (old.server, without (Request id) (pended old)) id method params own (seen did)
+  -- a long request came
+  long_turn : (old did : PooledServer T S J K) (id : Id) (method : List ℕ) (params : Data) (payload : Option (Asked P))
+      (acts : List (Act (Asked P))) → may.sorts old.server method params true
+      → TakesLong may of_job (seen old) id method params acts (seen did)
       → TurnOf old did (record { came = Some (request id method params); payload = payload; acts = acts })
-  gives_turn old did id method params payload acts own g =
-      called old did (record { came = Some (request id method params); payload = payload; acts = acts })
-      g.begins.did.0 g.begins.did.1 g.begins.acts own (is_called g.begins.started) (same g.begins.started)
-      (made plain may g.begins.did.0 g.begins.did.1 g.begins.acts own (seen did) g.begins.others)
-      (λ turn a b c d earlier stand none. absurd (cc (none)))
-    where
-      left : PendingJobs (J × K)
-      left = without (Request id) (pended old)
-
-      Started : Type 0
-      Started = StartsOne may (Request id) g.job g.key (g.mid, left, []) (g.begins.did.0, g.begins.did.1, g.begins.acts)
-
-      is_called : Started → IsCalled plain may old.server (Some (request id method params)) g.begins.did.0
-      is_called (inl is) =
-          inr (g.job, g.key, g.mid, g.gives, inl (ap (λ (x : S × PendingJobs (J × K) × List (Act P)). x.0) is))
-      is_called (inr refusal) = inr (g.job, g.key, g.mid, g.gives, inr (refusal.1.0, refusal.1.1))
-
-      same : Started → (slot : Id) (e : J × K) → g.begins.did.1 (Slot slot) ≡ Some e → pended old (Slot slot) ≡ Some e
-      same (inl is) slot e has = ap (λ (x : S × PendingJobs (J × K) × List (Act P)). x.1 (Slot slot)) (sym is) ∙ has
-      same (inr refusal) slot e has =
-          sym (unanswered_slot refusal.0 (without (Request id) left) slot)
-          ∙ ap (λ (p : PendingJobs (J × K)). p (Slot slot)) (sym refusal.1.3) ∙ has
+  long_turn old did id method params payload acts long (inl j) =
+      passes old did (record { came = Some (request id method params); payload = payload; acts = acts })
+      (long, inl (j.job, j.key, j.gives, j.acts)) (ap (λ (x : S × PendingJobs (J × K)). x.0) j.started)
+      (λ slot. ap (λ (x : S × PendingJobs (J × K)). x.1 (Slot slot)) j.started)
+      (λ turn is earlier stand none. absurd (cc (none)))
+  long_turn old did id method params payload acts long (inr a) =
+      passes old did (record { came = Some (request id method params); payload = payload; acts = acts })
+      (long, inr (a.outcome, a.is, a.acts)) (ap (λ (x : S × PendingJobs (J × K)). x.0) a.left)
+      (λ slot. ap (λ (x : S × PendingJobs (J × K)). x.1 (Slot slot)) a.left)
+      (λ turn is earlier stand none. absurd (cc (none)))
 
   -- a job came to an outcome
   finishes_turn : (old did : PooledServer T S J K) (payload : Option (Asked P)) (acts : List (Act (Asked P)))
       (own : List (Act P)) → acts ≡ map_list by_server own → Finishes may of_job (seen old) own (seen did)
       → TurnOf old did (record { came = None; payload = payload; acts = acts })
   finishes_turn old did payload acts own by_own f =
-      called old did (record { came = None; payload = payload; acts = acts }) f.did.0 f.did.1 f.acts own
-      (f.name, f.key, f.outcome, f.ended.0, f.ended.1) same m does
+      called old did (record { came = None; payload = payload; acts = acts }) f.did.0 f.did.1 f.acts own by_own
+      (f.name, f.key, f.outcome, f.ended.0, f.ended.1, f.ended.2) same m does
     where
       m : Made plain may f.did.0 f.did.1 f.acts own (seen did)
       m = made plain may f.did.0 f.did.1 f.acts own (seen did) f.others
@@ -268,29 +268,29 @@ module _ (T : Type 0) {S J K P : Type 0} (plain : Plain S P) (may : WithJobs S J
   handed_turn : (old did : PooledServer T S J K) (arrived : Option Message) (payload : Option (Asked P))
       (acts : List (Act (Asked P))) → Handed W old arrived payload acts did
       → TurnOf old did (record { came = arrived; payload = payload; acts = acts })
-  handed_turn old did (Some (request id method params)) payload acts h = elim h.0.2 [
-    | inl g ↦ gives_turn old did id method params payload acts h.0.0 g
-    | inr d ↦ does_turn old did (record { came = Some (request id method params); payload = payload; acts = acts })
-        (without (Request id) (pended old)) (plain.requested old.server id method params) (h.0.0, h.0.1, d.1)
-        (λ did mid does. inl (d.0, (did, does))) (λ slot e has. has) (λ none. absurd (cc (none)))
+  handed_turn old did (Some (request id method params)) payload acts h = elim h.0 [
+    | inl long ↦ long_turn old did id method params payload acts long.0 long.1
+    | inr own ↦ does_turn old did (record { came = Some (request id method params); payload = payload; acts = acts })
+        (without (Request id) (pended old)) (plain.requested old.server id method params) own.1
+        (λ did mid does. (own.0, does)) (λ slot e has. has) (λ none. absurd (cc (none)))
   ]
   handed_turn old did (Some (notification method params)) payload acts h =
       does_turn old did (record { came = Some (notification method params); payload = payload; acts = acts })
       (without_cancelled (cancelled_by method params) (pended old)) (plain.notified old.server method params) h.0
-      (λ did mid does. (did, inl does)) (slots_cancelled (cancelled_by method params) (pended old))
+      (λ did mid does. inl does) (slots_cancelled (cancelled_by method params) (pended old))
       (λ none. absurd (cc (none)))
   handed_turn old did (Some (response id outcome)) (Some (ByServer payload)) acts h =
       does_turn old did (record {
         came = Some (response id outcome);
         payload = Some (ByServer payload);
         acts = acts;
-      }) (pended old) (plain.replied old.server payload outcome) h (λ did mid does. (payload, did, does))
+      }) (pended old) (plain.replied old.server payload outcome) h (λ did mid does. (payload, does))
       (λ slot e has. has) (λ none. absurd (cc (none)))
   handed_turn old did (Some (response id outcome)) (Some (ByJob n)) acts h =
-      passes old did (record { came = Some (response id outcome); payload = Some (ByJob n); acts = acts }) tt h.1
+      stays old did (record { came = Some (response id outcome); payload = Some (ByJob n); acts = acts }) h.0 h.1
       (λ turn is earlier stand none. absurd (cc (none)))
   handed_turn old did (Some (response id outcome)) None acts h =
-      passes old did (record { came = Some (response id outcome); payload = None; acts = acts }) tt (ap seen h.0)
+      stays old did (record { came = Some (response id outcome); payload = None; acts = acts }) h.1 (ap seen h.0)
       (λ turn is earlier stand none. absurd (cc (none)))
   handed_turn old did None payload acts h = woken h.0
     where
@@ -298,16 +298,16 @@ module _ (T : Type 0) {S J K P : Type 0} (plain : Plain S P) (may : WithJobs S J
       now = record { came = None; payload = payload; acts = acts }
 
       woken : W.wakes old acts did → TurnOf old did now
-      woken (inl nothing) = passes old did now tt nothing.1 (λ turn is earlier stand none.
+      woken (inl nothing) = stays old did now tt nothing.1 (λ turn is earlier stand none.
           inl (ap (λ (c : Call (Asked P)). c.acts) is ∙ nothing.0))
-      woken (inr (inl r)) = passes old did now tt r.same (λ turn is earlier stand none. inr (
+      woken (inr (inl r)) = stays old did now tt r.same (λ turn is earlier stand none. inr (
         r.name,
         r.job,
         r.key,
         stands_at plain may earlier (pended old) stand r.name (r.job, r.key) r.waits,
         inl (r.method, r.params, r.reports, ap (λ (c : Call (Asked P)). c.acts) is ∙ r.acts),
       ))
-      woken (inr (inr (inl a))) = passes old did now tt a.same (λ turn is earlier stand none. inr (
+      woken (inr (inr (inl a))) = stays old did now tt a.same (λ turn is earlier stand none. inr (
         a.name,
         a.job,
         a.key,
@@ -415,14 +415,14 @@ module _ (T : Type 0) {S J K P : Type 0} (plain : Plain S P) (may : WithJobs S J
       now = record { came = opening.came; payload = None; acts = part.begun }
 
       is_called : (m : Message) → is_initialized m ≡ true → (acts : List (Act P)) (mid : S)
-          → plain.at_initialized start.server acts mid → IsCalled plain may start.server (Some m) mid
-      is_called (notification method params) begins acts mid does = (acts, inr (begins, does))
+          → plain.at_initialized start.server acts mid → IsCalled plain may start.server (Some m) acts mid
+      is_called (notification method params) begins acts mid does = inr (begins, does)
       is_called (request id method params) begins acts mid does = absurd (cc (begins))
       is_called (response id outcome) begins acts mid does = absurd (cc (begins))
 
       opened : TurnOf start part.did now
       opened = does_turn start part.did now (pended start) (plain.at_initialized start.server) part.began
-          (λ acts mid does. subst (λ (l : Option Message). IsCalled plain may start.server l mid) (sym came)
+          (λ acts mid does. subst (λ (l : Option Message). IsCalled plain may start.server l acts mid) (sym came)
           (is_called m begins acts mid does)) (λ slot e has. has)
           (λ none. absurd (cc (came, none)))
 

@@ -1,20 +1,19 @@
 -- What comes of changes of slots: which jobs are pending then, and what the server did at the ends of those that are
 -- not.
-use Rattle.serde_json.specs.Data.{Data}
 use Rattle.std.proofs.Common.{◌≡◌, ◌⊎◌, refl, sym, ◌∙◌, ap, subst, inl, inr, Bool, true, false, cond, List, [], ◌∷◌}
 use Rattle.std.proofs.Common.{◌++◌, append_assoc, append-nil, Option, Some, None}
 use Rattle.std.specs.List.{FoldsTo}
 use Rattle.std.specs.Ordering.{eq_by_cmp}
-use Rattle.std.specs.Prelude.{if◌then◌else◌, MatchOption}
+use Rattle.std.specs.Prelude.{MatchOption}
 use Rattle.lsp_message.specs.Id.{Id, id_cmp, same_id}
 use Rattle.lsp_message.specs.IdLaws.{id_decides}
 use Rattle.lsp_service.specs.Acts.{Act, tells, asks, replies, cancels}
 use Rattle.lsp_service.specs.declared.server.Server.{Ghosts as Plain}
 use Rattle.lsp_jobs.specs.Ends.{End, no_room, replaced, stopped}
 use Rattle.lsp_jobs.specs.JobLaw.{IsLeft, Left, at_ends}
-use Rattle.lsp_jobs.specs.PendingJobs.{PendingJobs, without, with_job}
+use Rattle.lsp_jobs.specs.PendingJobs.{PendingJobs, without}
 use Rattle.lsp_jobs.specs.Pooled.{unanswered, Changes, EndsThen, Frees, StartsOne}
-use Rattle.lsp_jobs.specs.SlotLaw.{slot_of, LeavesAlone, StartsLast, SeesLeft}
+use Rattle.lsp_jobs.specs.SlotLaw.{LeavesAlone, StartsLast, SeesLeft}
 use Rattle.lsp_jobs.specs.declared.job_server.JobServer.{Ghosts as WithJobs}
 use Rattle.lsp_jobs.specs.declared.job_server.SlotChange.{SlotChange}
 use Rattle.lsp_jobs.specs.declared.job_server.SlotChange.TheVariants.{Start, Stop}

@@ -1,6 +1,6 @@
--- How a job ended, and what its request is answered then, if it is for one.
+-- How a job ended, and the errors that a request gets in place of its job's outcome.
 use Rattle.serde_json.specs.Data.{Data}
-use Rattle.std.specs.Prelude.{None, Result, Err, codes}
+use Rattle.std.specs.Prelude.{None, Result, codes}
 use Rattle.lsp_message.specs.ErrorCode.{number_of}
 use Rattle.lsp_message.specs.Message.{ErrorObject}
 use Rattle.lsp_message.specs.declared.msg.code.ErrorCode.TheVariants.{InternalError, RequestFailed}
@@ -9,7 +9,7 @@ use Rattle.lsp_message.specs.declared.msg.code.ErrorCode.TheVariants.{InternalEr
 abbrev pub Outcome : Type 0
 Outcome = Result Data ErrorObject
 
--- the answer of a request whose job found no room
+-- the answer of a request for whose job there is no room
 abbrev pub too_many : ErrorObject
 too_many = record {
   code = number_of RequestFailed;
@@ -17,7 +17,7 @@ too_many = record {
   details = None;
 }
 
--- the outcome of a job whose allocation failed
+-- the answer of a request where an allocation failed: as its job was made or started, or in the job
 abbrev pub no_memory : ErrorObject
 no_memory = record {
   code = number_of InternalError;
@@ -36,8 +36,3 @@ pub data End : Type 0 where
   replaced : End
   -- the server stopped it
   stopped : End
-
--- What a request is answered whose job ended so: its outcome, or that it found no room.
-abbrev pub reply_of : End → Outcome
-reply_of (came_to outcome) = outcome
-reply_of end = Err too_many

@@ -1,9 +1,9 @@
 -- What a client sees of jobs, in the exchanges of a session: whose outcome is sent at a wake.
 use Rattle.serde_json.specs.Data.{Data}
 use Rattle.std.specs.Ordering.{eq_by_cmp}
-use Rattle.std.specs.Prelude.{◌≡◌, ◌⊎◌, ℕ, Bool, true, false, List, [], ◌∷◌, ◌++◌, map, Option, Some, None, Err}
+use Rattle.std.specs.Prelude.{◌≡◌, ◌⊎◌, ℕ, Bool, false, List, [], ◌∷◌, ◌++◌, map, Option, Some, None}
 use Rattle.lsp_message.specs.Id.{Id, id_cmp}
-use Rattle.lsp_message.specs.Message.{Message, request, notification, response}
+use Rattle.lsp_message.specs.Message.{Message, request, notification}
 use Rattle.lsp_session.specs.Session.{Exchange, SessionAnswer, Stop}
 use Rattle.lsp_service.specs.Acts.{Act, Queues, tells, asks, replies, cancelled_by}
 use Rattle.lsp_service.specs.Law.{KeepsLaws, how_many, is_reply_under}
@@ -11,7 +11,7 @@ use Rattle.lsp_service.specs.QueuedServer.{held_by}
 use Rattle.lsp_service.specs.SentByActs.{all_sends}
 use Rattle.lsp_service.specs.declared.server.Server.{Ghosts as Plain}
 use Rattle.lsp_jobs.specs.Asking.{by_server}
-use Rattle.lsp_jobs.specs.Ends.{Outcome, End, came_to, no_memory}
+use Rattle.lsp_jobs.specs.Ends.{Outcome, End, came_to}
 use Rattle.lsp_jobs.specs.JobSession.{JobSession, seen_with_jobs}
 use Rattle.lsp_jobs.specs.PendingJobs.{ComesTo}
 use Rattle.lsp_jobs.specs.Pooled.{reply_at}

@@ -1,13 +1,13 @@
 -- A server at its pool of jobs: the server, and under the name of each job that is pending, this job and its key.
 use Rattle.serde_json.specs.Data.{Data}
 use Rattle.std.specs.List.{FoldsTo}
-use Rattle.std.specs.Prelude.{◌≡◌, ◌⊎◌, ℕ, List, [], ◌∷◌, ◌++◌, Option, Some, None, MatchOption}
+use Rattle.std.specs.Prelude.{◌≡◌, ◌⊎◌, ℕ, true, false, List, [], ◌∷◌, ◌++◌, Option, Some, None, Err, MatchOption}
 use Rattle.lsp_message.specs.Id.{Id}
 use Rattle.lsp_service.specs.Acts.{Act, tells, asks, replies, cancelled_by}
 use Rattle.lsp_service.specs.Stated.{Stated}
 use Rattle.lsp_service.specs.declared.server.Server.{Ghosts as Plain}
 use Rattle.lsp_jobs.specs.Asking.{ByServers, WhoseAsked}
-use Rattle.lsp_jobs.specs.Ends.{Outcome, End, came_to, no_room, replaced, stopped, reply_of}
+use Rattle.lsp_jobs.specs.Ends.{Outcome, End, came_to, no_room, replaced, stopped, too_many, no_memory}
 use Rattle.lsp_jobs.specs.PendingJobs.{PendingJobs, ComesTo, no_jobs, without, with_job}
 use Rattle.lsp_jobs.specs.declared.asking.Asked.{Asked}
 use Rattle.lsp_jobs.specs.declared.asking.Asked.TheVariants.{ByJob}
@@ -29,15 +29,15 @@ unanswered [] pending = pending
 unanswered (replies id outcome ∷ acts) pending = unanswered acts (without (Request id) pending)
 unanswered (act ∷ acts) pending = unanswered acts pending
 
--- The reply to the request of a job that ended so. A job in a slot has none.
+-- The reply to the request of a job that came to an outcome. A job in a slot has none.
 abbrev pub reply_at : {P : Type 0} → JobName → End → List (Act P)
-reply_at (Request id) end = replies id (reply_of end) ∷ []
-reply_at (Slot slot) end = []
+reply_at (Request id) (came_to outcome) = replies id outcome ∷ []
+reply_at name end = []
 
 -- what a server states of its jobs
 module _ {S J K P : Type 0} (may : WithJobs S J K P) where
   -- A job ended so, and is pending no more. The server sees that and does something first. If the job was for a
-  -- request, that is answered then.
+  -- request, that gets its outcome then.
   abbrev pub Ends : JobName → K → End → S × PendingJobs (J × K) → List (Act P) → S × PendingJobs (J × K) → Type 0
   Ends name key end old acts new =
       (first : List (Act P)) × may.finishes old.0 name key end first new.0
@@ -78,31 +78,42 @@ module _ {S J K P : Type 0} (may : WithJobs S J K P) where
     pub gives : may.changes old.0 changes mid
     pub made : FoldsTo Changes (mid, unanswered acts old.1, acts) changes (new.0, new.1, all)
 
-  -- A job is started under its name, and then slots are changed.
-  pub record BeginsJob (old : S × PendingJobs (J × K)) (name : JobName) (job : J) (key : K) (all : List (Act P))
-      (new : S × PendingJobs (J × K)) : Type 0 where
-    pub acts : List (Act P)
-    pub did : S × PendingJobs (J × K)
-    pub started : StartsOne name job key (old.0, old.1, []) (did.0, did.1, acts)
-    pub others : ChangesSlots did acts all new
-
   -- The server did these acts, and then changes its slots.
   abbrev pub Does : (List (Act P) → S → Type 0) → PendingJobs (J × K) → List (Act P) → S × PendingJobs (J × K)
       → Type 0
   Does did pending all new = (acts : List (Act P)) × (mid : S) × did acts mid
       × ChangesSlots (mid, pending) acts all new
 
+  -- A long request may get this in place of a job: what the server knows, the error that there is no room for a job, or
+  -- that an allocation failed.
+  abbrev pub IsAtOnce : S → Id → List ℕ → Data → Outcome → Type 0
+  IsAtOnce server id method params outcome =
+      may.knows server id method params outcome ⊎ ((outcome ≡ Err too_many) ⊎ (outcome ≡ Err no_memory))
+
+  -- The request is answered at once, and nothing else is done.
+  pub record AnswersAtOnce (old : S × PendingJobs (J × K)) (id : Id) (method : List ℕ) (params : Data)
+      (all : List (Act (Asked P))) (new : S × PendingJobs (J × K)) : Type 0 where
+    pub outcome : Outcome
+    pub is : IsAtOnce old.0 id method params outcome
+    pub acts : all ≡ replies id outcome ∷ []
+    pub left : new ≡ (old.0, without (Request id) old.1)
+
   module _ (of_job : OfJob J) where
-    -- The server gives a job that is for this request.
-    pub record GivesJob (old : S × PendingJobs (J × K)) (id : Id) (method : List ℕ) (params : Data)
-        (all : List (Act P))
-        (new : S × PendingJobs (J × K)) : Type 0 where
+    -- A job that is for the request is started, and nothing else is done.
+    pub record StartsJob (old : S × PendingJobs (J × K)) (id : Id) (method : List ℕ) (params : Data)
+        (all : List (Act (Asked P))) (new : S × PendingJobs (J × K)) : Type 0 where
       pub job : J
       pub key : K
-      pub mid : S
       pub is_for : of_job.is_for job method params
-      pub gives : may.gives old.0 id method params job key mid
-      pub begins : BeginsJob (mid, old.1) (Request id) job key all new
+      pub gives : may.gives old.0 id method params job key
+      pub acts : all ≡ []
+      pub started : new ≡ (old.0, with_job (Request id) (job, key) old.1)
+
+    -- What is done at a long request. An earlier job under its id is forgotten.
+    abbrev pub TakesLong : S × PendingJobs (J × K) → Id → List ℕ → Data → List (Act (Asked P)) → S
+        × PendingJobs (J × K) → Type 0
+    TakesLong old id method params all new =
+        StartsJob old id method params all new ⊎ AnswersAtOnce old id method params all new
 
     -- A pending job came to an outcome.
     pub record Finishes (old : S × PendingJobs (J × K)) (all : List (Act P)) (new : S
@@ -152,9 +163,9 @@ module _ {S J K P : Type 0} (may : WithJobs S J K P) where
         ⊎ (Reports old all new
         ⊎ (Asks old all new ⊎ ByServers (λ acts. Finishes old acts new) all))
 
-    -- What a server with its jobs may do. A request is answered by a job that is for it, or by the server, if it may
-    -- leave that one to itself. A reply to a request of a job is not told to the server. At `shutdown` no job is
-    -- started, and none is pending any more.
+    -- What a server with its jobs may do. A request that the server may call long is answered by a job that is for it,
+    -- or at once; another by the server. A reply to a request of a job is not told to the server. At `shutdown` no job
+    -- is started, and none is pending any more.
     abbrev pub with_jobs : Plain S P → Stated (S × PendingJobs (J × K)) (Asked P)
     with_jobs plain = record {
       initializes = λ old params outcome new. plain.initializes old.0 params outcome new.0
@@ -162,9 +173,10 @@ module _ {S J K P : Type 0} (may : WithJobs S J K P) where
       at_initialized = λ old all new.
           ByServers (λ acts. Does (plain.at_initialized old.0) old.1 acts new) all;
       requested = λ old id method params all new.
-          ByServers (λ acts. GivesJob (old.0, without (Request id) old.1) id method params acts new
-          ⊎ (may.leaves old.0 method params
-          × Does (plain.requested old.0 id method params) (without (Request id) old.1) acts new)) all;
+          (may.sorts old.0 method params true
+          × TakesLong old id method params all new)
+          ⊎ (may.sorts old.0 method params false × ByServers
+          (λ acts. Does (plain.requested old.0 id method params) (without (Request id) old.1) acts new) all);
       notified = λ old method params all new.
           ByServers (λ acts. Does (plain.notified old.0 method params)
           (without_cancelled (cancelled_by method params) old.1) acts new) all;

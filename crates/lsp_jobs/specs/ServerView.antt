@@ -1,10 +1,11 @@
 -- What is seen of a server with jobs.
-use Rattle.lsp_message.specs.declared.msg.Request.{Request as Whole}
+use Rattle.lsp_message.specs.View.{outcome_view}
+use Rattle.lsp_jobs.specs.Ends.{Outcome}
 use Rattle.lsp_jobs.specs.declared.job_server.AnsweredBy as by
-use Rattle.lsp_jobs.specs.declared.job_server.AnsweredBy.TheVariants.{Job, Server}
+use Rattle.lsp_jobs.specs.declared.job_server.AnsweredBy.TheVariants.{Job, Reply}
 
 module _ {J K : Type 0} where
-  -- this holds of the job that answers, or that of the request that the server answers itself
-  abbrev pub AnsweredSo : by.AnsweredBy J K → (J → K → Type 0) → (Whole → Type 0) → Type 0
-  AnsweredSo (Job job key) jobs serves = jobs job key
-  AnsweredSo (Server request) jobs serves = serves request
+  -- this holds of the job that answers, or that of the reply at once
+  abbrev pub AnsweredSo : by.AnsweredBy J K → (J → K → Type 0) → (Outcome → Type 0) → Type 0
+  AnsweredSo (Job job key) jobs replies = jobs job key
+  AnsweredSo (Reply outcome) jobs replies = replies (outcome_view outcome)

@@ -1,18 +1,18 @@
 -- Of which jobs a server hears that it started in its slots: of the last one in each.
 use Rattle.serde_json.specs.Data.{Data}
-use Rattle.std.specs.Prelude.{◌≡◌, ◌⊎◌, ℕ, Bool, true, false, List, [], ◌∷◌, ◌++◌, map, Option, Some, None}
+use Rattle.std.specs.Prelude.{◌≡◌, ◌⊎◌, ℕ, true, false, List, [], ◌∷◌, ◌++◌, map, Option, Some, None}
 use Rattle.lsp_message.specs.Id.{Id, same_id}
 use Rattle.lsp_message.specs.Message.{Message, request, notification, response}
 use Rattle.lsp_message.specs.Methods.{is_initialized}
 use Rattle.lsp_session.specs.Session.{Exchange}
-use Rattle.lsp_service.specs.Acts.{Act, tells, asks, TakesBack}
+use Rattle.lsp_service.specs.Acts.{Act, tells, asks, replies, TakesBack}
 use Rattle.lsp_service.specs.Law.{Call}
 use Rattle.lsp_service.specs.declared.server.Server.{Ghosts as Plain}
 use Rattle.lsp_jobs.specs.Asking.{by_server}
-use Rattle.lsp_jobs.specs.Ends.{Outcome, came_to, no_room}
+use Rattle.lsp_jobs.specs.Ends.{Outcome, came_to}
 use Rattle.lsp_jobs.specs.JobLaw.{Left, at_ends}
 use Rattle.lsp_jobs.specs.PendingJobs.{ComesTo}
-use Rattle.lsp_jobs.specs.Pooled.{reply_at}
+use Rattle.lsp_jobs.specs.Pooled.{reply_at, IsAtOnce}
 use Rattle.lsp_jobs.specs.declared.asking.Asked.{Asked}
 use Rattle.lsp_jobs.specs.declared.asking.Asked.TheVariants.{ByJob}
 use Rattle.lsp_jobs.specs.declared.job.Job.{Ghosts as OfJob}
@@ -57,31 +57,40 @@ module _ {S J K P : Type 0} (plain : Plain S P) (may : WithJobs S J K P) where
     pub left : List (Left may)
     pub new : S
 
-  -- a message, or how a job ended, takes the server from old to new
-  abbrev pub IsCalled : S → Option Message → S → Type 0
-  IsCalled old (Some (request id method params)) new =
-      (may.leaves old method params × ((acts : List (Act P)) × plain.requested old id method params acts new))
-      ⊎ ((job : J) × (key : K) × (mid : S) × may.gives old id method params job key mid
-      × ((new ≡ mid) ⊎ ((acts : List (Act P)) × may.finishes mid (Request id) key no_room acts new)))
-  IsCalled old (Some (notification method params)) new =
-      (acts : List (Act P)) × (plain.notified old method params acts new
-      ⊎ ((is_initialized (notification method params) ≡ true) × plain.at_initialized old acts new))
-  IsCalled old (Some (response id outcome)) new =
-      (payload : P) × (acts : List (Act P)) × plain.replied old payload outcome acts new
-  IsCalled old None new =
-      (name : JobName) × (key : K) × (outcome : Outcome) × (acts : List (Act P))
-      × may.finishes old name key (came_to outcome) acts new
+  -- A message, or how a job ended, takes the server from old to new, and these acts are done. It does not call that
+  -- request long.
+  abbrev pub IsCalled : S → Option Message → List (Act P) → S → Type 0
+  IsCalled old (Some (request id method params)) acts new =
+      may.sorts old method params false × plain.requested old id method params acts new
+  IsCalled old (Some (notification method params)) acts new =
+      plain.notified old method params acts new
+      ⊎ ((is_initialized (notification method params) ≡ true) × plain.at_initialized old acts new)
+  IsCalled old (Some (response id outcome)) acts new = (payload : P) × plain.replied old payload outcome acts new
+  IsCalled old None acts new =
+      (name : JobName) × (key : K) × (outcome : Outcome) × (first : List (Act P))
+      × may.finishes old name key (came_to outcome) first new × (acts ≡ first ++ reply_at name (came_to outcome))
 
-  -- it may come that the server is not called: a reply to a job, or to nobody, or a wake at which no job ended
-  abbrev pub MayPass : Option Message → Type 0
-  MayPass (Some (request id method params)) = ⊥
-  MayPass (Some (notification method params)) = ⊥
-  MayPass came = Unit {0}
+  -- The server calls this request long. It gives a job, and nothing is done yet. Or this is the reply at once.
+  abbrev pub IsLong : S → Id → List ℕ → Data → List (Act (Asked P)) → Type 0
+  IsLong server id method params acts =
+      may.sorts server method params true
+      × (((job : J) × (key : K) × may.gives server id method params job key × (acts ≡ []))
+      ⊎ ((outcome : Outcome) × IsAtOnce may server id method params outcome × (acts ≡ replies id outcome ∷ [])))
 
+  -- It may come that the server does nothing: at a long request; at a reply to a job, or to nobody; at a wake at which
+  -- no job ended.
+  abbrev pub MayPass : S → Option Message → List (Act (Asked P)) → Type 0
+  MayPass server (Some (request id method params)) acts = IsLong server id method params acts
+  MayPass server (Some (notification method params)) acts = ⊥
+  MayPass server (Some (response id outcome)) acts = acts ≡ []
+  MayPass server None acts = Unit {0}
+
+  -- What is done at a call is what the server did, and then at the ends of jobs whose slots it changed.
   abbrev pub IsTurn : Turn → Type 0
   IsTurn t =
-      (IsCalled t.old t.call.came t.asked × may.changes t.asked t.changes t.made × SeesLeft t.made t.left t.new)
-      ⊎ (MayPass t.call.came × (t.changes ≡ []) × (t.left ≡ []) × (t.new ≡ t.old))
+      ((acts : List (Act P)) × IsCalled t.old t.call.came acts t.asked × may.changes t.asked t.changes t.made
+      × SeesLeft t.made t.left t.new × (t.call.acts ≡ map by_server (acts ++ at_ends may t.left)))
+      ⊎ (MayPass t.old t.call.came t.call.acts × (t.changes ≡ []) × (t.left ≡ []) × (t.new ≡ t.old))
 
   -- Each turn begins where the one before ended, but that the server took back what found no id for a request.
   abbrev pub AreTurns : S → List Turn → Type 0

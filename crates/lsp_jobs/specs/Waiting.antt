@@ -1,7 +1,7 @@
 -- What is kept under the names of jobs.
 use Rattle.serde_json.specs.Data.{Data}
 use Rattle.std.specs.FinMap as map
-use Rattle.std.specs.Prelude.{◌≡◌, ℕ, List, Option, Some, option_map}
+use Rattle.std.specs.Prelude.{◌≡◌, ℕ, List, Some, option_map}
 use mathlib.Core.Option.{some}
 use lib.ListN.{get_elem?}
 use Rattle.lsp_jobs.specs.Outcomes.{MaySend}

@@ -81,8 +81,10 @@ pub fn requests_are_answered_by_their_jobs<S: JobServer<J>, J: Job>()
         → AnswersRequest J.Job earlier id outcome ⊎ RepliesItself S.JobServer.own id outcome }
 {}
 
-/// Of the jobs that a server starts in its slots, from the state at the result of `initialize` on (`GoesOn` in `lsp_service::laws`). Its turns
-/// are what it did at `initialized` and at its calls, each from the state that the one before left. At each wake nothing is done, or one
+/// Of the jobs that a server starts, from the state at the result of `initialize` on (`GoesOn` in `lsp_service::laws`). Its turns are what
+/// it did at `initialized` and at its calls, each from the state that the one before left. At a request that it calls long, the server
+/// stays as it is. Nothing is sent, since it gave a job for the request; or one reply: what it knows (`knows`), or the error -32803,
+/// `too many requests are waiting`, or -32603, `out of memory`. At each wake nothing is done, or one
 /// pending job reports, asks or came to what it may find. If that is a job in a slot, it is the last that was started there: in an earlier
 /// turn, and since then the slot was not changed. So what is found of an earlier text never comes behind the start for a later one.
 /// Up to the result of `initialize` no job is pending (`first`).

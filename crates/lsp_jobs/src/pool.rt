@@ -201,6 +201,11 @@ fn pool_without_workers<T: Wait + Drop, J: Job, K: Drop>(
 }
 
 impl<T: Wait + Drop, J: Job, K: Drop> JobPool<T, J, K> {
+    /// Whether there is room for one more job. That stays so until a job is submitted.
+    pub fn has_room(&self) -> bool {
+        self.waiting.has_room(&self.rt)
+    }
+
     /// Gives a job to the threads, and keeps `kept` with it; it never waits for one. An earlier job with the name is forgotten, and what was
     /// kept with it is dropped. After a fault no job has the name, and this one never runs.
     pub fn submit(&mut self, name: JobName, job: J, kept: K) -> Result<(), SubmitFault<K>>
@@ -211,21 +216,35 @@ impl<T: Wait + Drop, J: Job, K: Drop> JobPool<T, J, K> {
     {
         let earlier = self.forget(&name);
         drop(earlier);
-        if !self.waiting.has_room(&self.rt) {
+        if !self.has_room() {
             return Err(SubmitFault::Full(kept));
         }
         match self.hand_over(&name, job, kept) {
             Ok(()) => Ok(()),
-            Err(_) => {
-                let kept = self.forget(&name);
+            Err(_) => Err(SubmitFault::Memory),
+        }
+    }
+
+    /// Gives a job to the threads, whether there is room for it or not. The error means that an allocation failed: no job has the name then,
+    /// and this one never runs.
+    pub(crate) fn hand_over(&mut self, name: &JobName, job: J, kept: K) -> Result<(), AllocError>
+        ensures ok { OnOk result
+            (pending_jobs self.new ≡ with_job name.now («job», «kept») (pending_jobs self.old)) }
+        ensures err { OnErr result
+            (pending_jobs self.new ≡ without name.now (pending_jobs self.old)) }
+    {
+        match self.keep(name, job, kept) {
+            Ok(()) => Ok(()),
+            Err(error) => {
+                let kept = self.forget(name);
                 drop(kept);
-                Err(SubmitFault::Memory)
+                Err(error)
             }
         }
     }
 
     /// Keeps a job, and gives it to the workers. After a fault it may be kept.
-    fn hand_over(&mut self, name: &JobName, job: J, kept: K) -> Result<(), AllocError>
+    fn keep(&mut self, name: &JobName, job: J, kept: K) -> Result<(), AllocError>
         ensures ok { OnOk result
             (pending_jobs self.new ≡ with_job name.now («job», «kept») (pending_jobs self.old)) }
         ensures err { without name.now (pending_jobs self.new)

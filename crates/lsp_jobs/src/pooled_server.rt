@@ -1,15 +1,18 @@
 // A server at its pool of jobs: what it does when a message or the message of a job comes.
-ghost use Rattle.std.specs.Prelude.{◌≡◌, ◌∷◌, ◌++◌, [], ℕ, List, None, map, IfOk, string_bytes};
+ghost use Rattle.std.specs.Prelude.{◌≡◌, ◌⊎◌, ◌∷◌, ◌++◌, [], ℕ, List, None, Err, map, IfOk, string_bytes};
 ghost use Rattle.serde_json.specs.Data.{Data};
 ghost use Rattle.serde_json.specs.View.{view};
 ghost use Rattle.std.specs.List.{FoldsTo};
 ghost use Rattle.lsp_message.specs.View.{error_view, outcome_view};
-ghost use Rattle.lsp_service.specs.Acts.{cancelled_by};
+ghost use Rattle.lsp_service.specs.Acts.{cancelled_by, replies};
 ghost use Rattle.lsp_service.specs.View.{act_view};
 ghost use Rattle.lsp_jobs.specs.Asking.{by_server, ByServers};
-ghost use Rattle.lsp_jobs.specs.Ends.{reply_of, too_many};
+ghost use Rattle.lsp_jobs.specs.Ends.{no_memory, too_many};
+ghost use Rattle.lsp_jobs.specs.PendingJobs.{with_job, without};
 ghost use Rattle.lsp_jobs.specs.PoolView.{end_view, pending_jobs};
-ghost use Rattle.lsp_jobs.specs.Pooled.{reply_at, unanswered, without_cancelled, BeginsJob, Changes, ChangesSlots, Ends, EndsThen, Frees, StartsOne};
+ghost use Rattle.lsp_jobs.specs.Pooled.{reply_at, unanswered, without_cancelled, Changes, ChangesSlots, Ends, EndsThen, Frees, IsAtOnce, StartsOne, TakesLong};
+ghost use Rattle.lsp_jobs.specs.ServerView.{AnsweredSo};
+ghost use Rattle.lsp_jobs.specs.declared.names.JobName.TheVariants.{Request as OfRequest};
 ghost use Rattle.lsp_jobs.specs.Seen.{seen};
 
 use crate::asking::Asked;
@@ -17,7 +20,7 @@ use crate::job::Job;
 use crate::job_server::{AnsweredBy, JobEnd, JobServer, SlotChange};
 use crate::names::JobName;
 use crate::pool::{JobMessage, JobPool, SubmitFault};
-use lsp_message::{ErrorCode, Notification, Request, ResponseError};
+use lsp_message::{ErrorCode, Notification, Request, RequestId, ResponseError};
 use lsp_service::{Act, Server, WokenServer, cancelled_id};
 use serde_json::Value;
 use std::alloc::{AllocError, Global};
@@ -101,7 +104,7 @@ where
             (seen self.new)) }
     {
         let mut acts = self.server.finished(&name, key, &end, self.alloc)?;
-        push_reply(self.alloc, &mut acts, name, end)?;
+        push_reply(&mut acts, name, end)?;
         self.forget_answered(&acts)?;
         Ok(acts)
     }
@@ -122,20 +125,61 @@ where
         acts.append(&mut more)
     }
 
-    /// Starts the job of a request that came, and then changes slots.
-    fn begin_job(
+    /// Has a job answer a long request, or answers it at once.
+    fn take_long(&mut self, request: Request) -> Result<Vec<Act<Asked<S::Payload>>>, AllocError>
+        requires { pending_jobs self.old.pool (OfRequest request.id) ≡ None }
+        ensures { IfOk result (λ all. TakesLong S.JobServer.own J.Job (seen self.old) request.id
+            (string_bytes request.method) (view request.params) (map act_view all.items)
+            (seen self.new)) }
+    {
+        let id = request.id.clone()?;
+        match self.answer_to(request)? {
+            AnsweredBy::Job(job, key) => self.start_for(id, job, key),
+            AnsweredBy::Reply(outcome) => one_act(self.alloc, Act::Reply(id, outcome)),
+        }
+    }
+
+    /// What answers a long request, if there is room for a job and memory to make it. The reply says it if not.
+    fn answer_to(&self, request: Request) -> Result<AnsweredBy<J, S::Key>, AllocError>
+        ensures { IfOk result (λ by. AnsweredSo by
+            (λ job key. J.is_for job (string_bytes request.method) (view request.params)
+            × S.JobServer.gives self.now.server request.id (string_bytes request.method)
+            (view request.params) job key)
+            (λ outcome. IsAtOnce S.JobServer.own self.now.server request.id
+            (string_bytes request.method) (view request.params) outcome)) }
+    {
+        if !self.pool.has_room() {
+            drop(request);
+            return Ok(AnsweredBy::Reply(Err(refusal(self.alloc)?)));
+        }
+        match self.server.job(request) {
+            Ok(by) => Ok(by),
+            Err(_) => Ok(AnsweredBy::Reply(Err(out_of_memory(self.alloc)?))),
+        }
+    }
+
+    /// Starts the job of a request. If an allocation fails, that is the reply.
+    fn start_for(
         &mut self,
-        name: JobName,
+        id: RequestId,
         job: J,
         key: S::Key,
     ) -> Result<Vec<Act<Asked<S::Payload>>>, AllocError>
-        ensures { IfOk result (λ all. ByServers (λ own.
-            BeginsJob S.JobServer.own (seen self.old) name «job» «key» own (seen self.new))
-            (map act_view all.items)) }
+        ensures { IfOk result (λ all.
+            ((map act_view all.items ≡ []) × (seen self.new ≡ (
+              self.old.server,
+              with_job (OfRequest id) («job», «key») (pending_jobs self.old.pool),
+            )))
+            ⊎ ((map act_view all.items ≡ replies id (Err no_memory) ∷ []) × (seen self.new ≡ (
+              self.old.server,
+              without (OfRequest id) (pending_jobs self.old.pool),
+            )))) }
     {
-        let mut acts = Vec::new(self.alloc);
-        self.start_one(name, job, key, &mut acts)?;
-        self.acts_with_changes(acts)
+        let name = JobName::Request(id.clone()?);
+        match self.pool.hand_over(&name, job, key) {
+            Ok(()) => Ok(Vec::new(self.alloc)),
+            Err(_) => one_act(self.alloc, Act::Reply(id, Err(out_of_memory(self.alloc)?))),
+        }
     }
 
     /// What the server did, and then does with its slots: `change_slots`, as acts of the server.
@@ -244,39 +288,23 @@ where
     }
 }
 
-/// Adds the reply to the request of a job that ended so. A job in a slot has none.
-fn push_reply<P: Drop>(
-    alloc: Global,
-    acts: &mut Vec<Act<P>>,
-    name: JobName,
-    end: JobEnd,
-) -> Result<(), AllocError>
+/// Adds the reply to the request of a job that came to an outcome. A job in a slot has none.
+fn push_reply<P: Drop>(acts: &mut Vec<Act<P>>, name: JobName, end: JobEnd) -> Result<(), AllocError>
     ensures { IfOk result (λ _. map act_view acts.new.items
         ≡ map act_view acts.old.items ++ reply_at name (end_view «end»)) }
 {
-    match name {
-        JobName::Request(id) => {
-            let outcome = reply_to(alloc, end)?;
+    match (name, end) {
+        (JobName::Request(id), JobEnd::Outcome(outcome)) => {
             match acts.push(Act::Reply(id, outcome)) {
                 Ok(()) => Ok(()),
                 Err(_) => Err(AllocError),
             }
         }
-        JobName::Slot(_) => Ok(()),
+        _ => Ok(()),
     }
 }
 
-/// What the request of a job gets that ended so.
-fn reply_to(alloc: Global, end: JobEnd) -> Result<Result<Value, ResponseError>, AllocError>
-    ensures { IfOk result (λ outcome. outcome_view outcome ≡ reply_of (end_view «end»)) }
-{
-    match end {
-        JobEnd::Outcome(outcome) => Ok(outcome),
-        _ => Ok(Err(refusal(alloc)?)),
-    }
-}
-
-/// The error for a request whose job found no room.
+/// The error for a request for whose job there is no room.
 fn refusal(alloc: Global) -> Result<ResponseError, AllocError>
     ensures { IfOk result (λ error. error_view error ≡ too_many) }
 {
@@ -285,6 +313,13 @@ fn refusal(alloc: Global) -> Result<ResponseError, AllocError>
         ErrorCode::RequestFailed,
         "too many requests are waiting",
     )
+}
+
+/// The error for a request where an allocation failed.
+fn out_of_memory(alloc: Global) -> Result<ResponseError, AllocError>
+    ensures { IfOk result (λ error. error_view error ≡ no_memory) }
+{
+    ResponseError::new(alloc, ErrorCode::InternalError, "out of memory")
 }
 
 /// Acts of the server, which keeps its own for the replies.
@@ -370,16 +405,13 @@ where
     }
 
     fn request(&mut self, request: Request) -> Result<Vec<Act<Asked<S::Payload>>>, AllocError> {
-        let name = JobName::Request(request.id.clone()?);
-        let kept = self.pool.forget(&name);
+        let kept = self.pool.forget(&JobName::Request(request.id.clone()?));
         drop(kept);
-        match self.server.job(request)? {
-            AnsweredBy::Job(job, key) => self.begin_job(name, job, key),
-            AnsweredBy::Server(request) => {
-                let acts = self.server.request(request)?;
-                self.acts_with_changes(acts)
-            }
+        if self.server.is_long(&request) {
+            return self.take_long(request);
         }
+        let acts = self.server.request(request)?;
+        self.acts_with_changes(acts)
     }
 
     fn notification(

@@ -30,9 +30,9 @@ const ROOM: usize = 256;
 ///
 /// - A `$/cancelRequest` for a request that waits for its job is answered at once, with what the server does at it or else with the
 ///   error -32800. The job's token is cancelled, and what it comes to is dropped (LSP 3.17, "Cancellation Support").
-/// - A job that finds no room is dropped, and its request gets the error -32803, `too many requests are waiting`.
-/// - If an allocation fails in a job, its request gets the error -32603, `out of memory`, and all else goes on. Only if memory for that
-///   text is missing too, the session ends.
+/// - A long request for whose job there is no room gets the error -32803, `too many requests are waiting`, and its job is not asked for.
+/// - If an allocation fails in a job, or as it is made or started, its request gets the error -32603, `out of memory`, and all else goes
+///   on. Only if memory for that text is missing too, the session ends.
 /// - Reports and outcomes are sent up to `shutdown`. There all jobs are cancelled: what they say later is dropped, and their requests get the
 ///   error -32800, `canceled by shutdown`, before the reply to `shutdown`.
 /// - At a content part that is no message (see `lsp_session::is_of_body`) the listener `bad_bodies` is asked, at once and on your thread,

@@ -10,6 +10,7 @@ use std::alloc::{AllocError, Global};
 use std::fmt::Write;
 use std::mem;
 use std::sync::Arc;
+use std::sync::atomic::{AtomicU64, Ordering};
 
 /// Answers `demo/echo` with its params, and knows no other method.
 #[derive(Drop)]
@@ -59,18 +60,19 @@ pub enum Asked {
 ///   until the next notification, and knows no other method but two:
 /// - `job SCRIPT` gives a job with this script (`jobs.rt`), which comes to the params. `later SCRIPT` is one that it starts in a slot at the
 ///   notification `start`, and whose result it gives as the reply. What it keeps for a job is the job's number, from 1.
+/// - `long known` is answered at once with its params, where a job might run. For the job of `long unmade` memory is missing.
 /// - The notification `job SCRIPT` starts a job in a slot of its own, whose outcome it publishes; `stop` stops it. At `answer` it answers the
 ///   request whose id is the first of the params itself. At one whose method begins with `$/` it does nothing.
 /// - At another notification it pushes its params, asks for the configuration and answers what it keeps.
 /// - At a reply with the configuration it pushes the number of the question.
-/// - Of a job that found no room it first pushes the number.
+/// - Of a job in a slot that found no room it pushes the number.
 #[derive(Drop)]
 pub struct Talker {
     alloc: Global,
     signals: Arc<Signals>,
     questions: u64,
     held: Vec<RequestId>,
-    numbered: u64,
+    numbered: AtomicU64,
     changes: Vec<Change>,
     later: Vec<Change>,
     /// The requests that jobs in slots answer, each with the number of its job.
@@ -91,7 +93,7 @@ impl Talker {
             signals,
             questions: 0,
             held: Vec::new(alloc),
-            numbered: 0,
+            numbered: AtomicU64::new(0),
             changes: Vec::new(alloc),
             later: Vec::new(alloc),
             kept: Vec::new(alloc),
@@ -143,8 +145,8 @@ impl Talker {
     }
 
     /// A job with this script, and its number.
-    fn job_of(&mut self, script: &str, value: Value) -> Result<(Scripted, u64), AllocError> {
-        self.numbered = self.numbered.saturating_add(1);
+    fn job_of(&self, script: &str, value: Value) -> Result<(Scripted, u64), AllocError> {
+        let number = self.numbered.fetch_add(1, Ordering::SeqCst).wrapping_add(1);
         match Means::of(self.alloc, &self.signals, script, &value) {
             Ok(means) => {
                 let alloc = self.alloc;
@@ -153,7 +155,7 @@ impl Talker {
                     means,
                     value,
                 };
-                Ok((job, self.numbered))
+                Ok((job, number))
             }
             Err(error) => {
                 drop(value);
@@ -331,15 +333,21 @@ impl JobServer<Scripted> for Talker {
 
     ghost finishes = { λ _ _ _ _ _ _. ⊤ };
 
-    fn job(&mut self, request: Request) -> Result<AnsweredBy<Scripted, u64>, AllocError> {
+    fn is_long(&self, request: &Request) -> bool {
+        let method = request.method.as_str();
+        method.starts_with("job ") || method.starts_with("long ")
+    }
+
+    fn job(&self, request: Request) -> Result<AnsweredBy<Scripted, u64>, AllocError> {
         let Request { id, method, params } = request;
-        let Some(script) = method.as_str().strip_prefix("job ") else {
-            return Ok(AnsweredBy::Server(Request { id, method, params }));
-        };
         drop(id);
-        match self.job_of(script, params) {
-            Ok((job, number)) => Ok(AnsweredBy::Job(job, number)),
-            Err(error) => Err(error),
+        match method.as_str() {
+            "long known" => Ok(AnsweredBy::Reply(Ok(params))),
+            "long unmade" => {
+                drop(params);
+                Err(AllocError)
+            }
+            method => self.job_named(method, params),
         }
     }
 
@@ -374,6 +382,17 @@ impl JobServer<Scripted> for Talker {
 }
 
 impl Talker {
+    fn job_named(
+        &self,
+        method: &str,
+        params: Value,
+    ) -> Result<AnsweredBy<Scripted, u64>, AllocError> {
+        match self.job_of(method.strip_prefix("job ").unwrap_or(""), params) {
+            Ok((job, number)) => Ok(AnsweredBy::Job(job, number)),
+            Err(error) => Err(error),
+        }
+    }
+
     fn note_end(&mut self, end: &str) -> Result<Acts, AllocError> {
         self.finished.push_str(end)?;
         Ok(Vec::new(self.alloc))

@@ -4,7 +4,6 @@ use Rattle.lsp_message.specs.Id.{id_cmp}
 use Rattle.lsp_jobs.proofs.NameLemmas.{request_added}
 use Rattle.lsp_jobs.proofs.PendingLemmas.{on_ok_as, on_err_as}
 use Rattle.lsp_jobs.specs.Waiting.{entry_of}
-use Rattle.lsp_jobs.specs.declared.entries.Entries.{Entries}
 use Rattle.lsp_jobs.proofs.entries.Entries.add_request.Goals as goal
 
 pub returns-clause-ok : goal.returns-clause-ok

@@ -13,6 +13,6 @@ returns-in-Ok-clause-ok g c =
 
 pub returns-clause-err : goal.returns-clause-err
 returns-clause-err g c =
-    c.forget-kept.ensures.pending ∙ c.in-Err.ensures.err
+    c.in-Err.ensures.err
     ∙ ap (λ (p : PendingJobs _). without c.args.name p) c.forget-earlier.ensures.pending
     ∙ without_again (pending_jobs c.args.self.now) c.args.name

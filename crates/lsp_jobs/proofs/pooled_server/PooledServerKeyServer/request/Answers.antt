@@ -2,57 +2,55 @@ use Rattle.serde_json.specs.View.{view}
 use Rattle.std.proofs.Common.{◌∙◌, ap, subst, inl, inr, map, string_bytes}
 use Rattle.std.proofs.lemmas.Result.{IfOk-weaker}
 use Rattle.lsp_message.specs.Id.{Id}
-use Rattle.lsp_message.specs.declared.msg.Request.{Request as Whole}
 use Rattle.lsp_service.specs.View.{act_view}
+use Rattle.lsp_jobs.proofs.PendingLemmas.{given_up, long_again}
 use Rattle.lsp_jobs.specs.PendingJobs.{PendingJobs, without}
 use Rattle.lsp_jobs.specs.PoolView.{pending_jobs}
-use Rattle.lsp_jobs.specs.Pooled.{BeginsJob, ChangesSlots}
+use Rattle.lsp_jobs.specs.Pooled.{ChangesSlots, TakesLong}
 use Rattle.lsp_jobs.specs.Seen.{seen}
-use Rattle.lsp_jobs.specs.declared.names.JobName.{JobName}
 use Rattle.lsp_jobs.specs.declared.names.JobName.TheVariants.{Request}
 use Rattle.lsp_jobs.proofs.pooled_server.PooledServerKeyServer.request.Goals as goal
 
-pub returns-in-Job : goal.returns-in-Job
-returns-in-Job g c =
-    let given = (rw c.in-Job.is at c.in_ok-job.ensures) in
-    let name = ap (λ (id : Id). Request id) c.in_ok-clone.ensures in
+pub take_long-requires : goal.take_long-requires
+take_long-requires g c =
+    let before = pending_jobs c.args.self.now.pool in
     let left = c.forget-kept.ensures.pending
-    ∙ ap (λ (n : JobName). without n (pending_jobs c.args.self.now.pool)) name in
-    IfOk-weaker c.begin_job.result _ _ (λ all begins. (
-      begins.0,
-      begins.1,
-      inl (record {
-        job = c.in-Job.job;
-        key = c.in-Job.key;
-        mid = c.job.new.self;
-        is_for = given.0;
-        gives = given.1;
-        begins = subst (λ (x : JobName × PendingJobs (g.row.J.Denot × g.row.S-Key.Denot)).
-            BeginsJob g.S.JobServer (c.job.new.self, x.1) x.0 c.in-Job.job c.in-Job.key begins.0
-            (seen c.begin_job.new.self))
-            (λ k. (name k, left k)) begins.2;
-      }),
-    )) c.begin_job.ensures
+    ∙ ap (λ (id : Id). without (Request id) before) c.in_ok-clone.ensures in
+    ap (λ (p : PendingJobs _). p (Request c.args.request.id)) left ∙ given_up before (Request c.args.request.id)
 
-pub returns-in_ok-acts-in-Server : goal.returns-in_ok-acts-in-Server
-returns-in_ok-acts-in-Server g c =
-    let back = (rw c.in-Server.is at c.in_ok-job.ensures) in
-    let acts = map (act_view {P = g.row.S-Payload.Denot}) c.in_ok-acts-in-Server.acts.items in
-    let did = c.request-in-Server.new.self in
-    let name = ap (λ (id : Id). Request id) c.in_ok-clone.ensures in
+pub returns-then-is_long : goal.returns-then-is_long
+returns-then-is_long g c =
+    let before = pending_jobs c.args.self.now.pool in
+    let server = c.args.self.now.server in
+    let id = c.args.request.id in
+    let method = string_bytes c.args.request.method in
+    let params = view c.args.request.params in
+    let did = seen c.take_long.new.self in
     let left = c.forget-kept.ensures.pending
-    ∙ ap (λ (n : JobName). without n (pending_jobs c.args.self.now.pool)) name in
-    IfOk-weaker c.acts_with_changes.result _ _ (λ all others. (
-      others.0,
-      others.1,
-      inr (
-        back.2,
+    ∙ ap (λ (id : Id). without (Request id) before) c.in_ok-clone.ensures in
+    IfOk-weaker c.take_long.result _ _ (λ all long. inl (
+      c.if-is_long.ensures,
+      long_again g.S.JobServer g.J.Job server before id method params (map act_view all.items) did
+          (subst (λ p. TakesLong g.S.JobServer g.J.Job (server, p) id method params (map act_view all.items) did)
+          left long),
+    )) c.take_long.ensures
+
+pub returns : goal.returns
+returns g c =
+    let acts = map (act_view {P = g.row.S-Payload.Denot}) c.in_ok-acts.acts.items in
+    let did = c.request-2.new.self in
+    let before = pending_jobs c.args.self.now.pool in
+    let left = c.forget-kept.ensures.pending
+    ∙ ap (λ (id : Id). without (Request id) before) c.in_ok-clone.ensures in
+    IfOk-weaker c.acts_with_changes.result _ _ (λ all others. inr (
+      c.if-is_long.ensures,
+      (
+        others.0,
+        others.1,
         (
           acts,
           did,
-          subst (λ (x : Whole × g.row.S.Denot). g.S.Server.requested x.1 x.0.id (string_bytes x.0.method)
-              (view x.0.params) acts did) (λ k. (back.0 k, back.1 k))
-              c.in_ok-acts-in-Server.ensures,
+          c.in_ok-acts.ensures,
           subst (λ t. ChangesSlots g.S.JobServer (did, t) acts others.0 (seen c.acts_with_changes.new.self)) left
               others.2,
         ),

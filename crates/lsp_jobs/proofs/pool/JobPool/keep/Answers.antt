@@ -2,7 +2,7 @@ use Rattle.std.proofs.Common.{ap, ◌∙◌}
 use Rattle.lsp_jobs.proofs.PendingLemmas.{without_with}
 use Rattle.lsp_jobs.specs.PendingJobs.{PendingJobs, with_job, without}
 use Rattle.lsp_jobs.specs.PoolView.{pending_jobs}
-use Rattle.lsp_jobs.proofs.pool.JobPool.hand_over.Goals as goal
+use Rattle.lsp_jobs.proofs.pool.JobPool.keep.Goals as goal
 
 pub returns-clause-err : goal.returns-clause-err
 returns-clause-err g c =
