@@ -456,6 +456,8 @@ class HandPool:
             self.told += self.message()
             if int(words) > 1:
                 self.todo.insert(0, f"listen {int(words) - 1}")
+        elif verb == "rounds":
+            self.run_rounds(*map(int, words.split()))
         elif verb == "message":
             self.told += self.message()
         elif verb == "waits":
@@ -468,6 +470,12 @@ class HandPool:
                     job.is_answered, job.reply = True, {"result": True} if verb == "reply" else None
         if not self.todo:
             self.pool.end()
+
+    def run_rounds(self, rounds, jobs):
+        """Jobs that come at once to idle workers: as many may wait and run as there are places, and all come to their outcomes."""
+        places = len(self.pool.workers) + max(self.pool.waiting, 1)
+        self.told += f"{rounds * max(jobs - places, 0)} refused, "
+        self.pool.counts["begun"] += rounds * min(jobs, places)
 
     def message(self):
         found = self.pool.message()

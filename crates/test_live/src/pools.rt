@@ -8,6 +8,7 @@
 // - `message`: takes the next message: `ID report PARAMS`, `ID ask NUMBER METHOD PARAMS`, `ID outcome VALUE of KEY`,
 //   `ID error CODE of KEY`, `nothing`, or `ID no memory`.
 // - `listen N`: takes N messages, and waits for a signal where there is none.
+// - `rounds N M`: N times, submits M jobs at once, and takes the outcomes of those that were taken. `R refused`.
 // - `reply N`, `give_up N`: the request number N of a job gets the reply `true`, or none; nothing is told.
 // - `waits ID`: `waits` or `free`. `forget ID`: nothing is told.
 //
@@ -22,6 +23,7 @@ use lsp_message::RequestId;
 use serde_json::Value;
 use std::alloc::{AllocError, Global};
 use std::fmt::Write;
+use std::mem;
 use std::sync::{Arc, Wait};
 use std::thread::Threads;
 
@@ -130,7 +132,9 @@ impl<R: Wait + Drop> Bench<R> {
                 self.go_silently(name, rest);
                 Ok(())
             }
-            "submit" | "hear" | "listen" | "message" | "waits" => Ok(self.tell(name, rest)?),
+            "submit" | "hear" | "listen" | "message" | "rounds" | "waits" => {
+                Ok(self.tell(name, rest)?)
+            }
             _ => Err(Stop::Table),
         }
     }
@@ -156,6 +160,7 @@ impl<R: Wait + Drop> Bench<R> {
             "submit" => self.submit(rest),
             "hear" => self.hear(),
             "listen" => self.listen(count_of(rest)),
+            "rounds" => self.run_rounds(rest),
             "waits" => self.tell_waiting(name_of(rest)),
             _ => match self.take_message(true) {
                 Ok(_) => Ok(()),
@@ -191,6 +196,33 @@ impl<R: Wait + Drop> Bench<R> {
             self.await_message()?;
         }
         Ok(())
+    }
+
+    /// Rounds of jobs, and how many were refused in all.
+    fn run_rounds(&mut self, words: &str) -> Result<(), AllocError> {
+        let (rounds, jobs) = words.split_once(" ").unwrap_or((words, "0"));
+        let told = mem::replace(&mut self.told, String::new(self.alloc));
+        let mut refused: u64 = 0;
+        for _ in 0..count_of(rounds) {
+            refused = refused.saturating_add(self.run_round(count_of(jobs))?);
+        }
+        self.told = told;
+        write!(self.told, "{refused} refused, ")
+    }
+
+    /// So many jobs at once, and how many were refused.
+    fn run_round(&mut self, jobs: u64) -> Result<u64, AllocError> {
+        let mut refused: u64 = 0;
+        for name in 0..jobs {
+            self.told.clear();
+            let words = format!(in self.alloc; "{name} {name} soon")?;
+            self.submit(words.as_str())?;
+            if self.told.as_str() != "taken, " {
+                refused = refused.saturating_add(1);
+            }
+        }
+        self.listen(jobs.saturating_sub(refused))?;
+        Ok(refused)
     }
 
     /// Takes the next message, and waits for a signal as long as there is none.
