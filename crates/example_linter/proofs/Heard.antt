@@ -1,0 +1,232 @@
+-- Which documents a notification changes, and that the analyses follow them.
+use Rattle.serde_json.specs.Data.{Data}
+use Rattle.std.proofs.Common.{◌≡◌, refl, sym, ◌∙◌, ap, subst, inl, inr, ℕ, false, List, [], ◌∷◌, ◌++◌}
+use Rattle.std.proofs.Common.{Option, Some, None}
+use Rattle.std.proofs.Common.{string_bytes, String, Global}
+use Rattle.std.proofs.lemmas.List.Elements.{All-nil}
+use Rattle.std.proofs.lemmas.Map.Entries.{lookup_tail}
+use Rattle.std.proofs.lemmas.Map.Text.{is_eq-slice_cmp}
+use Rattle.std.proofs.lemmas.Result.{on_ok_weaker}
+use Rattle.std.specs.BTreeMap.{is_at}
+use Rattle.std.specs.Cmp.Lexicographic.{slice_cmp}
+use Rattle.std.specs.List.{All}
+use Rattle.std.specs.Map.{lookup}
+use Rattle.std.specs.Ordering.{nat_cmp}
+use Rattle.std.specs.Prelude.{MatchOption, IsSomeAnd, option_map, option_and_then, codes, map, Result, Ok, Err, OnOk}
+use Rattle.std.specs.Str.{bytes_eq}
+use Rattle.lsp_documents.specs.Heard.{Answers, FailedBy, notice_in}
+use Rattle.lsp_documents.specs.Held.{documents_of}
+use Rattle.lsp_documents.specs.Notices.{Documents, Failed, FailedSave, Item, Notice, Refused, Took, closes, missed}
+use Rattle.lsp_documents.specs.Notices.{opens, edits, saves, shown}
+use Rattle.lsp_documents.specs.Params.{changes_given, did_change_in, did_close_in, did_open_in, did_save_in}
+use Rattle.lsp_documents.specs.Params.{opened_in, uri_in}
+use Rattle.lsp_documents.specs.Params.{document_in, text_in, version_in}
+use Rattle.lsp_documents.specs.declared.documents.TextDocuments.{TextDocuments}
+use Rattle.lsp_documents.specs.declared.fault.DocumentFault.{DocumentFault}
+use Rattle.lsp_documents.specs.declared.fault.Made.{Made}
+use Rattle.lsp_documents.specs.declared.fault.NotMade.{NotMade}
+use Rattle.lsp_documents.specs.declared.kept.Open.{Open}
+use Rattle.lsp_documents.specs.declared.method.DocumentMethod.{DocumentMethod}
+use Rattle.lsp_documents.specs.declared.method.DocumentMethod.TheVariants.{DidOpen, DidChange, DidSave, DidClose}
+use Rattle.lsp_jobs.specs.SlotLaw.{LeavesAlone, slot_of}
+use Rattle.lsp_jobs.specs.declared.job_server.SlotChange.{SlotChange}
+use Rattle.lsp_jobs.specs.declared.job_server.SlotChange.TheVariants.{Start, Stop}
+use Rattle.lsp_message.specs.Id.{Id, text, same_id}
+use Rattle.lsp_service.specs.View.{act_view}
+use Rattle.lsp_service.specs.declared.server.Act as rust
+use Rattle.example_linter.proofs.Lists.{in_list, only, some_and}
+use Rattle.example_linter.specs.Followed.{AreChangesOf, Clears, Follow, IsChangeOf, IsCurrent}
+use Rattle.example_linter.specs.declared.Analysis.{Analysis}
+use Rattle.example_linter.specs.declared.Source.{Source}
+
+-- only the document of this URI changed; or, without one, none came that was not there
+abbrev pub Touches : Documents → Documents → Option (List ℕ) → Type 0
+Touches before now None = (q : List ℕ) → now.held q ≡ None → before.held q ≡ None
+Touches before now (Some uri) = (q : List ℕ) → bytes_eq q uri ≡ false → now.held q ≡ before.held q
+
+refused : (before now : Documents) (n : Notice) (fault : DocumentFault) → Refused before n fault now
+    → Touches before now (Some n.uri)
+refused before now n fault (inl made) = made.1.others
+refused before now n fault (inr starved) = starved.misses.others
+
+was_none : (o : Option Open) → missed o ≡ None → o ≡ None
+was_none None e = refl
+was_none (Some o) e = absurd (cc (e))
+
+-- the notice that is read, if one is, has the URI that the params name
+abbrev Names : Option Notice → Option (List ℕ) → Type 0
+Names read uri = (n : Notice) → read ≡ Some n → uri ≡ Some n.uri
+
+failed : (before now : Documents) (read : Option Notice) (uri : Option (List ℕ)) (fault : DocumentFault)
+    → Names read uri → Failed before read uri fault now → Touches before now uri
+failed before now (Some n) uri fault names f =
+    subst (Touches before now) (sym (names n refl)) (refused before now n fault f)
+failed before now None (Some uri) fault names f = f.1.others
+failed before now None None fault names f = λ q gone. was_none (before.held q) (sym (f.1.held q) ∙ gone)
+
+failed_save : (before now : Documents) (read : Option Notice) (uri : Option (List ℕ)) (fault : DocumentFault)
+    → Names read uri → FailedSave before read fault now → Touches before now uri
+failed_save before now (Some n) uri fault names f =
+    subst (Touches before now) (sym (names n refl)) (refused before now n fault f)
+failed_save before now None (Some uri) fault names f = λ q other. f.1.held q
+failed_save before now None None fault names f = λ q gone. sym (f.1.held q) ∙ gone
+
+both : {X : Type 0} (of : List ℕ → X → Notice) → ((uri : List ℕ) (x : X) → (of uri x).uri ≡ uri)
+    → (uri : Option (List ℕ)) (o : Option X) → Names (option_and_then (λ u. option_map (of u) o) uri) uri
+both of own None o n e = absurd (cc (e))
+both of own (Some uri) None n e = absurd (cc (e))
+both of own (Some uri) (Some x) n e =
+    let same : of uri x ≡ n = cc (e) in ap Some (sym (own uri x) ∙ ap (λ (m : Notice). m.uri) same)
+
+one : (of : List ℕ → Notice) → ((uri : List ℕ) → (of uri).uri ≡ uri) → (uri : Option (List ℕ))
+    → Names (option_map of uri) uri
+one of own None n e = absurd (cc (e))
+one of own (Some uri) n e =
+    let same : of uri ≡ n = cc (e) in ap Some (sym (own uri) ∙ ap (λ (m : Notice). m.uri) same)
+
+failed_by : (method : DocumentMethod) (before now : Documents) (params : Data) (fault : DocumentFault)
+    → FailedBy method before params fault now → Touches before now (uri_in params)
+failed_by DidOpen before now params fault f = failed before now (did_open_in params) (uri_in params) fault
+    (both (λ uri (d : Item). opens uri d.language_id d.version d.text) (λ uri d. refl) (uri_in params)
+    (opened_in params)) f
+failed_by DidChange before now params fault f = failed before now (did_change_in params) (uri_in params) fault
+    (both (λ uri. edits uri (option_and_then version_in (document_in params))) (λ uri list. refl)
+    (uri_in params) (changes_given params)) f
+failed_by DidSave before now params fault f = failed_save before now (did_save_in params) (uri_in params) fault
+    (one (λ uri. saves uri (text_in (codes "text") params)) (λ uri. refl) (uri_in params)) f
+failed_by DidClose before now params fault f = failed before now (did_close_in params) (uri_in params) fault
+    (one closes (λ uri. refl) (uri_in params)) f
+
+pub touched : (method : DocumentMethod) (before now : TextDocuments) (params : Data) (m : Made)
+    → Answers method before params (Ok m) now → Touches (documents_of before) (documents_of now) (Some m.uri.now)
+touched method before now params m a =
+    let n = some_and (λ (n : Notice). (m.uri.now ≡ n.uri)
+    × Took (documents_of before) n m.remark (documents_of now)) (notice_in method params) a.ok in
+    subst (λ (uri : List ℕ). Touches (documents_of before) (documents_of now) (Some uri)) (sym n.2.0) n.2.1.makes.others
+
+pub not_made : (method : DocumentMethod) (before now : TextDocuments) (params : Data) (m : NotMade)
+    → Answers method before params (Err m) now
+    → Touches (documents_of before) (documents_of now) (option_map (λ s. s.now) m.uri)
+not_made method before now params m a =
+    subst (Touches (documents_of before) (documents_of now)) (sym a.named)
+    (failed_by method (documents_of before) (documents_of now) params m.fault a.err)
+
+other_slot : (q uri : List ℕ) → same_id (text q) (text uri) ≡ false → bytes_eq q uri ≡ false
+other_slot q uri other = sym (is_eq-slice_cmp q uri) ∙ other
+
+slot_is : (documents : Documents) (uri : List ℕ) (change : SlotChange Analysis Source)
+    → IsChangeOf documents uri change → slot_of change ≡ text uri
+slot_is documents uri (Start slot analysis source) is = is.1.0 ∙ ap text is.0
+slot_is documents uri (Stop slot) is = is.0
+
+is_current : (documents : Documents) (uri : List ℕ) (change : SlotChange Analysis Source) (slot : Id)
+    (analysis : Analysis) (source : Source) → IsChangeOf documents uri change → Start slot analysis source ≡ change
+    → IsCurrent documents slot analysis source
+is_current documents uri change slot analysis source is e =
+    (subst (IsChangeOf documents uri) (sym e) is).1
+
+-- the analysis of one document follows it
+pub one_follows : (before now : Documents) (uri : List ℕ) (change : SlotChange Analysis Source)
+    → Touches before now (Some uri) → IsChangeOf now uri change → Follow before (change ∷ []) now
+one_follows before now uri change touches is = record {
+  started = λ slot analysis source last.
+      is_current now uri change slot analysis source is (only last.before last.after _ change last.cut);
+  others = λ q alone. ap (option_and_then shown) (touches q (other_slot q uri
+      (subst (λ (s : Id). same_id (text q) s ≡ false) (slot_is now uri change is) alone.0)));
+}
+
+-- the same of all
+pub all_follow : (before now : Documents) (changes : List (SlotChange Analysis Source)) → Touches before now None
+    → AreChangesOf now changes → Follow before changes now
+all_follow before now changes touches are = record {
+  started = λ slot analysis source last.
+      let at = in_list (λ change. (uri : List ℕ) × IsChangeOf now uri change) last.before last.after
+      (Start slot analysis source) changes last.cut are.each in
+      is_current now at.0 (Start slot analysis source) slot analysis source at.1 refl;
+  others = λ uri alone.
+      let gone = are.all uri alone in
+      ap (option_and_then shown) (gone ∙ sym (touches uri gone));
+}
+
+alone_split : (slot : Id) (some more : List (SlotChange Analysis Source)) → LeavesAlone slot (some ++ more)
+    → LeavesAlone slot some × LeavesAlone slot more
+alone_split slot [] more alone = (tt, alone)
+alone_split slot (change ∷ some) more alone =
+    let rest = alone_split slot some more alone.1 in ((alone.0, rest.0), rest.1)
+
+-- what is kept of a URI, among these entries
+abbrev pub found : List ℕ → List (String Global × Open) → Option Open
+found uri entries = lookup (is_at (λ k. slice_cmp nat_cmp uri (string_bytes k))) entries
+
+-- what is kept of a URI is among the entries that are left, if its slot is not changed
+abbrev pub AreLeft : Documents → List (SlotChange Analysis Source) → List (String Global × Open) → Type 0
+AreLeft documents changes entries =
+    (uri : List ℕ) → LeavesAlone (text uri) changes → documents.held uri ≡ found uri entries
+
+pub are_left : (documents : Documents) (changes : List (SlotChange Analysis Source))
+    (change : SlotChange Analysis Source) (e : String Global × Open) (entries : List (String Global × Open))
+    → IsChangeOf documents (string_bytes e.0) change → AreLeft documents changes (e ∷ entries)
+    → AreLeft documents (changes ++ change ∷ []) entries
+are_left documents changes change e entries is before uri alone =
+    let both = alone_split (text uri) changes (change ∷ []) alone in
+    before uri both.0
+    ∙ lookup_tail (is_at (λ k. slice_cmp nat_cmp uri (string_bytes k))) e entries
+    (subst (λ (s : Id). same_id (text uri) s ≡ false) (slot_is documents (string_bytes e.0) change is) both.1.0)
+
+-- what `hear` ensures
+abbrev Heard : Option DocumentMethod → TextDocuments → Data → Option (Result Made NotMade) → TextDocuments → Type 0
+Heard found before params result now = MatchOption found ((result ≡ None) × (now ≡ before))
+    (λ method. IsSomeAnd result (λ heard. Answers method before params heard now))
+
+heard_as : (found : Option DocumentMethod) (before : TextDocuments) (params : Data)
+    (result : Option (Result Made NotMade)) (heard : Result Made NotMade) (now : TextDocuments)
+    → Heard found before params result now → result ≡ Some heard
+    → (method : DocumentMethod) × Answers method before params heard now
+heard_as None before params result heard now h e = let no = sym h.0 ∙ e in absurd (cc (no))
+heard_as (Some method) before params result heard now h e =
+    (method, subst (λ (r : Option (Result Made NotMade)). IsSomeAnd r (λ x. Answers method before params x now)) e h)
+
+pub hears_made : (found : Option DocumentMethod) (before : TextDocuments) (params : Data)
+    (result : Option (Result Made NotMade)) (m : Made) (now : TextDocuments)
+    → Heard found before params result now → result ≡ Some (Ok m)
+    → Touches (documents_of before) (documents_of now) (Some m.uri.now)
+hears_made found before params result m now h e =
+    let a = heard_as found before params result (Ok m) now h e in touched a.0 before now params m a.1
+
+pub hears_missed : (found : Option DocumentMethod) (before : TextDocuments) (params : Data)
+    (result : Option (Result Made NotMade)) (m : NotMade) (now : TextDocuments)
+    → Heard found before params result now → result ≡ Some (Err m)
+    → Touches (documents_of before) (documents_of now) (option_map (λ s. s.now) m.uri)
+hears_missed found before params result m now h e =
+    let a = heard_as found before params result (Err m) now h e in not_made a.0 before now params m a.1
+
+pub follows_one : {A E : Type 0} (r : Result A E) (before held now : TextDocuments)
+    (old new : List (SlotChange Analysis Source)) (uri : List ℕ)
+    → Touches (documents_of before) (documents_of held) (Some uri) → now ≡ held
+    → OnOk r ((change : SlotChange Analysis Source) × (new ≡ old ++ change ∷ [])
+    × IsChangeOf (documents_of held) uri change)
+    → OnOk r (old ≡ [] → Follow (documents_of before) new (documents_of now))
+follows_one r before held now old new uri touches same = on_ok_weaker r (λ did none.
+    let one : new ≡ did.0 ∷ [] = did.1
+    ∙ ap (λ (l : List (SlotChange Analysis Source)). l ++ did.0 ∷ []) none in
+    subst (λ (x : List (SlotChange Analysis Source) × TextDocuments). Follow (documents_of before) x.0
+    (documents_of x.1)) (λ k. (sym one k, sym same k))
+    (one_follows (documents_of before) (documents_of held) uri did.0 touches did.2))
+
+pub follows_all : {A E : Type 0} (r : Result A E) (before held now : TextDocuments)
+    (old new : List (SlotChange Analysis Source)) → Touches (documents_of before) (documents_of held) None
+    → now ≡ held → OnOk r (old ≡ [] → AreChangesOf (documents_of held) new)
+    → OnOk r (old ≡ [] → Follow (documents_of before) new (documents_of now))
+follows_all r before held now old new touches same = on_ok_weaker r (λ did none.
+    subst (λ (d : TextDocuments). Follow (documents_of before) new (documents_of d)) (sym same)
+    (all_follow (documents_of before) (documents_of held) new touches (did none)))
+
+pub cleared : {A E : Type 0} (r : Result A E) (held now : TextDocuments) (old new : List (rust.Act (Unit {0})))
+    → old ≡ [] → now ≡ held
+    → OnOk r (All (Clears {P = Unit {0}} (documents_of held)) (map act_view old)
+    → All (Clears {P = Unit {0}} (documents_of held)) (map act_view new))
+    → OnOk r (All (Clears {P = Unit {0}} (documents_of now)) (map act_view new))
+cleared r held now old new none same = on_ok_weaker r (λ did.
+    subst (λ (d : TextDocuments). All (Clears {P = Unit {0}} (documents_of d)) (map act_view new)) (sym same)
+    (did (subst (λ (l : List (rust.Act (Unit {0}))). All (Clears {P = Unit {0}} (documents_of held)) (map act_view l))
+    (sym none) (All-nil (Clears {P = Unit {0}} (documents_of held))))))

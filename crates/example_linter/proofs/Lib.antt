@@ -1,0 +1,4 @@
+mod Heard
+mod Lists
+mod Marks
+mod Turns

@@ -1,0 +1,295 @@
+-- Through the turns of the server, each analysis that stands in a slot is of its document as it is then.
+use Rattle.serde_json.specs.Data.{Data, Items, array, boolean, null, number, object, string}
+use Rattle.serde_json.specs.View.{items_view}
+use Rattle.serde_json.specs.declared.value.Value.{Value}
+use Rattle.std.proofs.Common.{◌≡◌, refl, sym, ◌∙◌, ap, subst, inl, inr, ℕ, List, [], ◌∷◌, ◌++◌, append_assoc}
+use Rattle.std.proofs.Common.{append-nil, Option, Some, None, string_bytes}
+use Rattle.std.specs.Arc.{arc_value}
+use Rattle.std.specs.Prelude.{map as map_list, ℤ, IsSomeAnd, Ok, Err}
+use Rattle.lsp_documents.specs.Held.{documents_of}
+use Rattle.lsp_documents.specs.Notices.{Documents}
+use Rattle.lsp_jobs.specs.Asking.{by_server}
+use Rattle.lsp_jobs.specs.Ends.{End, Outcome, came_to, no_room, replaced, stopped}
+use Rattle.lsp_jobs.specs.JobLaw.{Left, IsLeft, at_ends}
+use Rattle.lsp_jobs.specs.PendingJobs.{ComesTo}
+use Rattle.lsp_jobs.specs.Pooled.{reply_at}
+use Rattle.lsp_jobs.specs.SlotLaw.{AllLeaveAlone, AreTurns, IsCalled, IsTurn, LastStart, LeavesAlone, SeesLeft}
+use Rattle.lsp_jobs.specs.SlotLaw.{SlotHistory, Stands, StartsLast, Turn, WakeDoes}
+use Rattle.lsp_jobs.specs.declared.asking.Asked.{Asked}
+use Rattle.lsp_jobs.specs.declared.job.Job.{Ghosts as OfJob}
+use Rattle.lsp_jobs.specs.declared.job_server.JobServer.{Ghosts as WithJobs}
+use Rattle.lsp_jobs.specs.declared.job_server.SlotChange.{SlotChange}
+use Rattle.lsp_jobs.specs.declared.job_server.SlotChange.TheVariants.{Start}
+use Rattle.lsp_jobs.specs.declared.names.JobName.{JobName}
+use Rattle.lsp_jobs.specs.declared.names.JobName.TheVariants.{Request, Slot}
+use Rattle.lsp_message.specs.Id.{Id}
+use Rattle.lsp_message.specs.Message.{Message, request, notification, response}
+use Rattle.lsp_service.specs.Acts.{Act, TakesBack, tells, asks, replies, cancels}
+use Rattle.lsp_service.specs.Law.{Call}
+use Rattle.lsp_service.specs.Publishing.{Publishes}
+use Rattle.lsp_service.specs.declared.server.Server.{Ghosts as Plain}
+use Rattle.lsp_session.specs.Session.{Exchange}
+use Rattle.lsp_text.specs.Documents.{Document}
+use Rattle.lsp_text.specs.Lines.{LinedText}
+use Rattle.example_linter.proofs.Lists.{not_empty, only, place, some_and}
+use Rattle.example_linter.specs.Followed.{Follow, IsCurrent, IsOf, known, written}
+use Rattle.example_linter.specs.Marks.{FindsMarks, Marks}
+use Rattle.example_linter.specs.Shown.{Shows, ShowsHeld, ShowsHeldTexts}
+use Rattle.example_linter.specs.declared.Analysis.{Analysis}
+use Rattle.example_linter.specs.declared.Linter.{Linter}
+use Rattle.example_linter.specs.declared.Source.{Source}
+
+-- what is told is what the server told
+told : {P : Type 0} (method : List ℕ) (params : Data) (act : Act P)
+    → ◌≡◌ {A = Act (Asked P)} (tells method params) (by_server act) → act ≡ tells method params
+told method params (tells m p) e = cc (e)
+told method params (asks m p payload) e = absurd (cc (e))
+told method params (replies id outcome) e = absurd (cc (e))
+told method params (cancels z) e = absurd (cc (e))
+
+-- nothing was done before no reply
+none_told : {P : Type 0} {acts : List (Act (Asked P))} (first : List (Act P)) → first ≡ []
+    → acts ≡ map_list by_server (first ++ []) → acts ≡ []
+none_told first none all = all ∙ ap (λ l. map_list by_server (l ++ [])) none
+
+-- a list of marks that an analysis came to is of its text
+are_marks : (text : LinedText) (trees : Items) → FindsMarks text (Ok (array trees)) → Marks text (array trees)
+are_marks text trees (inl found) =
+    let same : array trees ≡ found.0 = cc (found.1) in subst (Marks text) (sym same) found.2
+are_marks text trees (inr nothing) = absurd (cc (nothing))
+
+module _ {P : Type 0} (plain : Plain Linter P) (may : WithJobs Linter Analysis Source P) (of_job : OfJob Analysis) where
+  -- what the server and its jobs state, as far as it is needed here
+  pub record States : Type 0 where
+    pub began : (old : Linter) (acts : List (Act P)) (new : Linter) → plain.at_initialized old acts new → new ≡ old
+    pub requested : (old : Linter) (id : Id) (method : List ℕ) (params : Data) (acts : List (Act P)) (new : Linter)
+        → plain.requested old id method params acts new → new ≡ old
+    pub notified : (old : Linter) (method : List ℕ) (params : Data) (acts : List (Act P)) (new : Linter)
+        → plain.notified old method params acts new → old.changes.items ≡ []
+        → Follow (documents_of old.documents) new.changes.items (documents_of new.documents)
+    pub replied : (old : Linter) (payload : P) (outcome : Outcome) (acts : List (Act P)) (new : Linter)
+        → plain.replied old payload outcome acts new → new ≡ old
+    pub took_back : (old : Linter) (payload : P) (new : Linter) → plain.takes_back old payload new → new ≡ old
+    pub changed : (old : Linter) (changes : List (SlotChange Analysis Source)) (new : Linter)
+        → may.changes old changes new
+        → (changes ≡ old.changes.items) × (new.changes.items ≡ []) × (new.documents ≡ old.documents)
+    pub finished : (old : Linter) (name : JobName) (key : Source) (end : End) (acts : List (Act P)) (new : Linter)
+        → may.finishes old name key end acts new → Shows name key end acts × (new ≡ old)
+    pub found : (job : Analysis) (outcome : Outcome) → of_job.finds job outcome
+        → FindsMarks (arc_value job.text) outcome
+    pub reported : (job : Analysis) (method : List ℕ) (params : Data) → of_job.reports job method params → ⊥
+    pub asked : (job : Analysis) (method : List ℕ) (params : Data) → of_job.asks job method params → ⊥
+
+  -- each analysis that stands in a slot is of its document
+  abbrev Right : List (Turn plain may) → Documents → Type 0
+  Right turns documents = (slot : Id) (analysis : Analysis) (source : Source)
+      → LastStart plain may turns slot analysis source → IsCurrent documents slot analysis source
+
+  alone_last : (slot : Id) (rest : List (Turn plain may)) (t : Turn plain may)
+      → AllLeaveAlone plain may slot (rest ++ t ∷ [])
+      → AllLeaveAlone plain may slot rest × LeavesAlone slot t.changes
+  alone_last slot [] t all = (tt, all.0)
+  alone_last slot (x ∷ rest) t all =
+      let more = alone_last slot rest t all.1 in ((all.0, more.0), more.1)
+
+  right_on : (before now : Documents) (earlier : List (Turn plain may)) (t : Turn plain may) → Right earlier before
+      → Follow before t.changes now → Right (earlier ++ t ∷ []) now
+  right_on before now earlier t right follow slot analysis source last =
+      elim (place earlier last.before last.since t last.turn last.cut) [
+        | inl here ↦ follow.started slot analysis source
+            (subst (λ (x : Turn plain may). StartsLast x.changes slot analysis source) here.1 last.started)
+        | inr there ↦
+            let alone = alone_last slot there.0 t (subst (AllLeaveAlone plain may slot) there.1 last.alone) in
+            let was = right slot analysis source (record {
+              before = last.before;
+              turn = last.turn;
+              since = there.0;
+              cut = there.2;
+              started = last.started;
+              alone = alone.0;
+            }) in (
+              was.0,
+              subst (λ (k : Option Document). IsSomeAnd k (IsOf analysis source))
+                  (sym (follow.others (string_bytes source.uri)
+                  (subst (λ (s : Id). LeavesAlone s t.changes) was.0 alone.1))) was.1,
+            )
+      ]
+
+  follow_none : (documents : Documents) (changes : List (SlotChange Analysis Source)) → changes ≡ []
+      → Follow documents changes documents
+  follow_none documents changes none = record {
+    started = λ slot analysis source last.
+        absurd (not_empty last.before last.after (Start slot analysis source) (sym none ∙ last.cut));
+    others = λ uri alone. refl;
+  }
+
+  stay : (old new : Linter) → old.changes.items ≡ [] → new ≡ old
+      → Follow (documents_of old.documents) new.changes.items (documents_of new.documents)
+  stay old new none same =
+      subst (λ (s : Linter). Follow (documents_of old.documents) s.changes.items (documents_of s.documents)) (sym same)
+      (follow_none (documents_of old.documents) old.changes.items none)
+
+  module _ (states : States) where
+    called_follow : (old : Linter) (came : Option Message) (acts : List (Act P)) (now : Linter) → old.changes.items ≡ []
+        → IsCalled plain may old came acts now
+        → Follow (documents_of old.documents) now.changes.items (documents_of now.documents)
+    called_follow old (Some (request id method params)) acts now none itself =
+        stay old now none (states.requested old id method params acts now itself.1)
+    called_follow old (Some (notification method params)) acts now none heard = elim heard [
+      | inl does ↦ states.notified old method params acts now does none
+      | inr began ↦ stay old now none (states.began old acts now began.1)
+    ]
+    called_follow old (Some (response id outcome)) acts now none replied =
+        stay old now none (states.replied old replied.0 outcome acts now replied.1)
+    called_follow old None acts now none ended =
+        stay old now none (states.finished old ended.0 ended.1 (came_to ended.2) ended.3 now ended.4).1
+
+    sees : (made : Linter) (left : List (Left may)) (new : Linter) → SeesLeft plain may made left new → new ≡ made
+    sees made [] new same = same
+    sees made (l ∷ ls) new all =
+        sees l.new ls new all.1 ∙ (states.finished l.old (Slot l.slot) l.key l.end l.acts l.new l.saw).1 ∙ all.0
+
+    taken : (payloads : List P) (old new : Linter) → TakesBack plain.takes_back old payloads new → new ≡ old
+    taken [] old new same = same
+    taken (payload ∷ payloads) old new back =
+        taken payloads back.0 new back.2 ∙ states.took_back old payload back.0 back.1
+
+    -- before a turn no change is left to be made, and what stands is right
+    record Good (earlier : List (Turn plain may)) (now : Linter) : Type 0 where
+      none : now.changes.items ≡ []
+      right : Right earlier (documents_of now.documents)
+
+    good_on : (earlier : List (Turn plain may)) (t : Turn plain may) → Good earlier t.old → IsTurn plain may t
+        → Good (earlier ++ t ∷ []) t.new
+    good_on earlier t good (inl did) =
+        let gave = states.changed t.asked t.changes t.made did.2 in
+        let same = sees t.made t.left t.new did.3 in
+        let follow = called_follow t.old t.call.came did.0 t.asked good.none did.1 in
+        let are : documents_of t.new.documents ≡ documents_of t.asked.documents =
+        ap (λ (s : Linter). documents_of s.documents) same ∙ ap documents_of gave.2 in
+        record {
+          none = ap (λ (s : Linter). s.changes.items) same ∙ gave.1;
+          right = right_on (documents_of t.old.documents) (documents_of t.new.documents) earlier t good.right
+              (subst (λ (x : List (SlotChange Analysis Source) × Documents).
+              Follow (documents_of t.old.documents) x.0 x.1) (λ k. (sym gave.0 k, sym are k)) follow);
+        }
+    good_on earlier t good (inr passed) = record {
+      none = ap (λ (s : Linter). s.changes.items) passed.3 ∙ good.none;
+      right = right_on (documents_of t.old.documents) (documents_of t.new.documents) earlier t good.right
+          (subst (λ (s : Linter). Follow (documents_of t.old.documents) t.changes (documents_of s.documents))
+          (sym passed.3) (follow_none (documents_of t.old.documents) t.changes passed.1));
+    }
+
+    -- the same before the first of these turns, after what the server took back
+    good_from : (earlier : List (Turn plain may)) (start now : Linter) → Good earlier start
+        → ((payloads : List P) × TakesBack plain.takes_back start payloads now) → Good earlier now
+    good_from earlier start now good back =
+        subst (Good earlier) (sym (taken back.0 start now back.1)) good
+
+    goes_on : (start : Linter) (earlier turns before later : List (Turn plain may)) (t : Turn plain may)
+        → Good earlier start → AreTurns plain may start turns → turns ≡ before ++ t ∷ later
+        → Good (earlier ++ before) t.old × IsTurn plain may t
+    goes_on start earlier [] before later t good are e = absurd (not_empty before later t e)
+    goes_on start earlier (x ∷ turns) [] later t good are e =
+        let same : x ≡ t = cc (e) in
+        subst (λ (y : List (Turn plain may) × Turn plain may). Good y.0 y.1.old × IsTurn plain may y.1)
+        (λ k. (sym (append-nil earlier) k, same k)) (good_from earlier start x.old good are.0, are.1)
+    goes_on start earlier (x ∷ turns) (b ∷ before) later t good are e =
+        let same : x ≡ b = cc (e) in
+        let more : turns ≡ before ++ t ∷ later = cc (e) in
+        let on = goes_on x.new (earlier ++ x ∷ []) turns before later t
+        (good_on earlier x (good_from earlier start x.old good are.0) are.1) are.2 more in (
+          subst (λ (l : List (Turn plain may)). Good l t.old) (append_assoc earlier (x ∷ []) before
+              ∙ ap (λ (y : Turn plain may). earlier ++ y ∷ before) same) on.0,
+          on.1,
+        )
+
+    nothing_left : (left : List (Left may)) → at_ends may left ≡ []
+    nothing_left [] = refl
+    nothing_left (l ∷ ls) =
+        ap (λ (acts : List (Act P)). acts ++ at_ends may ls) (silent l.end l.is_left (states.finished l.old
+        (Slot l.slot) l.key l.end l.acts l.new l.saw).0) ∙ nothing_left ls
+      where
+        silent : (end : End) → IsLeft end → Shows (Slot l.slot) l.key end l.acts → l.acts ≡ []
+        silent (came_to outcome) is shows = absurd is
+        silent no_room is shows = shows
+        silent replaced is shows = shows
+        silent stopped is shows = shows
+
+    -- a notification at a wake, after these turns
+    module _ (t : Turn plain may) (earlier : List (Turn plain may)) (good : Good earlier t.old)
+        (before after : List (Act (Asked P))) (method : List ℕ) (params : Data)
+        (at : t.call.acts ≡ before ++ tells method params ∷ after) where
+      abbrev Held : Type 0
+      Held = ShowsHeld {P = P} (documents_of t.old.documents) (tells method params)
+
+      silent : t.call.acts ≡ [] → Held
+      silent nothing = absurd (not_empty before after (tells method params) (sym nothing ∙ at))
+
+      published : (slot : Id) (job : Analysis) (key : Source) (trees : Items) (act : Act P) (marks : List Value)
+          → LastStart plain may earlier slot job key → ComesTo of_job job (Ok (array trees))
+          → items_view marks ≡ trees → Publishes written (string_bytes key.uri) key.version marks act
+          → t.call.acts ≡ by_server act ∷ [] → Held
+      published slot job key trees act marks stands comes items publishes all =
+          let current = some_and (IsOf job key) (known (documents_of t.old.documents) (string_bytes key.uri))
+          (good.right slot job key stands).1 in
+          let found : FindsMarks (arc_value job.text) (Ok (array trees)) = elim comes [
+            | inl finds ↦ states.found job (Ok (array trees)) finds
+            | inr failed ↦ absurd (cc (failed))
+          ] in
+          let its : Marks current.0.text (array (items_view marks)) =
+          subst (λ (x : LinedText × Items). Marks x.0 (array x.1)) (λ k. (current.2.text k, sym items k))
+          (are_marks (arc_value job.text) trees found) in
+          let same = told method params act (only before after (tells method params) (by_server act) (sym all ∙ at)) in
+          record {
+            uri = string_bytes key.uri;
+            document = current.0;
+            held = current.1;
+            marks = marks;
+            are_its = its;
+            publishes = subst (λ (x : Option ℤ × Act P). Publishes written (string_bytes key.uri) x.0 marks x.1)
+                (λ k. (current.2.version k, same k)) publishes;
+          }
+
+      says : (name : JobName) (job : Analysis) (key : Source) (outcome : Outcome) (first : List (Act P))
+          → Stands plain may earlier name job key → ComesTo of_job job outcome → Shows name key (came_to outcome) first
+          → t.call.acts ≡ map_list by_server (first ++ reply_at name (came_to outcome)) → Held
+      says (Request id) job key outcome first stands comes shows all =
+          let alone : t.call.acts ≡ replies id outcome ∷ [] =
+          all ∙ ap (λ (acts : List (Act P)). map_list by_server (acts ++ replies id outcome ∷ [])) shows in
+          let no = only before after (tells method params) (replies id outcome) (sym alone ∙ at) in absurd (cc (no))
+      says (Slot slot) job key (Ok (array trees)) first stands comes shows all =
+          published slot job key trees shows.2 shows.0 stands comes shows.1 shows.3
+          (all ∙ ap (λ (acts : List (Act P)). map_list by_server (acts ++ [])) shows.4)
+      says (Slot slot) job key (Ok null) first stands comes shows all = silent (none_told first shows all)
+      says (Slot slot) job key (Ok (boolean b)) first stands comes shows all = silent (none_told first shows all)
+      says (Slot slot) job key (Ok (number n)) first stands comes shows all = silent (none_told first shows all)
+      says (Slot slot) job key (Ok (string s)) first stands comes shows all = silent (none_told first shows all)
+      says (Slot slot) job key (Ok (object m)) first stands comes shows all = silent (none_told first shows all)
+      says (Slot slot) job key (Err e) first stands comes shows all = silent (none_told first shows all)
+
+      shows_held : WakeDoes plain may of_job earlier t → Held
+      shows_held (inl nothing) = silent nothing
+      shows_held (inr w) = elim w.4 [
+        | inl r ↦ absurd (states.reported w.1 r.0 r.1 r.2)
+        | inr more ↦ elim more [
+          | inl a ↦ absurd (states.asked w.1 a.0 a.1 a.3)
+          | inr o ↦ says w.0 w.1 w.2 o.0 o.1 w.3 o.2
+              (states.finished t.old w.0 w.2 (came_to o.0) o.1 t.asked o.3).0
+              (o.4 ∙ ap (λ (l : List (Act P)). map_list by_server ((o.1 ++ reply_at w.0 (came_to o.0)) ++ l))
+              (nothing_left t.left)
+              ∙ ap (map_list by_server) (append-nil (o.1 ++ reply_at w.0 (came_to o.0))))
+        ]
+      ]
+
+    pub all_shown : (start : Linter) (opening : Exchange) (begun : List (Act (Asked P)))
+        (calls : List (Call (Asked P))) → start.changes.items ≡ []
+        → (history : SlotHistory plain may of_job start opening begun calls)
+        → ShowsHeldTexts plain may history.turns
+    all_shown start opening begun calls none history earlier later t cut woken before after method params at =
+        let good : Good [] start = record {
+          none = none;
+          right = λ slot analysis source last. absurd (not_empty last.before last.since last.turn last.cut);
+        } in
+        shows_held t earlier (goes_on start [] history.turns earlier later t good history.linked cut).0 before after
+        method params at (history.wakes earlier later t cut woken)

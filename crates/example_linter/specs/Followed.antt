@@ -1,0 +1,60 @@
+-- How the analyses of documents follow what becomes of these.
+use Rattle.serde_json.specs.Events.{SendsValue}
+use Rattle.serde_json.specs.View.{view}
+use Rattle.serde_json.specs.declared.value.Value.{Value}
+use Rattle.std.specs.Arc.{arc_value}
+use Rattle.std.specs.List.{All}
+use Rattle.std.specs.Prelude.{◌≡◌, ℕ, List, [], Option, None, option_and_then, IsSomeAnd, string_bytes}
+use Rattle.lsp_documents.specs.Notices.{Documents, shown}
+use Rattle.lsp_jobs.specs.SlotLaw.{LeavesAlone, StartsLast}
+use Rattle.lsp_jobs.specs.declared.job_server.SlotChange.{SlotChange}
+use Rattle.lsp_jobs.specs.declared.job_server.SlotChange.TheVariants.{Start, Stop}
+use Rattle.lsp_message.specs.Id.{Id, text}
+use Rattle.lsp_service.specs.Acts.{Act}
+use Rattle.lsp_service.specs.Answering.{Writing}
+use Rattle.lsp_service.specs.Publishing.{Publishes}
+use Rattle.lsp_text.specs.Documents.{Document}
+use Rattle.example_linter.specs.declared.Analysis.{Analysis}
+use Rattle.example_linter.specs.declared.Source.{Source}
+
+-- the document of a URI, if its text is known
+abbrev pub known : Documents → List ℕ → Option Document
+known documents uri = option_and_then shown (documents.held uri)
+
+-- the analysis is of this document, and what is kept for it says its version
+pub record IsOf (analysis : Analysis) (source : Source) (document : Document) : Type 0 where
+  pub text : arc_value analysis.text ≡ document.text
+  pub version : source.version ≡ document.version
+
+-- The slot has the name of the URI, and the analysis is of the document that is held for it.
+abbrev pub IsCurrent : Documents → Id → Analysis → Source → Type 0
+IsCurrent documents slot analysis source = (slot ≡ text (string_bytes source.uri))
+    × IsSomeAnd (known documents (string_bytes source.uri)) (IsOf analysis source)
+
+-- The changes of slots follow the documents, which were these before and are these now: what is started last in a slot
+-- is of its document as it is now, and a slot that is not changed has the name of none that changed.
+pub record Follow (before : Documents) (changes : List (SlotChange Analysis Source)) (now : Documents)
+    : Type 0 where
+  pub started : (slot : Id) (analysis : Analysis) (source : Source) → StartsLast changes slot analysis source
+      → IsCurrent now slot analysis source
+  pub others : (uri : List ℕ) → LeavesAlone (text uri) changes → known now uri ≡ known before uri
+
+-- What becomes of the analysis of a document: one of its text takes the place of the one before. Or, if its text is not
+-- known, none goes on.
+abbrev pub IsChangeOf : Documents → List ℕ → SlotChange Analysis Source → Type 0
+IsChangeOf documents uri (Start slot analysis source) =
+    (string_bytes source.uri ≡ uri) × IsCurrent documents slot analysis source
+IsChangeOf documents uri (Stop slot) = (slot ≡ text uri) × (known documents uri ≡ None)
+
+-- the same of each document
+pub record AreChangesOf (documents : Documents) (changes : List (SlotChange Analysis Source)) : Type 0 where
+  pub each : All (λ change. (uri : List ℕ) × IsChangeOf documents uri change) changes
+  pub all : (uri : List ℕ) → LeavesAlone (text uri) changes → documents.held uri ≡ None
+
+-- what a mark is written as
+abbrev pub written : Value → Writing
+written mark = SendsValue (view mark)
+
+-- the marks of a document whose text is not known are taken away
+abbrev pub Clears : {P : Type 0} → Documents → Act P → Type 0
+Clears documents act = (uri : List ℕ) × (known documents uri ≡ None) × Publishes written uri None [] act

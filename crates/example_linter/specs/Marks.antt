@@ -1,0 +1,47 @@
+-- What an analysis finds: a mark at each line of a text that has a `TODO` (LSP 3.17, "Diagnostic").
+use Rattle.serde_json.specs.Data.{Data, array, member, no_members, null, number, object, string, unsigned}
+use Rattle.serde_json.specs.View.{items_of}
+use Rattle.std.specs.List.{All, AllPairs, Contains}
+use Rattle.std.specs.Prelude.{◌≡◌, ◌⊎◌, ℕ, ◌+◌, ◌<◌, ◌^◌, List, length, map, codes, Result, Ok}
+use Rattle.std.specs.Str.Iter.{HasSubslice}
+use Rattle.lsp_message.specs.Message.{ErrorObject}
+use Rattle.lsp_text.specs.Columns.{line_text}
+use Rattle.lsp_text.specs.Lines.{LinedText, starts_of}
+
+-- the text has this line, and a `TODO` stands in it
+abbrev pub HasTodo : LinedText → ℕ → Type 0
+HasTodo text line = (line < length (starts_of text)) × HasSubslice (line_text text line) (codes "TODO")
+
+-- the place where a line begins
+abbrev pub line_start : ℕ → Data
+line_start line =
+    object (member (codes "character") (number (unsigned 0))
+    (member (codes "line") (number (unsigned line)) no_members))
+
+-- the mark at a line: it reaches to the start of the next, has these words, and is of severity 3, information
+abbrev pub mark_of : ℕ → List ℕ → Data
+mark_of line words =
+    object (member (codes "message") (string words)
+    (member (codes "range") (object (member (codes "end") (line_start (line + 1))
+    (member (codes "start") (line_start line) no_members)))
+    (member (codes "severity") (number (unsigned 3)) no_members)))
+
+abbrev pub mark_at : LinedText → ℕ → Data
+mark_at text line = mark_of line (line_text text line)
+
+-- These are all the marks of a text, in the order of its lines, of which LSP counts as many as there are numbers below
+-- 2 ^ 31 (LSP 3.17, "Base Types").
+pub record AreMarksOf (text : LinedText) (marks : List Data) : Type 0 where
+  pub lines : List ℕ
+  pub are : marks ≡ map (mark_at text) lines
+  pub rise : AllPairs (λ line later. line < later) lines
+  pub each : All (HasTodo text) lines
+  pub all : (line : ℕ) → line < 2 ^ 31 → HasTodo text line → Contains lines line
+
+-- the tree is the list of all the marks of a text
+abbrev pub Marks : LinedText → Data → Type 0
+Marks text tree = (marks : List Data) × (tree ≡ array (items_of marks)) × AreMarksOf text marks
+
+-- An analysis comes to all the marks of its text. Or it was cancelled, and comes to null.
+abbrev pub FindsMarks : LinedText → Result Data ErrorObject → Type 0
+FindsMarks text outcome = ((tree : Data) × (outcome ≡ Ok tree) × Marks text tree) ⊎ (outcome ≡ Ok null)

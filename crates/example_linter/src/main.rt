@@ -1,0 +1,392 @@
+//! A language server that marks each line with a `TODO`: `example_linter [--stdio | ADDRESS]`, over standard input and output, or over a
+//! socket, where it serves one client after another.
+//!
+//! It keeps each text as the client edits it, a range at a time. Each edit starts an analysis of the whole text, in a thread of a pool and in
+//! the place of the analysis before. So nobody waits for an analysis, and none of an older text is shown.
+#![tactic(auto)]
+
+ghost use Rattle.serde_json.specs.View.{view};
+ghost use Rattle.std.specs.List.{All};
+ghost use Rattle.std.specs.Prelude.{◌≡◌, ◌<◌, ◌∷◌, ◌++◌, [], List, ℕ, IfOk, IfSome, OnOk, Some, false, map, true};
+ghost use Rattle.lsp_documents.specs.Held.{documents_of};
+ghost use Rattle.lsp_jobs.specs.JobLaw.{LawfulJobSession};
+ghost use Rattle.lsp_jobs.specs.SlotLaw.{SlotHistory};
+ghost use Rattle.lsp_jobs.specs.declared.asking.Asked.{Asked};
+ghost use Rattle.lsp_jobs.specs.declared.job_server.SlotChange.{SlotChange as ChangeOfSlot};
+ghost use Rattle.lsp_service.specs.Acts.{Act as PlainAct};
+ghost use Rattle.lsp_service.specs.Law.{Call};
+ghost use Rattle.lsp_service.specs.View.{act_view};
+ghost use Rattle.lsp_session.specs.Session.{Exchange};
+ghost use Rattle.lsp_threads.specs.Passing.{GivenTo, OfTaken, TakenFrom, noted};
+ghost use Rattle.lsp_threads.specs.Threads.{ThreadsTellOver};
+ghost use Rattle.example_linter.specs.Followed.{AreChangesOf, Clears, Follow, IsChangeOf};
+ghost use Rattle.example_linter.specs.Marks.{AreMarksOf, mark_of};
+ghost use Rattle.example_linter.specs.Shown.{ShowsHeldTexts};
+
+use anyhow::{Result as Answer, bail};
+use lsp_documents::{Agreed, TextDocuments};
+use lsp_jobs::laws::session_with_jobs_keeps_laws;
+use lsp_jobs::{
+    AnsweredBy, CancellationToken, Job, JobEnd, JobName, JobServer, PoolSize, Progress, Slot,
+    SlotChange, run_jobs,
+};
+use lsp_server::clients::{ClientOptions, serve_clients};
+use lsp_server::{
+    Act, ClientStreams, EndSession, Listener, Notification, Request, ResponseError, Server,
+    SessionEnd, StartFault, ThreadOptions, Threaded,
+};
+use lsp_text::Text;
+use serde_json::{Value, json};
+use std::alloc::{AllocError, Global};
+use std::io::{BufRead, Write};
+use std::sync::{Arc, Wait};
+use std::thread::Threads;
+use std::{env, mem};
+
+/// The work of finding the lines of a text that have a `TODO`.
+#[derive(Drop)]
+struct Analysis {
+    alloc: Global,
+    text: Arc<Text>,
+}
+
+/// The document that an analysis is of, as it was then.
+#[derive(Drop)]
+struct Source {
+    uri: String,
+    version: Option<i32>,
+}
+
+/// The texts that are open, and the analyses that are to be started or stopped.
+#[derive(Drop)]
+struct Linter {
+    alloc: Global,
+    documents: TextDocuments,
+    changes: Vec<Change>,
+}
+
+type Acts = Vec<Act<()>>;
+
+type Change = SlotChange<Analysis, Source>;
+
+impl Job for Analysis {
+    ghost use Rattle.std.specs.Arc.{arc_value};
+    ghost use Rattle.example_linter.specs.Marks.{FindsMarks};
+
+    // It answers no request, says nothing while it runs, and asks nothing.
+    ghost is_for = { λ _ _ _. ⊥ };
+
+    ghost finds = { λ analysis outcome. FindsMarks (arc_value analysis.text) outcome };
+
+    ghost reports = { λ _ _ _. ⊥ };
+
+    ghost asks = { λ _ _ _. ⊥ };
+
+    fn run<P: Progress>(
+        self,
+        token: &CancellationToken,
+        _progress: &mut P,
+    ) -> Result<Result<Value, ResponseError>, AllocError> {
+        match marks_in(self.alloc, &*self.text, token)? {
+            Some(marks) => Ok(Ok(Value::Array(marks))),
+            None => Ok(Ok(Value::Null)),
+        }
+    }
+}
+
+/// A mark at each line that has a `TODO`. `None` if nobody waits for them any more.
+fn marks_in(
+    alloc: Global,
+    text: &Text,
+    token: &CancellationToken,
+) -> Result<Option<Vec<Value>>, AllocError>
+    ensures { IfOk result (λ found. IfSome found (λ marks. AreMarksOf text.now (map view marks.items))) }
+{
+    let mut marks = Vec::new(alloc);
+    for number in 0..u32::MAX {
+        let Some(line) = text.line(number) else {
+            break;
+        };
+        if token.is_cancelled() {
+            return Ok(None);
+        }
+        if line.contains("TODO") {
+            marks.push(mark(alloc, number, line)?)?;
+        }
+    }
+    Ok(Some(marks))
+}
+
+/// A mark at a line, which has the line as its text (LSP 3.17, "Diagnostic").
+fn mark(alloc: Global, number: u32, line: &str) -> Result<Value, AllocError>
+    requires { number < 0xFFFF_FFFF }
+    ensures { IfOk result (λ mark. view mark ≡ mark_of number line.now) }
+{
+    json!(in alloc; {
+        "message": line,
+        "range": {
+            "end": { "character": 0, "line": number + 1 },
+            "start": { "character": 0, "line": number }
+        },
+        "severity": 3
+    })
+}
+
+impl JobServer<Analysis> for Linter {
+    ghost use Rattle.example_linter.specs.Shown.{Shows};
+
+    type Key = Source;
+
+    // No request is long.
+    ghost sorts = { λ _ _ _ is_long. is_long ≡ false };
+
+    ghost changes = { λ old changes new.
+        (changes ≡ old.changes.items) × (new.changes.items ≡ []) × (new.documents ≡ old.documents) };
+
+    ghost finishes = { λ old name source end acts new. Shows name source end acts × (new ≡ old) };
+
+    fn is_long(&self, _request: &Request) -> bool {
+        false
+    }
+
+    // It is never asked.
+    fn job(&self, request: Request) -> Result<AnsweredBy<Analysis, Source>, AllocError> {
+        drop(request);
+        Ok(AnsweredBy::Reply(Err(ResponseError::method_not_found(self.alloc)?)))
+    }
+
+    fn take_changes(&mut self, alloc: Global) -> Result<Vec<Change>, AllocError> {
+        Ok(mem::replace(&mut self.changes, Vec::new(alloc)))
+    }
+
+    fn finished(
+        &mut self,
+        name: &JobName,
+        source: Source,
+        end: &JobEnd,
+        alloc: Global,
+    ) -> Result<Acts, AllocError> {
+        match (name, end) {
+            (JobName::Slot(_), JobEnd::Outcome(Ok(Value::Array(marks)))) => {
+                let Source { uri, version } = source;
+                let marks = marks.as_slice();
+                Act::one(alloc, Act::publish(alloc, uri.as_str(), version, marks)?)
+            }
+            _ => Ok(Vec::new(alloc)),
+        }
+    }
+}
+
+impl Server for Linter {
+    ghost use Rattle.std.specs.Prelude.{Err};
+    ghost use Rattle.lsp_message.specs.Converted.{method_not_found};
+    ghost use Rattle.lsp_service.specs.Acts.{replies};
+
+    type Payload = ();
+
+    ghost initializes = { λ old _ _ new. new.changes ≡ old.changes };
+
+    ghost at_initialized = { λ old acts new. (acts ≡ []) × (new ≡ old) };
+
+    ghost requested = { λ old id _ _ acts new. (acts ≡ replies id (Err method_not_found) ∷ []) × (new ≡ old) };
+
+    // The analyses follow the documents, and the marks go of what is not known any more.
+    ghost notified = { λ old _ _ acts new.
+        (old.changes.items ≡ [] → Follow (documents_of old.documents) new.changes.items (documents_of new.documents))
+        × All (Clears (documents_of new.documents)) acts };
+
+    ghost replied = { λ old _ _ acts new. (acts ≡ []) × (new ≡ old) };
+
+    ghost at_shutdown = { λ old acts new. (acts ≡ []) × (new ≡ old) };
+
+    ghost takes_back = { λ old _ new. new ≡ old };
+
+    fn initialize(&mut self, params: Value) -> Result<Result<Value, ResponseError>, AllocError> {
+        let mut can = Value::Null;
+        let agreed = Agreed::announced(self.alloc, &params, false, &mut can)?;
+        self.documents = TextDocuments::new(self.alloc, agreed);
+        Ok(Ok(json!(in self.alloc; { "capabilities": can, "serverInfo": { "name": "todos" } })?))
+    }
+
+    fn initialized(&mut self) -> Result<Acts, AllocError> {
+        Ok(Vec::new(self.alloc))
+    }
+
+    fn request(&mut self, request: Request) -> Result<Acts, AllocError> {
+        Act::one(self.alloc, Act::method_not_found(self.alloc, request.id)?)
+    }
+
+    fn notification(&mut self, notification: Notification) -> Result<Acts, AllocError> {
+        let mut acts = Vec::new(self.alloc);
+        self.note(&notification, &mut acts)?;
+        Ok(acts)
+    }
+
+    fn response(
+        &mut self,
+        _asked: (),
+        outcome: Result<Value, ResponseError>,
+    ) -> Result<Acts, AllocError> {
+        drop(outcome);
+        Ok(Vec::new(self.alloc))
+    }
+
+    fn shutdown(&mut self, alloc: Global) -> Result<Vec<Act<()>>, AllocError> {
+        Ok(Vec::new(alloc))
+    }
+
+    fn unsent(&mut self, _asked: ()) -> Result<(), AllocError> {
+        Ok(())
+    }
+}
+
+impl Linter {
+    fn new(alloc: Global) -> Linter
+        ensures { result.changes.items ≡ [] }
+    {
+        Linter {
+            alloc,
+            documents: TextDocuments::new(alloc, Agreed::unannounced()),
+            changes: Vec::new(alloc),
+        }
+    }
+
+    /// Has the analyses follow a notification of a document. If it names none, each text may be lost.
+    fn note(&mut self, notification: &Notification, acts: &mut Acts) -> Result<(), AllocError>
+        requires { acts.old.items ≡ [] }
+        ensures follow { OnOk result (self.old.changes.items ≡ []
+            → Follow (documents_of self.old.documents) self.new.changes.items (documents_of self.new.documents)) }
+        ensures clear { OnOk result (All (Clears (documents_of self.new.documents)) (map act_view acts.new.items)) }
+    {
+        match self.documents.hear(notification) {
+            Some(Ok(made)) => self.look_at(made.uri, acts),
+            Some(Err(missed)) => match missed.uri {
+                Some(uri) => self.look_at(uri, acts),
+                None => self.look_at_all(acts),
+            },
+            None => Ok(()),
+        }
+    }
+
+    /// Has the analysis of a document follow it.
+    fn look_at(&mut self, uri: &str, acts: &mut Acts) -> Result<(), AllocError>
+        ensures same { self.new.documents ≡ self.old.documents }
+        ensures change { OnOk result ((change : ChangeOfSlot Analysis Source)
+            × (self.new.changes.items ≡ self.old.changes.items ++ change ∷ [])
+            × IsChangeOf (documents_of self.old.documents) uri.now change) }
+        ensures clear { OnOk result (All (Clears (documents_of self.old.documents)) (map act_view acts.old.items)
+            → All (Clears (documents_of self.old.documents)) (map act_view acts.new.items)) }
+    {
+        let change = change_of(self.alloc, &self.documents, uri, acts)?;
+        self.changes.push(change)?;
+        Ok(())
+    }
+
+    /// The same of each document that is open.
+    fn look_at_all(&mut self, acts: &mut Acts) -> Result<(), AllocError>
+        ensures same { self.new.documents ≡ self.old.documents }
+        ensures changes { OnOk result (self.old.changes.items ≡ []
+            → AreChangesOf (documents_of self.old.documents) self.new.changes.items) }
+        ensures clear { OnOk result (All (Clears (documents_of self.old.documents)) (map act_view acts.old.items)
+            → All (Clears (documents_of self.old.documents)) (map act_view acts.new.items)) }
+    {
+        for (uri, _) in self.documents.iter() {
+            let change = change_of(self.alloc, &self.documents, uri.as_str(), acts)?;
+            self.changes.push(change)?;
+        }
+        Ok(())
+    }
+}
+
+/// What becomes of the analysis of a document: one of its text takes the place of the one before. If its text is not known any more, none
+/// goes on, and no marks stay.
+fn change_of(
+    alloc: Global,
+    documents: &TextDocuments,
+    uri: &str,
+    acts: &mut Acts,
+) -> Result<Change, AllocError>
+    ensures change { IfOk result (λ change. IsChangeOf (documents_of documents.now) uri.now change) }
+    ensures clear { OnOk result (All (Clears (documents_of documents.now)) (map act_view acts.old.items)
+        → All (Clears (documents_of documents.now)) (map act_view acts.new.items)) }
+{
+    let slot = Slot::from(String::from_str(alloc, uri)?);
+    let Some(document) = documents.get(uri) else {
+        acts.push(Act::publish::<Value>(alloc, uri, None, &[])?)?;
+        return Ok(SlotChange::Stop(slot));
+    };
+    let text = document.share_text()?;
+    let uri = String::from_str(alloc, uri)?;
+    let version = document.version();
+    Ok(SlotChange::Start(slot, Analysis { alloc, text }, Source { uri, version }))
+}
+
+/// Serves a client. The session keeps the laws of a session of a server with jobs, whatever the analyses come to and when.
+fn serve<T, R, W>(
+    rt: &T,
+    alloc: Global,
+    client: ClientStreams<R, W>,
+    linter: Linter,
+    bad_bodies: &mut EndSession,
+) -> (Linter, Result<Threaded<W>, StartFault>)
+where
+    T: Threads + Wait + Copy + Drop + Send + 'static,
+    R: BufRead + Drop + Send + 'static,
+    W: Write + Drop + Send + 'static,
+    ensures told { IfOk result.1 (λ done. OfTaken done.taken.parts (λ text.
+        ThreadsTellOver true ⟦<EndSession as Listener>⟧.hears client.limits (LawfulJobSession T ⟦<Linter as Server>⟧
+        (record {
+          sorts = ⟦<Linter as JobServer<Analysis>>⟧.sorts;
+          gives = ⟦<Linter as JobServer<Analysis>>⟧.gives;
+          knows = ⟦<Linter as JobServer<Analysis>>⟧.knows;
+          changes = ⟦<Linter as JobServer<Analysis>>⟧.changes;
+          finishes = ⟦<Linter as JobServer<Analysis>>⟧.finishes;
+        }) ⟦<Analysis as Job>⟧ linter result.0)
+        text bad_bodies.old bad_bodies.new (Some []) (noted done.given) done.answer)) }
+    ensures passed { IfOk result.1 (λ done. TakenFrom (R.remaining client.reader) done.taken.parts
+        × GivenTo (W.contents client.writer) done.given.parts (W.contents done.writer)) }
+{
+    session_with_jobs_keeps_laws::<T, Linter, Analysis>();
+    let mut options = ThreadOptions::new();
+    options.limits = client.limits;
+    let (reader, writer) = (client.reader, client.writer);
+    // Two analyses run at a time, and as many as there are documents may wait.
+    let size = PoolSize::from(2);
+    run_jobs(rt, alloc, reader, writer, size, linter, bad_bodies, options)
+}
+
+/// What is published at a wake are all the marks of the text that the server holds at that moment for the document, under its URI and with
+/// its version: never those of an older text, and none of a document that was closed. `history` is what a law of the library says of a
+/// session with jobs (`slots_hear_their_last_jobs`).
+fn marks_are_of_held_texts()
+    ensures { (start : Linter) (opening : Exchange) (begun : List (PlainAct (Asked Unit)))
+        (calls : List (Call (Asked Unit))) → start.changes.items ≡ []
+        → (history : SlotHistory ⟦<Linter as Server>⟧
+        (record {
+          sorts = ⟦<Linter as JobServer<Analysis>>⟧.sorts;
+          gives = ⟦<Linter as JobServer<Analysis>>⟧.gives;
+          knows = ⟦<Linter as JobServer<Analysis>>⟧.knows;
+          changes = ⟦<Linter as JobServer<Analysis>>⟧.changes;
+          finishes = ⟦<Linter as JobServer<Analysis>>⟧.finishes;
+        }) ⟦<Analysis as Job>⟧ start opening begun calls)
+        → ShowsHeldTexts _ _ history.turns }
+{}
+
+fn main(rt: HostRuntime) -> Answer<()> {
+    let alloc: Global = rt.alloc();
+    let words: Vec<String> = env::args(&rt)?.skip(1).collect(alloc)?;
+    let served = serve_clients(
+        &rt,
+        words.as_slice(),
+        ClientOptions::new(),
+        |client| -> Answer<SessionEnd> {
+            let (linter, done) = serve(&rt, alloc, client, Linter::new(alloc), &mut EndSession);
+            drop(linter);
+            Ok(done?.answer?)
+        },
+    );
+    match served?? {
+        SessionEnd::ShutDown => Ok(()),
+        SessionEnd::Closed => bail!("the client left without a shutdown"),
+    }
+}
