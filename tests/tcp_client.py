@@ -74,7 +74,7 @@ class TcpServer(Server):
 
     def __init__(self, program, way="tcp"):
         self.port = free_port()
-        super().__init__([program, way, f"{HOST}:{self.port}"])
+        super().__init__([program, *way.split(), f"{HOST}:{self.port}"])
         self.socket = None
 
     def __enter__(self):
