@@ -115,9 +115,7 @@ impl Connection {
             alloc,
             outgoing,
             promise,
-            move |incoming, given_back| read_all(
-                theirs, alloc, reader, bounds, incoming, given_back,
-            ),
+            move |incoming, returned| read_all(theirs, alloc, reader, bounds, incoming, returned),
             move |outgoing, written| write_all(theirs, alloc, outgoing, writer, written),
         )?;
         Ok((Connection { sender, receiver }, IoThreads::of(started)))

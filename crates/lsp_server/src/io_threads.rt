@@ -5,10 +5,9 @@ ghost use Rattle.lsp_server.specs.Joining.{HasEnded, IsEndOf, Joined};
 
 use crate::io_fault::IoFault;
 use crate::writer_end::{WriterEnd, WritesChannel};
-use crate::written::{Written, channels_of_written, drop_all};
+use crate::written::{Returned, Written, channels_of_written, drop_all};
 use crossbeam_channel::{Receiver, Sender, bounded};
 use lsp_session::ReadEnd;
-use lsp_threads::give_back::GivenBack;
 use std::alloc::Global;
 use std::sync::Wait;
 use std::thread;
@@ -131,14 +130,14 @@ where
     T: Drop + Send + 'static,
     P: Promise<T> + Drop,
     R: Threads + Wait + Copy + Drop + Send + 'static,
-    F: FnOnce(Sender<M>, GivenBack<M>) -> Result<(), IoFault> + Drop + Send + 'static,
+    F: FnOnce(Sender<M>, Returned<M>) -> Result<(), IoFault> + Drop + Send + 'static,
     G: FnOnce(Receiver<M>, Written<M>) -> T + Drop + Send + 'static,
     requires callable { F.IsAlwaysCallable read × G.IsAlwaysCallable write }
     requires keeps { (written : _) (end : T) → G.post write outgoing written end → P.kept_by promise end }
     ensures { IfErr result (λ fault. is_start_fault fault ≡ true) }
 {
     let (incoming, receiver) = bounded(alloc, CHANNEL_ROOM)?;
-    let (written, given_back, large) = channels_of_written(alloc)?;
+    let (written, returned, large) = channels_of_written(alloc)?;
     let theirs = *rt;
     let writing = move || -> T
         requires { G.IsAlwaysCallable write }
@@ -151,7 +150,7 @@ where
     let dropper = start(rt, move || drop_all(theirs, large))?;
     let reading = move || -> Result<(), IoFault>
         requires { F.IsAlwaysCallable read }
-    { read(incoming, given_back) };
+    { read(incoming, returned) };
     let reader = start(rt, reading)?;
     let started = Started {
         reader,

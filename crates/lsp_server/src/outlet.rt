@@ -6,10 +6,10 @@ use crate::channel_account::ChannelAccount;
 use crate::io_threads::CHANNEL_ROOM;
 use crate::places::Place;
 use crate::unread_weights::UnreadWeights;
+use crate::written::Returned;
 use crossbeam_channel::{SendError, Sender, TrySendError};
 use lsp_message::Message;
 use lsp_session::SendFault;
-use lsp_threads::give_back::GivenBack;
 use std::alloc::{AllocError, Global};
 use std::sync::Wait;
 use std::thread;
@@ -28,7 +28,7 @@ pub(crate) struct Outlet<'a, R: Wait> {
     incoming: &'a Sender<Message>,
     /// What was sent.
     sent: ChannelAccount<Message>,
-    given_back: &'a GivenBack<Message>,
+    returned: &'a Returned<Message>,
     /// The weights of what was sent. It is as long as the channel, or longer.
     unread: UnreadWeights,
     /// How much may be unread.
@@ -43,7 +43,7 @@ impl<'a, R: Wait> Outlet<'a, R> {
         rt: &'a R,
         alloc: Global,
         incoming: &'a Sender<Message>,
-        given_back: &'a GivenBack<Message>,
+        returned: &'a Returned<Message>,
         unread: UnreadWeights,
         bound: u64,
     ) -> Outlet<'a, R>
@@ -54,11 +54,16 @@ impl<'a, R: Wait> Outlet<'a, R> {
             alloc,
             incoming,
             sent: ChannelAccount::new(),
-            given_back,
+            returned,
             unread,
             bound,
             places: Vec::new(alloc),
         }
+    }
+
+    /// Notes how many bytes the content part has that is read.
+    pub(crate) fn note_read(&self, length: usize) {
+        self.returned.note_read(length);
     }
 
     /// Sends a message of this weight. It waits while the channel is full.
@@ -72,7 +77,7 @@ impl<'a, R: Wait> Outlet<'a, R> {
         }
         let with_this = self.sent.with_one(&message);
         let forwarded = self.forward(message);
-        self.given_back.drop_waiting(self.rt);
+        self.returned.drop_waiting(self.rt);
         if forwarded.is_ok() {
             self.sent = with_this;
         }
@@ -122,7 +127,7 @@ impl<'a, R: Wait + Clock> Outlet<'a, R> {
             if self.unread.has_room(weight, self.bound) || self.is_left()? {
                 return Ok(());
             }
-            self.given_back.drop_waiting(rt);
+            self.returned.drop_waiting(rt);
             thread::sleep(rt, Duration::from_millis(rest));
             rest = rest.saturating_mul(2).min(LONG_REST);
         }

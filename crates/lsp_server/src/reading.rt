@@ -10,10 +10,10 @@ use crate::io_fault::IoFault;
 use crate::io_threads::reader_end;
 use crate::outlet::Outlet;
 use crate::unread_weights::{UnreadWeights, weight_of};
+use crate::written::Returned;
 use crossbeam_channel::Sender;
 use lsp_message::{Limits, Message, ReadFault, read_content_within};
 use lsp_session::{ReadEnd, SendFault, is_exit};
-use lsp_threads::give_back::GivenBack;
 use std::alloc::Global;
 use std::io::{BufRead, ErrorKind};
 use std::sync::Wait;
@@ -44,7 +44,7 @@ pub(crate) fn read_all<R: Wait + Clock + Drop, B: BufRead + Drop>(
     reader: B,
     bounds: Bounds,
     incoming: Sender<Message>,
-    given_back: GivenBack<Message>,
+    returned: Returned<Message>,
 ) -> Result<(), IoFault> {
     let Bounds {
         limits,
@@ -52,7 +52,7 @@ pub(crate) fn read_all<R: Wait + Clock + Drop, B: BufRead + Drop>(
         unread,
     } = bounds;
     let mut reader = reader;
-    let mut outlet = Outlet::new(&rt, alloc, &incoming, &given_back, unread, bound);
+    let mut outlet = Outlet::new(&rt, alloc, &incoming, &returned, unread, bound);
     reader_end(read_messages(alloc, &mut reader, &mut outlet, limits))
 }
 
@@ -104,6 +104,7 @@ fn read_weighed<R: Wait + Clock, B: BufRead>(
         Some(content) => content,
         None => return Ok(None),
     };
+    outlet.note_read(content.len());
     let weight = weight_of(&content);
     if outlet.make_room(weight).is_err() {
         return Err(ReadFault::Memory);

@@ -1,9 +1,11 @@
-//! Messages that were written, on their way to the thread that drops them: back to the thread that reads, which allocated most of
-//! them, and to a thread of their own if that one has no room for a large one.
+//! Messages that were written, on their way to the thread that drops them. Two threads that allocate and free in one arena of the C
+//! library wait for its lock. So what came from the other side, or has parts that did, goes back to the thread that reads, which
+//! allocated it, or to a thread of its own. What this side made is dropped by the thread that writes.
 use crossbeam_channel::{Receiver, Sender, bounded};
 use lsp_threads::give_back::{GiveBack, GivenBack, way_back};
 use std::alloc::{AllocError, Global};
-use std::sync::Wait;
+use std::sync::atomic::{AtomicUsize, Ordering};
+use std::sync::{Arc, Wait};
 
 /// How many messages that were written wait for the thread that reads.
 const WRITTEN_ROOM: usize = 16;
@@ -20,35 +22,73 @@ const SMALL_FRAME: usize = 8192;
 pub(crate) struct Written<M: Drop> {
     back: GiveBack<M>,
     to_dropper: Sender<M>,
+    last_read: Arc<AtomicUsize>,
 }
 
 impl<M: Drop> Written<M> {
-    /// Has another thread drop a message whose frame has so many bytes. A small one that the thread that reads has no room for is
-    /// dropped here.
+    /// Lets a message go whose frame has so many bytes. What this side made is dropped here, before the frame is written: its maker may
+    /// wait for the peer's next message meanwhile, and allocates nothing then.
     pub(crate) fn let_go<R: Wait>(&self, rt: &R, message: M, frame_length: usize) {
-        let is_large = frame_length > SMALL_FRAME;
-        let refused = if is_large && !self.back.is_empty() {
-            Some(message)
+        if self.is_made_here(frame_length) {
+            drop(message);
+        } else if frame_length > SMALL_FRAME {
+            self.let_large_go(rt, message);
         } else {
-            self.back.give(rt, message)
-        };
-        match refused {
-            Some(large) if is_large => {
-                let _ = self.to_dropper.send(rt, large);
-            }
-            _ => {}
+            self.back.give_or_drop(rt, message);
         }
+    }
+
+    /// Has another thread drop a large message: the one that reads, if it has none to drop.
+    fn let_large_go<R: Wait>(&self, rt: &R, message: M) {
+        let refused = if self.back.is_empty() {
+            self.back.give(rt, message)
+        } else {
+            Some(message)
+        };
+        if let Some(message) = refused {
+            let _ = self.to_dropper.send(rt, message);
+        }
+    }
+
+    /// Whether this side made most of a message whose frame has so many bytes: what was read last is much shorter.
+    fn is_made_here(&self, frame_length: usize) -> bool {
+        frame_length / 2 > self.last_read.load(Ordering::Relaxed)
     }
 }
 
-/// If messages go when they are written, and the two ends at which they come out: that of the thread that reads, and that of
+/// Where messages that were written come back to the thread that reads.
+#[derive(Drop)]
+pub(crate) struct Returned<M: Drop> {
+    back: GivenBack<M>,
+    last_read: Arc<AtomicUsize>,
+}
+
+impl<M: Drop> Returned<M> {
+    /// Notes how many bytes the content part has that is read.
+    pub(crate) fn note_read(&self, length: usize) {
+        self.last_read.store(length, Ordering::Relaxed);
+    }
+
+    /// Drops the messages that came back. It doesn't wait.
+    pub(crate) fn drop_waiting<R: Wait>(&self, rt: &R) {
+        self.back.drop_waiting(rt);
+    }
+}
+
+/// Where messages go when they are written, and the two ends at which they come out: that of the thread that reads, and that of
 /// the thread that drops large ones.
 pub(crate) fn channels_of_written<M: Drop>(
     alloc: Global,
-) -> Result<(Written<M>, GivenBack<M>, Receiver<M>), AllocError> {
-    let (back, given_back) = way_back(alloc, WRITTEN_ROOM)?;
+) -> Result<(Written<M>, Returned<M>, Receiver<M>), AllocError> {
+    let (to_reader, back) = way_back(alloc, WRITTEN_ROOM)?;
     let (to_dropper, large) = bounded(alloc, LARGE_ROOM)?;
-    Ok((Written { back, to_dropper }, given_back, large))
+    let last_read = Arc::new(alloc, AtomicUsize::new(0))?;
+    let written = Written {
+        back: to_reader,
+        to_dropper,
+        last_read: last_read.clone()?,
+    };
+    Ok((written, Returned { back, last_read }, large))
 }
 
 /// Drops large messages as they come, until no more can come.
