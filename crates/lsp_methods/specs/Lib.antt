@@ -1,1 +1,2 @@
 pub mod Configuring
+pub mod Json
