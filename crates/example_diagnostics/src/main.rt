@@ -13,7 +13,7 @@ ghost use Rattle.lsp_service.specs.Stated.{unwoken};
 
 use anyhow::{Result as Answer, bail};
 use lsp_documents::{Agreed, Made, NotMade, TextDocuments};
-use lsp_methods::{Configuration, answer};
+use lsp_methods::{Configuration, answer, publish};
 use lsp_server::clients::{ClientOptions, serve_clients};
 use lsp_server::{
     Act, EndSession, Notification, Request, ResponseError, Server, SessionEnd, SessionFault,
@@ -224,7 +224,7 @@ impl Checker {
             Some(document) => long_lines(self.alloc, document.text(), self.longest.value)?,
             None => Vec::new(self.alloc),
         };
-        acts.push(Act::publish(self.alloc, uri, version, found.as_slice())?)?;
+        acts.push(publish(self.alloc, uri, version, found)?)?;
         Ok(())
     }
 
