@@ -70,18 +70,30 @@ class Pool:
 
     def submit(self, name, job):
         self.forget(name)
-        if not self.has_room():
+        if not self.has_room(name):
             return False
         job.name = name
         self.table[name] = job
         self.queue.append(job)
         return True
 
-    def has_room(self):
-        return self.waiting is None or len(self.queue) + self.running() < len(self.workers) + max(self.waiting, 1)
+    def has_room(self, name=None):
+        """As many jobs may run and wait as there are places. Those in slots leave one worker to requests, if there are two or more."""
+        if self.waiting is None:
+            return True
+        jobs, waiting = [*self.queue, *filter(None, self.workers)], max(self.waiting, 1)
+        if isinstance(name, Slot) and sum(isinstance(it.name, Slot) for it in jobs) >= self.for_slots() + waiting:
+            return False
+        return len(jobs) < len(self.workers) + waiting
 
-    def running(self):
-        return sum(job is not None for job in self.workers)
+    def for_slots(self):
+        return max(len(self.workers) - 1, 1)
+
+    def next_job(self):
+        """The oldest job of a request; if none waits, the oldest in a slot, but if as many of those run as may."""
+        requests = [it for it in self.queue if not isinstance(it.name, Slot)]
+        in_slots = sum(job is not None and isinstance(job.name, Slot) for job in self.workers)
+        return (requests or (self.queue if in_slots < self.for_slots() else []) or [None])[0]
 
     def end(self):
         for job in [*self.table.values(), *self.queue, *filter(None, self.workers)]:
@@ -97,13 +109,14 @@ class Pool:
     def steps(self):
         """What the workers can do next."""
         for number, job in enumerate(self.workers):
-            if job is None and self.queue:
+            if job is None and self.next_job():
                 yield lambda number=number: self.begin(number)
             elif job is not None and self.can_go_on(job):
                 yield lambda number=number, job=job: self.go_on(number, job)
 
     def begin(self, number):
-        job = self.queue.pop(0)
+        job = self.next_job()
+        self.queue.remove(job)
         if not job.is_cancelled:
             self.counts["begun"] += 1
             self.workers[number] = job

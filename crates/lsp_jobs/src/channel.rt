@@ -237,6 +237,11 @@ pub(crate) fn sender_for<J: AnyJob<R>, R: Drop>(
 }
 
 impl<J: AnyJob<R>, R: Drop> JobSender<J, R> {
+    /// Whether the job is in a slot.
+    pub fn is_in_slot(&self) -> bool {
+        self.name.is_slot()
+    }
+
     /// Performs the job, and sends what it says. Once its work is done it counts no more among those that run. It waits while there is no
     /// room for the outcome; nothing is sent if nobody waits for it any more.
     pub fn perform<T: Wait + Copy + Drop, N: Notifier>(
@@ -261,7 +266,7 @@ impl<J: AnyJob<R>, R: Drop> JobSender<J, R> {
         let (outcome, name, untaken, mut notifier) = perform_telling::<Brand, T, J, R, N>(
             job, token, ends, untaken, rt, ticket, name, asker, notifier,
         );
-        running.end();
+        running.end(name.is_slot());
         if untaken.add(&rt) {
             let item = Item {
                 ticket,

@@ -94,6 +94,11 @@ pub enum JobName {
 }
 
 impl JobName {
+    /// Whether it is a slot.
+    pub(crate) fn is_slot(&self) -> bool {
+        matches!(self, JobName::Slot(_))
+    }
+
     /// The same name. The error means that an allocation failed.
     pub fn clone(&self) -> Result<JobName, AllocError>
         ensures { IfOk result (λ name. name ≡ self.now) }

@@ -22,10 +22,11 @@ use std::alloc::{AllocError, Global};
 use std::sync::Wait;
 use std::thread::{Builder, JoinHandle, Threads};
 
-/// How many jobs run, and how many may wait for a thread.
+/// How many jobs run, and how many may wait for a thread. Jobs of requests go before jobs in slots.
 #[derive(Clone, Copy, Debug, PartialEq, Eq)]
 pub struct PoolSize {
-    /// How many threads run jobs: at least one.
+    /// How many threads run jobs: at least one. If there are two or more, jobs in slots leave one of them to requests, so that none waits
+    /// for jobs in slots alone. One thread runs both: a request then waits until the job in a slot that it runs has ended.
     pub workers: usize,
     /// How many jobs may wait for a thread while all threads run one: at least one. A job that is forgotten or replaced waits no more,
     /// whether a thread is free or not. `None` sets no bound.
@@ -35,10 +36,22 @@ pub struct PoolSize {
 }
 
 impl PoolSize {
-    /// How many jobs may wait or run, if there is a bound.
-    fn room(&self) -> Option<usize> {
-        let waiting = self.waiting?;
-        Some(self.workers.max(1).saturating_add(waiting.max(1)))
+    /// How many threads run jobs.
+    pub(crate) fn threads(&self) -> usize {
+        self.workers.max(1)
+    }
+
+    /// How many of them may run jobs in slots at once.
+    pub(crate) fn threads_for_slots(&self) -> usize {
+        self.workers.saturating_sub(1).max(1)
+    }
+
+    /// Whether one more job may run or wait, where so many do, and so many threads may run them.
+    pub(crate) fn has_room(&self, threads: usize, jobs: u64) -> bool {
+        match self.waiting {
+            Some(waiting) => jobs < threads.saturating_add(waiting.max(1)) as u64,
+            None => true,
+        }
     }
 
     /// Starts a thread.
@@ -163,7 +176,7 @@ where
     ensures { IfOk result (λ pool. pending_jobs pool ≡ no_jobs) }
 {
     let mut notifier = notifier;
-    let (mut pool, taken) = match pool_without_workers(*rt, alloc, size.room()) {
+    let (mut pool, taken) = match pool_without_workers(*rt, alloc, size) {
         Ok(made) => made,
         Err(_) => return Err(StartFault::Memory),
     };
@@ -176,17 +189,17 @@ where
     }
 }
 
-/// A pool in which so many jobs may wait or run, and the end of its queue at which workers take them.
+/// A pool for so many jobs, and the end of its queue at which workers take them.
 fn pool_without_workers<T: Wait + Drop, J: Job, K: Drop>(
     rt: T,
     alloc: Global,
-    room: Option<usize>,
+    size: PoolSize,
 ) -> Result<(JobPool<T, J, K>, JobSource<QueuedJob<J, Ran>>), AllocError>
     ensures { IfOk result (λ made. pending_jobs made.0 ≡ no_jobs) }
 {
     let tokens = CancellationToken::new(alloc)?;
     let replies = Replies::new(alloc)?;
-    let (waiting, taken) = queue_of_jobs(alloc, room)?;
+    let (waiting, taken) = queue_of_jobs(alloc, size)?;
     let table = JobTable::new(alloc)?;
     let pool = JobPool {
         rt,
@@ -201,9 +214,9 @@ fn pool_without_workers<T: Wait + Drop, J: Job, K: Drop>(
 }
 
 impl<T: Wait + Drop, J: Job, K: Drop> JobPool<T, J, K> {
-    /// Whether there is room for one more job. That stays so until a job is submitted.
+    /// Whether there is room for the job of one more request. That stays so until a job is submitted.
     pub fn has_room(&self) -> bool {
-        self.waiting.has_room(&self.rt)
+        self.waiting.has_room(&self.rt, false)
     }
 
     /// Gives a job to the threads, and keeps `kept` with it; it never waits for one. An earlier job with the name is forgotten, and what was
@@ -216,7 +229,7 @@ impl<T: Wait + Drop, J: Job, K: Drop> JobPool<T, J, K> {
     {
         let earlier = self.forget(&name);
         drop(earlier);
-        if !self.has_room() {
+        if !self.waiting.has_room(&self.rt, name.is_slot()) {
             return Err(SubmitFault::Full(kept));
         }
         match self.hand_over(&name, job, kept) {
@@ -254,12 +267,13 @@ impl<T: Wait + Drop, J: Job, K: Drop> JobPool<T, J, K> {
         let theirs = token.share()?;
         let asker = self.replies.asker(&token)?;
         let (ticket, job_sender) = self.table.enter(name.clone()?, job, kept, token)?;
+        let is_in_slot = name.is_slot();
         let queued = QueuedJob {
             job_sender,
             token: theirs,
             asker,
         };
-        self.waiting.add(&self.rt, ticket, queued)
+        self.waiting.add(&self.rt, ticket, queued, is_in_slot)
     }
 
     /// Whether a job with this name is pending.

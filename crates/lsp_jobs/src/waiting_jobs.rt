@@ -1,22 +1,40 @@
-// The jobs that wait for a worker. One that is taken back gives its place to another at once.
-use crossbeam_channel::{Receiver, Sender, unbounded};
+// The jobs that wait for a worker: those of requests go first. One that is taken back gives its place to another at once.
+use crate::pool::PoolSize;
 use std::alloc::{AllocError, Global};
 use std::collections::BTreeMap;
-use std::sync::atomic::{AtomicU64, Ordering};
+use std::sync::atomic::{AtomicBool, AtomicU64, Ordering};
 use std::sync::{Arc, Mutex, Wait};
+
+/// What is counted without the lock.
+#[derive(Drop)]
+struct Counts {
+    /// The jobs that run.
+    all: AtomicU64,
+    /// Those of them that are in slots.
+    in_slots: AtomicU64,
+    /// How often a job may have become ready. A worker that finds none sleeps at this word.
+    rings: AtomicU64,
+    is_closed: AtomicBool,
+}
 
 /// Counts the jobs that run. A worker counts one under the lock of the queue as it takes it, and no more once its work is done: before
 /// what it came to is sent, so that whoever hears of that finds the room.
 #[derive(Drop)]
 pub(crate) struct RunningJobs {
-    count: Arc<AtomicU64, Global>,
+    counts: Arc<Counts, Global>,
 }
 
 impl RunningJobs {
     /// None runs. The error means that an allocation failed.
     fn new(alloc: Global) -> Result<RunningJobs, AllocError> {
-        match Arc::new(alloc, AtomicU64::new(0)) {
-            Ok(count) => Ok(RunningJobs { count }),
+        let counts = Counts {
+            all: AtomicU64::new(0),
+            in_slots: AtomicU64::new(0),
+            rings: AtomicU64::new(0),
+            is_closed: AtomicBool::new(false),
+        };
+        match Arc::new(alloc, counts) {
+            Ok(counts) => Ok(RunningJobs { counts }),
             Err(_) => Err(AllocError),
         }
     }
@@ -24,113 +42,167 @@ impl RunningJobs {
     /// The same count, for another thread.
     fn share(&self) -> Result<RunningJobs, AllocError> {
         Ok(RunningJobs {
-            count: Arc::try_clone(&self.count)?,
+            counts: Arc::try_clone(&self.counts)?,
         })
     }
 
-    fn begin(&self) {
-        let _ = self.count.fetch_add(1, Ordering::SeqCst);
+    fn begin(&self, is_in_slot: bool) {
+        let _ = self.counts.all.fetch_add(1, Ordering::SeqCst);
+        if is_in_slot {
+            let _ = self.counts.in_slots.fetch_add(1, Ordering::SeqCst);
+        }
     }
 
-    /// The work of one is done.
-    pub fn end(&self) {
-        let _ = self.count.fetch_sub(1, Ordering::SeqCst);
+    /// The work of one is done. If it was in a slot, another may begin.
+    pub fn end(&self, is_in_slot: bool) {
+        let _ = self.counts.all.fetch_sub(1, Ordering::SeqCst);
+        if is_in_slot {
+            let _ = self.counts.in_slots.fetch_sub(1, Ordering::SeqCst);
+            self.ring();
+        }
     }
 
-    fn count(&self) -> u64 {
-        self.count.load(Ordering::SeqCst)
+    /// Wakes a worker that sleeps.
+    fn ring(&self) {
+        let _ = self.counts.rings.fetch_add(1, Ordering::SeqCst);
+        self.counts.rings.wake_one();
     }
 }
 
-/// The end of the queue at which jobs are added, and taken back: under their tickets, of which an older one is smaller. With each goes a
-/// signal. A worker takes a signal first, and then the oldest job: so it sleeps at a channel, and sees its end. With a job that is
-/// taken back, a signal is taken back too. Only if a worker has just taken that signal, the worker finds no job, and takes the
-/// next signal. So there are never more signals than jobs that wait, however many are added and taken back while all workers are busy.
+/// The queue is open. When this goes, each worker ends.
+struct Open {
+    running: RunningJobs,
+}
+
+impl Drop for Open {
+    fn drop(self) {
+        let Self { running } = self;
+        running.counts.is_closed.store(true, Ordering::SeqCst);
+        let _ = running.counts.rings.fetch_add(1, Ordering::SeqCst);
+        running.counts.rings.wake_all();
+    }
+}
+
+/// The jobs that wait, under their tickets, of which an older one is smaller.
+#[derive(Drop)]
+struct Rows<E: Drop> {
+    requests: BTreeMap<u64, E>,
+    slots: BTreeMap<u64, E>,
+}
+
+impl<E: Drop> Rows<E> {
+    fn remove(&mut self, ticket: u64) -> Option<E> {
+        match self.requests.remove(&ticket) {
+            Some(job) => Some(job),
+            None => self.slots.remove(&ticket),
+        }
+    }
+
+    fn pop(&mut self) -> Option<E> {
+        match self.requests.pop_first() {
+            Some((_, job)) => Some(job),
+            None => match self.slots.pop_first() {
+                Some((_, job)) => Some(job),
+                None => None,
+            },
+        }
+    }
+}
+
+/// The end of the queue at which jobs are added, and taken back.
 #[derive(Drop)]
 pub(crate) struct WaitingJobs<E: Drop> {
-    jobs: Arc<Mutex<BTreeMap<u64, E>>>,
-    signals: Sender<()>,
-    given: Receiver<()>,
-    running: RunningJobs,
-    room: Option<usize>,
+    rows: Arc<Mutex<Rows<E>>>,
+    open: Open,
+    size: PoolSize,
 }
 
 /// The end of the queue at which a worker takes jobs.
 #[derive(Drop)]
 pub(crate) struct JobSource<E: Drop> {
-    jobs: Arc<Mutex<BTreeMap<u64, E>>>,
-    signals: Receiver<()>,
+    rows: Arc<Mutex<Rows<E>>>,
     running: RunningJobs,
+    /// How many jobs in slots may run at once.
+    slots: u64,
 }
 
-/// A queue of which so many jobs may wait or run.
+/// A queue of so many jobs.
 pub(crate) fn queue_of_jobs<E: Drop>(
     alloc: Global,
-    room: Option<usize>,
+    size: PoolSize,
 ) -> Result<(WaitingJobs<E>, JobSource<E>), AllocError> {
-    let (sender, receiver) = unbounded(alloc)?;
-    let Ok(jobs) = Arc::new(alloc, Mutex::new(BTreeMap::new(alloc))) else {
+    let none = Rows {
+        requests: BTreeMap::new(alloc),
+        slots: BTreeMap::new(alloc),
+    };
+    let Ok(rows) = Arc::new(alloc, Mutex::new(none)) else {
         return Err(AllocError);
     };
     let source = JobSource {
-        jobs: Arc::try_clone(&jobs)?,
-        signals: receiver.clone()?,
+        rows: Arc::try_clone(&rows)?,
         running: RunningJobs::new(alloc)?,
+        slots: size.threads_for_slots() as u64,
     };
-    let waiting = WaitingJobs {
-        jobs,
-        signals: sender,
-        given: receiver,
-        running: source.running.share()?,
-        room,
-    };
-    Ok((waiting, source))
+    let running = source.running.share()?;
+    let open = Open { running };
+    Ok((WaitingJobs { rows, open, size }, source))
 }
 
 impl<E: Drop> WaitingJobs<E> {
     /// Whether one more job may wait or run. A job that waits for an idle worker takes that worker's room.
-    pub fn has_room<T: Wait>(&self, rt: &T) -> bool {
-        let Some(room) = self.room else {
-            return true;
+    pub fn has_room<T: Wait>(&self, rt: &T, is_in_slot: bool) -> bool {
+        let counts = &self.open.running.counts;
+        let rows = self.rows.lock(rt);
+        let (requests, slots) = (rows.requests.len() as u64, rows.slots.len() as u64);
+        let in_slots = counts.in_slots.load(Ordering::SeqCst).saturating_add(slots);
+        let all = counts
+            .all
+            .load(Ordering::SeqCst)
+            .saturating_add(requests)
+            .saturating_add(slots);
+        drop(rows);
+        if is_in_slot && !self.size.has_room(self.size.threads_for_slots(), in_slots) {
+            return false;
+        }
+        self.size.has_room(self.size.threads(), all)
+    }
+
+    /// Adds a job behind all others of its kind, whose tickets are smaller. The error means that an allocation failed, and the job is
+    /// dropped.
+    pub fn add<T: Wait>(
+        &self,
+        rt: &T,
+        ticket: u64,
+        job: E,
+        is_in_slot: bool,
+    ) -> Result<(), AllocError> {
+        let mut rows = self.rows.lock(rt);
+        let added = if is_in_slot {
+            rows.slots.insert(ticket, job)
+        } else {
+            rows.requests.insert(ticket, job)
         };
-        let jobs = self.jobs.lock(rt);
-        let taken = (jobs.len() as u64).saturating_add(self.running.count());
-        drop(jobs);
-        taken < room as u64
-    }
-
-    /// Adds a job behind all others, whose tickets are smaller. After a failed allocation it is dropped, but if a worker took it.
-    pub fn add<T: Wait>(&self, rt: &T, ticket: u64, job: E) -> Result<(), AllocError> {
-        let mut jobs = self.jobs.lock(rt);
-        let is_added = jobs.insert(ticket, job).is_ok();
-        drop(jobs);
-        if is_added && self.signals.send(rt, ()).is_ok() {
-            return Ok(());
+        drop(rows);
+        if added.is_err() {
+            return Err(AllocError);
         }
-        let job = self.jobs.lock(rt).remove(&ticket);
-        drop(job);
-        Err(AllocError)
+        self.open.running.ring();
+        Ok(())
     }
 
-    /// Takes the job with this ticket back, with a signal, and drops it. If a worker took it, nothing is done.
+    /// Takes the job with this ticket back, and drops it. If a worker took it, nothing is done.
     pub fn take_back<T: Wait>(&self, rt: &T, ticket: u64) {
-        let job = self.jobs.lock(rt).remove(&ticket);
-        if job.is_some() {
-            let _ = self.given.try_recv(rt);
-        }
+        let job = self.rows.lock(rt).remove(ticket);
         drop(job);
     }
-}
 
-impl<E: Drop> WaitingJobs<E> {
-    /// Takes all jobs back, each with a signal, and drops them.
+    /// Takes all jobs back, and drops them.
     pub fn take_all_back<T: Wait>(&self, rt: &T) {
         for _ in rt.forever() {
-            let oldest = self.jobs.lock(rt).pop_first();
-            let Some((_, job)) = oldest else {
+            let job = self.rows.lock(rt).pop();
+            if job.is_none() {
                 return;
-            };
-            let _ = self.given.try_recv(rt);
+            }
             drop(job);
         }
         unreachable!()
@@ -141,9 +213,9 @@ impl<E: Drop> JobSource<E> {
     /// The same, for another worker. The error means that an allocation failed.
     pub fn another(&self) -> Result<JobSource<E>, AllocError> {
         Ok(JobSource {
-            jobs: Arc::try_clone(&self.jobs)?,
-            signals: self.signals.clone()?,
+            rows: Arc::try_clone(&self.rows)?,
             running: self.running.share()?,
+            slots: self.slots,
         })
     }
 
@@ -152,23 +224,33 @@ impl<E: Drop> JobSource<E> {
         &self.running
     }
 
-    /// The oldest job, which runs from now on.
+    /// The oldest job of a request. If none waits, the oldest in a slot, but if as many of those run as may. It runs from now on.
     fn take<T: Wait>(&self, rt: &T) -> Option<E> {
-        let mut jobs = self.jobs.lock(rt);
-        let (_, job) = jobs.pop_first()?;
-        self.running.begin();
+        let mut rows = self.rows.lock(rt);
+        if let Some((_, job)) = rows.requests.pop_first() {
+            self.running.begin(false);
+            return Some(job);
+        }
+        if self.running.counts.in_slots.load(Ordering::SeqCst) >= self.slots {
+            return None;
+        }
+        let (_, job) = rows.slots.pop_first()?;
+        self.running.begin(true);
         Some(job)
     }
 
-    /// Waits for the oldest job. `None` means that no more come.
+    /// Waits for a job. `None` means that no more come.
     pub fn next<T: Wait>(&self, rt: &T) -> Option<E> {
+        let counts = &self.running.counts;
         for _ in rt.forever() {
-            if self.signals.recv(rt).is_err() {
+            let seen = counts.rings.load(Ordering::SeqCst);
+            if counts.is_closed.load(Ordering::SeqCst) {
                 return None;
             }
             if let Some(job) = self.take(rt) {
                 return Some(job);
             }
+            counts.rings.park(rt, (seen % 0x1_0000_0000) as u32);
         }
         unreachable!()
     }

@@ -16,6 +16,9 @@ pub(crate) trait Work: Drop {
     /// Whether somebody waits for what comes of it.
     fn is_wanted(&self) -> bool;
 
+    /// Nobody waits for it: it is dropped, and counts no more among those that run.
+    fn end(self, running: &RunningJobs);
+
     /// Runs it to its end, and tells the notifier whenever it said something. It is counted among those that run until its work is done.
     fn run<T: Wait + Copy + Drop, N: Notifier>(
         self,
@@ -36,6 +39,11 @@ pub(crate) struct QueuedJob<J: AnyJob<R>, R: Drop> {
 impl<J: AnyJob<R>, R: Drop> Work for QueuedJob<J, R> {
     fn is_wanted(&self) -> bool {
         !self.token.is_cancelled()
+    }
+
+    fn end(self, running: &RunningJobs) {
+        running.end(self.job_sender.is_in_slot());
+        drop(self);
     }
 
     fn run<T: Wait + Copy + Drop, N: Notifier>(
@@ -63,8 +71,7 @@ fn run_queued<T: Wait + Copy + Drop, E: Work, N: Notifier>(rt: T, jobs: JobSourc
         if job.is_wanted() {
             notifier = job.run(rt, notifier, jobs.running());
         } else {
-            jobs.running().end();
-            drop(job);
+            job.end(jobs.running());
         }
     }
 }
