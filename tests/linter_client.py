@@ -21,12 +21,12 @@ PROGRAM = SERVE.parents[2] / "example_linter" / "out" / "example_linter"
 DOCUMENTS = 5
 EDITS = 200
 LINES = 2000
-PIECES = ["TODO", "TO", "DO", "\n", "TODO: 𝒙\n", "ß", "\r\n", ""]
+PIECES = ["NOTE", "NO", "TE", "\n", "NOTE: 𝒙\n", "ß", "\r\n", ""]
 METHOD_NOT_FOUND = {"code": -32601, "message": "method not found"}
 
 
 def marks_of(text):
-    """A mark at each line with a `TODO`, which ends at the start of the next (LSP 3.17, "Diagnostic")."""
+    """A mark at each line with a `NOTE`, which ends at the start of the next (LSP 3.17, "Diagnostic")."""
     lines = [line.removesuffix("\r") for line in text.split("\n")]
     return [
         {
@@ -35,7 +35,7 @@ def marks_of(text):
             "severity": 3,
         }
         for number, line in enumerate(lines)
-        if "TODO" in line
+        if "NOTE" in line
     ]
 
 
@@ -54,7 +54,7 @@ class Document:
 
     def __init__(self, uri):
         self.uri, self.version = uri, 0
-        self.text = "# alpha\n" * LINES + "TODO: all of it\n"
+        self.text = "# alpha\n" * LINES + "NOTE: all of it\n"
         self.marks = {0: marks_of(self.text)}
         # The oldest version of which marks may still come, and the last of which some came.
         self.oldest, self.shown, self.is_closed = 0, None, False

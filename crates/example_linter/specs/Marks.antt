@@ -1,4 +1,4 @@
--- What an analysis finds: a mark at each line of a text that has a `TODO` (LSP 3.17, "Diagnostic").
+-- What an analysis finds: a mark at each line of a text that has a `NOTE` (LSP 3.17, "Diagnostic").
 use Rattle.serde_json.specs.Data.{Data, array, member, no_members, null, number, object, string, unsigned}
 use Rattle.serde_json.specs.View.{items_of}
 use Rattle.std.specs.List.{All, AllPairs, Contains}
@@ -8,9 +8,9 @@ use Rattle.lsp_message.specs.Message.{ErrorObject}
 use Rattle.lsp_text.specs.Columns.{line_text}
 use Rattle.lsp_text.specs.Lines.{LinedText, starts_of}
 
--- the text has this line, and a `TODO` stands in it
-abbrev pub HasTodo : LinedText → ℕ → Type 0
-HasTodo text line = (line < length (starts_of text)) × HasSubslice (line_text text line) (codes "TODO")
+-- the text has this line, and a `NOTE` stands in it
+abbrev pub HasNote : LinedText → ℕ → Type 0
+HasNote text line = (line < length (starts_of text)) × HasSubslice (line_text text line) (codes "NOTE")
 
 -- the place where a line begins
 abbrev pub line_start : ℕ → Data
@@ -35,8 +35,8 @@ pub record AreMarksOf (text : LinedText) (marks : List Data) : Type 0 where
   pub lines : List ℕ
   pub are : marks ≡ map (mark_at text) lines
   pub rise : AllPairs (λ line later. line < later) lines
-  pub each : All (HasTodo text) lines
-  pub all : (line : ℕ) → line < 2 ^ 31 → HasTodo text line → Contains lines line
+  pub each : All (HasNote text) lines
+  pub all : (line : ℕ) → line < 2 ^ 31 → HasNote text line → Contains lines line
 
 -- the tree is the list of all the marks of a text
 abbrev pub Marks : LinedText → Data → Type 0

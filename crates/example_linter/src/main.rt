@@ -1,4 +1,4 @@
-//! A language server that marks each line with a `TODO`: `example_linter [--stdio | ADDRESS]`, over standard input and output, or over a
+//! A language server that marks each line with a `NOTE`: `example_linter [--stdio | ADDRESS]`, over standard input and output, or over a
 //! socket, where it serves one client after another.
 //!
 //! It keeps each text as the client edits it, a range at a time. Each edit starts an analysis of the whole text, in a thread of a pool and in
@@ -43,7 +43,7 @@ use std::sync::{Arc, Wait};
 use std::thread::Threads;
 use std::{env, mem};
 
-/// The work of finding the lines of a text that have a `TODO`.
+/// The work of finding the lines of a text that have a `NOTE`.
 #[derive(Drop)]
 struct Analysis {
     alloc: Global,
@@ -94,7 +94,7 @@ impl Job for Analysis {
     }
 }
 
-/// A mark at each line that has a `TODO`. `None` if nobody waits for them any more.
+/// A mark at each line that has a `NOTE`. `None` if nobody waits for them any more.
 fn marks_in(
     alloc: Global,
     text: &Text,
@@ -110,7 +110,7 @@ fn marks_in(
         if token.is_cancelled() {
             return Ok(None);
         }
-        if line.contains("TODO") {
+        if line.contains("NOTE") {
             marks.push(mark(alloc, number, line)?)?;
         }
     }
@@ -205,7 +205,7 @@ impl Server for Linter {
         let mut can = Value::Null;
         let agreed = Agreed::announced(self.alloc, &params, false, &mut can)?;
         self.documents = TextDocuments::new(self.alloc, agreed);
-        Ok(Ok(json!(in self.alloc; { "capabilities": can, "serverInfo": { "name": "todos" } })?))
+        Ok(Ok(json!(in self.alloc; { "capabilities": can, "serverInfo": { "name": "notes" } })?))
     }
 
     fn initialized(&mut self) -> Result<Acts, AllocError> {

@@ -22,8 +22,8 @@ loop-number-preserved c =
       | then-contains+in_ok-mark+in_ok-push w ↦
           let mark : view w.in_ok-mark.field-0 ≡ mark_at text n =
           w.in_ok-mark.ensures ∙ ap (mark_of n) c.in-Some.ensures.1 in
-          let has : HasSubslice (line_text text n) (codes "TODO") =
-          subst (λ l. HasSubslice l (codes "TODO")) c.in-Some.ensures.1
+          let has : HasSubslice (line_text text n) (codes "NOTE") =
+          subst (λ l. HasSubslice l (codes "NOTE")) c.in-Some.ensures.1
           ((contains_text _ _ _ w.if-contains.ensures.cases).0 refl) in
           rw (w.marks-is, w.in_ok-push.ensures.items)
           (subst (λ (l : List Data). SoFar text l (n + 1))
