@@ -19,10 +19,12 @@ ITEMS = 256
 TOO_MANY = {"code": -32803, "message": "too many requests are waiting"}
 FAILED = {"code": -32803, "message": "it failed"}
 NO_MEMORY = {"code": -32603, "message": "out of memory"}
+NO_RESULT = {"code": -32603, "message": "no result"}
 # What a script's words say by a token of the request (LSP 3.17, "Work Done Progress" and "Partial Result Progress"), and the member of
 # its params that has the token.
 TOLD = {
     "begins": ("workDoneToken", lambda number: {"kind": "begin", "title": "Working", "percentage": 0}),
+    "offers": ("workDoneToken", lambda number: {"kind": "begin", "title": "Working", "percentage": 0, "cancellable": True}),
     "steps": ("workDoneToken", lambda number: {"kind": "report", "message": f"step {number}", "percentage": number}),
     "ends": ("workDoneToken", lambda number: {"kind": "end", "message": "done"}),
     "parts": ("partialResultToken", lambda number: [number]),
@@ -30,12 +32,16 @@ TOLD = {
 
 
 class Job:
-    """A job, what its server keeps for it, its value, and the params that may have tokens."""
+    """A job, its number, its value, and the params that may have tokens."""
 
-    def __init__(self, script, key, value, params):
-        self.words, self.key, self.value, self.params = script.split(", "), key, value, params
+    def __init__(self, script, number, value, params):
+        self.words, self.number, self.value, self.params = script.split(", "), number, value, params
+        # Whether it is to end, and whether nobody waits for it: then what it says is dropped too.
         self.is_cancelled = self.is_dropped = False
         self.waiting, self.made, self.taken, self.told, self.ending = [], 0, 0, 0, None
+        # The token of the progress that began and has no end yet, and the one by which its client may cancel it.
+        self.begun, self.offered = None, None
+        self.replies = self.finds = True
         # Whether a reply came, or no more comes; the reply of its client, and the token that it asks its client to agree to.
         self.is_answered, self.reply, self.created = False, None, None
 
@@ -125,26 +131,39 @@ class Pool:
         """What is not to be dropped waits for room: an outcome, and all but reports."""
         name, _, number = job.words[0].partition(" ") if job.words else ("outcome", "", "")
         if name == "replied":
-            return job.is_dropped or job.is_answered
-        if name in ("outcome", "sends", "asks", "creates") or name in ("begins", "ends", "parts") and job.token(TOLD[name][0]) is not None:
+            return job.is_cancelled or job.is_answered
+        if name in ("asks", "creates") and job.is_cancelled:
+            return True
+        if name in ("outcome", "sends", "asks", "creates") or name in ("begins", "offers", "ends", "parts") and job.token(TOLD[name][0]) is not None:
             return job.is_dropped or len(job.waiting) < PLACES and len(self.said) < ITEMS
         if name == "after":
             return self.counts["messages"] >= int(number)
-        return name != "cancelled" or job.is_cancelled
+        return name not in ("cancelled", "rests") or job.is_cancelled
 
     def go_on(self, number, job):
         if not job.words:
-            self.workers[number] = None
+            if job.begun is not None:
+                # Progress that began has an end (LSP 3.17, "Work Done Progress End").
+                self.report(job, {"token": job.begun, "value": {"kind": "end"}}, PLACES)
+                job.begun = None
+                return
+            self.workers[number], job.offered = None, None
             self.say(job, ("outcome", job.ending))
             return
         name, _, words = job.words.pop(0).partition(" ")
         if name == "cancelled":
             self.counts["stopped"] += 1
+        elif name in ("rests", "checks"):
+            if job.is_cancelled:
+                self.counts["stopped"] += 1
+                job.words, job.ending = [], "cancelled"
+        elif name in ("replies", "finds"):
+            job.replies, job.finds = job.replies and name != "replies", job.finds and name != "finds"
         elif name in ("asks", "creates"):
             self.ask(job, words)
         elif name == "replied":
             self.hear_reply(job)
-        elif name in ("reports", "sends", "begins", "steps", "ends", "parts"):
+        elif name in ("reports", "sends", "begins", "offers", "steps", "ends", "parts"):
             self.tell(job, name)
             if int(words or 1) > 1:
                 job.words.insert(0, f"{name} {int(words) - 1}")
@@ -154,14 +173,17 @@ class Pool:
             job.ending = name
         if not job.words:
             self.counts["ended"] += 1
-            endings = {"replied": job.reply, "counted": {"result": job.taken}, "fails": {"error": FAILED}, "starves": {"error": NO_MEMORY}}
-            job.ending = endings.get(job.ending, {"result": job.value})
+            endings = {"replied": job.reply, "counted": {"result": job.taken}, "fails": {"error": FAILED}}
+            if job.ending not in ("starves", "cancelled"):
+                job.ending = endings.get(job.ending, {"result": job.value})
 
     def ask(self, job, token):
         """A request to the client, for whose reply the job waits (LSP 3.17, "Creating Work Done Progress" for a token)."""
         job.created, job.is_answered, job.reply, job.ending = token or None, False, None, None
-        method, params = ("window/workDoneProgress/create", {"token": token}) if token else ("demo/asked", job.value)
         job.words.insert(0, "replied")
+        if job.is_cancelled:
+            return
+        method, params = ("window/workDoneProgress/create", {"token": token}) if token else ("demo/asked", job.value)
         self.say(job, ("ask", {"method": method, "params": params}))
 
     def hear_reply(self, job):
@@ -182,31 +204,45 @@ class Pool:
                 return
             job.told += name in ("steps", "parts")
             params = {"token": token, "value": value(job.told)}
+            if name in ("begins", "offers", "ends"):
+                job.begun = None if name == "ends" else token
+            if name == "offers":
+                job.offered = token
         else:
             job.made += 1
             params = {"token": "job", "value": job.made}
-        room = PLACES - 1 if name in ("reports", "steps") else PLACES
-        if not job.is_dropped and len(job.waiting) < room and len(self.said) < ITEMS:
-            job.taken += name in ("reports", "sends")
+        is_taken = self.report(job, params, PLACES - 1 if name in ("reports", "steps") else PLACES)
+        job.taken += is_taken and name in ("reports", "sends")
+
+    def report(self, job, params, room):
+        is_taken = not job.is_dropped and len(job.waiting) < room and len(self.said) < ITEMS
+        if is_taken:
             self.say(job, ("report", {"method": "$/progress", "params": params}))
+        return is_taken
+
+    def cancel_progress(self, token):
+        """The job that shows progress with this token is to end (LSP 3.17, "Canceling Work Done Progress"). It is awaited as before."""
+        for job in filter(None, self.workers):
+            if job.offered is not None and type(job.offered) is type(token) and job.offered == token:
+                job.is_cancelled = True
 
     def has_message(self):
         return any(not job.is_dropped for job in self.said)
 
     def message(self):
-        """The id of the job that said something next, what it said, and its key. What dropped jobs said goes first. None if nothing is left."""
+        """The name of the job that said something next, what it said, and the job. What dropped jobs said goes first. None if nothing is left."""
         while self.said:
             job = self.said.pop(0)
             if not job.is_dropped:
                 kind, said = job.waiting.pop(0)
                 if kind == "outcome":
                     del self.table[job.name]
-                return job.name, kind, said, job.key
+                return job.name, kind, said, job
         return None
 
 
 class Working(Talker):
-    """The server that speaks, with jobs. What it keeps for a job is the job's number."""
+    """The server that speaks, with jobs. Each has a number."""
 
     def __init__(self):
         super().__init__()
@@ -233,7 +269,7 @@ class Working(Talker):
         if not isinstance(why, Job):
             return super().replied(came)
         self.asked[came["id"]] = None
-        if not why.is_dropped:
+        if not why.is_cancelled:
             why.is_answered, why.reply = True, {it: came[it] for it in came if it in ("result", "error")}
         return []
 
@@ -243,7 +279,7 @@ class Working(Talker):
             return self.replied(came)
         if "id" in came and method.startswith("later "):
             job = self.make(method[6:], params)
-            self.kept[job.key] = came["id"]
+            self.kept[job.number] = came["id"]
             self.later.append((Slot(f"later {came['id']}"), job))
         elif is_note(came, "start"):
             self.starts, self.later = self.later, []
@@ -253,7 +289,7 @@ class Working(Talker):
             self.starts.append((Slot("own"), None))
         elif is_note(came, "answer"):
             return [{"id": params[0], "result": "by the server"}]
-        elif "id" in came or not method.startswith("$/"):
+        elif "id" in came or not method.startswith(("$/", "window/")):
             return super().heard(came)
         return []
 
@@ -331,14 +367,14 @@ class JobSession:
     def free(self, slot, end):
         """The server sees that the job in a slot ended so."""
         if slot in self.pool.table:
-            self.finished += f" {json.dumps(slot)}:{self.pool.table[slot].key} {end}"
+            self.finished += f" {json.dumps(slot)} {end}"
             self.pool.forget(slot)
 
     def submit(self, slot, job):
         """A job without room is refused, and its server sees that."""
         if not self.pool.submit(slot, job):
-            self.finished += f" {json.dumps(slot)}:{job.key} refused"
-            self.send({"method": "refused", "params": [job.key]})
+            self.finished += f" {json.dumps(slot)} refused"
+            self.send({"method": "refused", "params": [slot]})
 
     def take(self, came):
         """A long request has its job. Without room its server is not asked for one, and nothing is told to it."""
@@ -399,6 +435,8 @@ class JobSession:
         elif "id" in came and "method" in came:
             self.pool.forget(came["id"])
             self.pending.add(came["id"])
+        if is_note(came, "window/workDoneProgress/cancel"):
+            self.pool.cancel_progress(came["params"]["token"])
         if self.server.is_long(came):
             self.take(came)
         else:
@@ -406,17 +444,18 @@ class JobSession:
         if cancels is not False and cancels in self.pending:
             self.act([{"id": cancels, "error": CANCELED}])
 
-    def hear(self, name, kind, said, key):
+    def hear(self, name, kind, said, job):
         if kind == "report":
             return self.send(said)
         if kind == "ask":
-            return self.send(self.server.ask(said["method"], said["params"], self.pool.table[name]))
-        self.finished += f" {json.dumps(name)}:{key}"
+            return self.send(self.server.ask(said["method"], said["params"], job))
+        end, reply, found = came_of(said, job)
+        self.finished += f" {json.dumps(name)} {end}" if found is None else f" {json.dumps(name)}:{found}"
         if not isinstance(name, Slot):
-            return self.act([{"id": name, **said}])
-        if "result" not in said:
+            return self.act([{"id": name, **reply}])
+        if found is None or "result" not in said:
             return self.act([])
-        kept = self.server.kept.get(key)
+        kept = self.server.kept.get(found)
         return self.act([{"method": "published", "params": said["result"]} if kept is None else {"id": kept, **said}])
 
     def answer(self, is_sorted):
@@ -428,6 +467,15 @@ class JobSession:
         said = f"{counts['begun']} begun, {counts['stopped']} stopped; finished{self.finished}"
         passed = "; passed " + " ".join(map(str, self.passed.values())) if self.passed else ""
         return f"{end}; wrote {shown(self.written)}; {said}{passed}"
+
+
+def came_of(said, job):
+    """How a job ended, the reply to its request, and its number if it found that."""
+    if said == "starves":
+        return "failed", {"error": NO_MEMORY}, None
+    if said == "cancelled":
+        return "cancelled", {"error": CANCELED}, None
+    return "done", said if job.replies else {"error": NO_RESULT}, job.number if job.finds else None
 
 
 def hand_name(word):
@@ -459,9 +507,9 @@ class HandPool:
     def go(self):
         verb, _, words = self.todo.pop(0).partition(" ")
         if verb == "submit":
-            name, key, script = words.split(" ", 2)
-            job = Job(script, int(key), [int(key)], TOKENS)
-            self.told += "taken, " if self.pool.submit(hand_name(name), job) else f"full {key}, "
+            name, number, script = words.split(" ", 2)
+            job = Job(script, int(number), [int(number)], TOKENS)
+            self.told += "taken, " if self.pool.submit(hand_name(name), job) else "full, "
         elif verb == "hear":
             self.heard = False
             self.told += "heard, "
@@ -477,9 +525,11 @@ class HandPool:
             self.told += "waits, " if hand_name(words) in self.pool.table else "free, "
         elif verb == "forget":
             self.pool.forget(hand_name(words))
+        elif verb == "cancel":
+            self.pool.cancel_progress(words)
         elif verb in ("reply", "give_up"):
             for job in self.asked[int(words) : int(words) + 1]:
-                if not (job.is_dropped or job.is_answered):
+                if not (job.is_cancelled or job.is_answered):
                     job.is_answered, job.reply = True, {"result": True} if verb == "reply" else None
         if not self.todo:
             self.pool.end()
@@ -494,14 +544,23 @@ class HandPool:
         found = self.pool.message()
         if found is None:
             return "nothing, "
-        name, kind, said, key = found
+        name, kind, said, job = found
         if kind == "report":
             return f"{name} report {ordered(said['params'])}, "
         if kind == "ask":
-            self.asked.append(self.pool.table[name])
+            self.asked.append(job)
             return f"{name} ask {len(self.asked) - 1} {said['method']} {ordered(said['params'])}, "
-        came = f"error {said['error']['code']}" if "error" in said else f"outcome {ordered(said['result'])}"
-        return f"{name} {came} of {key}, "
+        return f"{name} {self.shown_end(name, said, job)}, "
+
+    def shown_end(self, name, said, job):
+        """A job in a slot gives no reply, and its value is found."""
+        if said in ("starves", "cancelled"):
+            return {"starves": "no memory"}.get(said, said)
+        if isinstance(name, Slot):
+            return f"found {ordered(said['result'])}" if job.finds and "result" in said else "no reply"
+        if not job.replies:
+            return "no reply"
+        return f"error {said['error']['code']}" if "error" in said else f"outcome {ordered(said['result'])}"
 
     def answer(self):
         counts = self.pool.counts

@@ -1,14 +1,15 @@
 -- The law of jobs, of a server whose jobs give the params back.
-use Rattle.std.proofs.Common.{◌≡◌, ◌⊎◌, inl, inr, ◌∙◌, sym, subst, ℕ, List, [], ◌∷◌, ◌++◌, None, Ok}
+use Rattle.std.proofs.Common.{◌≡◌, ◌⊎◌, inl, inr, ◌∙◌, sym, subst, ℕ, List, [], ◌∷◌, ◌++◌, Option, None, Some, Ok}
 use Rattle.serde_json.specs.Data.{Data}
 use Rattle.lsp_message.specs.Id.{Id}
-use Rattle.lsp_message.specs.Message.{Message, ErrorObject, response}
+use Rattle.lsp_message.specs.Message.{Message, response}
 use Rattle.lsp_service.specs.Acts.{Act}
 use Rattle.lsp_session.specs.Session.{Exchange}
-use Rattle.lsp_jobs.specs.Ends.{End, Outcome}
+use Rattle.lsp_jobs.specs.Ends.{Came, ComesTo, End, Outcome, ended, found, gave, gave_up, out_of_memory}
+use Rattle.lsp_jobs.specs.Ends.{reply_of}
 use Rattle.lsp_jobs.specs.JobLaw.{AnswersRequest, LastRequest, RepliesItself}
-use Rattle.lsp_jobs.specs.declared.job.Job.{Ghosts as OfJob}
-use Rattle.lsp_jobs.specs.declared.job_server.JobServer.{Ghosts as WithJobs}
+use Rattle.lsp_jobs.specs.Stated.{SeesEnd, StatedJobs}
+use Rattle.lsp_jobs.specs.declared.job_server.JobEnd.{JobEnd}
 use Rattle.lsp_jobs.specs.declared.names.JobName.{JobName}
 use Rattle.bench.specs.Echo.{EchoesAtWakes}
 
@@ -16,28 +17,43 @@ some_act : {A B : Type 0} (before after : List A) (x : A) → before ++ x ∷ af
 some_act [] after x e = absurd (cc (e))
 some_act (y ∷ before) after x e = absurd (cc (e))
 
-module _ {S J K P : Type 0} (may : WithJobs S J K P) (of_job : OfJob J)
-    (silent : (old : S) (name : JobName) (key : K) (end : End) (acts : List (Act P)) (new : S)
-    → may.finishes old name key end acts new → acts ≡ [])
-    (echoes : (job : J) (method : List ℕ) (params : Data) (outcome : Outcome) → of_job.is_for job method params
-    → of_job.finds job outcome → outcome ≡ Ok params) where
+module _ {S J F P : Type 0} (may : StatedJobs S J F P)
+    (hears_none : (old : S) (name : JobName) (it : F) (acts : List (Act P)) (new : S) → may.hears old name it acts new
+    → acts ≡ [])
+    (ends_none : (old : S) (name : JobName) (end : JobEnd) (acts : List (Act P)) (new : S)
+    → may.finishes old name end acts new → acts ≡ [])
+    (echoes : (job : J) (method : List ℕ) (params : Data) (reply : Option Outcome) (it : Option F)
+    → may.is_for job method params → may.comes_to job reply it → reply ≡ Some (Ok params)) where
+  -- the server does nothing at the end of a job
+  silent : (old : S) (name : JobName) (end : End F) (acts : List (Act P)) (new : S) → SeesEnd may old name end acts new
+      → acts ≡ []
+  silent old name (found it) acts new saw = hears_none old name it acts new saw
+  silent old name (ended end) acts new saw = ends_none old name end acts new saw
+
+  -- a job that gives a result gives the params
+  gives : (job : J) (method : List ℕ) (params result : Data) (came : Came F) → may.is_for job method params
+      → ComesTo may.comes_to job came → Ok result ≡ reply_of came → result ≡ params
+  gives job method params result (gave (Some outcome) it) is_for comes same =
+      let given : ◌≡◌ {A = Option Outcome} (Some outcome) (Some (Ok params)) =
+      echoes job method params (Some outcome) it is_for comes in
+      let it : outcome ≡ Ok params = cc (given) in
+      let all : ◌≡◌ {A = Outcome} (Ok result) (Ok params) = same ∙ it in cc (all)
+  gives job method params result (gave None it) is_for comes same = absurd (cc (same))
+  gives job method params result out_of_memory is_for comes same = absurd (cc (same))
+  gives job method params result gave_up is_for comes same = absurd (cc (same))
+
   -- the reply is the params of the last request
-  echoed : (earlier : List Exchange) (id : Id) (result : Data) → AnswersRequest of_job earlier id (Ok result)
+  echoed : (earlier : List Exchange) (id : Id) (result : Data) → AnswersRequest may earlier id (Ok result)
       ⊎ RepliesItself may id (Ok result) → (method : List ℕ) × LastRequest earlier id method result
   echoed earlier id result (inr itself) =
-      some_act itself.before itself.after _ (silent itself.old itself.name itself.key itself.end _ itself.new
-      itself.saw)
-  echoed earlier id result (inl by) = elim by.comes [
-    | inl found ↦
-        let same = echoes by.job by.method by.params (Ok result) by.is_for found in
-        let params : result ≡ by.params = cc (same) in
-        (by.method, subst (λ (p : Data). LastRequest earlier id by.method p) (sym params) by.waits)
-    | inr failed ↦ absurd (cc (failed))
-  ]
+      some_act itself.before itself.after _ (silent itself.old itself.name itself.end _ itself.new itself.saw)
+  echoed earlier id result (inl by) =
+      let params = gives by.job by.method by.params result by.came by.is_for by.comes by.reply in
+      (by.method, subst (λ (p : Data). LastRequest earlier id by.method p) (sym params) by.waits)
 
   pub echo_at_wakes : (exchanges : List Exchange)
       → ((earlier later : List Exchange) (x : Exchange) (before after : List Message) (id : Id) (outcome : Outcome)
       → exchanges ≡ earlier ++ x ∷ later → x.came ≡ None → x.sent ≡ before ++ response id outcome ∷ after
-      → AnswersRequest of_job earlier id outcome ⊎ RepliesItself may id outcome) → EchoesAtWakes exchanges
+      → AnswersRequest may earlier id outcome ⊎ RepliesItself may id outcome) → EchoesAtWakes exchanges
   echo_at_wakes exchanges law earlier later x before after id result cut woken sent =
       echoed earlier id result (law earlier later x before after id (Ok result) cut woken sent)

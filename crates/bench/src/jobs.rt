@@ -9,12 +9,9 @@ use crate::speaking::Speaking;
 use crate::threads::ended;
 use lsp_jobs::laws::{requests_are_answered_by_their_jobs, session_with_jobs_keeps_laws};
 use lsp_jobs::{
-    AnsweredBy, CancellationToken, Job, JobEnd, JobName, JobServer, PoolSize, Progress, SlotChange,
-    run_jobs,
+    AnsweredBy, Interrupted, Job, JobContext, JobResult, JobServer, NoSlots, PoolSize, run_jobs,
 };
-use lsp_server::{
-    Act, EndSession, Request, ResponseError, StandardOutput, StartFault, ThreadOptions, Threaded,
-};
+use lsp_server::{EndSession, Request, StandardOutput, StartFault, ThreadOptions, Threaded};
 use serde_json::Value;
 use std::alloc::{AllocError, Global};
 use std::io::{BufRead, Write};
@@ -27,54 +24,34 @@ struct Computation {
     params: Value,
 }
 
-type Acts = Vec<Act<()>>;
-
 /// Each request is a job.
 impl JobServer<Computation> for Speaking {
-    type Key = ();
+    type Slots = NoSlots;
 
     fn is_long(&self, _request: &Request) -> bool {
         true
     }
 
-    fn job(&self, request: Request) -> Result<AnsweredBy<Computation, ()>, AllocError> {
+    fn job(&self, request: Request) -> Result<AnsweredBy<Computation>, AllocError> {
         let Request { id, method, params } = request;
         drop(id);
         drop(method);
-        Ok(AnsweredBy::Job(Computation { params }, ()))
-    }
-
-    fn take_changes(
-        &mut self,
-        alloc: Global,
-    ) -> Result<Vec<SlotChange<Computation, ()>>, AllocError> {
-        Ok(Vec::new(alloc))
-    }
-
-    fn finished(
-        &mut self,
-        _name: &JobName,
-        _key: (),
-        _end: &JobEnd,
-        alloc: Global,
-    ) -> Result<Acts, AllocError> {
-        Ok(Vec::new(alloc))
+        Ok(AnsweredBy::Job(Computation { params }))
     }
 }
 
 impl Job for Computation {
     ghost use Rattle.serde_json.specs.View.{view};
-    ghost use Rattle.std.specs.Prelude.{◌≡◌, Ok};
+    ghost use Rattle.std.specs.Prelude.{◌≡◌, Ok, Some};
+
+    type Found = ();
 
     ghost is_for = { λ job _ params. view job.params ≡ params };
 
-    ghost finds = { λ job outcome. outcome ≡ Ok (view job.params) };
+    ghost comes_to = { λ job reply _. reply ≡ Some (Ok (view job.params)) };
 
-    fn run<P: Progress>(
-        self,
-        _token: &CancellationToken,
-        _progress: &mut P,
-    ) -> Result<Result<Value, ResponseError>, AllocError> {
+    fn run<C: JobContext>(self, context: &mut C) -> Result<JobResult<()>, Interrupted> {
+        let _ = context;
         let Computation { params } = self;
         let turns = params
             .get("turns")
@@ -83,9 +60,9 @@ impl Job for Computation {
         // It never comes to 0, but the compiler has to compute it to know.
         if computed(turns) == 0 {
             drop(params);
-            return Err(AllocError);
+            return Err(Interrupted::Memory);
         }
-        Ok(Ok(params))
+        Ok(JobResult::reply(Ok(params)))
     }
 }
 

@@ -37,7 +37,6 @@ use Rattle.lsp_service.specs.declared.server.Act as rust
 use Rattle.example_linter.proofs.Lists.{in_list, only, some_and}
 use Rattle.example_linter.specs.Followed.{AreChangesOf, Clears, Follow, IsChangeOf, IsCurrent}
 use Rattle.example_linter.specs.declared.Analysis.{Analysis}
-use Rattle.example_linter.specs.declared.Source.{Source}
 
 -- only the document of this URI changed; or, without one, none came that was not there
 abbrev pub Touches : Documents → Documents → Option (List ℕ) → Type 0
@@ -114,41 +113,41 @@ not_made method before now params m a =
 other_slot : (q uri : List ℕ) → same_id (text q) (text uri) ≡ false → bytes_eq q uri ≡ false
 other_slot q uri other = sym (is_eq-slice_cmp q uri) ∙ other
 
-slot_is : (documents : Documents) (uri : List ℕ) (change : SlotChange Analysis Source)
+slot_is : (documents : Documents) (uri : List ℕ) (change : SlotChange Analysis)
     → IsChangeOf documents uri change → slot_of change ≡ text uri
-slot_is documents uri (Start slot analysis source) is = is.1.0 ∙ ap text is.0
+slot_is documents uri (Start slot analysis) is = is.1.0 ∙ ap text is.0
 slot_is documents uri (Stop slot) is = is.0
 
-is_current : (documents : Documents) (uri : List ℕ) (change : SlotChange Analysis Source) (slot : Id)
-    (analysis : Analysis) (source : Source) → IsChangeOf documents uri change → Start slot analysis source ≡ change
-    → IsCurrent documents slot analysis source
-is_current documents uri change slot analysis source is e =
+is_current : (documents : Documents) (uri : List ℕ) (change : SlotChange Analysis) (slot : Id)
+    (analysis : Analysis) → IsChangeOf documents uri change → Start slot analysis ≡ change
+    → IsCurrent documents slot analysis
+is_current documents uri change slot analysis is e =
     (subst (IsChangeOf documents uri) (sym e) is).1
 
 -- the analysis of one document follows it
-pub one_follows : (before now : Documents) (uri : List ℕ) (change : SlotChange Analysis Source)
+pub one_follows : (before now : Documents) (uri : List ℕ) (change : SlotChange Analysis)
     → Touches before now (Some uri) → IsChangeOf now uri change → Follow before (change ∷ []) now
 one_follows before now uri change touches is = record {
-  started = λ slot analysis source last.
-      is_current now uri change slot analysis source is (only last.before last.after _ change last.cut);
+  started = λ slot analysis last.
+      is_current now uri change slot analysis is (only last.before last.after _ change last.cut);
   others = λ q alone. ap (option_and_then shown) (touches q (other_slot q uri
       (subst (λ (s : Id). same_id (text q) s ≡ false) (slot_is now uri change is) alone.0)));
 }
 
 -- the same of all
-pub all_follow : (before now : Documents) (changes : List (SlotChange Analysis Source)) → Touches before now None
+pub all_follow : (before now : Documents) (changes : List (SlotChange Analysis)) → Touches before now None
     → AreChangesOf now changes → Follow before changes now
 all_follow before now changes touches are = record {
-  started = λ slot analysis source last.
+  started = λ slot analysis last.
       let at = in_list (λ change. (uri : List ℕ) × IsChangeOf now uri change) last.before last.after
-      (Start slot analysis source) changes last.cut are.each in
-      is_current now at.0 (Start slot analysis source) slot analysis source at.1 refl;
+      (Start slot analysis) changes last.cut are.each in
+      is_current now at.0 (Start slot analysis) slot analysis at.1 refl;
   others = λ uri alone.
       let gone = are.all uri alone in
       ap (option_and_then shown) (gone ∙ sym (touches uri gone));
 }
 
-alone_split : (slot : Id) (some more : List (SlotChange Analysis Source)) → LeavesAlone slot (some ++ more)
+alone_split : (slot : Id) (some more : List (SlotChange Analysis)) → LeavesAlone slot (some ++ more)
     → LeavesAlone slot some × LeavesAlone slot more
 alone_split slot [] more alone = (tt, alone)
 alone_split slot (change ∷ some) more alone =
@@ -159,12 +158,12 @@ abbrev pub found : List ℕ → List (String Global × Open) → Option Open
 found uri entries = lookup (is_at (λ k. slice_cmp nat_cmp uri (string_bytes k))) entries
 
 -- what is kept of a URI is among the entries that are left, if its slot is not changed
-abbrev pub AreLeft : Documents → List (SlotChange Analysis Source) → List (String Global × Open) → Type 0
+abbrev pub AreLeft : Documents → List (SlotChange Analysis) → List (String Global × Open) → Type 0
 AreLeft documents changes entries =
     (uri : List ℕ) → LeavesAlone (text uri) changes → documents.held uri ≡ found uri entries
 
-pub are_left : (documents : Documents) (changes : List (SlotChange Analysis Source))
-    (change : SlotChange Analysis Source) (e : String Global × Open) (entries : List (String Global × Open))
+pub are_left : (documents : Documents) (changes : List (SlotChange Analysis))
+    (change : SlotChange Analysis) (e : String Global × Open) (entries : List (String Global × Open))
     → IsChangeOf documents (string_bytes e.0) change → AreLeft documents changes (e ∷ entries)
     → AreLeft documents (changes ++ change ∷ []) entries
 are_left documents changes change e entries is before uri alone =
@@ -201,20 +200,20 @@ hears_missed found before params result m now h e =
     let a = heard_as found before params result (Err m) now h e in not_made a.0 before now params m a.1
 
 pub follows_one : {A E : Type 0} (r : Result A E) (before held now : TextDocuments)
-    (old new : List (SlotChange Analysis Source)) (uri : List ℕ)
+    (old new : List (SlotChange Analysis)) (uri : List ℕ)
     → Touches (documents_of before) (documents_of held) (Some uri) → now ≡ held
-    → OnOk r ((change : SlotChange Analysis Source) × (new ≡ old ++ change ∷ [])
+    → OnOk r ((change : SlotChange Analysis) × (new ≡ old ++ change ∷ [])
     × IsChangeOf (documents_of held) uri change)
     → OnOk r (old ≡ [] → Follow (documents_of before) new (documents_of now))
 follows_one r before held now old new uri touches same = on_ok_weaker r (λ did none.
     let one : new ≡ did.0 ∷ [] = did.1
-    ∙ ap (λ (l : List (SlotChange Analysis Source)). l ++ did.0 ∷ []) none in
-    subst (λ (x : List (SlotChange Analysis Source) × TextDocuments). Follow (documents_of before) x.0
+    ∙ ap (λ (l : List (SlotChange Analysis)). l ++ did.0 ∷ []) none in
+    subst (λ (x : List (SlotChange Analysis) × TextDocuments). Follow (documents_of before) x.0
     (documents_of x.1)) (λ k. (sym one k, sym same k))
     (one_follows (documents_of before) (documents_of held) uri did.0 touches did.2))
 
 pub follows_all : {A E : Type 0} (r : Result A E) (before held now : TextDocuments)
-    (old new : List (SlotChange Analysis Source)) → Touches (documents_of before) (documents_of held) None
+    (old new : List (SlotChange Analysis)) → Touches (documents_of before) (documents_of held) None
     → now ≡ held → OnOk r (old ≡ [] → AreChangesOf (documents_of held) new)
     → OnOk r (old ≡ [] → Follow (documents_of before) new (documents_of now))
 follows_all r before held now old new touches same = on_ok_weaker r (λ did none.

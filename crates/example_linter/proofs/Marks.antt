@@ -1,7 +1,7 @@
 -- The marks of a text up to a line.
 use Rattle.serde_json.specs.Data.{Data}
-use Rattle.std.proofs.Common.{◌≡◌, ◌⊎◌, inl, inr, ap, subst, ℕ, ◌+◌, ◌<◌, ◌≤◌, ◌^◌, List, ◌∷◌, [], ◌++◌, ◌∙◌, sym, map}
-use Rattle.std.proofs.Common.{length, arith, below_more, true, false, None, codes}
+use Rattle.std.proofs.Common.{◌≡◌, ◌⊎◌, refl, inl, inr, ap, subst, ℕ, ◌+◌, ◌<◌, ◌≤◌, ◌^◌, List, ◌∷◌, [], ◌++◌, ◌∙◌, sym}
+use Rattle.std.proofs.Common.{map, length, arith, below_more, true, false, None, codes}
 use Rattle.std.proofs.lemmas.List.{map-append}
 use Rattle.std.proofs.lemmas.List.Elements.{All-push, All-weaker, Contains-append_left, Contains-push}
 use Rattle.std.proofs.lemmas.List.Quantifiers.{all_pairs_push}
@@ -19,6 +19,15 @@ pub record SoFar (text : LinedText) (marks : List Data) (count : ℕ) : Type 0 w
   pub rise : AllPairs (λ line later. line < later) lines
   pub each : All (λ line. (line < count) × HasNote text line) lines
   pub all : (line : ℕ) → line < count → HasNote text line → Contains lines line
+
+pub no_marks : (text : LinedText) → SoFar text [] 0
+no_marks text = record {
+  lines = [];
+  are = refl;
+  rise = search (arith) depth 5;
+  each = search (arith) depth 5;
+  all = λ line below has. absurd (omega (arith, below));
+}
 
 pub no_mark : (text : LinedText) (marks : List Data) (n : ℕ) → SoFar text marks n → (HasNote text n → ⊥)
     → SoFar text marks (n + 1)

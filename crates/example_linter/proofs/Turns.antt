@@ -1,23 +1,21 @@
 -- Through the turns of the server, each analysis that stands in a slot is of its document as it is then.
-use Rattle.serde_json.specs.Data.{Data, Items, array, boolean, null, number, object, string}
-use Rattle.serde_json.specs.View.{items_view}
-use Rattle.serde_json.specs.declared.value.Value.{Value}
+use Rattle.serde_json.specs.Data.{Data}
+use Rattle.serde_json.specs.View.{view}
 use Rattle.std.proofs.Common.{◌≡◌, refl, sym, ◌∙◌, ap, subst, inl, inr, ℕ, List, [], ◌∷◌, ◌++◌, append_assoc}
 use Rattle.std.proofs.Common.{append-nil, Option, Some, None, string_bytes}
-use Rattle.std.specs.Arc.{arc_value}
-use Rattle.std.specs.Prelude.{map as map_list, ℤ, IsSomeAnd, Ok, Err}
+use Rattle.std.specs.Prelude.{map as map_list, ℤ, IsSomeAnd}
 use Rattle.lsp_documents.specs.Held.{documents_of}
 use Rattle.lsp_documents.specs.Notices.{Documents}
 use Rattle.lsp_jobs.specs.Asking.{by_server}
-use Rattle.lsp_jobs.specs.Ends.{End, Outcome, came_to, no_room, replaced, stopped}
+use Rattle.lsp_jobs.specs.Ends.{Came, ComesTo, End, Outcome, end_of, ended, found, gave, gave_up, out_of_memory}
 use Rattle.lsp_jobs.specs.JobLaw.{Left, IsLeft, at_ends}
-use Rattle.lsp_jobs.specs.PendingJobs.{ComesTo}
 use Rattle.lsp_jobs.specs.Pooled.{reply_at}
 use Rattle.lsp_jobs.specs.SlotLaw.{AllLeaveAlone, AreTurns, IsCalled, IsTurn, LastStart, LeavesAlone, SeesLeft}
 use Rattle.lsp_jobs.specs.SlotLaw.{SlotHistory, Stands, StartsLast, Turn, WakeDoes}
+use Rattle.lsp_jobs.specs.Stated.{SeesEnd, StatedJobs}
 use Rattle.lsp_jobs.specs.declared.asking.Asked.{Asked}
-use Rattle.lsp_jobs.specs.declared.job.Job.{Ghosts as OfJob}
-use Rattle.lsp_jobs.specs.declared.job_server.JobServer.{Ghosts as WithJobs}
+use Rattle.lsp_jobs.specs.declared.job_server.JobEnd.{JobEnd}
+use Rattle.lsp_jobs.specs.declared.job_server.JobEnd.TheVariants.{Cancelled, Done, Failed}
 use Rattle.lsp_jobs.specs.declared.job_server.SlotChange.{SlotChange}
 use Rattle.lsp_jobs.specs.declared.job_server.SlotChange.TheVariants.{Start}
 use Rattle.lsp_jobs.specs.declared.names.JobName.{JobName}
@@ -33,9 +31,10 @@ use Rattle.lsp_text.specs.Documents.{Document}
 use Rattle.lsp_text.specs.Lines.{LinedText}
 use Rattle.example_linter.proofs.Lists.{not_empty, only, place, some_and}
 use Rattle.example_linter.specs.Followed.{Follow, IsCurrent, IsOf, known, written}
-use Rattle.example_linter.specs.Marks.{FindsMarks, Marks}
+use Rattle.example_linter.specs.Marks.{AreMarksOf, FindsMarks}
 use Rattle.example_linter.specs.Shown.{Shows, ShowsHeld, ShowsHeldTexts}
 use Rattle.example_linter.specs.declared.Analysis.{Analysis}
+use Rattle.example_linter.specs.declared.Findings.{Findings}
 use Rattle.example_linter.specs.declared.Linter.{Linter}
 use Rattle.example_linter.specs.declared.Source.{Source}
 
@@ -52,13 +51,7 @@ none_told : {P : Type 0} {acts : List (Act (Asked P))} (first : List (Act P)) �
     → acts ≡ map_list by_server (first ++ []) → acts ≡ []
 none_told first none all = all ∙ ap (λ l. map_list by_server (l ++ [])) none
 
--- a list of marks that an analysis came to is of its text
-are_marks : (text : LinedText) (trees : Items) → FindsMarks text (Ok (array trees)) → Marks text (array trees)
-are_marks text trees (inl found) =
-    let same : array trees ≡ found.0 = cc (found.1) in subst (Marks text) (sym same) found.2
-are_marks text trees (inr nothing) = absurd (cc (nothing))
-
-module _ {P : Type 0} (plain : Plain Linter P) (may : WithJobs Linter Analysis Source P) (of_job : OfJob Analysis) where
+module _ {P : Type 0} (plain : Plain Linter P) (may : StatedJobs Linter Analysis Findings P) where
   -- what the server and its jobs state, as far as it is needed here
   pub record States : Type 0 where
     pub began : (old : Linter) (acts : List (Act P)) (new : Linter) → plain.at_initialized old acts new → new ≡ old
@@ -70,20 +63,23 @@ module _ {P : Type 0} (plain : Plain Linter P) (may : WithJobs Linter Analysis S
     pub replied : (old : Linter) (payload : P) (outcome : Outcome) (acts : List (Act P)) (new : Linter)
         → plain.replied old payload outcome acts new → new ≡ old
     pub took_back : (old : Linter) (payload : P) (new : Linter) → plain.takes_back old payload new → new ≡ old
-    pub changed : (old : Linter) (changes : List (SlotChange Analysis Source)) (new : Linter)
+    pub changed : (old : Linter) (changes : List (SlotChange Analysis)) (new : Linter)
         → may.changes old changes new
         → (changes ≡ old.changes.items) × (new.changes.items ≡ []) × (new.documents ≡ old.documents)
-    pub finished : (old : Linter) (name : JobName) (key : Source) (end : End) (acts : List (Act P)) (new : Linter)
-        → may.finishes old name key end acts new → Shows name key end acts × (new ≡ old)
-    pub found : (job : Analysis) (outcome : Outcome) → of_job.finds job outcome
-        → FindsMarks (arc_value job.text) outcome
-    pub reported : (job : Analysis) (method : List ℕ) (params : Data) → of_job.reports job method params → ⊥
-    pub asked : (job : Analysis) (method : List ℕ) (params : Data) → of_job.asks job method params → ⊥
+    pub heard : (old : Linter) (name : JobName) (found : Findings) (acts : List (Act P)) (new : Linter)
+        → may.hears old name found acts new → Shows found acts × (new ≡ old)
+    pub finished : (old : Linter) (name : JobName) (end : JobEnd) (acts : List (Act P)) (new : Linter)
+        → may.finishes old name end acts new → (acts ≡ []) × (new ≡ old)
+    pub for_none : (job : Analysis) (method : List ℕ) (params : Data) → may.is_for job method params → ⊥
+    pub finds : (job : Analysis) (reply : Option Outcome) (found : Option Findings) → may.comes_to job reply found
+        → FindsMarks job found
+    pub reported : (job : Analysis) (method : List ℕ) (params : Data) → may.reports job method params → ⊥
+    pub asked : (job : Analysis) (method : List ℕ) (params : Data) → may.asks job method params → ⊥
 
   -- each analysis that stands in a slot is of its document
   abbrev Right : List (Turn plain may) → Documents → Type 0
-  Right turns documents = (slot : Id) (analysis : Analysis) (source : Source)
-      → LastStart plain may turns slot analysis source → IsCurrent documents slot analysis source
+  Right turns documents = (slot : Id) (analysis : Analysis)
+      → LastStart plain may turns slot analysis → IsCurrent documents slot analysis
 
   alone_last : (slot : Id) (rest : List (Turn plain may)) (t : Turn plain may)
       → AllLeaveAlone plain may slot (rest ++ t ∷ [])
@@ -94,13 +90,13 @@ module _ {P : Type 0} (plain : Plain Linter P) (may : WithJobs Linter Analysis S
 
   right_on : (before now : Documents) (earlier : List (Turn plain may)) (t : Turn plain may) → Right earlier before
       → Follow before t.changes now → Right (earlier ++ t ∷ []) now
-  right_on before now earlier t right follow slot analysis source last =
+  right_on before now earlier t right follow slot analysis last =
       elim (place earlier last.before last.since t last.turn last.cut) [
-        | inl here ↦ follow.started slot analysis source
-            (subst (λ (x : Turn plain may). StartsLast x.changes slot analysis source) here.1 last.started)
+        | inl here ↦ follow.started slot analysis
+            (subst (λ (x : Turn plain may). StartsLast x.changes slot analysis) here.1 last.started)
         | inr there ↦
             let alone = alone_last slot there.0 t (subst (AllLeaveAlone plain may slot) there.1 last.alone) in
-            let was = right slot analysis source (record {
+            let was = right slot analysis (record {
               before = last.before;
               turn = last.turn;
               since = there.0;
@@ -109,17 +105,17 @@ module _ {P : Type 0} (plain : Plain Linter P) (may : WithJobs Linter Analysis S
               alone = alone.0;
             }) in (
               was.0,
-              subst (λ (k : Option Document). IsSomeAnd k (IsOf analysis source))
-                  (sym (follow.others (string_bytes source.uri)
+              subst (λ (k : Option Document). IsSomeAnd k (IsOf analysis))
+                  (sym (follow.others (string_bytes analysis.source.uri)
                   (subst (λ (s : Id). LeavesAlone s t.changes) was.0 alone.1))) was.1,
             )
       ]
 
-  follow_none : (documents : Documents) (changes : List (SlotChange Analysis Source)) → changes ≡ []
+  follow_none : (documents : Documents) (changes : List (SlotChange Analysis)) → changes ≡ []
       → Follow documents changes documents
   follow_none documents changes none = record {
-    started = λ slot analysis source last.
-        absurd (not_empty last.before last.after (Start slot analysis source) (sym none ∙ last.cut));
+    started = λ slot analysis last.
+        absurd (not_empty last.before last.after (Start slot analysis) (sym none ∙ last.cut));
     others = λ uri alone. refl;
   }
 
@@ -130,6 +126,12 @@ module _ {P : Type 0} (plain : Plain Linter P) (may : WithJobs Linter Analysis S
       (follow_none (documents_of old.documents) old.changes.items none)
 
   module _ (states : States) where
+    -- the end of a job changes nothing
+    same_at_end : (old : Linter) (name : JobName) (end : End Findings) (acts : List (Act P)) (new : Linter)
+        → SeesEnd may old name end acts new → new ≡ old
+    same_at_end old name (found it) acts new saw = (states.heard old name it acts new saw).1
+    same_at_end old name (ended end) acts new saw = (states.finished old name end acts new saw).1
+
     called_follow : (old : Linter) (came : Option Message) (acts : List (Act P)) (now : Linter) → old.changes.items ≡ []
         → IsCalled plain may old came acts now
         → Follow (documents_of old.documents) now.changes.items (documents_of now.documents)
@@ -141,13 +143,13 @@ module _ {P : Type 0} (plain : Plain Linter P) (may : WithJobs Linter Analysis S
     ]
     called_follow old (Some (response id outcome)) acts now none replied =
         stay old now none (states.replied old replied.0 outcome acts now replied.1)
-    called_follow old None acts now none ended =
-        stay old now none (states.finished old ended.0 ended.1 (came_to ended.2) ended.3 now ended.4).1
+    called_follow old None acts now none e =
+        stay old now none (same_at_end old e.0 (end_of e.1) e.2 now e.3)
 
     sees : (made : Linter) (left : List (Left may)) (new : Linter) → SeesLeft plain may made left new → new ≡ made
     sees made [] new same = same
     sees made (l ∷ ls) new all =
-        sees l.new ls new all.1 ∙ (states.finished l.old (Slot l.slot) l.key l.end l.acts l.new l.saw).1 ∙ all.0
+        sees l.new ls new all.1 ∙ same_at_end l.old (Slot l.slot) l.end l.acts l.new l.saw ∙ all.0
 
     taken : (payloads : List P) (old new : Linter) → TakesBack plain.takes_back old payloads new → new ≡ old
     taken [] old new same = same
@@ -170,7 +172,7 @@ module _ {P : Type 0} (plain : Plain Linter P) (may : WithJobs Linter Analysis S
         record {
           none = ap (λ (s : Linter). s.changes.items) same ∙ gave.1;
           right = right_on (documents_of t.old.documents) (documents_of t.new.documents) earlier t good.right
-              (subst (λ (x : List (SlotChange Analysis Source) × Documents).
+              (subst (λ (x : List (SlotChange Analysis) × Documents).
               Follow (documents_of t.old.documents) x.0 x.1) (λ k. (sym gave.0 k, sym are k)) follow);
         }
     good_on earlier t good (inr passed) = record {
@@ -207,14 +209,11 @@ module _ {P : Type 0} (plain : Plain Linter P) (may : WithJobs Linter Analysis S
     nothing_left : (left : List (Left may)) → at_ends may left ≡ []
     nothing_left [] = refl
     nothing_left (l ∷ ls) =
-        ap (λ (acts : List (Act P)). acts ++ at_ends may ls) (silent l.end l.is_left (states.finished l.old
-        (Slot l.slot) l.key l.end l.acts l.new l.saw).0) ∙ nothing_left ls
+        ap (λ (acts : List (Act P)). acts ++ at_ends may ls) (none l.end l.is_left l.saw) ∙ nothing_left ls
       where
-        silent : (end : End) → IsLeft end → Shows (Slot l.slot) l.key end l.acts → l.acts ≡ []
-        silent (came_to outcome) is shows = absurd is
-        silent no_room is shows = shows
-        silent replaced is shows = shows
-        silent stopped is shows = shows
+        none : (end : End Findings) → IsLeft end → SeesEnd may l.old (Slot l.slot) end l.acts l.new → l.acts ≡ []
+        none (found it) is saw = absurd is
+        none (ended end) is saw = (states.finished l.old (Slot l.slot) end l.acts l.new saw).0
 
     -- a notification at a wake, after these turns
     module _ (t : Turn plain may) (earlier : List (Turn plain may)) (good : Good earlier t.old)
@@ -226,70 +225,65 @@ module _ {P : Type 0} (plain : Plain Linter P) (may : WithJobs Linter Analysis S
       silent : t.call.acts ≡ [] → Held
       silent nothing = absurd (not_empty before after (tells method params) (sym nothing ∙ at))
 
-      published : (slot : Id) (job : Analysis) (key : Source) (trees : Items) (act : Act P) (marks : List Value)
-          → LastStart plain may earlier slot job key → ComesTo of_job job (Ok (array trees))
-          → items_view marks ≡ trees → Publishes written (string_bytes key.uri) key.version marks act
+      published : (slot : Id) (job : Analysis) (findings : Findings) (act : Act P)
+          → LastStart plain may earlier slot job → FindsMarks job (Some findings)
+          → Publishes written (string_bytes findings.source.uri) findings.source.version findings.marks.items act
           → t.call.acts ≡ by_server act ∷ [] → Held
-      published slot job key trees act marks stands comes items publishes all =
-          let current = some_and (IsOf job key) (known (documents_of t.old.documents) (string_bytes key.uri))
-          (good.right slot job key stands).1 in
-          let found : FindsMarks (arc_value job.text) (Ok (array trees)) = elim comes [
-            | inl finds ↦ states.found job (Ok (array trees)) finds
-            | inr failed ↦ absurd (cc (failed))
-          ] in
-          let its : Marks current.0.text (array (items_view marks)) =
-          subst (λ (x : LinedText × Items). Marks x.0 (array x.1)) (λ k. (current.2.text k, sym items k))
-          (are_marks (arc_value job.text) trees found) in
+      published slot job findings act stands finds publishes all =
+          let current = some_and (IsOf job) (known (documents_of t.old.documents) (string_bytes job.source.uri))
+          (good.right slot job stands).1 in
+          let source = finds.0 in
+          let version = ap (λ (s : Source). s.version) source ∙ current.2.version in
           let same = told method params act (only before after (tells method params) (by_server act) (sym all ∙ at)) in
           record {
-            uri = string_bytes key.uri;
+            uri = string_bytes job.source.uri;
             document = current.0;
             held = current.1;
-            marks = marks;
-            are_its = its;
-            publishes = subst (λ (x : Option ℤ × Act P). Publishes written (string_bytes key.uri) x.0 marks x.1)
-                (λ k. (current.2.version k, same k)) publishes;
+            marks = findings.marks.items;
+            are_its = subst (λ (x : LinedText). AreMarksOf x (map_list view findings.marks.items)) current.2.text
+                finds.1;
+            publishes = subst (λ (x : List ℕ × Option ℤ × Act P). Publishes written x.0 x.1 findings.marks.items x.2)
+                (λ k. (string_bytes (source k).uri, version k, same k)) publishes;
           }
 
-      says : (name : JobName) (job : Analysis) (key : Source) (outcome : Outcome) (first : List (Act P))
-          → Stands plain may earlier name job key → ComesTo of_job job outcome → Shows name key (came_to outcome) first
-          → t.call.acts ≡ map_list by_server (first ++ reply_at name (came_to outcome)) → Held
-      says (Request id) job key outcome first stands comes shows all =
-          let alone : t.call.acts ≡ replies id outcome ∷ [] =
-          all ∙ ap (λ (acts : List (Act P)). map_list by_server (acts ++ replies id outcome ∷ [])) shows in
-          let no = only before after (tells method params) (replies id outcome) (sym alone ∙ at) in absurd (cc (no))
-      says (Slot slot) job key (Ok (array trees)) first stands comes shows all =
-          published slot job key trees shows.2 shows.0 stands comes shows.1 shows.3
-          (all ∙ ap (λ (acts : List (Act P)). map_list by_server (acts ++ [])) shows.4)
-      says (Slot slot) job key (Ok null) first stands comes shows all = silent (none_told first shows all)
-      says (Slot slot) job key (Ok (boolean b)) first stands comes shows all = silent (none_told first shows all)
-      says (Slot slot) job key (Ok (number n)) first stands comes shows all = silent (none_told first shows all)
-      says (Slot slot) job key (Ok (string s)) first stands comes shows all = silent (none_told first shows all)
-      says (Slot slot) job key (Ok (object m)) first stands comes shows all = silent (none_told first shows all)
-      says (Slot slot) job key (Err e) first stands comes shows all = silent (none_told first shows all)
+      says : (name : JobName) (job : Analysis) (came : Came Findings) (first : List (Act P)) (new : Linter)
+          → Stands plain may earlier name job → ComesTo may.comes_to job came
+          → SeesEnd may t.old name (end_of came) first new
+          → t.call.acts ≡ map_list by_server (first ++ reply_at name came) → Held
+      says (Slot slot) job (gave reply (Some it)) first new stands comes saw all =
+          let shows = (states.heard t.old (Slot slot) it first new saw).0 in
+          published slot job it shows.0 stands (states.finds job reply (Some it) comes) shows.1
+          (all ∙ ap (λ (acts : List (Act P)). map_list by_server (acts ++ [])) shows.2)
+      says (Slot slot) job (gave reply None) first new stands comes saw all =
+          silent (none_told first (states.finished t.old (Slot slot) Done first new saw).0 all)
+      says (Slot slot) job out_of_memory first new stands comes saw all =
+          silent (none_told first (states.finished t.old (Slot slot) Failed first new saw).0 all)
+      says (Slot slot) job gave_up first new stands comes saw all =
+          silent (none_told first (states.finished t.old (Slot slot) Cancelled first new saw).0 all)
+      says (Request id) job came first new stands comes saw all =
+          absurd (states.for_none job stands.method stands.params stands.is_given.2)
 
-      shows_held : WakeDoes plain may of_job earlier t → Held
+      shows_held : WakeDoes plain may earlier t → Held
       shows_held (inl nothing) = silent nothing
-      shows_held (inr w) = elim w.4 [
+      shows_held (inr w) = elim w.3 [
         | inl r ↦ absurd (states.reported w.1 r.0 r.1 r.2)
         | inr more ↦ elim more [
           | inl a ↦ absurd (states.asked w.1 a.0 a.1 a.3)
-          | inr o ↦ says w.0 w.1 w.2 o.0 o.1 w.3 o.2
-              (states.finished t.old w.0 w.2 (came_to o.0) o.1 t.asked o.3).0
-              (o.4 ∙ ap (λ (l : List (Act P)). map_list by_server ((o.1 ++ reply_at w.0 (came_to o.0)) ++ l))
+          | inr o ↦ says w.0 w.1 o.0 o.1 t.asked w.2 o.2 o.3
+              (o.4 ∙ ap (λ (l : List (Act P)). map_list by_server ((o.1 ++ reply_at w.0 o.0) ++ l))
               (nothing_left t.left)
-              ∙ ap (map_list by_server) (append-nil (o.1 ++ reply_at w.0 (came_to o.0))))
+              ∙ ap (map_list by_server) (append-nil (o.1 ++ reply_at w.0 o.0)))
         ]
       ]
 
     pub all_shown : (start : Linter) (opening : Exchange) (begun : List (Act (Asked P)))
         (calls : List (Call (Asked P))) → start.changes.items ≡ []
-        → (history : SlotHistory plain may of_job start opening begun calls)
+        → (history : SlotHistory plain may start opening begun calls)
         → ShowsHeldTexts plain may history.turns
     all_shown start opening begun calls none history earlier later t cut woken before after method params at =
         let good : Good [] start = record {
           none = none;
-          right = λ slot analysis source last. absurd (not_empty last.before last.since last.turn last.cut);
+          right = λ slot analysis last. absurd (not_empty last.before last.since last.turn last.cut);
         } in
         shows_held t earlier (goes_on start [] history.turns earlier later t good history.linked cut).0 before after
         method params at (history.wakes earlier later t cut woken)

@@ -15,39 +15,38 @@ use Rattle.lsp_service.specs.Answering.{Writing}
 use Rattle.lsp_service.specs.Publishing.{Publishes}
 use Rattle.lsp_text.specs.Documents.{Document}
 use Rattle.example_linter.specs.declared.Analysis.{Analysis}
-use Rattle.example_linter.specs.declared.Source.{Source}
 
 -- the document of a URI, if its text is known
 abbrev pub known : Documents → List ℕ → Option Document
 known documents uri = option_and_then shown (documents.held uri)
 
--- the analysis is of this document, and what is kept for it says its version
-pub record IsOf (analysis : Analysis) (source : Source) (document : Document) : Type 0 where
+-- the analysis is of this document, and of this version
+pub record IsOf (analysis : Analysis) (document : Document) : Type 0 where
   pub text : arc_value analysis.text ≡ document.text
-  pub version : source.version ≡ document.version
+  pub version : analysis.source.version ≡ document.version
 
 -- The slot has the name of the URI, and the analysis is of the document that is held for it.
-abbrev pub IsCurrent : Documents → Id → Analysis → Source → Type 0
-IsCurrent documents slot analysis source = (slot ≡ text (string_bytes source.uri))
-    × IsSomeAnd (known documents (string_bytes source.uri)) (IsOf analysis source)
+abbrev pub IsCurrent : Documents → Id → Analysis → Type 0
+IsCurrent documents slot analysis = (slot ≡ text (string_bytes analysis.source.uri))
+    × IsSomeAnd (known documents (string_bytes analysis.source.uri)) (IsOf analysis)
 
 -- The changes of slots follow the documents, which were these before and are these now: what is started last in a slot
 -- is of its document as it is now, and a slot that is not changed has the name of none that changed.
-pub record Follow (before : Documents) (changes : List (SlotChange Analysis Source)) (now : Documents)
+pub record Follow (before : Documents) (changes : List (SlotChange Analysis)) (now : Documents)
     : Type 0 where
-  pub started : (slot : Id) (analysis : Analysis) (source : Source) → StartsLast changes slot analysis source
-      → IsCurrent now slot analysis source
+  pub started : (slot : Id) (analysis : Analysis) → StartsLast changes slot analysis
+      → IsCurrent now slot analysis
   pub others : (uri : List ℕ) → LeavesAlone (text uri) changes → known now uri ≡ known before uri
 
 -- What becomes of the analysis of a document: one of its text takes the place of the one before. Or, if its text is not
 -- known, none goes on.
-abbrev pub IsChangeOf : Documents → List ℕ → SlotChange Analysis Source → Type 0
-IsChangeOf documents uri (Start slot analysis source) =
-    (string_bytes source.uri ≡ uri) × IsCurrent documents slot analysis source
+abbrev pub IsChangeOf : Documents → List ℕ → SlotChange Analysis → Type 0
+IsChangeOf documents uri (Start slot analysis) =
+    (string_bytes analysis.source.uri ≡ uri) × IsCurrent documents slot analysis
 IsChangeOf documents uri (Stop slot) = (slot ≡ text uri) × (known documents uri ≡ None)
 
 -- the same of each document
-pub record AreChangesOf (documents : Documents) (changes : List (SlotChange Analysis Source)) : Type 0 where
+pub record AreChangesOf (documents : Documents) (changes : List (SlotChange Analysis)) : Type 0 where
   pub each : All (λ change. (uri : List ℕ) × IsChangeOf documents uri change) changes
   pub all : (uri : List ℕ) → LeavesAlone (text uri) changes → documents.held uri ≡ None
 

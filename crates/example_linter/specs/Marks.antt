@@ -1,12 +1,14 @@
 -- What an analysis finds: a mark at each line of a text that has a `NOTE` (LSP 3.17, "Diagnostic").
-use Rattle.serde_json.specs.Data.{Data, array, member, no_members, null, number, object, string, unsigned}
-use Rattle.serde_json.specs.View.{items_of}
+use Rattle.serde_json.specs.Data.{Data, member, no_members, number, object, string, unsigned}
+use Rattle.serde_json.specs.View.{view}
+use Rattle.std.specs.Arc.{arc_value}
 use Rattle.std.specs.List.{All, AllPairs, Contains}
-use Rattle.std.specs.Prelude.{◌≡◌, ◌⊎◌, ℕ, ◌+◌, ◌<◌, ◌^◌, List, length, map, codes, Result, Ok}
+use Rattle.std.specs.Prelude.{◌≡◌, ℕ, ◌+◌, ◌<◌, ◌^◌, List, Option, Some, None, length, map, codes}
 use Rattle.std.specs.Str.Iter.{HasSubslice}
-use Rattle.lsp_message.specs.Message.{ErrorObject}
 use Rattle.lsp_text.specs.Columns.{line_text}
 use Rattle.lsp_text.specs.Lines.{LinedText, starts_of}
+use Rattle.example_linter.specs.declared.Analysis.{Analysis}
+use Rattle.example_linter.specs.declared.Findings.{Findings}
 
 -- the text has this line, and a `NOTE` stands in it
 abbrev pub HasNote : LinedText → ℕ → Type 0
@@ -38,10 +40,8 @@ pub record AreMarksOf (text : LinedText) (marks : List Data) : Type 0 where
   pub each : All (HasNote text) lines
   pub all : (line : ℕ) → line < 2 ^ 31 → HasNote text line → Contains lines line
 
--- the tree is the list of all the marks of a text
-abbrev pub Marks : LinedText → Data → Type 0
-Marks text tree = (marks : List Data) × (tree ≡ array (items_of marks)) × AreMarksOf text marks
-
--- An analysis comes to all the marks of its text. Or it was cancelled, and comes to null.
-abbrev pub FindsMarks : LinedText → Result Data ErrorObject → Type 0
-FindsMarks text outcome = ((tree : Data) × (outcome ≡ Ok tree) × Marks text tree) ⊎ (outcome ≡ Ok null)
+-- An analysis comes to all the marks of its text, and to nothing else.
+abbrev pub FindsMarks : Analysis → Option Findings → Type 0
+FindsMarks analysis None = ⊥
+FindsMarks analysis (Some found) =
+    (found.source ≡ analysis.source) × AreMarksOf (arc_value analysis.text) (map view found.marks.items)

@@ -27,8 +27,8 @@ use anyhow::{Result as Answer, bail};
 use lsp_documents::{Agreed, TextDocuments};
 use lsp_jobs::laws::session_with_jobs_keeps_laws;
 use lsp_jobs::{
-    AnsweredBy, CancellationToken, Job, JobEnd, JobName, JobServer, PoolSize, Progress, Slot,
-    SlotChange, run_jobs,
+    AnsweredBy, Interrupted, Job, JobContext, JobEnd, JobName, JobResult, JobServer, PoolSize,
+    Slot, SlotChange, Slots, run_jobs,
 };
 use lsp_server::clients::{ClientOptions, serve_clients};
 use lsp_server::{
@@ -41,12 +41,14 @@ use std::alloc::{AllocError, Global};
 use std::io::{BufRead, Write};
 use std::sync::{Arc, Wait};
 use std::thread::Threads;
+use std::time::Duration;
 use std::{env, mem};
 
 /// The work of finding the lines of a text that have a `NOTE`.
 #[derive(Drop)]
 struct Analysis {
     alloc: Global,
+    source: Source,
     text: Arc<Text>,
 }
 
@@ -55,6 +57,13 @@ struct Analysis {
 struct Source {
     uri: String,
     version: Option<i32>,
+}
+
+/// What an analysis finds.
+#[derive(Drop)]
+struct Findings {
+    source: Source,
+    marks: Vec<Value>,
 }
 
 /// The texts that are open, and the analyses that are to be started or stopped.
@@ -67,54 +76,52 @@ struct Linter {
 
 type Acts = Vec<Act<()>>;
 
-type Change = SlotChange<Analysis, Source>;
+type Change = SlotChange<Analysis>;
 
 impl Job for Analysis {
-    ghost use Rattle.std.specs.Arc.{arc_value};
     ghost use Rattle.example_linter.specs.Marks.{FindsMarks};
+
+    type Found = Findings;
 
     // It answers no request, says nothing while it runs, and asks nothing.
     ghost is_for = { λ _ _ _. ⊥ };
 
-    ghost finds = { λ analysis outcome. FindsMarks (arc_value analysis.text) outcome };
+    ghost comes_to = { λ analysis _ found. FindsMarks analysis found };
 
     ghost reports = { λ _ _ _. ⊥ };
 
     ghost asks = { λ _ _ _. ⊥ };
 
-    fn run<P: Progress>(
-        self,
-        token: &CancellationToken,
-        _progress: &mut P,
-    ) -> Result<Result<Value, ResponseError>, AllocError> {
-        match marks_in(self.alloc, &*self.text, token)? {
-            Some(marks) => Ok(Ok(Value::Array(marks))),
-            None => Ok(Ok(Value::Null)),
-        }
+    fn run<C: JobContext>(self, context: &mut C) -> Result<JobResult<Findings>, Interrupted> {
+        context.rest(Duration::from_millis(PAUSE))?;
+        let marks = marks_in(self.alloc, &*self.text, context)?;
+        let source = self.source;
+        Ok(JobResult::found(Findings { source, marks }))
     }
 }
 
-/// A mark at each line that has a `NOTE`. `None` if nobody waits for them any more.
-fn marks_in(
+/// An analysis begins when nothing was edited for so many milliseconds.
+const PAUSE: u64 = 50;
+
+/// A mark at each line that has a `NOTE`.
+fn marks_in<C: JobContext>(
     alloc: Global,
     text: &Text,
-    token: &CancellationToken,
-) -> Result<Option<Vec<Value>>, AllocError>
-    ensures { IfOk result (λ found. IfSome found (λ marks. AreMarksOf text.now (map view marks.items))) }
+    context: &C,
+) -> Result<Vec<Value>, Interrupted>
+    ensures { IfOk result (λ marks. AreMarksOf text.now (map view marks.items)) }
 {
     let mut marks = Vec::new(alloc);
     for number in 0..u32::MAX {
         let Some(line) = text.line(number) else {
             break;
         };
-        if token.is_cancelled() {
-            return Ok(None);
-        }
+        context.check()?;
         if line.contains("NOTE") {
             marks.push(mark(alloc, number, line)?)?;
         }
     }
-    Ok(Some(marks))
+    Ok(marks)
 }
 
 /// A mark at a line, which has the line as its text (LSP 3.17, "Diagnostic").
@@ -133,47 +140,63 @@ fn mark(alloc: Global, number: u32, line: &str) -> Result<Value, AllocError>
 }
 
 impl JobServer<Analysis> for Linter {
-    ghost use Rattle.example_linter.specs.Shown.{Shows};
-
-    type Key = Source;
+    type Slots = Linter;
 
     // No request is long.
     ghost sorts = { λ _ _ _ is_long. is_long ≡ false };
-
-    ghost changes = { λ old changes new.
-        (changes ≡ old.changes.items) × (new.changes.items ≡ []) × (new.documents ≡ old.documents) };
-
-    ghost finishes = { λ old name source end acts new. Shows name source end acts × (new ≡ old) };
 
     fn is_long(&self, _request: &Request) -> bool {
         false
     }
 
     // It is never asked.
-    fn job(&self, request: Request) -> Result<AnsweredBy<Analysis, Source>, AllocError> {
+    fn job(&self, request: Request) -> Result<AnsweredBy<Analysis>, AllocError> {
         drop(request);
         Ok(AnsweredBy::Reply(Err(ResponseError::method_not_found(self.alloc)?)))
     }
+}
 
-    fn take_changes(&mut self, alloc: Global) -> Result<Vec<Change>, AllocError> {
-        Ok(mem::replace(&mut self.changes, Vec::new(alloc)))
+impl Slots<Linter, Analysis> for Linter {
+    ghost use Rattle.example_linter.specs.Shown.{Shows};
+
+    ghost changes = { λ old changes new.
+        (changes ≡ old.changes.items) × (new.changes.items ≡ []) × (new.documents ≡ old.documents) };
+
+    ghost hears = { λ old _ found acts new. Shows found acts × (new ≡ old) };
+
+    ghost finishes = { λ old _ _ acts new. (acts ≡ []) × (new ≡ old) };
+
+    fn take_changes(server: &mut Linter, alloc: Global) -> Result<Vec<Change>, AllocError> {
+        Ok(mem::replace(&mut server.changes, Vec::new(alloc)))
     }
 
-    fn finished(
-        &mut self,
+    fn found(
+        server: &mut Linter,
         name: &JobName,
-        source: Source,
-        end: &JobEnd,
+        found: Findings,
         alloc: Global,
     ) -> Result<Acts, AllocError> {
-        match (name, end) {
-            (JobName::Slot(_), JobEnd::Outcome(Ok(Value::Array(marks)))) => {
-                let Source { uri, version } = source;
-                let marks = marks.as_slice();
-                Act::one(alloc, Act::publish(alloc, uri.as_str(), version, marks)?)
-            }
-            _ => Ok(Vec::new(alloc)),
-        }
+        let _ = server;
+        let _ = name;
+        let Findings { source, marks } = found;
+        let Source { uri, version } = source;
+        Act::one(
+            alloc,
+            Act::publish(alloc, uri.as_str(), version, marks.as_slice())?,
+        )
+    }
+
+    // The marks of an analysis that did not end are not shown.
+    fn ended(
+        server: &mut Linter,
+        name: &JobName,
+        end: JobEnd,
+        alloc: Global,
+    ) -> Result<Acts, AllocError> {
+        let _ = server;
+        let _ = name;
+        let _ = end;
+        Ok(Vec::new(alloc))
     }
 }
 
@@ -271,7 +294,7 @@ impl Linter {
     /// Has the analysis of a document follow it.
     fn look_at(&mut self, uri: &str, acts: &mut Acts) -> Result<(), AllocError>
         ensures same { self.new.documents ≡ self.old.documents }
-        ensures change { OnOk result ((change : ChangeOfSlot Analysis Source)
+        ensures change { OnOk result ((change : ChangeOfSlot Analysis)
             × (self.new.changes.items ≡ self.old.changes.items ++ change ∷ [])
             × IsChangeOf (documents_of self.old.documents) uri.now change) }
         ensures clear { OnOk result (All (Clears (documents_of self.old.documents)) (map act_view acts.old.items)
@@ -316,9 +339,18 @@ fn change_of(
         return Ok(SlotChange::Stop(slot));
     };
     let text = document.share_text()?;
-    let uri = String::from_str(alloc, uri)?;
-    let version = document.version();
-    Ok(SlotChange::Start(slot, Analysis { alloc, text }, Source { uri, version }))
+    let source = Source {
+        uri: String::from_str(alloc, uri)?,
+        version: document.version(),
+    };
+    Ok(SlotChange::Start(
+        slot,
+        Analysis {
+            alloc,
+            source,
+            text,
+        },
+    ))
 }
 
 /// Serves a client. The session keeps the laws of a session of a server with jobs, whatever the analyses come to and when.
@@ -339,9 +371,14 @@ where
           sorts = ⟦<Linter as JobServer<Analysis>>⟧.sorts;
           gives = ⟦<Linter as JobServer<Analysis>>⟧.gives;
           knows = ⟦<Linter as JobServer<Analysis>>⟧.knows;
-          changes = ⟦<Linter as JobServer<Analysis>>⟧.changes;
-          finishes = ⟦<Linter as JobServer<Analysis>>⟧.finishes;
-        }) ⟦<Analysis as Job>⟧ linter result.0)
+          changes = ⟦<Linter as Slots<Linter, Analysis>>⟧.changes;
+          hears = ⟦<Linter as Slots<Linter, Analysis>>⟧.hears;
+          finishes = ⟦<Linter as Slots<Linter, Analysis>>⟧.finishes;
+          is_for = ⟦<Analysis as Job>⟧.is_for;
+          comes_to = ⟦<Analysis as Job>⟧.comes_to;
+          reports = ⟦<Analysis as Job>⟧.reports;
+          asks = ⟦<Analysis as Job>⟧.asks;
+        }) linter result.0)
         text bad_bodies.old bad_bodies.new (Some []) (noted done.given) done.answer)) }
     ensures passed { IfOk result.1 (λ done. TakenFrom (R.remaining client.reader) done.taken.parts
         × GivenTo (W.contents client.writer) done.given.parts (W.contents done.writer)) }
@@ -366,9 +403,14 @@ fn marks_are_of_held_texts()
           sorts = ⟦<Linter as JobServer<Analysis>>⟧.sorts;
           gives = ⟦<Linter as JobServer<Analysis>>⟧.gives;
           knows = ⟦<Linter as JobServer<Analysis>>⟧.knows;
-          changes = ⟦<Linter as JobServer<Analysis>>⟧.changes;
-          finishes = ⟦<Linter as JobServer<Analysis>>⟧.finishes;
-        }) ⟦<Analysis as Job>⟧ start opening begun calls)
+          changes = ⟦<Linter as Slots<Linter, Analysis>>⟧.changes;
+          hears = ⟦<Linter as Slots<Linter, Analysis>>⟧.hears;
+          finishes = ⟦<Linter as Slots<Linter, Analysis>>⟧.finishes;
+          is_for = ⟦<Analysis as Job>⟧.is_for;
+          comes_to = ⟦<Analysis as Job>⟧.comes_to;
+          reports = ⟦<Analysis as Job>⟧.reports;
+          asks = ⟦<Analysis as Job>⟧.asks;
+        }) start opening begun calls)
         → ShowsHeldTexts _ _ history.turns }
 {}
 

@@ -1,16 +1,22 @@
--- What a search finds (LSP 3.17, "Workspace Symbols Request"): headings of its sources that have a word.
+-- What a search finds in a text (LSP 3.17, "Workspace Symbols Request"): all its headings that have a word.
 use Rattle.serde_json.specs.Data.{Data, number, unsigned, string, object, member, no_members}
-use Rattle.std.specs.Prelude.{◌≡◌, ℕ, List, ◌++◌, codes}
+use Rattle.std.specs.List.{All, AllPairs, Contains}
+use Rattle.std.specs.Prelude.{◌≡◌, ℕ, ◌<◌, ◌^◌, List, ◌++◌, codes, drop, length, map}
+use Rattle.std.specs.Str.Iter.{HasSubslice}
 use Rattle.lsp_text.specs.Columns.{line_text}
-use Rattle.lsp_text.specs.Lines.{LinedText}
+use Rattle.lsp_text.specs.Lines.{LinedText, starts_of}
 
--- this line of the text is a heading with this name
-abbrev pub IsHeading : LinedText → ℕ → List ℕ → Type 0
-IsHeading text line name = line_text text line ≡ codes "# " ++ name
+-- a line is a heading, and the word stands in its name
+abbrev pub IsHeadingWith : (word line : List ℕ) → Type 0
+IsHeadingWith word line = (name : List ℕ) × (line ≡ codes "# " ++ name) × HasSubslice name word
 
--- a text has this word in it
-abbrev pub HasWord : List ℕ → List ℕ → Type 0
-HasWord word text = (before : List ℕ) × (after : List ℕ) × (text ≡ before ++ (word ++ after))
+-- the text has this line, and it is such a heading
+abbrev pub HasHeading : LinedText → List ℕ → ℕ → Type 0
+HasHeading text word line = (line < length (starts_of text)) × IsHeadingWith word (line_text text line)
+
+-- the name of a heading: what stands behind `# `
+abbrev pub name_in : List ℕ → List ℕ
+name_in line = drop 2 line
 
 -- the place where a line begins
 abbrev pub line_start : ℕ → Data
@@ -29,8 +35,15 @@ symbol_at name uri line =
     object (member (codes "kind") (number (unsigned 15))
     (member (codes "location") location (member (codes "name") (string name) no_members)))
 
--- a symbol that a search of a document may find: if a heading of its text stands that has the word
-abbrev pub IsFoundIn : (uri : List ℕ) (text : LinedText) (word : List ℕ) → Data → Type 0
-IsFoundIn uri text word symbol =
-    (name : List ℕ) × (line : ℕ) × IsHeading text line name × HasWord word name
-    × (symbol ≡ symbol_at name uri line)
+-- that of a heading, which stands in this line
+abbrev pub symbol_of : List ℕ → ℕ → List ℕ → Data
+symbol_of uri at line = symbol_at (name_in line) uri at
+
+-- These are the symbols of all headings of a text that have the word, in the order of its lines, of which LSP counts as
+-- many as there are numbers below 2 ^ 31 (LSP 3.17, "Base Types").
+pub record AreSymbolsOf (uri : List ℕ) (text : LinedText) (word : List ℕ) (symbols : List Data) : Type 0 where
+  pub lines : List ℕ
+  pub are : symbols ≡ map (λ line. symbol_of uri line (line_text text line)) lines
+  pub rise : AllPairs (λ line later. line < later) lines
+  pub each : All (HasHeading text word) lines
+  pub all : (line : ℕ) → line < 2 ^ 31 → HasHeading text word line → Contains lines line

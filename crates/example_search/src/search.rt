@@ -2,16 +2,14 @@
 ghost use Rattle.serde_json.specs.Data.{Data};
 ghost use Rattle.serde_json.specs.View.{view};
 ghost use Rattle.std.specs.Arc.{arc_value};
-ghost use Rattle.std.specs.List.{All};
-ghost use Rattle.std.specs.Prelude.{◌≡◌, ℕ, List, IfOk, IfSome, string_bytes};
-ghost use Rattle.example_search.specs.Found.{IsFoundIn, IsHeading, symbol_at};
-ghost use Rattle.example_search.specs.Sources.{AreFound};
+ghost use Rattle.std.specs.Prelude.{◌≡◌, ◌⊎◌, ℕ, List, [], ◌∷◌, ◌++◌, IfOk, MatchOption, OnOk, map, string_bytes};
+ghost use Rattle.lsp_documents.specs.Known.{copied};
+ghost use Rattle.example_search.specs.Found.{AreSymbolsOf, IsHeadingWith, name_in, symbol_at, symbol_of};
+ghost use Rattle.example_search.specs.Sources.{AreFound, FindsSymbols};
 
-use crate::sums::line_count;
 use lsp_documents::OpenText;
-use lsp_jobs::{CancellationToken, Job, Progress, WorkDone};
-use lsp_server::{Notification, ResponseError};
-use lsp_text::Text;
+use lsp_jobs::{Interrupted, Job, JobContext, JobResult, WorkDone};
+use lsp_server::Notification;
 use serde_json::{Value, json};
 use std::alloc::{AllocError, Global};
 
@@ -28,11 +26,15 @@ pub struct Search {
     pub work: WorkDone,
 }
 
-/// Nobody hears how far a search is.
+/// Nobody hears how far a search is, or cancels it.
 #[derive(Drop)]
 pub struct Silence;
 
-impl Progress for Silence {
+impl JobContext for Silence {
+    fn is_cancelled(&self) -> bool {
+        false
+    }
+
     fn report(&mut self, notification: Notification) -> bool {
         drop(notification);
         false
@@ -45,56 +47,57 @@ impl Progress for Silence {
 }
 
 impl Job for Search {
-    ghost use Rattle.serde_json.specs.Data.{string};
-    ghost use Rattle.serde_json.specs.Find.{get};
-    ghost use Rattle.std.specs.Prelude.{◌≡◌, Some, codes, string_bytes};
-    ghost use Rattle.example_search.specs.Sources.{FindsSymbols};
+    ghost use Rattle.std.specs.Prelude.{◌≡◌, Some, string_bytes};
+    ghost use Rattle.lsp_documents.specs.Known.{copied};
+    ghost use Rattle.example_search.specs.Sources.{RepliesSymbols, word_in};
 
-    ghost is_for = { λ search _ params.
-        get (codes "query") params ≡ Some (string (string_bytes search.query)) };
+    type Found = ();
 
-    ghost finds = { λ search outcome.
-        FindsSymbols search.sources.items (string_bytes search.query) outcome };
+    ghost is_for = { λ search _ params. word_in params ≡ Some (string_bytes search.query) };
 
-    fn run<P: Progress>(
-        self,
-        token: &CancellationToken,
-        progress: &mut P,
-    ) -> Result<Result<Value, ResponseError>, AllocError> {
-        let found = find_all(
-            self.alloc,
-            self.sources.as_slice(),
-            self.query.as_str(),
-            &self.work,
-            token,
-            progress,
-        )?;
-        self.work.end(progress, Some("Searched"))?;
-        Ok(Ok(Value::Array(found)))
+    ghost comes_to = { λ search reply _.
+        RepliesSymbols (copied search.sources.items) (string_bytes search.query) reply };
+
+    // It asks the client nothing.
+    ghost asks = { λ _ _ _. ⊥ };
+
+    fn run<C: JobContext>(self, context: &mut C) -> Result<JobResult<()>, Interrupted> {
+        let found = self.symbols(context)?;
+        Ok(JobResult::reply(Ok(found)))
     }
 }
 
-/// The headings of these documents that have the word, up to where the search is cancelled. It tells how far it is.
-fn find_all<P: Progress>(
+impl Search {
+    /// All headings of its texts that have the word, as a list (LSP 3.17, "Workspace Symbols Request"). It tells how far it is.
+    pub fn symbols<C: JobContext>(self, context: &mut C) -> Result<Value, Interrupted>
+        requires { (method : List ℕ) (params : Data) → C.may method params }
+        ensures { IfOk result (λ tree.
+            FindsSymbols (copied self.sources.items) (string_bytes self.query) (view tree)) }
+    {
+        let (sources, word) = (self.sources.as_slice(), self.query.as_str());
+        let found = find_all(self.alloc, sources, word, &self.work, context)?;
+        self.work.end(context, Some("Searched"))?;
+        Ok(Value::Array(found))
+    }
+}
+
+/// All headings of these documents that have the word. It tells how far it is.
+fn find_all<C: JobContext>(
     alloc: Global,
     sources: &[OpenText],
     word: &str,
     work: &WorkDone,
-    token: &CancellationToken,
-    progress: &mut P,
-) -> Result<Vec<Value>, AllocError>
-    requires { (method : List ℕ) (params : Data) → P.may method params }
-    ensures { IfOk result (λ found. AreFound sources.now word.now found.items) }
+    context: &mut C,
+) -> Result<Vec<Value>, Interrupted>
+    requires { (method : List ℕ) (params : Data) → C.may method params }
+    ensures { IfOk result (λ found. AreFound (copied sources.now) word.now (map view found.items)) }
 {
-    work.begin(progress, "Searching", None, Some(0))?;
+    work.begin(context, "Searching", None, Some(0))?;
     let mut found = Vec::new(alloc);
     for (number, source) in sources.iter().enumerate() {
-        if token.is_cancelled() {
-            break;
-        }
         let done = percentage(number, sources.len());
-        work.report(progress, Some(source.uri.as_str()), done)?;
-        let mut headings = headings_with(alloc, source, word, token)?;
+        work.report(context, Some(source.uri.as_str()), done)?;
+        let mut headings = headings_with(alloc, source, word, context)?;
         found.append(&mut headings)?;
     }
     Ok(found)
@@ -106,53 +109,57 @@ fn percentage(done: usize, count: usize) -> Option<u32> {
     u32::try_from(percentage).ok()
 }
 
-/// The headings of a document that have the word, up to where the search is cancelled.
-fn headings_with(
+/// All headings of a document that have the word.
+fn headings_with<C: JobContext>(
     alloc: Global,
     source: &OpenText,
     word: &str,
-    token: &CancellationToken,
-) -> Result<Vec<Value>, AllocError>
-    ensures { IfOk result (λ found. All (λ symbol.
-        IsFoundIn (string_bytes source.now.uri) (arc_value source.now.text) word.now (view symbol))
-        found.items) }
+    context: &C,
+) -> Result<Vec<Value>, Interrupted>
+    ensures { IfOk result (λ found. AreSymbolsOf (string_bytes source.now.uri)
+        (arc_value source.now.text) word.now (map view found.items)) }
 {
     let mut found = Vec::new(alloc);
-    for line in 0..line_count(&*source.text) {
-        if token.is_cancelled() {
+    for number in 0..u32::MAX {
+        context.check()?;
+        let Some(line) = source.text.line(number) else {
             break;
-        }
-        if let Some(symbol) = found_in(alloc, source, line, word)? {
-            found.push(symbol)?;
-        }
+        };
+        add_heading(alloc, source.uri.as_str(), number, line, word, &mut found)?;
     }
     Ok(found)
 }
 
-/// The heading in a line of a document, if there is one that has the word.
-fn found_in(
+/// Adds the symbol of a line of a document, if the line is a heading that has the word.
+fn add_heading(
     alloc: Global,
-    source: &OpenText,
-    line: u32,
+    uri: &str,
+    number: u32,
+    line: &str,
     word: &str,
-) -> Result<Option<Value>, AllocError>
-    ensures { IfOk result (λ found. IfSome found (λ symbol.
-        IsFoundIn (string_bytes source.now.uri) (arc_value source.now.text) word.now (view symbol))) }
+    found: &mut Vec<Value>,
+) -> Result<(), AllocError>
+    ensures { OnOk result ((IsHeadingWith word.now line.now × (map view found.new.items
+        ≡ map view found.old.items ++ symbol_of uri.now number line.now ∷ []))
+        ⊎ ((IsHeadingWith word.now line.now → ⊥) × (found.new.items ≡ found.old.items))) }
 {
-    let Some(name) = heading_at(&*source.text, line) else {
-        return Ok(None);
-    };
-    if !name.contains(word) {
-        return Ok(None);
+    if let Some(name) = heading_with(line, word) {
+        found.push(symbol(alloc, name, uri, number)?)?;
     }
-    Ok(Some(symbol(alloc, name, source.uri.as_str(), line)?))
+    Ok(())
 }
 
-/// The name of the heading that a line is, if it is one.
-fn heading_at(text: &Text, line: u32) -> Option<&str>
-    ensures { IfSome result (λ name. IsHeading text.now line name.now) }
+/// The name of the heading that a line is, if it is one that has the word.
+fn heading_with<'l>(line: &'l str, word: &str) -> Option<&'l str>
+    ensures { MatchOption result (IsHeadingWith word.now line.now → ⊥)
+        (λ name. IsHeadingWith word.now line.now × (name.now ≡ name_in line.now)) }
 {
-    text.line(line)?.strip_prefix("# ")
+    let name = line.strip_prefix("# ")?;
+    if name.contains(word) {
+        Some(name)
+    } else {
+        None
+    }
 }
 
 /// A heading of a document (LSP 3.17, "Workspace Symbols Request").

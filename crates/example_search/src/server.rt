@@ -1,17 +1,15 @@
 // The server: the texts that are open, what the client is told, and what it asks.
-ghost use Rattle.serde_json.specs.Data.{string};
-ghost use Rattle.serde_json.specs.Find.{get};
 ghost use Rattle.serde_json.specs.View.{view};
-ghost use Rattle.std.specs.Prelude.{◌≡◌, Some, IfOk, IfSome, codes, string_bytes};
+ghost use Rattle.std.specs.Prelude.{◌≡◌, None, Some, IfOk, IfSome, MatchOption, option_map, string_bytes};
 ghost use Rattle.lsp_documents.specs.Held.{texts_of};
 ghost use Rattle.lsp_documents.specs.Known.{copied};
+ghost use Rattle.lsp_message.specs.View.{error_view};
+ghost use Rattle.example_search.specs.Sources.{FindsSymbols, which_word, word_in};
 
 use crate::search::{Search, Silence};
 use crate::sums::{Problem, Word, sheet_of, value_of, word_at};
 use lsp_documents::{Agreed, Made, NotMade, TextDocuments, position_in, uri_in};
-use lsp_jobs::{
-    AnsweredBy, CancellationToken, Job, JobEnd, JobName, JobServer, SlotChange, WorkDone,
-};
+use lsp_jobs::{AnsweredBy, JobServer, NoSlots, WorkDone};
 use lsp_server::{
     Act, ErrorCode, Notification, PassedOver, Request, RequestId, ResponseError, Server,
 };
@@ -102,32 +100,30 @@ impl Server for Sums {
 
 /// In `run_jobs` a job answers each search. All else is answered by `Server::request`.
 impl JobServer<Search> for Sums {
-    type Key = ();
+    ghost use Rattle.std.specs.Prelude.{◌≡◌, Err, None, codes, true};
+    ghost use Rattle.lsp_documents.specs.Held.{texts_of};
+    ghost use Rattle.lsp_documents.specs.Known.{copied};
+    ghost use Rattle.example_search.specs.Sources.{which_word, word_in};
+
+    type Slots = NoSlots;
+
+    ghost sorts = { λ _ method _ is_long. is_long ≡ true → method ≡ codes "workspace/symbol" };
+
+    // A search is of the texts that are open when its request comes.
+    ghost gives = { λ old _ _ _ search. copied search.sources.items ≡ texts_of old.documents };
+
+    ghost knows = { λ _ _ _ params outcome. (word_in params ≡ None) × (outcome ≡ Err which_word) };
 
     fn is_long(&self, request: &Request) -> bool {
         // If texts are to be lost first, the server does both.
         request.method.as_str() == "workspace/symbol" && !self.passed_over.has_happened()
     }
 
-    fn job(&self, request: Request) -> Result<AnsweredBy<Search, ()>, AllocError> {
+    fn job(&self, request: Request) -> Result<AnsweredBy<Search>, AllocError> {
         match self.search_in(&request.params)? {
-            Some(search) => Ok(AnsweredBy::Job(search, ())),
+            Some(search) => Ok(AnsweredBy::Job(search)),
             None => Ok(AnsweredBy::Reply(Err(self.no_word()?))),
         }
-    }
-
-    fn take_changes(&mut self, alloc: Global) -> Result<Vec<SlotChange<Search, ()>>, AllocError> {
-        Ok(Vec::new(alloc))
-    }
-
-    fn finished(
-        &mut self,
-        _name: &JobName,
-        _key: (),
-        _end: &JobEnd,
-        alloc: Global,
-    ) -> Result<Acts, AllocError> {
-        Ok(Vec::new(alloc))
     }
 }
 
@@ -200,8 +196,8 @@ impl Sums {
     fn search(&mut self, request: Request) -> Result<Acts, AllocError> {
         match self.search_in(&request.params)? {
             Some(search) => {
-                let outcome = outcome_of(self.alloc, search)?;
-                Act::one(self.alloc, Act::Reply(request.id, outcome))
+                let found = found_by(search)?;
+                Act::one(self.alloc, Act::Reply(request.id, Ok(found)))
             }
             None => {
                 let error = self.no_word()?;
@@ -211,14 +207,16 @@ impl Sums {
     }
 
     /// The error for a search without a word.
-    fn no_word(&self) -> Result<ResponseError, AllocError> {
+    fn no_word(&self) -> Result<ResponseError, AllocError>
+        ensures { IfOk result (λ error. error_view error ≡ which_word) }
+    {
         ResponseError::new(self.alloc, ErrorCode::InvalidParams, "which word?")
     }
 
     /// The search that a client asks for, over the texts as they are now. Without a word there is none.
     fn search_in(&self, params: &Value) -> Result<Option<Search>, AllocError>
-        ensures asked { IfOk result (λ found. IfSome found (λ search.
-            get (codes "query") (view params.now) ≡ Some (string (string_bytes search.query)))) }
+        ensures asked { IfOk result (λ found. MatchOption found (word_in (view params.now) ≡ None)
+            (λ search. word_in (view params.now) ≡ Some (string_bytes search.query))) }
         ensures whole { IfOk result (λ found. IfSome found (λ search.
             copied search.sources.items ≡ texts_of self.now.documents)) }
     {
@@ -405,15 +403,20 @@ fn tree(made: Result<Value, serde_json::Error>) -> Result<Value, AllocError> {
     }
 }
 
-/// What comes of a search that nobody cancels.
-fn outcome_of(alloc: Global, search: Search) -> Result<Result<Value, ResponseError>, AllocError> {
-    let token = CancellationToken::new(alloc)?;
-    search.run(&token, &mut Silence)
+/// What a search finds that nobody cancels: only an allocation can fail.
+fn found_by(search: Search) -> Result<Value, AllocError>
+    ensures { IfOk result (λ tree.
+        FindsSymbols (copied search.sources.items) (string_bytes search.query) (view tree)) }
+{
+    match search.symbols(&mut Silence) {
+        Ok(found) => Ok(found),
+        Err(_interrupted) => Err(AllocError),
+    }
 }
 
+/// The word that a client searches for, if it gives one.
 fn query_in(params: &Value) -> Option<&str>
-    ensures { IfSome result (λ query. get (codes "query") (view params.now)
-        ≡ Some (string query.now)) }
+    ensures { option_map (λ query. query.now) result ≡ word_in (view params.now) }
 {
     params.get("query")?.as_str()
 }

@@ -1,16 +1,25 @@
 // A session of the server: on one thread, with a thread that reads and one that writes, and with threads that search.
-ghost use Rattle.std.specs.Prelude.{true, [], Some, IfOk, IfSome};
+ghost use Rattle.serde_json.specs.Data.{Data};
+ghost use Rattle.std.specs.Prelude.{◌≡◌, ℕ, true, List, [], Some, IfOk, IfSome, codes};
 ghost use Rattle.lsp_session.specs.StreamTransports.{IsUnused, Serves};
 ghost use Rattle.lsp_threads.specs.Passing.{GivenTo, OfTaken, TakenFrom, noted};
 ghost use Rattle.lsp_threads.specs.Threads.{ThreadsTell, ThreadsTellOver};
+ghost use Rattle.lsp_documents.specs.Held.{texts_of};
+ghost use Rattle.lsp_jobs.specs.Ends.{Came, ComesTo, reply_of};
 ghost use Rattle.lsp_jobs.specs.JobLaw.{LawfulJobSession};
+ghost use Rattle.lsp_jobs.specs.PendingJobs.{PendingJobs};
+ghost use Rattle.lsp_jobs.specs.Pooled.{StartsJob};
+ghost use Rattle.lsp_jobs.specs.declared.asking.Asked.{Asked};
+ghost use Rattle.lsp_message.specs.Id.{Id};
+ghost use Rattle.lsp_service.specs.Acts.{Act as PlainAct};
 ghost use Rattle.lsp_service.specs.Stated.{unwoken};
 ghost use Rattle.example_search.specs.Promise.{AnswersOnce};
+ghost use Rattle.example_search.specs.Sources.{Answers};
 
 use crate::search::Search;
 use crate::server::Sums;
 use lsp_jobs::laws::session_with_jobs_keeps_laws;
-use lsp_jobs::{Job, JobServer, PoolSize, run_jobs};
+use lsp_jobs::{Job, JobServer, NoSlots, PoolSize, Slots, run_jobs};
 use lsp_server::laws::server_keeps_laws;
 use lsp_server::{
     ClientStreams, Listener, PassedOver, Server, SessionEnd, SessionFault, StartFault,
@@ -93,9 +102,14 @@ where
           sorts = ⟦<Sums as JobServer<Search>>⟧.sorts;
           gives = ⟦<Sums as JobServer<Search>>⟧.gives;
           knows = ⟦<Sums as JobServer<Search>>⟧.knows;
-          changes = ⟦<Sums as JobServer<Search>>⟧.changes;
-          finishes = ⟦<Sums as JobServer<Search>>⟧.finishes;
-        }) ⟦<Search as Job>⟧ sums result.0)
+          changes = ⟦<NoSlots as Slots<Sums, Search>>⟧.changes;
+          hears = ⟦<NoSlots as Slots<Sums, Search>>⟧.hears;
+          finishes = ⟦<NoSlots as Slots<Sums, Search>>⟧.finishes;
+          is_for = ⟦<Search as Job>⟧.is_for;
+          comes_to = ⟦<Search as Job>⟧.comes_to;
+          reports = ⟦<Search as Job>⟧.reports;
+          asks = ⟦<Search as Job>⟧.asks;
+        }) sums result.0)
         text passed_over.old passed_over.new (Some []) (noted done.given) done.answer)) }
     ensures passed { IfOk result.1 (λ done. TakenFrom (R.remaining client.reader) done.taken.parts
         × GivenTo (W.contents client.writer) done.given.parts (W.contents done.writer)) }
@@ -106,3 +120,24 @@ where
     let (reader, writer) = (client.reader, client.writer);
     run_jobs(rt, alloc, reader, writer, SIZE, sums, passed_over, options)
 }
+
+/// Where a search is started at a request, whatever it comes to: the reply has all headings with the request's word, of the texts that were
+/// open when the request came, and no others. Or it is the error of a failed allocation, or of a cancellation.
+fn symbols_are_of_open_texts()
+    ensures { (old new : Sums × PendingJobs Search) (id : Id) (method : List ℕ) (params : Data)
+        (all : List (PlainAct (Asked Unit))) → (starts : StartsJob
+        (record {
+          sorts = ⟦<Sums as JobServer<Search>>⟧.sorts;
+          gives = ⟦<Sums as JobServer<Search>>⟧.gives;
+          knows = ⟦<Sums as JobServer<Search>>⟧.knows;
+          changes = ⟦<NoSlots as Slots<Sums, Search>>⟧.changes;
+          hears = ⟦<NoSlots as Slots<Sums, Search>>⟧.hears;
+          finishes = ⟦<NoSlots as Slots<Sums, Search>>⟧.finishes;
+          is_for = ⟦<Search as Job>⟧.is_for;
+          comes_to = ⟦<Search as Job>⟧.comes_to;
+          reports = ⟦<Search as Job>⟧.reports;
+          asks = ⟦<Search as Job>⟧.asks;
+        }) old id method params all new)
+        → (came : Came Unit) → ComesTo ⟦<Search as Job>⟧.comes_to starts.job came
+        → Answers (texts_of old.0.documents) params (reply_of came) }
+{}

@@ -28,20 +28,18 @@ use Rattle.lsp_service.specs.declared.queued_server.QueuedServer.{QueuedServer}
 use Rattle.lsp_service.specs.declared.server.Server.{Ghosts as Plain}
 use Rattle.lsp_jobs.proofs.Owed.{fewer, waits_now, waits_on, replies_at_wake, waits_called, waits_opened}
 use Rattle.lsp_jobs.proofs.Owed.{HeldWaits}
-use Rattle.lsp_jobs.proofs.Slots.{Spares, spares-append, fewer_requests, unanswered_has, went_all, without_request}
-use Rattle.lsp_jobs.proofs.Slots.{Went}
+use Rattle.lsp_jobs.proofs.SlotChanges.{spares-append, fewer_requests, unanswered_has, went_all, without_request, Went}
 use Rattle.lsp_jobs.specs.Asking.{by_server, ByServers}
-use Rattle.lsp_jobs.specs.Ends.{came_to}
 use Rattle.lsp_jobs.specs.JobLaw.{concerns, is_that, AnswersByJobs, Left, at_ends, RepliesToLast, Waits, WakeSends}
 use Rattle.lsp_jobs.specs.JobSession.{JobSession, seen_with_jobs}
 use Rattle.lsp_jobs.specs.Pooled.{reply_at, unanswered, without_cancelled, ChangesSlots, Does, Finishes, TakesLong}
 use Rattle.lsp_jobs.specs.PoolView.{pending_jobs}
 use Rattle.lsp_jobs.specs.Seen.{seen}
+use Rattle.lsp_jobs.specs.SlotLaw.{IsGiven, Spares}
 use Rattle.lsp_jobs.specs.PendingJobs.{PendingJobs, no_jobs, without, with_job}
 use Rattle.lsp_jobs.specs.declared.asking.Asked.{Asked}
 use Rattle.lsp_jobs.specs.declared.asking.Asked.TheVariants.{ByJob, ByServer}
-use Rattle.lsp_jobs.specs.declared.job.Job.{Ghosts as OfJob}
-use Rattle.lsp_jobs.specs.declared.job_server.JobServer.{Ghosts as WithJobs}
+use Rattle.lsp_jobs.specs.Stated.{StatedJobs}
 use Rattle.lsp_jobs.specs.declared.names.JobName.{JobName}
 use Rattle.lsp_jobs.specs.declared.names.JobName.TheVariants.{Request, Slot}
 use Rattle.lsp_jobs.specs.declared.pooled_server.PooledServer.{PooledServer}
@@ -125,13 +123,13 @@ module _ {P : Type 0} where
 
 -- ---- where the jobs of requests come from
 
-module _ {S J K P : Type 0} (plain : Plain S P) (may : WithJobs S J K P) where
+module _ {S J F P : Type 0} (plain : Plain S P) (may : StatedJobs S J F P) where
   -- A pending job was there before, and no act replied under its id.
-  abbrev AllCome : (Id → J × K → Type 0) → List (Act P) → PendingJobs (J × K) → Type 0
-  AllCome from acts pending = (id : Id) (e : J × K) → pending (Request id) ≡ Some e → from id e × Spares id acts
+  abbrev AllCome : (Id → J → Type 0) → List (Act P) → PendingJobs J → Type 0
+  AllCome from acts pending = (id : Id) (e : J) → pending (Request id) ≡ Some e → from id e × Spares id acts
 
   -- When slots are changed, what is done then follows.
-  changes_slots : (from : Id → J × K → Type 0) (before : List (Act P)) (old new : S × PendingJobs (J × K))
+  changes_slots : (from : Id → J → Type 0) (before : List (Act P)) (old new : S × PendingJobs J)
       (acts all : List (Act P)) → ChangesSlots may old acts all new → AllCome from before old.1 → AllCome from all new.1
       × ((left : List (Left may)) × (all ≡ acts ++ at_ends may left))
   changes_slots from before old new acts all c come = (after, (went.left, went.acts))
@@ -147,106 +145,109 @@ module _ {S J K P : Type 0} (plain : Plain S P) (may : WithJobs S J K P) where
             subst (Spares id) (sym went.acts) (spares-append id acts (at_ends may went.left) own.1 later.1),
           )
 
--- a pending job stays when the message does not concern its id, or the message is its request
-abbrev FromCall : {J K : Type 0} → OfJob J → PendingJobs (J × K) → Option Message → Id → J × K → Type 0
-FromCall of_job old arrived id e =
-    ((old (Request id) ≡ Some e) × (concerns id arrived ≡ false))
-    ⊎ ((method : List ℕ) × (params : Data) × (arrived ≡ Some (request id method params)) × of_job.is_for e.0
-    method params)
+  pub does_jobs : (from : Id → J → Type 0) (did : List (Act P) → S → Type 0)
+      (pending : PendingJobs J) (all : List (Act P)) (new : S × PendingJobs J)
+      → AllCome from [] pending → Does may did pending all new → AllCome from all new.1
+  does_jobs from did pending all new come d = (changes_slots from [] (d.1, pending) new d.0 all d.3 come).0
 
-module _ {S J K P : Type 0} (plain : Plain S P) (may : WithJobs S J K P) (of_job : OfJob J) where
-  stay : (old : PendingJobs (J × K)) (arrived : Option Message) → ((id : Id) → concerns id arrived ≡ false)
+-- a pending job stays when the message does not concern its id, or the message is its request
+abbrev pub FromCall : {J : Type 0} → (Id → List ℕ → Data → J → Type 0) → PendingJobs J → Option Message → Id → J
+    → Type 0
+FromCall given old arrived id e =
+    ((old (Request id) ≡ Some e) × (concerns id arrived ≡ false))
+    ⊎ ((method : List ℕ) × (params : Data) × (arrived ≡ Some (request id method params)) × given id method params e)
+
+module _ {S J F P : Type 0} (plain : Plain S P) (may : StatedJobs S J F P)
+    (given : Id → List ℕ → Data → J → Type 0) where
+  stay : (old : PendingJobs J) (arrived : Option Message) → ((id : Id) → concerns id arrived ≡ false)
       → (acts : List (Act P)) → ((id : Id) → Spares id acts)
-      → AllCome plain may (FromCall of_job old arrived) acts old
+      → AllCome plain may (FromCall given old arrived) acts old
   stay old arrived none acts spares id e has = (inl (has, none id), spares id)
 
-  stay_without : (old : PendingJobs (J × K)) (arrived : Option Message) (i : Id) → ((id : Id) → concerns id arrived
+  stay_without : (old : PendingJobs J) (arrived : Option Message) (i : Id) → ((id : Id) → concerns id arrived
       ≡ eq_by_cmp id_cmp id i)
-      → AllCome plain may (FromCall of_job old arrived) [] (without (Request i) old)
+      → AllCome plain may (FromCall given old arrived) [] (without (Request i) old)
   stay_without old arrived i same id e has =
       let own = without_request i old id e has in (inl (own.0, same id ∙ own.1), tt)
 
-  stay_cancelled : (old : PendingJobs (J × K)) (method : List ℕ) (params : Data)
-      → AllCome plain may (FromCall of_job old (Some (notification method params))) []
+  stay_cancelled : (old : PendingJobs J) (method : List ℕ) (params : Data)
+      → AllCome plain may (FromCall given old (Some (notification method params))) []
       (without_cancelled (cancelled_by method params) old)
   stay_cancelled old method params = at (cancelled_by method params) refl
     where
       at : (cancelled : Option Id) → cancelled_by method params ≡ cancelled
-          → AllCome plain may (FromCall of_job old (Some (notification method params))) []
+          → AllCome plain may (FromCall given old (Some (notification method params))) []
           (without_cancelled cancelled old)
       at None is = stay old (Some (notification method params)) (λ id. ap (is_that id) is) [] (λ id. tt)
       at (Some i) is = stay_without old (Some (notification method params)) i (λ id. ap (is_that id) is)
 
-  does_jobs : (from : Id → J × K → Type 0) (did : List (Act P) → S → Type 0)
-      (pending : PendingJobs (J × K)) (all : List (Act P)) (new : S × PendingJobs (J × K))
-      → AllCome plain may from [] pending → Does may did pending all new → AllCome plain may from all new.1
-  does_jobs from did pending all new come d = (changes_slots plain may from [] (d.1, pending) new d.0 all d.3 come).0
-
   -- a job was started for a request
-  started_job : (old : PendingJobs (J × K)) (id : Id) (method : List ℕ) (params : Data) (job : J) (key : K)
-      → of_job.is_for job method params
-      → AllCome plain may (FromCall of_job old (Some (request id method params))) []
-      (with_job (Request id) (job, key) old)
-  started_job old id method params job key is_for i e has = at (eq_by_cmp id_cmp i id) refl has
+  started_job : (old : PendingJobs J) (id : Id) (method : List ℕ) (params : Data) (job : J)
+      → given id method params job
+      → AllCome plain may (FromCall given old (Some (request id method params))) []
+      (with_job (Request id) job old)
+  started_job old id method params job gives i e has = at (eq_by_cmp id_cmp i id) refl has
     where
-      at : (b : Bool) → eq_by_cmp id_cmp i id ≡ b → cond b (Some (job, key)) (old (Request i)) ≡ Some e
-          → FromCall of_job old (Some (request id method params)) i e × Spares {P = P} i []
+      at : (b : Bool) → eq_by_cmp id_cmp i id ≡ b → cond b (Some job) (old (Request i)) ≡ Some e
+          → FromCall given old (Some (request id method params)) i e × Spares {P = P} i []
       at true is has =
           let same : i ≡ id = (id_decides i id).0 is in
-          let it : ◌≡◌ {A = J × K} (job, key) e = cc (has) in (
+          let it : job ≡ e = cc (has) in (
             inr (
               method,
               params,
               ap (λ (j : Id). Some (request j method params)) (sym same),
-              subst (λ (x : J × K). of_job.is_for x.0 method params) it is_for,
+              subst (λ (x : Id × J). given x.0 method params x.1) (λ k. (sym same k, it k)) gives,
             ),
             tt,
           )
       at false is has = (inl (has, is), tt)
 
-module _ (T : Type 0) {S J K P : Type 0} (plain : Plain S P) (may : WithJobs S J K P) (of_job : OfJob J) where
-  abbrev W : Stated (PooledServer T S J K) (Asked P)
-  W = seen_with_jobs T plain may of_job
+module _ (T : Type 0) {S J F P : Type 0} (plain : Plain S P) (may : StatedJobs S J F P) where
+  abbrev W : Stated (PooledServer T S J F) (Asked P)
+  W = seen_with_jobs T plain may
+
+  abbrev pended : PooledServer T S J F → PendingJobs J
+  pended p = pending_jobs p.pool
+
+  -- Where a job comes from that is pending for a request, at a call at which these acts are done.
+  abbrev From : PooledServer T S J F → Option Message → List (Act (Asked P)) → Id → J → Type 0
+  From old arrived acts = FromCall (IsGiven plain may old.server acts) (pended old) arrived
 
   -- Where the pending jobs come from, by acts of the server's own that reply under no other ids than these.
-  abbrev Handles : Option Message → PendingJobs (J × K) → List (Act (Asked P)) → PendingJobs (J × K) → Type 0
-  Handles arrived old acts new =
-      (own : List (Act P)) × ((id : Id) → Spares id own → Spares id acts) × AllCome plain may (FromCall of_job
-      old arrived) own new
+  abbrev Handles : PooledServer T S J F → Option Message → List (Act (Asked P)) → PendingJobs J → Type 0
+  Handles old arrived acts new =
+      (own : List (Act P)) × ((id : Id) → Spares id own → Spares id acts)
+      × AllCome plain may (From old arrived acts) own new
 
-  by_servers : (arrived : Option Message) (old new : PendingJobs (J × K)) (did : List (Act P) → Type 0)
-      (all : List (Act (Asked P)))
-      → ((acts : List (Act P)) → did acts → AllCome plain may (FromCall of_job old arrived) acts new)
-      → ByServers did all → Handles arrived old all new
-  by_servers arrived old new did all come b = (
+  by_servers : (old : PooledServer T S J F) (arrived : Option Message) (new : PendingJobs J)
+      (did : List (Act P) → Type 0) (all : List (Act (Asked P)))
+      → ((acts : List (Act P)) → did acts → AllCome plain may (From old arrived all) acts new)
+      → ByServers did all → Handles old arrived all new
+  by_servers old arrived new did all come b = (
     b.0,
-    (λ id spares. subst (Spares id) (sym b.1) (spares_by_server id b.0
-        spares)),
+    (λ id spares. subst (Spares id) (sym b.1) (spares_by_server id b.0 spares)),
     come b.0 b.2,
   )
 
   -- nothing is started
-  idles : (old did : PooledServer T S J K) (arrived : Option Message) (acts none : List (Act (Asked P)))
+  idles : (old did : PooledServer T S J F) (arrived : Option Message) (acts none : List (Act (Asked P)))
       → ((id : Id) → concerns id arrived ≡ false)
-      → ((id : Id) → Spares id none) → acts ≡ none → pending_jobs did.pool ≡ pending_jobs old.pool
-      → Handles arrived (pending_jobs old.pool) acts (pending_jobs did.pool)
+      → ((id : Id) → Spares id none) → acts ≡ none → pended did ≡ pended old
+      → Handles old arrived acts (pended did)
   idles old did arrived acts none calm spares is same = (
     [],
     (λ id own. subst (Spares id) (sym is) (spares id)),
-    subst (λ (t : PendingJobs (J × K)). AllCome plain may (FromCall of_job (pending_jobs old.pool) arrived) []
-        t) (sym same)
-        (stay plain may of_job (pending_jobs old.pool) arrived calm [] (λ id. tt)),
+    subst (AllCome plain may (From old arrived acts) []) (sym same)
+        (stay plain may (IsGiven plain may old.server acts) (pended old) arrived calm [] (λ id. tt)),
   )
 
-  abbrev pended : PooledServer T S J K → PendingJobs (J × K)
-  pended p = pending_jobs p.pool
-
   -- so it is what is seen of both
-  as_seen : (old did : PooledServer T S J K) → seen did ≡ seen old → pending_jobs did.pool ≡ pending_jobs old.pool
-  as_seen old did same = ap (λ (x : S × PendingJobs (J × K)). x.1) same
+  as_seen : (old did : PooledServer T S J F) → seen did ≡ seen old → pended did ≡ pended old
+  as_seen old did same = ap (λ (x : S × PendingJobs J). x.1) same
 
-  woken : (old did : PooledServer T S J K) (acts : List (Act (Asked P))) → W.wakes old acts did
-      → Handles None (pending_jobs old.pool) acts (pending_jobs did.pool)
+  woken : (old did : PooledServer T S J F) (acts : List (Act (Asked P))) → W.wakes old acts did
+      → Handles old None acts (pended did)
   woken old did acts (inl nothing) = idles old did None acts [] (λ id. refl) (λ id. tt) nothing.0 (as_seen old did
       nothing.1)
   woken old did acts (inr (inl r)) = idles old did None acts (tells r.method r.params ∷ []) (λ id. refl) (λ id. tt)
@@ -255,83 +256,91 @@ module _ (T : Type 0) {S J K P : Type 0} (plain : Plain S P) (may : WithJobs S J
       idles old did None acts (asks a.method a.params (ByJob a.number) ∷ []) (λ id. refl) (λ id. tt) a.acts
       (as_seen old did a.same)
   woken old did acts (inr (inr (inr b))) =
-      by_servers None (pending_jobs old.pool) (pending_jobs did.pool) (λ own. Finishes may of_job (seen old) own
-      (seen did)) acts ended b
+      by_servers old None (pended did) (λ own. Finishes may (seen old) own (seen did)) acts ended b
     where
-      from : Id → J × K → Type 0
-      from = FromCall of_job (pending_jobs old.pool) None
+      from : Id → J → Type 0
+      from = From old None acts
 
-      ended : (own : List (Act P)) → Finishes may of_job (seen old) own (seen did) → AllCome plain may from own
-          (pending_jobs did.pool)
+      ended : (own : List (Act P)) → Finishes may (seen old) own (seen did) → AllCome plain may from own (pended did)
       ended own f = (changes_slots plain may from [] f.did (seen did) f.acts own f.others before).0
         where
           before : AllCome plain may from [] f.did.1
           before i e has =
-              let left = without f.name (pending_jobs old.pool) in
-              stay plain may of_job (pending_jobs old.pool) None (λ id. refl) [] (λ id. tt) i e
-              (fewer_requests f.name (pending_jobs old.pool) i e (unanswered_has f.acts left i e
-              (ap (λ (t : PendingJobs (J × K)). t (Request i)) (sym f.ended.3) ∙ has)).0)
+              let left = without f.name (pended old) in
+              stay plain may (IsGiven plain may old.server acts) (pended old) None (λ id. refl) [] (λ id. tt) i e
+              (fewer_requests f.name (pended old) i e (unanswered_has f.acts left i e
+              (ap (λ (t : PendingJobs J). t (Request i)) (sym f.ended.3) ∙ has)).0)
 
-  long_jobs : (old did : PooledServer T S J K) (id : Id) (method : List ℕ) (params : Data) (acts : List (Act (Asked P)))
-      → TakesLong may of_job (seen old) id method params acts (seen did)
-      → Handles (Some (request id method params)) (pending_jobs old.pool) acts (pending_jobs did.pool)
-  long_jobs old did id method params acts (inl j) = (
+  long_jobs : (old did : PooledServer T S J F) (id : Id) (method : List ℕ) (params : Data) (acts : List (Act (Asked P)))
+      → may.sorts old.server method params true → TakesLong may (seen old) id method params acts (seen did)
+      → Handles old (Some (request id method params)) acts (pended did)
+  long_jobs old did id method params acts long (inl j) = (
     [],
     (λ i own. subst (Spares i) (sym j.acts) tt),
-    subst (AllCome plain may (FromCall of_job (pended old) (Some (request id method params))) [])
-        (sym (ap (λ (x : S × PendingJobs (J × K)). x.1) j.started))
-        (started_job plain may of_job (pended old) id method params j.job j.key j.is_for),
+    subst (AllCome plain may (From old (Some (request id method params)) acts) [])
+        (sym (ap (λ (x : S × PendingJobs J). x.1) j.started))
+        (started_job plain may (IsGiven plain may old.server acts) (pended old) id method params j.job
+        (long, j.gives, j.is_for, j.acts)),
   )
-  long_jobs old did id method params acts (inr a) = (
+  long_jobs old did id method params acts long (inr a) = (
     replies id a.outcome ∷ [],
     (λ i own. subst (Spares i) (sym a.acts) own),
-    subst (AllCome plain may (FromCall of_job (pended old) (Some (request id method params)))
-        (replies id a.outcome ∷ [])) (sym (ap (λ (x : S × PendingJobs (J × K)). x.1) a.left))
+    subst (AllCome plain may (From old (Some (request id method params)) acts) (replies id a.outcome ∷ []))
+        (sym (ap (λ (x : S × PendingJobs J). x.1) a.left))
         (λ i e has. let own = without_request id (pended old) i e has in (inl own, (own.1, tt))),
   )
 
-  handed_jobs : (old did : PooledServer T S J K) (arrived : Option Message) (payload : Option (Asked P))
-      (acts : List (Act (Asked P))) → Handed W old arrived payload acts did
-      → Handles arrived (pending_jobs old.pool) acts (pending_jobs did.pool)
+  pub handed_jobs : (old did : PooledServer T S J F) (arrived : Option Message) (payload : Option (Asked P))
+      (acts : List (Act (Asked P))) → Handed W old arrived payload acts did → Handles old arrived acts (pended did)
   handed_jobs old did (Some (request id method params)) payload acts h =
       elim h.0 [
-        | inl long ↦ long_jobs old did id method params acts long.1
+        | inl long ↦ long_jobs old did id method params acts long.0 long.1
         | inr own ↦
-            let left = without (Request id) (pending_jobs old.pool) in
-            by_servers (Some (request id method params)) (pending_jobs old.pool) (pending_jobs did.pool)
+            let left = without (Request id) (pended old) in
+            by_servers old (Some (request id method params)) (pended did)
             (λ made. Does may (plain.requested old.server id method params) left made (seen did)) acts
-            (λ made d. does_jobs plain may of_job (FromCall of_job (pending_jobs old.pool)
-            (Some (request id method params))) (plain.requested old.server id method params) left made (seen did)
-            (stay_without plain may of_job (pending_jobs old.pool) (Some (request id method params)) id (λ i. refl)) d)
+            (λ made d. does_jobs plain may (From old (Some (request id method params)) acts)
+            (plain.requested old.server id method params) left made (seen did)
+            (stay_without plain may (IsGiven plain may old.server acts) (pended old) (Some (request id method params))
+            id (λ i. refl)) d)
             own.1
       ]
   handed_jobs old did (Some (notification method params)) payload acts h =
-      by_servers (Some (notification method params)) (pending_jobs old.pool) (pending_jobs did.pool)
+      by_servers old (Some (notification method params)) (pended did)
       (λ own. Does may (plain.notified old.server method params) (without_cancelled (cancelled_by method params)
-      (pending_jobs old.pool)) own (seen did)) acts
-      (λ own d. does_jobs plain may of_job (FromCall of_job (pending_jobs old.pool)
-      (Some (notification method params))) (plain.notified old.server method params)
-      (without_cancelled (cancelled_by method params) (pending_jobs old.pool)) own (seen did)
-      (stay_cancelled plain may of_job (pending_jobs old.pool) method params) d) h.0
+      (pended old)) own (seen did)) acts
+      (λ own d. does_jobs plain may (From old (Some (notification method params)) acts)
+      (plain.notified old.server method params)
+      (without_cancelled (cancelled_by method params) (pended old)) own (seen did)
+      (stay_cancelled plain may (IsGiven plain may old.server acts) (pended old) method params) d) h.0
   handed_jobs old did (Some (response id outcome)) (Some (ByServer payload)) acts h =
-      by_servers (Some (response id outcome)) (pending_jobs old.pool) (pending_jobs did.pool)
-      (λ own. Does may (plain.replied old.server payload outcome) (pending_jobs old.pool) own (seen did)) acts
-      (λ own d. does_jobs plain may of_job (FromCall of_job (pending_jobs old.pool)
-      (Some (response id outcome))) (plain.replied old.server payload outcome) (pending_jobs old.pool) own
-      (seen did)
-      (stay plain may of_job (pending_jobs old.pool) (Some (response id outcome)) (λ i. refl) [] (λ i. tt)) d) h
+      by_servers old (Some (response id outcome)) (pended did)
+      (λ own. Does may (plain.replied old.server payload outcome) (pended old) own (seen did)) acts
+      (λ own d. does_jobs plain may (From old (Some (response id outcome)) acts)
+      (plain.replied old.server payload outcome) (pended old) own (seen did)
+      (stay plain may (IsGiven plain may old.server acts) (pended old) (Some (response id outcome)) (λ i. refl) []
+      (λ i. tt)) d) h
   handed_jobs old did (Some (response id outcome)) (Some (ByJob n)) acts h =
       idles old did (Some (response id outcome)) acts [] (λ i. refl) (λ i. tt) h.0 (as_seen old did h.1)
   handed_jobs old did (Some (response id outcome)) None acts h =
       idles old did (Some (response id outcome)) acts [] (λ i. refl) (λ i. tt) h.1 (ap pended h.0)
   handed_jobs old did None payload acts h = woken old did acts h.0
 
-  back_one : (payload : Asked P) (old new : PooledServer T S J K) → W.takes_back old payload new → pending_jobs new.pool
+  -- each job that is pending for a request then was before, or is given now, and no reply is given under its id
+  pub requests_then : (old did : PooledServer T S J F) (arrived : Option Message) (payload : Option (Asked P))
+      (acts : List (Act (Asked P))) → Handed W old arrived payload acts did → (id : Id) (e : J)
+      → pended did (Request id) ≡ Some e → From old arrived acts id e × Spares id acts
+  requests_then old did arrived payload acts h id e has =
+      let all = handed_jobs old did arrived payload acts h in
+      let own = all.2 id e has in
+      (own.0, all.1 id own.1)
+
+  back_one : (payload : Asked P) (old new : PooledServer T S J F) → W.takes_back old payload new → pending_jobs new.pool
       ≡ pending_jobs old.pool
   back_one (ByServer payload) old new back = back.1
   back_one (ByJob n) old new same = as_seen old new same
 
-  pub back_pending : (payloads : List (Asked P)) (old new : PooledServer T S J K)
+  pub back_pending : (payloads : List (Asked P)) (old new : PooledServer T S J F)
       → TakesBack W.takes_back old payloads new
       → pending_jobs new.pool ≡ pending_jobs old.pool
   back_pending [] old new same = ap pended same
@@ -341,12 +350,12 @@ module _ (T : Type 0) {S J K P : Type 0} (plain : Plain S P) (may : WithJobs S J
   -- ---- exchanges
 
   -- each request that has a job waits for it
-  abbrev AllWait : List Exchange → PendingJobs (J × K) → Type 0
-  AllWait earlier pending = (id : Id) (e : J × K) → pending (Request id) ≡ Some e
-      → Waits may of_job earlier (Request id) e.0
+  abbrev AllWait : List Exchange → PendingJobs J → Type 0
+  AllWait earlier pending = (id : Id) (e : J) → pending (Request id) ≡ Some e
+      → Waits may earlier (Request id) e
 
-  waits_at : (earlier : List Exchange) (pending : PendingJobs (J × K)) → AllWait earlier pending → (name : JobName)
-      (e : J × K) → pending name ≡ Some e → Waits may of_job earlier name e.0
+  waits_at : (earlier : List Exchange) (pending : PendingJobs J) → AllWait earlier pending → (name : JobName)
+      (e : J) → pending name ≡ Some e → Waits may earlier name e
   waits_at earlier pending all (Request id) e has = all id e has
   waits_at earlier pending all (Slot slot) e has = tt
 
@@ -354,17 +363,17 @@ module _ (T : Type 0) {S J K P : Type 0} (plain : Plain S P) (may : WithJobs S J
   Calm id arrived = (concerns id arrived ≡ false) ⊎ ((method : List ℕ) × (params : Data)
       × (arrived ≡ Some (request id method params)))
 
-  wait_on : (earlier : List Exchange) (x : Exchange) (old new : PendingJobs (J × K)) (acts : List (Act P))
-      → AllWait earlier old
-      → AllCome plain may (FromCall of_job old x.came) acts new → ((id : Id) → Spares id acts → Calm id x.came
+  wait_on : (earlier : List Exchange) (x : Exchange) (old : PooledServer T S J F) (all : List (Act (Asked P)))
+      (new : PendingJobs J) (acts : List (Act P)) → AllWait earlier (pended old)
+      → AllCome plain may (From old x.came all) acts new → ((id : Id) → Spares id acts → Calm id x.came
       → how_many (is_reply_under id) x.sent ≡ 0)
       → AllWait (earlier ++ x ∷ []) new
-  wait_on earlier x old new acts before come silent id e has = of own.0
+  wait_on earlier x old all new acts before come silent id e has = of own.0
     where
-      own : FromCall of_job old x.came id e × Spares id acts
+      own : From old x.came all id e × Spares id acts
       own = come id e has
 
-      of : FromCall of_job old x.came id e → Waits may of_job (earlier ++ x ∷ []) (Request id) e.0
+      of : From old x.came all id e → Waits may (earlier ++ x ∷ []) (Request id) e
       of (inl was) =
           let r = before id e was.0 in (
             r.0,
@@ -375,14 +384,14 @@ module _ (T : Type 0) {S J K P : Type 0} (plain : Plain S P) (may : WithJobs S J
       of (inr given) = (
         given.0,
         given.1,
-        given.3,
+        given.3.2,
         waits_now earlier x id given.0 given.1 given.2 (silent id own.1 (inr (given.0, given.1, given.2))),
       )
 
   -- what is sent at a wake
-  wake_sends : (earlier : List Exchange) (old did : PooledServer T S J K) (acts : List (Act (Asked P)))
+  wake_sends : (earlier : List Exchange) (old did : PooledServer T S J F) (acts : List (Act (Asked P)))
       (output not_sent : List Message) (d : Queues (Asked P)) → all_sends d acts ≡ output ++ not_sent
-      → W.wakes old acts did → AllWait earlier (pending_jobs old.pool) → WakeSends may of_job earlier output
+      → W.wakes old acts did → AllWait earlier (pending_jobs old.pool) → WakeSends may earlier output
   wake_sends earlier old did acts output not_sent d is (inl nothing) waits = inl (part_none output not_sent
       (all_sends d acts) (sym is) (ap (all_sends d) nothing.0))
   wake_sends earlier old did acts output not_sent d is (inr (inl r)) waits = inr (inl (record {
@@ -390,7 +399,7 @@ module _ (T : Type 0) {S J K P : Type 0} (plain : Plain S P) (may : WithJobs S J
     job = r.job;
     method = r.method;
     params = r.params;
-    waits = waits_at earlier (pending_jobs old.pool) waits r.name (r.job, r.key) r.waits;
+    waits = waits_at earlier (pending_jobs old.pool) waits r.name r.job r.waits;
     reports = r.reports;
     sent = (d, not_sent, sym (ap (all_sends d) r.acts) ∙ is);
   }))
@@ -400,7 +409,7 @@ module _ (T : Type 0) {S J K P : Type 0} (plain : Plain S P) (may : WithJobs S J
     method = a.method;
     params = a.params;
     number = a.number;
-    waits = waits_at earlier (pending_jobs old.pool) waits a.name (a.job, a.key) a.waits;
+    waits = waits_at earlier (pending_jobs old.pool) waits a.name a.job a.waits;
     may_ask = a.may_ask;
     sent = (d, not_sent, sym (ap (all_sends d) a.acts) ∙ is);
   })))
@@ -410,14 +419,13 @@ module _ (T : Type 0) {S J K P : Type 0} (plain : Plain S P) (may : WithJobs S J
       let s = changes_slots plain may (λ id e. Unit {0}) [] f.did (seen did) f.acts own f.others
       (λ id e has. (tt, tt)) in
       let first = f.ended.0 in
-      let all : own ≡ (first ++ reply_at f.name (came_to f.outcome)) ++ at_ends may s.1.0 =
+      let all : own ≡ (first ++ reply_at f.name f.came) ++ at_ends may s.1.0 =
       s.1.1 ∙ ap (λ (l : List (Act P)). l ++ at_ends may s.1.0) f.ended.2 in
       inr (inr (inr (record {
         name = f.name;
         job = f.job;
-        key = f.key;
-        outcome = f.outcome;
-        waits = waits_at earlier (pending_jobs old.pool) waits f.name (f.job, f.key) f.waits;
+        came = f.came;
+        waits = waits_at earlier (pending_jobs old.pool) waits f.name f.job f.waits;
         comes = f.comes;
         old = old.server;
         first = first;
@@ -430,9 +438,9 @@ module _ (T : Type 0) {S J K P : Type 0} (plain : Plain S P) (may : WithJobs S J
   -- ---- a session
 
   abbrev Working : Type 0
-  Working = QueuedServer (PooledServer T S J K) (Asked P)
+  Working = QueuedServer (PooledServer T S J F) (Asked P)
 
-  abbrev pending : Working → PendingJobs (J × K)
+  abbrev pending : Working → PendingJobs J
   pending w = pending_jobs w.server.pool
 
   abbrev Rests : Working → Type 0
@@ -445,7 +453,7 @@ module _ (T : Type 0) {S J K P : Type 0} (plain : Plain S P) (may : WithJobs S J
   Ready earlier phase w = Unit {0}
 
   abbrev Wake : List Exchange → Exchange → Type 0
-  Wake earlier x = x.came ≡ None → WakeSends may of_job earlier x.sent × RepliesToLast earlier x.sent
+  Wake earlier x = x.came ≡ None → WakeSends may earlier x.sent × RepliesToLast earlier x.sent
 
   abbrev Steps_on : List Exchange → Exchange → Phase → Working → Type 0
   Steps_on earlier x q w = Wake earlier x × Ready (earlier ++ x ∷ []) q w
@@ -466,7 +474,7 @@ module _ (T : Type 0) {S J K P : Type 0} (plain : Plain S P) (may : WithJobs S J
           (subst (λ (l : Option Message). WorksSending W (queues.seen w) l full (queues.seen w')) none gives),
     ),
     (
-      ap (λ (y : PooledServer T S J K × Queues (Asked P)). y.1.sent) gives.3,
+      ap (λ (y : PooledServer T S J F × Queues (Asked P)). y.1.sent) gives.3,
       waits,
       λ id. waits_called W id earlier w w'
           x full more part ready.0 (ready.2 id) gives,
@@ -482,7 +490,7 @@ module _ (T : Type 0) {S J K P : Type 0} (plain : Plain S P) (may : WithJobs S J
 
       wakes : (arrived : Option Message) (payload : Option (Asked P)) → Handed W w.server arrived payload a.acts a.did
           → full ≡ all_sends (queues_at (queues.queues_of w.queues) arrived payload) (acts_done_at arrived a.acts)
-          → arrived ≡ None → WakeSends may of_job earlier x.sent
+          → arrived ≡ None → WakeSends may earlier x.sent
       wakes None payload handed sent none = wake_sends earlier w.server a.did a.acts x.sent more (queues.queues_of
           w.queues) (sym sent ∙ sym part) handed.0 ready.1
       wakes (Some m) payload handed sent none = absurd (cc (none))
@@ -493,15 +501,14 @@ module _ (T : Type 0) {S J K P : Type 0} (plain : Plain S P) (may : WithJobs S J
           (ap (how_many (is_reply_under id)) sent ∙ mute id (acts_done_at x.came a.acts) (queues_at (queues.queues_of
           w.queues) x.came a.payload) (settled_spares x.came a.acts id spares calm))
 
-      come : Handles x.came (pending w) a.acts (pending_jobs a.did.pool)
+      come : Handles w.server x.came a.acts (pended a.did)
       come = handed_jobs w.server a.did x.came a.payload a.acts a.handed
 
       waits : AllWait (earlier ++ x ∷ []) (pending w')
       waits =
           subst (AllWait (earlier ++ x ∷ [])) (sym (back_pending (unsent (count_of (queues.queues_of w.queues).asked)
           a.acts) a.did w'.server a.back))
-          (wait_on earlier x (pending w) (pending_jobs a.did.pool) come.0 ready.1 come.2 (λ id own. silent id
-          (come.1 id own)))
+          (wait_on earlier x w.server a.acts (pended a.did) come.0 ready.1 come.2 (λ id own. silent id (come.1 id own)))
 
   -- `initialized` came
   opened : (earlier : List Exchange) (w w' : Working) (x : Exchange) (m : Message) (full more : List Message) → x.came
@@ -511,7 +518,7 @@ module _ (T : Type 0) {S J K P : Type 0} (plain : Plain S P) (may : WithJobs S J
   opened earlier w w' x m full more there begins part ready o = (
     (λ none. absurd (cc (there, none))),
     (
-      ap (λ (y : PooledServer T S J K × Queues (Asked P)). y.1.sent) o.3,
+      ap (λ (y : PooledServer T S J F × Queues (Asked P)). y.1.sent) o.3,
       waits,
       λ id. waits_opened W id (earlier ++ x
           ∷ []) w w' full ready.0 o,
@@ -529,24 +536,24 @@ module _ (T : Type 0) {S J K P : Type 0} (plain : Plain S P) (may : WithJobs S J
       silent id spares calm = fewer (is_reply_under id) x.sent more full part (ap (how_many (is_reply_under id)) sent
           ∙ mute id o.1.0 (queues.queues_of w.queues) spares)
 
-      none : (id : Id) (e : J × K) → pending w (Request id) ≡ Some e → ⊥
-      none id e has = let is = ap (λ (t : PendingJobs (J × K)). t (Request id)) (sym ready.1) ∙ has in absurd (cc (is))
+      none : (id : Id) (e : J) → pending w (Request id) ≡ Some e → ⊥
+      none id e has = let is = ap (λ (t : PendingJobs J). t (Request id)) (sym ready.1) ∙ has in absurd (cc (is))
 
-      come : Handles x.came (pending w) o.1.0 (pending_jobs o.1.1.pool)
+      come : Handles w.server x.came o.1.0 (pended o.1.1)
       come =
-          by_servers x.came (pending w) (pending_jobs o.1.1.pool) (λ own. Does may (plain.at_initialized
+          by_servers w.server x.came (pended o.1.1) (λ own. Does may (plain.at_initialized
           w.server.server) (pending w) own (seen o.1.1)) o.1.0
-          (λ own d. does_jobs plain may of_job (FromCall of_job (pending w) x.came) (plain.at_initialized
+          (λ own d. does_jobs plain may (From w.server x.came o.1.0) (plain.at_initialized
           w.server.server) (pending w) own (seen o.1.1) (λ id e has. absurd (none id e has)) d) o.1.2
 
       waits : AllWait (earlier ++ x ∷ []) (pending w')
       waits =
           subst (AllWait (earlier ++ x ∷ [])) (sym (back_pending (unsent (count_of (queues.queues_of w.queues).asked)
           o.1.0) o.1.1 w'.server
-          (subst (λ (p : PooledServer T S J K). TakesBack W.takes_back o.1.1
+          (subst (λ (p : PooledServer T S J F). TakesBack W.takes_back o.1.1
           (unsent (count_of (queues.queues_of w.queues).asked) o.1.0) p)
-          (sym (ap (λ (y : PooledServer T S J K × Queues (Asked P)). y.0) o.3)) o.1.3)))
-          (wait_on earlier x (pending w) (pending_jobs o.1.1.pool) come.0 (λ id e has. absurd (none id e has)) come.2
+          (sym (ap (λ (y : PooledServer T S J F × Queues (Asked P)). y.0) o.3)) o.1.3)))
+          (wait_on earlier x w.server o.1.0 (pended o.1.1) come.0 (λ id e has. absurd (none id e has)) come.2
           (λ id own. silent id (come.1 id own)))
 
   -- a message for which the server is not called
@@ -603,28 +610,28 @@ module _ (T : Type 0) {S J K P : Type 0} (plain : Plain S P) (may : WithJobs S J
 
   at_each : (earlier xs : List Exchange) → AllWakes earlier xs → (before later : List Exchange) (x : Exchange) → xs
       ≡ before ++ x ∷ later → x.came ≡ None
-      → WakeSends may of_job (earlier ++ before) x.sent × RepliesToLast (earlier ++ before) x.sent
+      → WakeSends may (earlier ++ before) x.sent × RepliesToLast (earlier ++ before) x.sent
   at_each earlier [] all [] later x e none = absurd (cc (e))
   at_each earlier [] all (b ∷ before) later x e none = absurd (cc (e))
   at_each earlier (y ∷ xs) all [] later x e none =
       let same : y ≡ x = cc (e) in
-      subst (λ (es : List Exchange). WakeSends may of_job es x.sent × RepliesToLast es x.sent)
+      subst (λ (es : List Exchange). WakeSends may es x.sent × RepliesToLast es x.sent)
       (sym (append-nil earlier)) (subst (Wake earlier) same all.0 none)
   at_each earlier (y ∷ xs) all (b ∷ before) later x e none =
       let same : y ≡ b = cc (e) in
       let rest : xs ≡ before ++ x ∷ later = cc (e) in
-      subst (λ (es : List Exchange). WakeSends may of_job es x.sent × RepliesToLast es x.sent)
+      subst (λ (es : List Exchange). WakeSends may es x.sent × RepliesToLast es x.sent)
       (append_assoc earlier (y ∷ []) before ∙ ap (λ (z : Exchange). earlier ++ z ∷ before) same)
       (at_each (earlier ++ y ∷ []) xs all.1 before later x rest none)
 
   pub answers_by_jobs : (first last : S) (xs : List Exchange) (stop : Stop) (shutdown_reply : Option Message)
       (answer : SessionAnswer)
-      → JobSession T plain may of_job first last xs stop shutdown_reply answer → AnswersByJobs may of_job xs
+      → JobSession T plain may first last xs stop shutdown_reply answer → AnswersByJobs may xs
   answers_by_jobs first last xs stop shutdown_reply answer session =
       let s = session.session in
       let none : pending s.old ≡ no_jobs =
-      ap (λ (y : PooledServer T S J K × Queues (Asked P)). pending_jobs y.0.pool) s.from_first
-      ∙ ap (λ (y : S × PendingJobs (J × K)). y.1) session.from_first in
+      ap (λ (y : PooledServer T S J F × Queues (Asked P)). pending_jobs y.0.pool) s.from_first
+      ∙ ap (λ (y : S × PendingJobs J). y.1) session.from_first in
       at_each [] xs (run_wakes stop [] xs starting s.out.last s.old s.out.after (reaches_ran (with_queues W) stop
       starting s.out.last s.old s.out.after xs s.out.reached)
-      (ap (λ (y : PooledServer T S J K × Queues (Asked P)). y.1) s.from_first, none))
+      (ap (λ (y : PooledServer T S J F × Queues (Asked P)). y.1) s.from_first, none))

@@ -14,34 +14,33 @@ use Rattle.lsp_jobs.specs.JobSession.{JobSession, seen_with_jobs}
 use Rattle.lsp_jobs.specs.Seen.{seen}
 use Rattle.lsp_jobs.specs.PendingJobs.{no_jobs}
 use Rattle.lsp_jobs.specs.declared.asking.Asked.{Asked}
-use Rattle.lsp_jobs.specs.declared.job.Job.{Ghosts as OfJob}
-use Rattle.lsp_jobs.specs.declared.job_server.JobServer.{Ghosts as WithJobs}
+use Rattle.lsp_jobs.specs.Stated.{StatedJobs}
 use Rattle.lsp_jobs.specs.declared.pooled_server.PooledServer.{PooledServer}
 
-module _ (T : Type 0) {S J K P : Type 0} (plain : Plain S P) (may : WithJobs S J K P) (of_job : OfJob J) where
-  pub job_session : (old new : WokenQueuedServer (PooledServer T S J K) (Asked P)) (pooled : PooledServer T S J K)
+module _ (T : Type 0) {S J F P : Type 0} (plain : Plain S P) (may : StatedJobs S J F P) where
+  pub job_session : (old new : WokenQueuedServer (PooledServer T S J F) (Asked P)) (pooled : PooledServer T S J F)
       (first last : S)
       → queues.seen old.queued ≡ (pooled, empty_queues) → seen pooled ≡ (first, no_jobs) → last
       ≡ new.queued.server.server
       → (xs : List Exchange) (stop : Stop) (shutdown_reply : Option Message) (answer : SessionAnswer)
-      → SessionOut (woken_with_queues (seen_with_jobs T plain may of_job)) old new xs stop shutdown_reply answer
-      → JobSession T plain may of_job first last xs stop shutdown_reply answer
+      → SessionOut (woken_with_queues (seen_with_jobs T plain may)) old new xs stop shutdown_reply answer
+      → JobSession T plain may first last xs stop shutdown_reply answer
   job_session old new pooled first last put began left xs stop shutdown_reply answer out = record {
     old = pooled;
     new = new.queued.server;
     from_first = began;
     to_last = left;
-    session = woken_session_of (seen_with_jobs T plain may of_job) old new pooled new.queued.server put refl xs stop
+    session = woken_session_of (seen_with_jobs T plain may) old new pooled new.queued.server put refl xs stop
         shutdown_reply answer out;
   }
 
   pub lawful_jobs : (first last : S) (xs : List Exchange) (stop : Stop) (shutdown_reply : Option Message)
       (answer : SessionAnswer)
-      → JobSession T plain may of_job first last xs stop shutdown_reply answer → LawfulJobSession T plain may of_job
+      → JobSession T plain may first last xs stop shutdown_reply answer → LawfulJobSession T plain may
       first last xs stop shutdown_reply answer
   lawful_jobs first last xs stop shutdown_reply answer session = record {
     session = session;
-    laws = keeps_laws (seen_with_jobs T plain may of_job) session.old session.new xs stop shutdown_reply answer
+    laws = keeps_laws (seen_with_jobs T plain may) session.old session.new xs stop shutdown_reply answer
         session.session;
-    jobs = answers_by_jobs T plain may of_job first last xs stop shutdown_reply answer session;
+    jobs = answers_by_jobs T plain may first last xs stop shutdown_reply answer session;
   }

@@ -5,7 +5,7 @@ pub mod NameLemmas
 mod Tables
 mod Tickets
 mod Owed
-mod Slots
+mod SlotChanges
 mod SlotTurns
 pub mod QueuedJobSend
 pub mod Refused

@@ -1,16 +1,18 @@
 -- What jobs say may go to another thread.
 use denote.Enum.Declared.{shape as cases}
-use denote.Param.Send.{IsSend, sendable, enum_send, struct_send}
+use denote.Param.Send.{IsSend, sendable, enum_send, struct_send, recorded_send}
+use denote.RattleType.{RattleType}
 use denote.Struct.Declared.{shape}
 use Rattle.std.proofs.Crossing.{Vec-send}
 use Rattle.std.proofs.MapsCrossing.{BTreeMap-send, String-send}
-use Rattle.std.specs.contracts.alloc.AllocError as fault
 use Rattle.std.specs.contracts.result.Result as result
 use Rattle.serde_json.proofs.value.Value.TheLaws.TheKnot.{send-Value}
 use Rattle.serde_json.specs.contracts.value.Value as tree
 use Rattle.lsp_message.specs.contracts.msg.Notification as notice
 use Rattle.lsp_message.specs.contracts.msg.ResponseError as error
 use Rattle.lsp_message.specs.contracts.msg.id.RequestId as id
+use Rattle.lsp_jobs.specs.contracts.job.Interrupted as interrupted
+use Rattle.lsp_jobs.specs.contracts.job.JobResult as done
 use Rattle.lsp_jobs.specs.contracts.names.JobName as name
 use Rattle.lsp_jobs.specs.contracts.names.Slot as slot
 
@@ -38,6 +40,27 @@ error_send = search (tree_send, Vec-send, both, sendable) depth 40
 pub notice_parts : IsSend (notice.the_field).row
 notice_parts = struct_send (shape notice.the_type) (search (Vec-send, both, sendable) depth 40, (tree_parts, tt))
 
--- what a job comes to
-pub ran_send : IsSend (result.the_row (result.the_row tree.the_row error.the_row) fault.the_row)
-ran_send = search (tree_send, error_send, both, sendable) depth 60
+pub id_row_send : IsSend id.the_row
+id_row_send = search (Vec-send, both, sendable) depth 40
+
+interrupted_send : IsSend interrupted.the_row
+interrupted_send = search sendable depth 40
+
+module _ (F : RattleType) where
+  done_send : IsSend F → IsSend (done.the_row F)
+  done_send found =
+      recorded_send (done.the_field F).row _ _ (done.the_type F).to_one
+      (struct_send (shape (done.the_type F)) (
+        search (tree_send, error_send, both, sendable) depth 60,
+        (search (found, both, sendable) depth 40, tt),
+      ))
+
+  -- what a job comes to
+  pub ran_send : IsSend F → IsSend (result.the_row (done.the_row F) interrupted.the_row)
+  ran_send found =
+      let one = done_send found in
+      let R = done.the_row F in
+      let parts : IsSend (result.the_field R interrupted.the_row).row = search (one, interrupted_send, both, sendable)
+      depth 40 in
+      recorded_send (result.the_field R interrupted.the_row).row _ _ (result.the_type R interrupted.the_row).to_one
+      parts

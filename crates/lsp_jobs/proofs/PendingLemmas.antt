@@ -1,23 +1,23 @@
 -- Pending jobs, as maps from names.
 use Rattle.serde_json.specs.Data.{Data}
-use Rattle.serde_json.specs.declared.value.Value.{Value}
-use Rattle.std.proofs.Common.{◌≡◌, ◌∙◌, ap, sym, subst, refl, inl, inr, ℕ, Bool, true, false, cond, List, [], ◌∷◌, ◌++◌}
+use Rattle.std.proofs.Common.{◌≡◌, ◌∙◌, ap, sym, refl, inl, inr, ℕ, Bool, true, false, cond, List, [], ◌∷◌, ◌++◌}
 use Rattle.std.proofs.Common.{append-nil, arith, length, Option, Some, None, option_map, Result, Ok, Err, OnErr, OnOk}
 use Rattle.std.specs.Prelude.{if◌then◌else◌, is_ok, IfNone, IfOk, MatchOption}
-use Rattle.std.specs.declared.alloc.AllocError.{AllocError}
+use Rattle.std.specs.Option.{is_some}
 use Rattle.lsp_message.specs.Id.{Id}
-use Rattle.lsp_message.specs.View.{outcome_view}
-use Rattle.lsp_message.specs.declared.msg.ResponseError.{ResponseError}
 use Rattle.lsp_jobs.proofs.NameLemmas.{name_decides, name_same}
+use Rattle.lsp_message.specs.View.{outcome_view}
 use Rattle.lsp_service.specs.Acts.{Act}
-use Rattle.lsp_jobs.specs.Ends.{Outcome, End}
+use Rattle.lsp_jobs.specs.Ends.{ComesTo, End, Outcome}
 use Rattle.lsp_jobs.specs.Names.{same_name}
-use Rattle.lsp_jobs.specs.PoolView.{CameTo}
-use Rattle.lsp_jobs.specs.PendingJobs.{PendingJobs, ComesTo, no_jobs, without, with_job}
+use Rattle.lsp_jobs.specs.PoolView.{came_view}
+use Rattle.lsp_jobs.specs.PendingJobs.{PendingJobs, no_jobs, without, with_job}
 use Rattle.lsp_jobs.specs.Pooled.{EndsThen, Frees, TakesLong}
-use Rattle.lsp_jobs.specs.declared.job.Job.{Ghosts as OfJob}
-use Rattle.lsp_jobs.specs.declared.job_server.JobServer.{Ghosts as WithJobs}
+use Rattle.lsp_jobs.specs.Stated.{StatedJobs}
 use Rattle.lsp_jobs.specs.declared.asking.Asked.{Asked}
+use Rattle.lsp_jobs.specs.declared.job.Interrupted.{Interrupted}
+use Rattle.lsp_jobs.specs.declared.job.Interrupted.TheVariants.{Cancelled, Memory}
+use Rattle.lsp_jobs.specs.declared.job.JobResult.{JobResult}
 use Rattle.lsp_jobs.specs.declared.names.JobName.{JobName}
 use Rattle.lsp_jobs.specs.declared.names.JobName.TheVariants.{Request}
 
@@ -57,11 +57,14 @@ pub appended : {A T E Q : Type 0} (r : Result T E) (new old more : List A) → n
 appended (Ok x) new old more is holds = holds is
 appended (Err e) new old more is holds = tt
 
--- what a job came to, as it is got
-pub came : {J : Type 0} (may : OfJob J) (job : J) (ran : Result (Result Value ResponseError) AllocError) (got : Outcome)
-    → IfOk ran (λ outcome. may.finds job (outcome_view outcome)) → CameTo ran got → ComesTo may job got
-came may job (Ok outcome) got finds is = inl (subst (λ (o : Outcome). may.finds job o) (sym is) finds)
-came may job (Err failed) got finds is = inr is
+-- what a job came to, as it is seen
+pub came : {J F : Type 0} (comes_to : J → Option Outcome → Option F → Type 0) (job : J)
+    (ran : Result (JobResult F) Interrupted)
+    → IfOk ran (λ done. comes_to job (option_map outcome_view done.reply) done.found)
+    → ComesTo comes_to job (came_view ran)
+came comes_to job (Ok done) comes = comes
+came comes_to job (Err Memory) comes = tt
+came comes_to job (Err Cancelled) comes = tt
 
 module _ {E J : Type 0} (f : E → J) where
   mapped_if : (b : Bool) (x y : Option E) → option_map f (cond b x y) ≡ cond b (option_map f x) (option_map f y)
@@ -116,19 +119,18 @@ module _ {J : Type 0} where
   without_again pending name = λ k n. twice (same_name n name) None None (pending n) k
 
 -- an earlier job under the id of a long request was forgotten
-pub long_again : {S J K P : Type 0} (may : WithJobs S J K P) (of_job : OfJob J) (s : S) (pending : PendingJobs (J × K))
-    (id : Id) (method : List ℕ) (params : Data) (all : List (Act (Asked P))) (new : S × PendingJobs (J × K))
-    → TakesLong may of_job (s, without (Request id) pending) id method params all new
-    → TakesLong may of_job (s, pending) id method params all new
-long_again {S} may of_job s pending id method params all new (inl j) = inl (record {
+pub long_again : {S J F P : Type 0} (may : StatedJobs S J F P) (s : S) (pending : PendingJobs J)
+    (id : Id) (method : List ℕ) (params : Data) (all : List (Act (Asked P))) (new : S × PendingJobs J)
+    → TakesLong may (s, without (Request id) pending) id method params all new
+    → TakesLong may (s, pending) id method params all new
+long_again {S} may s pending id method params all new (inl j) = inl (record {
   job = j.job;
-  key = j.key;
   is_for = j.is_for;
   gives = j.gives;
   acts = j.acts;
-  started = j.started ∙ ap (λ (p : PendingJobs _). (s, p)) (with_again pending (Request id) (j.job, j.key));
+  started = j.started ∙ ap (λ (p : PendingJobs _). (s, p)) (with_again pending (Request id) j.job);
 })
-long_again {S} may of_job s pending id method params all new (inr a) = inr (record {
+long_again {S} may s pending id method params all new (inr a) = inr (record {
   outcome = a.outcome;
   is = a.is;
   acts = a.acts;
@@ -136,13 +138,13 @@ long_again {S} may of_job s pending id method params all new (inr a) = inr (reco
 })
 
 -- a name that no job has is free
-pub was_free : {S J K P : Type 0} (may : WithJobs S J K P) (name : JobName) (end : End) (s : S)
-    (old new : PendingJobs (J × K)) (acts : List (Act P)) → None ≡ option_map (λ (e : J × K). e.1) (old name) → new
+pub was_free : {S J F P : Type 0} (may : StatedJobs S J F P) (name : JobName) (end : End F) (s : S)
+    (old new : PendingJobs J) (acts : List (Act P)) → is_some (old name) ≡ false → new
     ≡ without name old → Frees may name end (s, old, acts) (s, new, acts)
-was_free {S} {J} {K} {P} may name end s old new acts none is = at (old name) refl none
+was_free {S} {J} {F} {P} may name end s old new acts none is = at (old name) refl none
   where
-    at : (o : Option (J × K)) → old name ≡ o → None ≡ option_map (λ (e : J × K). e.1) o
-        → MatchOption o (◌≡◌ {A = S × PendingJobs (J × K) × List (Act P)} (s, new, acts) (s, old, acts))
-        (λ (e : J × K). EndsThen may name e.1 end (s, without name old, acts) (s, new, acts))
+    at : (o : Option J) → old name ≡ o → is_some o ≡ false
+        → MatchOption o (◌≡◌ {A = S × PendingJobs J × List (Act P)} (s, new, acts) (s, old, acts))
+        (λ (e : J). EndsThen may name end (s, without name old, acts) (s, new, acts))
     at None absent none = λ k. (s, (is ∙ without_absent old name absent) k, acts)
     at (Some e) there none = absurd (cc (none))

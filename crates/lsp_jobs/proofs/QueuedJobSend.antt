@@ -11,9 +11,10 @@ use Rattle.crossbeam_channel.specs.contracts.channel.Sender as sender
 use Rattle.serde_json.specs.contracts.value.Value as tree
 use Rattle.lsp_message.specs.contracts.msg.ResponseError as error
 use Rattle.lsp_jobs.proofs.JobSenderSend.{job_sender_send}
-use Rattle.lsp_jobs.proofs.MessageSend.{both, error_send, tree_send}
+use Rattle.lsp_jobs.proofs.MessageSend.{both, error_send, id_row_send, tree_send}
 use Rattle.lsp_jobs.specs.contracts.asking.Asker as asker
 use Rattle.lsp_jobs.specs.contracts.asking.Replies as replies
+use Rattle.lsp_jobs.specs.contracts.asking.Shown as shown
 use Rattle.lsp_jobs.specs.contracts.asking.Waiter as waiter
 use Rattle.lsp_jobs.specs.contracts.asking.Waiters as waiters
 use Rattle.lsp_jobs.specs.contracts.cancellation.CancellationToken as token
@@ -35,12 +36,17 @@ waiter_send =
     recorded_send (waiter.the_field).row _ _ (waiter.the_type).to_one
     (struct_send (shape waiter.the_type) (token_parts, (reply_end_send, tt)))
 
+shown_send : IsSend shown.the_row
+shown_send =
+    recorded_send (shown.the_field).row _ _ (shown.the_type).to_one
+    (struct_send (shape shown.the_type) (search sendable, (token_parts, tt)))
+
 waiters_send : IsSend waiters.the_row
 waiters_send =
     recorded_send (waiters.the_field).row _ _ (waiters.the_type).to_one
     (struct_send (shape waiters.the_type) (
-      search (waiter_send, BTreeMap-send, both, sendable) depth 40,
-      (search sendable, tt),
+      search (waiter_send, BTreeMap-send, sendable) depth 40,
+      (search sendable, (search (id_row_send, shown_send, BTreeMap-send, sendable) depth 40, tt)),
     ))
 
 replies_parts : IsSend (replies.the_field).row
@@ -49,10 +55,10 @@ replies_parts =
     (search (crosses, sendable) depth 20, (search (waiters_send, crosses, sendable) depth 80, tt))
 
 asker_send : IsSend (asker.the_field).row
-asker_send = struct_send (shape asker.the_type) (replies_parts, (token_parts, tt))
+asker_send = struct_send (shape asker.the_type) (replies_parts, (token_parts, (search sendable, (search sendable, tt))))
 
 module _ (J R : RattleType) (G : Ghosts J.Denot R.Denot) where
   pub queued_job_send : IsSend J → IsSend R → IsSend (order.the_row J R G)
   queued_job_send s t =
       recorded_send (order.the_field J R G).row _ _ (order.the_type J R G).to_one
-      (struct_send (shape (order.the_type J R G)) (job_sender_send R J G s t, (token_parts, (asker_send, tt))))
+      (struct_send (shape (order.the_type J R G)) (job_sender_send R J G s t, (asker_send, tt)))

@@ -18,17 +18,15 @@ use Rattle.lsp_service.specs.Law.{how_many, is_reply_under, is_request_under, on
 use Rattle.lsp_service.specs.SentByActs.{all_sends}
 use Rattle.lsp_service.specs.declared.server.Server.{Ghosts as Plain}
 use Rattle.lsp_jobs.specs.Asking.{by_server}
-use Rattle.lsp_jobs.specs.Ends.{Outcome, came_to, no_memory, too_many}
+use Rattle.lsp_jobs.specs.Ends.{Came, ComesTo, End, Outcome, end_of, reply_of, too_many}
 use Rattle.lsp_jobs.specs.JobLaw.{concerns, is_that, AnswersRequest, IsQuiet, LastRequest, LawfulJobSession, Left}
 use Rattle.lsp_jobs.specs.JobLaw.{at_ends}
-use Rattle.lsp_jobs.specs.JobLaw.{RepliesItself, SendsOutcome, Waits, WakeSends}
-use Rattle.lsp_jobs.specs.PendingJobs.{ComesTo}
+use Rattle.lsp_jobs.specs.JobLaw.{RepliesItself, SendsReply, Waits, WakeSends}
 use Rattle.lsp_jobs.specs.Pooled.{reply_at, IsAtOnce}
-use Rattle.lsp_jobs.specs.SlotLaw.{IsCalled, IsTurn, MayPass, Turn}
+use Rattle.lsp_jobs.specs.SlotLaw.{AllQuiet, IsCalled, IsTurn, MayPass, Spares, Stands, Turn, WakeDoes}
 use Rattle.lsp_jobs.specs.declared.asking.Asked.{Asked}
 use Rattle.lsp_jobs.specs.declared.asking.Asked.TheVariants.{ByJob}
-use Rattle.lsp_jobs.specs.declared.job.Job.{Ghosts as OfJob}
-use Rattle.lsp_jobs.specs.declared.job_server.JobServer.{Ghosts as WithJobs}
+use Rattle.lsp_jobs.specs.Stated.{SeesEnd, StatedJobs}
 use Rattle.lsp_jobs.specs.declared.names.JobName.{JobName}
 use Rattle.lsp_jobs.specs.declared.names.JobName.TheVariants.{Request, Slot}
 
@@ -135,13 +133,22 @@ module _ {P : Type 0} where
       ]
 
 -- the last of a list is the one that is named, or follows it
-last_of : (xs : List Exchange) (x : Exchange) (before : List Exchange) (r : Exchange) (since : List Exchange) → xs ++ x
-    ∷ [] ≡ before ++ r ∷ since
-    → (x ≡ r) ⊎ ((more : List Exchange) × (since ≡ more ++ x ∷ []))
+last_of : {A : Type 0} (xs : List A) (x : A) (before : List A) (r : A) (since : List A)
+    → xs ++ x ∷ [] ≡ before ++ r ∷ since → (x ≡ r) ⊎ ((more : List A) × (since ≡ more ++ x ∷ []))
 last_of [] x [] r since e = inl (cc (e))
 last_of [] x (b ∷ before) r since e = let rest : [] ≡ before ++ r ∷ since = cc (e) in not_empty before since r rest
 last_of (y ∷ xs) x [] r since e = let rest : xs ++ x ∷ [] ≡ since = cc (e) in inr (xs, sym rest)
 last_of (y ∷ xs) x (b ∷ before) r since e = last_of xs x before r since (cc (e))
+
+-- two places in a list: the same, or one follows the other
+two_places : {A : Type 0} (before since later after : List A) (x y : A)
+    → before ++ x ∷ since ≡ later ++ y ∷ after
+    → (x ≡ y) ⊎ (Has y since ⊎ Has x after)
+two_places [] since [] after x y e = inl (cc (e))
+two_places [] since (b ∷ later) after x y e = inr (inl (later, after, cc (e)))
+two_places (b ∷ before) since [] after x y e =
+    let rest : before ++ x ∷ since ≡ after = cc (e) in inr (inr (before, since, sym rest))
+two_places (b ∷ before) since (c ∷ later) after x y e = two_places before since later after x y (cc (e))
 
 -- the last of quiet exchanges is quiet
 quiet_last : (id : Id) (xs : List Exchange) (x : Exchange) → IsQuiet id (xs ++ x ∷ []) → (concerns id x.came ≡ false)
@@ -164,9 +171,9 @@ latest xs x id method params l =
       | inr later ↦ (let q = quiet_last id later.0 x (subst (IsQuiet id) later.1 l.quiet) in (inr q.0, q.1))
     ]
 
-module _ {S J K P : Type 0} (may : WithJobs S J K P) (of_job : OfJob J) where
+module _ {S J F P : Type 0} (may : StatedJobs S J F P) where
   abbrev Whose : List Exchange → Id → Outcome → Type 0
-  Whose earlier id outcome = AnswersRequest of_job earlier id outcome ⊎ RepliesItself may id outcome
+  Whose earlier id outcome = AnswersRequest may earlier id outcome ⊎ RepliesItself may id outcome
 
   by_left : (left : List (Left may)) (id : Id) (outcome : Outcome) → Has (replies id outcome) (at_ends may left)
       → RepliesItself may id outcome
@@ -175,62 +182,62 @@ module _ {S J K P : Type 0} (may : WithJobs S J K P) (of_job : OfJob J) where
       elim (has_either (replies id outcome) l.acts (at_ends may left) has.0 has.1 has.2) [
         | inl own ↦ record {
           name = Slot l.slot;
-          key = l.key;
           end = l.end;
           old = l.old;
           before = own.0;
           after = own.1;
           new = l.new;
-          saw = subst (λ (acts : List (Act P)). may.finishes l.old (Slot l.slot) l.key l.end acts l.new) own.2 l.saw;
+          saw = subst (λ (acts : List (Act P)). SeesEnd may l.old (Slot l.slot) l.end acts l.new) own.2 l.saw;
         }
         | inr later ↦ by_left left id outcome later
       ]
 
-  by_outcome : {output : List Message} (earlier : List Exchange) (o : SendsOutcome may of_job earlier output) (id : Id)
-      (outcome : Outcome) → Has (replies id outcome) ((o.first ++ reply_at o.name (came_to o.outcome))
+  by_outcome : {output : List Message} (earlier : List Exchange) (o : SendsReply may earlier output) (id : Id)
+      (outcome : Outcome) → Has (replies id outcome) ((o.first ++ reply_at o.name o.came)
       ++ at_ends may o.left) → Whose earlier id outcome
   by_outcome {output} earlier o id outcome has =
-      elim (has_either (replies id outcome) (o.first ++ reply_at o.name (came_to o.outcome)) (at_ends may o.left)
+      elim (has_either (replies id outcome) (o.first ++ reply_at o.name o.came) (at_ends may o.left)
       has.0 has.1 has.2) [
         | inr later ↦ inr (by_left o.left id outcome later)
-        | inl now ↦ elim (has_either (replies id outcome) o.first (reply_at o.name (came_to o.outcome)) now.0 now.1
+        | inl now ↦ elim (has_either (replies id outcome) o.first (reply_at o.name o.came) now.0 now.1
             now.2) [
               | inl own ↦ inr (record {
                 name = o.name;
-                key = o.key;
-                end = came_to o.outcome;
+                end = end_of o.came;
                 old = o.old;
                 before = own.0;
                 after = own.1;
                 new = o.new;
-                saw = subst (λ (acts : List (Act P)). may.finishes o.old o.name o.key (came_to o.outcome) acts o.new)
+                saw = subst (λ (acts : List (Act P)). SeesEnd may o.old o.name (end_of o.came) acts o.new)
                     own.2 o.saw;
               })
               | inr reply ↦ inl (at o.name o.waits reply)
             ]
       ]
     where
-      at : (name : JobName) → Waits may of_job earlier name o.job → Has {A = Act P} (replies id outcome)
-          (reply_at name (came_to o.outcome)) → AnswersRequest of_job earlier id outcome
+      at : (name : JobName) → Waits may earlier name o.job → Has {A = Act P} (replies id outcome)
+          (reply_at name o.came) → AnswersRequest may earlier id outcome
       at (Slot slot) waits has = not_empty has.0 has.1 (replies id outcome) has.2
       at (Request i) waits has =
-          elim (first_or_later (replies i o.outcome) (replies id outcome) [] has.0 has.1 has.2) [
+          elim (first_or_later (replies i (reply_of o.came)) (replies id outcome) [] has.0 has.1 has.2) [
             | inr later ↦ not_empty later.0 has.1 (replies id outcome) later.1
             | inl is ↦
                 let the : i ≡ id = cc (is) in
-                let it : o.outcome ≡ outcome = cc (is) in record {
+                let it : reply_of o.came ≡ outcome = cc (is) in record {
                   method = waits.0;
                   params = waits.1;
                   waits = subst (λ (x : Id). LastRequest earlier x waits.0 waits.1) the waits.3;
                   job = o.job;
                   is_for = waits.2;
-                  comes = subst (λ (x : Outcome). ComesTo of_job o.job x) it o.comes;
+                  came = o.came;
+                  comes = o.comes;
+                  reply = sym it;
                 }
           ]
 
   -- whose reply it is
   pub whose : (earlier : List Exchange) (output before after : List Message) (id : Id) (outcome : Outcome)
-      → WakeSends may of_job earlier output → output ≡ before ++ response id outcome ∷ after
+      → WakeSends may earlier output → output ≡ before ++ response id outcome ∷ after
       → Whose earlier id outcome
   whose earlier output before after id outcome (inl nothing) cut =
       not_empty before after (response id outcome) (sym nothing ∙ cut)
@@ -256,47 +263,42 @@ module _ {S J K P : Type 0} (may : WithJobs S J K P) (of_job : OfJob J) where
       (o.sent.2 ∙ ap (λ (l : List Message). l ++ o.sent.1) cut ∙ append_assoc before (response id outcome ∷ after)
       o.sent.1)))
 
-module _ {S J K P : Type 0} (may : WithJobs S J K P) (of_job : OfJob J) where
+module _ {S J F P : Type 0} (may : StatedJobs S J F P) where
   -- at a wake, after these exchanges, one reply is sent, and no more
   abbrev Gives : List Exchange → Id → Outcome → Type 0
-  Gives earlier id outcome = WakeSends may of_job earlier (response id outcome ∷ [])
+  Gives earlier id outcome = WakeSends may earlier (response id outcome ∷ [])
 
   its_own : (earlier : List Exchange) (id : Id) (outcome : Outcome) → (RepliesItself may id outcome → ⊥)
-      → Gives earlier id outcome → AnswersRequest of_job earlier id outcome
+      → Gives earlier id outcome → AnswersRequest may earlier id outcome
   its_own earlier id outcome silent gives =
-      elim (whose may of_job earlier (response id outcome ∷ []) [] [] id outcome gives refl) [
+      elim (whose may earlier (response id outcome ∷ []) [] [] id outcome gives refl) [
         | inl r ↦ r
         | inr itself ↦ absurd (silent itself)
       ]
 
   module _ (silent : (id : Id) (outcome : Outcome) → RepliesItself may id outcome → ⊥) where
-    -- an outcome that no job may find which is for the last request under the id, be it that of an earlier or another
+    -- a reply to which no job may come that is for the last request under the id, be it that of an earlier or another
     -- one
     forbidden : (xs : List Exchange) (id : Id) (method : List ℕ) (params : Data) (output : List Message)
         (outcome : Outcome)
-        → ((job : J) → of_job.is_for job method params → of_job.finds job outcome → ⊥)
-        → (outcome ≡ Err no_memory → ⊥)
+        → ((job : J) (came : Came F) → may.is_for job method params → ComesTo may.comes_to job came
+        → outcome ≡ reply_of came → ⊥)
         → Gives (xs ++ record { came = Some (request id method params); sent = output } ∷ []) id outcome → ⊥
-    forbidden xs id method params output outcome never other gives =
+    forbidden xs id method params output outcome never gives =
         let r = its_own (xs ++ record { came = Some (request id method params); sent = output } ∷ []) id outcome
         (silent id outcome) gives in
         at r (latest xs (record { came = Some (request id method params); sent = output }) id r.method r.params
         r.waits).0
       where
-        at : (r : AnswersRequest of_job (xs ++ record { came = Some (request id method params); sent = output } ∷ []) id
+        at : (r : AnswersRequest may (xs ++ record { came = Some (request id method params); sent = output } ∷ []) id
             outcome)
             → (◌≡◌ {A = Option Message} (Some (request id method params)) (Some (request id r.method r.params)))
             ⊎ (eq_by_cmp id_cmp id id ≡ false) → ⊥
         at r (inl is) =
             let m : method ≡ r.method = cc (is) in
             let p : params ≡ r.params = cc (is) in
-            elim r.comes [
-              | inl found ↦ never r.job (subst (λ (x : List ℕ × Data). of_job.is_for r.job x.0 x.1) (λ k. (
-                sym m k,
-                sym p k,
-              )) r.is_for) found
-              | inr failed ↦ other failed
-            ]
+            let is_for = subst (λ (x : List ℕ × Data). may.is_for r.job x.0 x.1) (λ k. (sym m k, sym p k)) r.is_for in
+            never r.job r.came is_for r.comes r.reply
         at r (inr calm) = let e : true ≡ false = sym (same id) ∙ calm in absurd (cc (e))
 
     -- a reply after the request's cancellation
@@ -346,13 +348,13 @@ module _ {S J K P : Type 0} (may : WithJobs S J K P) (of_job : OfJob J) where
         let one : one_if (eq_by_cmp id_cmp id id) ≡ 1 = ap one_if (same id) in
         omega (arith, none, count, one)
 
-module _ (T : Type 0) {S J K P : Type 0} (plain : Plain S P) (may : WithJobs S J K P) (of_job : OfJob J) where
+module _ (T : Type 0) {S J F P : Type 0} (plain : Plain S P) (may : StatedJobs S J F P) where
   -- one request gets two replies
   two_replies : (first last : S) (exchanges : List Exchange) (stop : Stop) (shutdown_reply : Option Message)
       (answer : SessionAnswer) (id : Id)
       → how_many (is_request_under id) (messages_of exchanges) ≡ 1 → how_many (is_reply_under id)
       (sends_of exchanges) ≡ 2
-      → LawfulJobSession T plain may of_job first last exchanges stop shutdown_reply answer → ⊥
+      → LawfulJobSession T plain may first last exchanges stop shutdown_reply answer → ⊥
   two_replies first last exchanges stop shutdown_reply answer id one two session =
       let few : how_many (is_reply_under id) (sends_of exchanges) ≤ how_many (is_request_under id)
       (messages_of exchanges) = session.laws.never_more id exchanges [] (sym (append-nil exchanges)) in
@@ -363,13 +365,13 @@ module _ (T : Type 0) {S J K P : Type 0} (plain : Plain S P) (may : WithJobs S J
       (answer : SessionAnswer) (id : Id)
       → how_many (is_request_under id) (messages_of exchanges) ≡ 0 → how_many (is_reply_under id)
       (sends_of exchanges) ≡ 1
-      → LawfulJobSession T plain may of_job first last exchanges stop shutdown_reply answer → ⊥
+      → LawfulJobSession T plain may first last exchanges stop shutdown_reply answer → ⊥
   reply_to_nobody first last exchanges stop shutdown_reply answer id none one session =
       let few : how_many (is_reply_under id) (sends_of exchanges) ≤ how_many (is_request_under id)
       (messages_of exchanges) = session.laws.never_more id exchanges [] (sym (append-nil exchanges)) in
       absurd (omega (arith, none, one, few))
 
-module _ {S J K P : Type 0} (plain : Plain S P) (may : WithJobs S J K P) where
+module _ {S J F P : Type 0} (plain : Plain S P) (may : StatedJobs S J F P) where
   -- a long request has a reply at once that its server does not know, and that is no error for want of room or memory
   unknown_reply : (t : Turn plain may) (id : Id) (method : List ℕ) (params : Data) (outcome : Outcome)
       → t.call.came ≡ Some (request id method params) → t.call.acts ≡ replies id outcome ∷ []
@@ -379,13 +381,13 @@ module _ {S J K P : Type 0} (plain : Plain S P) (may : WithJobs S J K P) where
       short (subst (λ (l : Option Message). IsCalled plain may t.old l called.0 t.asked) came called.1).0
   unknown_reply t id method params outcome came said short unknown (inr passed) =
       let long = subst (λ (l : Option Message). MayPass plain may t.old l t.call.acts) came passed.0 in
-      elim long.1 [
-        | inl given ↦ (let none : replies id outcome ∷ [] ≡ [] = sym said ∙ given.3 in absurd (cc (none)))
+      elim long [
+        | inl given ↦ (let none : replies id outcome ∷ [] ≡ [] = sym said ∙ given.1.3 in absurd (cc (none)))
         | inr known ↦
-            let same : ◌≡◌ {A = List (Act (Asked P))} (replies id outcome ∷ []) (replies id known.0 ∷ []) =
-            sym said ∙ known.2 in
-            let it : outcome ≡ known.0 = cc (same) in
-            unknown (subst (IsAtOnce may t.old id method params) (sym it) known.1)
+            let same : ◌≡◌ {A = List (Act (Asked P))} (replies id outcome ∷ []) (replies id known.1 ∷ []) =
+            sym said ∙ known.3 in
+            let it : outcome ≡ known.1 = cc (same) in
+            unknown (subst (IsAtOnce may t.old id method params) (sym it) known.2)
       ]
 
   -- the server changes at a long request
@@ -395,3 +397,113 @@ module _ {S J K P : Type 0} (plain : Plain S P) (may : WithJobs S J K P) where
   changed_when_long t id method params came short changed (inl called) =
       short (subst (λ (l : Option Message). IsCalled plain may t.old l called.0 t.asked) came called.1).0
   changed_when_long t id method params came short changed (inr passed) = changed passed.3
+
+  quiet_at : (id : Id) (before after : List (Turn plain may)) (t : Turn plain may)
+      → AllQuiet plain may id (before ++ t ∷ after) → concerns id t.call.came ≡ false
+  quiet_at id [] after t quiet = quiet.0
+  quiet_at id (x ∷ before) after t quiet = quiet_at id before after t quiet.2
+
+  -- no request under this id is among quiet turns
+  no_other : (id : Id) (turns : List (Turn plain may)) (t : Turn plain may) (method : List ℕ) (params : Data)
+      → AllQuiet plain may id turns → Has t turns → t.call.came ≡ Some (request id method params) → ⊥
+  no_other id turns t method params quiet has came =
+      let calm = quiet_at id has.0 has.1 t (subst (AllQuiet plain may id) has.2 quiet) in
+      let no : true ≡ false = sym (same id) ∙ sym (ap (concerns id) came) ∙ calm in
+      absurd (cc (no))
+
+  -- two jobs have a say in the name of one request
+  two_jobs : (earlier : List (Turn plain may)) (id : Id) (one other : J) → (one ≡ other → ⊥)
+      → Stands plain may earlier (Request id) one → Stands plain may earlier (Request id) other → ⊥
+  two_jobs earlier id one other differ a b =
+      elim (two_places a.before a.since b.before b.since a.turn b.turn (sym a.cut ∙ b.cut)) [
+        | inl is ↦
+            let e : Some one ≡ Some other =
+            sym a.given ∙ ap (λ (t : Turn plain may). t.given) is ∙ b.given in
+            differ (cc (e))
+        | inr apart ↦ elim apart [
+          | inl later ↦ no_other id a.since b.turn b.method b.params a.quiet later b.came
+          | inr sooner ↦ no_other id b.since a.turn a.method a.params b.quiet sooner a.came
+        ]
+      ]
+
+  -- no request came under this id in these turns
+  abbrev Unasked : List (Turn plain may) → Id → Type 0
+  Unasked earlier id = (t : Turn plain may) (method : List ℕ) (params : Data) → Has t earlier
+      → t.call.came ≡ Some (request id method params) → ⊥
+
+  -- a job has a say in the name of a request that never came
+  for_no_request : (earlier : List (Turn plain may)) (id : Id) (job : J) → Unasked earlier id
+      → Stands plain may earlier (Request id) job → ⊥
+  for_no_request earlier id job unasked last =
+      unasked last.turn last.method last.params (last.before, last.since, last.cut) last.came
+
+  last_quiet : (id : Id) (xs : List (Turn plain may)) (t : Turn plain may) → AllQuiet plain may id (xs ++ t ∷ [])
+      → (concerns id t.call.came ≡ false) × Spares id t.call.acts
+  last_quiet id [] t quiet = (quiet.0, quiet.1)
+  last_quiet id (x ∷ xs) t quiet = last_quiet id xs t quiet.2
+
+  -- a job has a say after its request was answered: because there was no room for it, or since it came to something
+  after_its_reply : (xs : List (Turn plain may)) (t : Turn plain may) (id : Id) (job : J) (outcome : Outcome)
+      → t.call.acts ≡ replies id outcome ∷ [] → Stands plain may (xs ++ t ∷ []) (Request id) job → ⊥
+  after_its_reply xs t id job outcome said last =
+      elim (last_of xs t last.before last.turn last.since last.cut) [
+        | inl is ↦
+            let none : replies id outcome ∷ [] ≡ [] =
+            sym said ∙ ap (λ (x : Turn plain may). x.call.acts) is ∙ last.is_given.3 in
+            absurd (cc (none))
+        | inr later ↦
+            let quiet = last_quiet id later.0 t (subst (AllQuiet plain may id) later.1 last.quiet) in
+            let spares = subst (Spares id) said quiet.1 in
+            let no : true ≡ false = sym (same id) ∙ spares.0 in
+            absurd (cc (no))
+      ]
+
+  -- a job has a say after its request was cancelled
+  after_its_cancellation : (xs : List (Turn plain may)) (t : Turn plain may) (id : Id) (job : J) (method : List ℕ)
+      (params : Data) → t.call.came ≡ Some (notification method params) → cancelled_by method params ≡ Some id
+      → Stands plain may (xs ++ t ∷ []) (Request id) job → ⊥
+  after_its_cancellation xs t id job method params came is last =
+      elim (last_of xs t last.before last.turn last.since last.cut) [
+        | inl at ↦
+            let no : ◌≡◌ {A = Option Message} (Some (notification method params))
+            (Some (request id last.method last.params)) =
+            sym came ∙ ap (λ (x : Turn plain may). x.call.came) at ∙ last.came in
+            absurd (cc (no))
+        | inr later ↦
+            let quiet = last_quiet id later.0 t (subst (AllQuiet plain may id) later.1 last.quiet) in
+            let no : true ≡ false =
+            sym (same id) ∙ sym (ap (is_that id) is) ∙ sym (ap (concerns id) came) ∙ quiet.0 in
+            absurd (cc (no))
+      ]
+
+  module _ (silent : (old : S) (name : JobName) (end : End F) (acts : List (Act P)) (new : S)
+      → SeesEnd may old name end acts new → acts ≡ []) where
+    none_at : (left : List (Left may)) → at_ends may left ≡ []
+    none_at [] = refl
+    none_at (l ∷ ls) =
+        ap (λ (acts : List (Act P)). acts ++ at_ends may ls) (silent l.old (Slot l.slot) l.end l.acts l.new l.saw)
+        ∙ none_at ls
+
+    -- at a wake a reply is given under an id under which no request came
+    reply_unasked : (earlier : List (Turn plain may)) (t : Turn plain may) (id : Id) (outcome : Outcome)
+        → Unasked earlier id → t.call.acts ≡ replies id outcome ∷ [] → WakeDoes plain may earlier t → ⊥
+    reply_unasked earlier t id outcome unasked said (inl nothing) =
+        let no : replies id outcome ∷ [] ≡ [] = sym said ∙ nothing in absurd (cc (no))
+    reply_unasked earlier t id outcome unasked said (inr w) = elim w.3 [
+      | inl r ↦ (let no : replies id outcome ∷ [] ≡ tells r.0 r.1 ∷ [] = sym said ∙ r.3 in absurd (cc (no)))
+      | inr more ↦ elim more [
+        | inl a ↦
+            let no : replies id outcome ∷ [] ≡ asks a.0 a.1 (ByJob a.2) ∷ [] = sym said ∙ a.4 in absurd (cc (no))
+        | inr o ↦ at w.0 w.2 o.0 (sym said ∙ o.4 ∙ ap (map_list by_server) (λ k.
+            (silent t.old w.0 (end_of o.0) o.1 t.asked o.3 k ++ reply_at w.0 o.0) ++ none_at t.left k))
+      ]
+    ]
+      where
+        at : (name : JobName) → Stands plain may earlier name w.1 → (came : Came F)
+            → ◌≡◌ {A = List (Act (Asked P))} (replies id outcome ∷ [])
+            (map_list by_server (([] ++ reply_at name came) ++ [])) → ⊥
+        at (Slot slot) stands came e = absurd (cc (e))
+        at (Request i) stands came e =
+            let is : id ≡ i = cc (e) in
+            for_no_request earlier id w.1 unasked
+            (subst (λ (x : Id). Stands plain may earlier (Request x) w.1) (sym is) stands)

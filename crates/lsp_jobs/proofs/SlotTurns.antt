@@ -1,4 +1,4 @@
--- The turns of a server with jobs, and which job of a slot has a say in each.
+-- The turns of a server with jobs, and which job of a slot, and of a request, has a say in each.
 use Rattle.serde_json.specs.Data.{Data}
 use Rattle.std.proofs.Common.{◌≡◌, ◌⊎◌, refl, sym, ◌∙◌, ap, subst, inl, inr, ℕ, Bool, true, false, List, [], ◌∷◌}
 use Rattle.std.proofs.Common.{◌++◌, append_assoc, append-nil, Option, Some, None}
@@ -12,37 +12,36 @@ use Rattle.lsp_service.specs.Acts.{Act, TakesBack, cancelled_by, unsent}
 use Rattle.lsp_service.specs.Law.{AnswersInitialize, Call, Handed, Initializes, TakesCalls, TakesPart, ids_after_all}
 use Rattle.lsp_service.specs.Stated.{Stated}
 use Rattle.lsp_service.specs.declared.server.Server.{Ghosts as Plain}
-use Rattle.lsp_jobs.proofs.Answering.{back_pending}
-use Rattle.lsp_jobs.proofs.Slots.{fewer_slots, moves_all, unanswered_slot, went_all, Went}
+use Rattle.lsp_jobs.proofs.Answering.{back_pending, does_jobs, requests_then, FromCall}
+use Rattle.lsp_jobs.proofs.SlotChanges.{fewer_slots, moves_all, unanswered_slot, went_all, Went}
 use Rattle.lsp_jobs.specs.Asking.{by_server, ByServers}
-use Rattle.lsp_jobs.specs.Ends.{came_to}
-use Rattle.lsp_jobs.specs.JobLaw.{at_ends, Left}
+use Rattle.lsp_jobs.specs.Ends.{end_of}
+use Rattle.lsp_jobs.specs.JobLaw.{at_ends, concerns, Left}
 use Rattle.lsp_jobs.specs.JobSession.{seen_with_jobs}
 use Rattle.lsp_jobs.specs.PendingJobs.{PendingJobs, no_jobs, without}
 use Rattle.lsp_jobs.specs.PoolView.{pending_jobs}
 use Rattle.lsp_jobs.specs.Pooled.{reply_at, unanswered, without_cancelled, ChangesSlots, Does, Finishes, TakesLong}
 use Rattle.lsp_jobs.specs.Seen.{seen}
-use Rattle.lsp_jobs.specs.SlotLaw.{AllLeaveAlone, AreTurns, IsCalled, IsTurn, LastStart, LeavesAlone, MayPass, SeesLeft}
-use Rattle.lsp_jobs.specs.SlotLaw.{SlotHistory, Stands, StartsLast, Turn, WakeDoes}
+use Rattle.lsp_jobs.specs.SlotLaw.{AllLeaveAlone, AllQuiet, AreTurns, IsCalled, IsGiven, IsTurn, LeavesAlone, MayPass}
+use Rattle.lsp_jobs.specs.SlotLaw.{SeesLeft, SlotHistory, Spares, Stands, StartsLast, Turn, WakeDoes}
 use Rattle.lsp_jobs.specs.declared.asking.Asked.{Asked}
 use Rattle.lsp_jobs.specs.declared.asking.Asked.TheVariants.{ByJob, ByServer}
-use Rattle.lsp_jobs.specs.declared.job.Job.{Ghosts as OfJob}
-use Rattle.lsp_jobs.specs.declared.job_server.JobServer.{Ghosts as WithJobs}
+use Rattle.lsp_jobs.specs.Stated.{SeesEnd, StatedJobs}
 use Rattle.lsp_jobs.specs.declared.job_server.SlotChange.{SlotChange}
 use Rattle.lsp_jobs.specs.declared.names.JobName.{JobName}
 use Rattle.lsp_jobs.specs.declared.names.JobName.TheVariants.{Request, Slot}
 use Rattle.lsp_jobs.specs.declared.pooled_server.PooledServer.{PooledServer}
 
-module _ {S J K P : Type 0} (plain : Plain S P) (may : WithJobs S J K P) where
+module _ {S J F P : Type 0} (plain : Plain S P) (may : StatedJobs S J F P) where
   -- what becomes of the jobs in slots
-  abbrev MovesTo : List (SlotChange J K) → PendingJobs (J × K) → PendingJobs (J × K) → Type 0
-  MovesTo changes old new = (slot : Id) (e : J × K) → new (Slot slot) ≡ Some e
-      → ((old (Slot slot) ≡ Some e) × LeavesAlone slot changes) ⊎ StartsLast changes slot e.0 e.1
+  abbrev MovesTo : List (SlotChange J) → PendingJobs J → PendingJobs J → Type 0
+  MovesTo changes old new = (slot : Id) (e : J) → new (Slot slot) ≡ Some e
+      → ((old (Slot slot) ≡ Some e) × LeavesAlone slot changes) ⊎ StartsLast changes slot e
 
   -- the server changed its slots, and saw which jobs that ended
-  record Made (asked : S) (old : PendingJobs (J × K)) (acts all : List (Act P)) (new : S × PendingJobs (J × K))
+  record Made (asked : S) (old : PendingJobs J) (acts all : List (Act P)) (new : S × PendingJobs J)
       : Type 0 where
-    changes : List (SlotChange J K)
+    changes : List (SlotChange J)
     mid : S
     gives : may.changes asked changes mid
     left : List (Left may)
@@ -50,7 +49,7 @@ module _ {S J K P : Type 0} (plain : Plain S P) (may : WithJobs S J K P) where
     done : all ≡ acts ++ at_ends may left
     moves : MovesTo changes old new.1
 
-  made : (asked : S) (old : PendingJobs (J × K)) (acts all : List (Act P)) (new : S × PendingJobs (J × K))
+  made : (asked : S) (old : PendingJobs J) (acts all : List (Act P)) (new : S × PendingJobs J)
       → ChangesSlots may (asked, old) acts all new → Made asked old acts all new
   made asked old acts all new c = record {
     changes = c.changes;
@@ -69,22 +68,37 @@ module _ {S J K P : Type 0} (plain : Plain S P) (may : WithJobs S J K P) where
       went : Went plain may (c.mid, unanswered acts old, acts) (new.0, new.1, all)
       went = went_all plain may c.changes (c.mid, unanswered acts old, acts) (new.0, new.1, all) c.made
 
-  -- each job that is pending in a slot is the last that was started there
-  abbrev AllStand : List (Turn plain may) → PendingJobs (J × K) → Type 0
-  AllStand earlier pending = (slot : Id) (e : J × K) → pending (Slot slot) ≡ Some e
-      → LastStart plain may earlier slot e.0 e.1
+  -- the job that is pending for a request that came
+  abbrev given_at : Option Message → PendingJobs J → Option J
+  given_at (Some (request id method params)) pending = pending (Request id)
+  given_at came pending = None
+
+  -- where the jobs come from that are pending for requests after this turn
+  abbrev Comes : Turn plain may → PendingJobs J → PendingJobs J → Type 0
+  Comes t old new = (id : Id) (e : J) → new (Request id) ≡ Some e
+      → FromCall (IsGiven plain may t.old t.call.acts) old t.call.came id e × Spares id t.call.acts
+
+  -- each job that is pending in a slot is the last that was started there, and each other the one given for its request
+  abbrev AllStand : List (Turn plain may) → PendingJobs J → Type 0
+  AllStand earlier pending = (name : JobName) (e : J) → pending name ≡ Some e → Stands plain may earlier name e
 
   alone_more : (slot : Id) (turns : List (Turn plain may)) (t : Turn plain may) → AllLeaveAlone plain may slot turns
       → LeavesAlone slot t.changes → AllLeaveAlone plain may slot (turns ++ t ∷ [])
   alone_more slot [] t all one = (one, tt)
   alone_more slot (x ∷ turns) t all one = (all.0, alone_more slot turns t all.1 one)
 
-  stand_on : (earlier : List (Turn plain may)) (t : Turn plain may) (old new : PendingJobs (J × K))
-      → AllStand earlier old → MovesTo t.changes old new → AllStand (earlier ++ t ∷ []) new
-  stand_on earlier t old new before moves slot e has =
+  quiet_more : (id : Id) (turns : List (Turn plain may)) (t : Turn plain may) → AllQuiet plain may id turns
+      → concerns id t.call.came ≡ false → Spares id t.call.acts → AllQuiet plain may id (turns ++ t ∷ [])
+  quiet_more id [] t all calm spares = (calm, spares, tt)
+  quiet_more id (x ∷ turns) t all calm spares = (all.0, all.1, quiet_more id turns t all.2 calm spares)
+
+  stand_on : (earlier : List (Turn plain may)) (t : Turn plain may) (old new : PendingJobs J)
+      → AllStand earlier old → MovesTo t.changes old new → t.given ≡ given_at t.call.came new → Comes t old new
+      → AllStand (earlier ++ t ∷ []) new
+  stand_on earlier t old new before moves given comes (Slot slot) e has =
       elim (moves slot e has) [
         | inl was ↦
-            let l = before slot e was.0 in record {
+            let l = before (Slot slot) e was.0 in record {
               before = l.before;
               turn = l.turn;
               since = l.since ++ t ∷ [];
@@ -102,41 +116,68 @@ module _ {S J K P : Type 0} (plain : Plain S P) (may : WithJobs S J K P) where
           alone = tt;
         }
       ]
+  stand_on earlier t old new before moves given comes (Request id) e has =
+      let own = comes id e has in
+      elim own.0 [
+        | inl was ↦
+            let l = before (Request id) e was.0 in record {
+              before = l.before;
+              turn = l.turn;
+              since = l.since ++ t ∷ [];
+              cut = ap (λ (ts : List (Turn plain may)). ts ++ t ∷ []) l.cut
+                  ∙ append_assoc l.before (l.turn ∷ l.since) (t ∷ []);
+              method = l.method;
+              params = l.params;
+              came = l.came;
+              given = l.given;
+              is_given = l.is_given;
+              quiet = quiet_more id l.since t l.quiet was.1 own.1;
+            }
+        | inr now ↦ record {
+          before = earlier;
+          turn = t;
+          since = [];
+          cut = refl;
+          method = now.0;
+          params = now.1;
+          came = now.2;
+          given = given ∙ ap (λ (c : Option Message). given_at c new) now.2 ∙ has;
+          is_given = now.3;
+          quiet = tt;
+        }
+      ]
 
-  stands_at : (earlier : List (Turn plain may)) (pending : PendingJobs (J × K)) → AllStand earlier pending
-      → (name : JobName) (e : J × K) → pending name ≡ Some e → Stands plain may earlier name e.0 e.1
-  stands_at earlier pending all (Request id) e has = tt
-  stands_at earlier pending all (Slot slot) e has = all slot e has
+module _ (T : Type 0) {S J F P : Type 0} (plain : Plain S P) (may : StatedJobs S J F P) where
+  abbrev W : Stated (PooledServer T S J F) (Asked P)
+  W = seen_with_jobs T plain may
 
-module _ (T : Type 0) {S J K P : Type 0} (plain : Plain S P) (may : WithJobs S J K P) (of_job : OfJob J) where
-  abbrev W : Stated (PooledServer T S J K) (Asked P)
-  W = seen_with_jobs T plain may of_job
-
-  abbrev pended : PooledServer T S J K → PendingJobs (J × K)
+  abbrev pended : PooledServer T S J F → PendingJobs J
   pended p = pending_jobs p.pool
 
   -- a call as a turn
-  record TurnOf (old did : PooledServer T S J K) (call : Call (Asked P)) : Type 0 where
+  record TurnOf (old did : PooledServer T S J F) (call : Call (Asked P)) : Type 0 where
     turn : Turn plain may
     of_call : turn.call ≡ call
     from : turn.old ≡ old.server
     to : turn.new ≡ did.server
+    gave : turn.given ≡ given_at plain may call.came (pended did)
     is_turn : IsTurn plain may turn
     moves : MovesTo plain may turn.changes (pended old) (pended did)
     wake : (earlier : List (Turn plain may)) → AllStand plain may earlier (pended old) → call.came ≡ None
-        → WakeDoes plain may of_job earlier turn
+        → WakeDoes plain may earlier turn
 
   -- the server did nothing
-  passes : (old did : PooledServer T S J K) (call : Call (Asked P))
+  passes : (old did : PooledServer T S J F) (call : Call (Asked P))
       → MayPass plain may old.server call.came call.acts → did.server ≡ old.server
       → ((slot : Id) → pended did (Slot slot) ≡ pended old (Slot slot))
       → ((turn : Turn plain may) → turn.call ≡ call → (earlier : List (Turn plain may))
-      → AllStand plain may earlier (pended old) → call.came ≡ None → WakeDoes plain may of_job earlier turn)
+      → AllStand plain may earlier (pended old) → call.came ≡ None → WakeDoes plain may earlier turn)
       → TurnOf old did call
   passes old did call may_pass same slots does =
       let turn : Turn plain may = record {
         call = call;
         old = old.server;
+        given = given_at plain may call.came (pended did);
         asked = old.server;
         changes = [];
         made = old.server;
@@ -147,34 +188,36 @@ module _ (T : Type 0) {S J K P : Type 0} (plain : Plain S P) (may : WithJobs S J
         of_call = refl;
         from = refl;
         to = refl;
+        gave = refl;
         is_turn = inr (may_pass, refl, refl, same);
         moves = λ slot e has. inl (sym (slots slot) ∙ has, tt);
         wake = does turn refl;
       }
 
   -- at a wake, or at a reply, nothing changed
-  stays : (old did : PooledServer T S J K) (call : Call (Asked P))
+  stays : (old did : PooledServer T S J F) (call : Call (Asked P))
       → MayPass plain may old.server call.came call.acts → seen did ≡ seen old
       → ((turn : Turn plain may) → turn.call ≡ call → (earlier : List (Turn plain may))
-      → AllStand plain may earlier (pended old) → call.came ≡ None → WakeDoes plain may of_job earlier turn)
+      → AllStand plain may earlier (pended old) → call.came ≡ None → WakeDoes plain may earlier turn)
       → TurnOf old did call
   stays old did call may_pass same =
-      passes old did call may_pass (ap (λ (x : S × PendingJobs (J × K)). x.0) same)
-      (λ slot. ap (λ (x : S × PendingJobs (J × K)). x.1 (Slot slot)) same)
+      passes old did call may_pass (ap (λ (x : S × PendingJobs J). x.0) same)
+      (λ slot. ap (λ (x : S × PendingJobs J). x.1 (Slot slot)) same)
 
   -- the server was called, and then asked for changes
-  called : (old did : PooledServer T S J K) (call : Call (Asked P)) (asked : S) (mid : PendingJobs (J × K))
+  called : (old did : PooledServer T S J F) (call : Call (Asked P)) (asked : S) (mid : PendingJobs J)
       (acts own : List (Act P)) → call.acts ≡ map_list by_server own
       → IsCalled plain may old.server call.came acts asked
-      → ((slot : Id) (e : J × K) → mid (Slot slot) ≡ Some e → pended old (Slot slot) ≡ Some e)
+      → ((slot : Id) (e : J) → mid (Slot slot) ≡ Some e → pended old (Slot slot) ≡ Some e)
       → (m : Made plain may asked mid acts own (seen did))
       → ((turn : Turn plain may) → turn.call ≡ call → turn.old ≡ old.server → turn.asked ≡ asked → turn.left ≡ m.left
       → (earlier : List (Turn plain may)) → AllStand plain may earlier (pended old) → call.came ≡ None
-      → WakeDoes plain may of_job earlier turn) → TurnOf old did call
+      → WakeDoes plain may earlier turn) → TurnOf old did call
   called old did call asked mid acts own by_own is_called same m does =
       let turn : Turn plain may = record {
         call = call;
         old = old.server;
+        given = given_at plain may call.came (pended did);
         asked = asked;
         changes = m.changes;
         made = m.mid;
@@ -185,6 +228,7 @@ module _ (T : Type 0) {S J K P : Type 0} (plain : Plain S P) (may : WithJobs S J
         of_call = refl;
         from = refl;
         to = refl;
+        gave = refl;
         is_turn = inl (acts, is_called, m.gives, m.linked, by_own ∙ ap (map_list by_server) m.done);
         moves = λ slot e has. elim (m.moves slot e has) [
           | inl was ↦ inl (same slot e was.0, was.1)
@@ -194,78 +238,77 @@ module _ (T : Type 0) {S J K P : Type 0} (plain : Plain S P) (may : WithJobs S J
       }
 
   -- a call of the server, in which it did what it stated
-  does_turn : (old did : PooledServer T S J K) (call : Call (Asked P)) (pending : PendingJobs (J × K))
+  does_turn : (old did : PooledServer T S J F) (call : Call (Asked P)) (pending : PendingJobs J)
       (stated : List (Act P) → S → Type 0) → ByServers (λ own. Does may stated pending own (seen did)) call.acts
       → ((acts : List (Act P)) (mid : S) → stated acts mid → IsCalled plain may old.server call.came acts mid)
-      → ((slot : Id) (e : J × K) → pending (Slot slot) ≡ Some e → pended old (Slot slot) ≡ Some e)
+      → ((slot : Id) (e : J) → pending (Slot slot) ≡ Some e → pended old (Slot slot) ≡ Some e)
       → (call.came ≡ None → ⊥) → TurnOf old did call
   does_turn old did call pending stated b is_called same message =
       let d = b.2 in
       called old did call d.1 pending d.0 b.0 b.1 (is_called d.0 d.1 d.2) same (made plain may d.1 pending d.0 b.0
       (seen did) d.3) (λ turn a b c d earlier stand none. absurd (message none))
 
-  slots_cancelled : (cancelled : Option Id) (pending : PendingJobs (J × K)) (slot : Id) (e : J × K)
+  slots_cancelled : (cancelled : Option Id) (pending : PendingJobs J) (slot : Id) (e : J)
       → without_cancelled cancelled pending (Slot slot) ≡ Some e → pending (Slot slot) ≡ Some e
   slots_cancelled None pending slot e has = has
   slots_cancelled (Some id) pending slot e has = has
 
   -- a long request came
-  long_turn : (old did : PooledServer T S J K) (id : Id) (method : List ℕ) (params : Data) (payload : Option (Asked P))
+  long_turn : (old did : PooledServer T S J F) (id : Id) (method : List ℕ) (params : Data) (payload : Option (Asked P))
       (acts : List (Act (Asked P))) → may.sorts old.server method params true
-      → TakesLong may of_job (seen old) id method params acts (seen did)
+      → TakesLong may (seen old) id method params acts (seen did)
       → TurnOf old did (record { came = Some (request id method params); payload = payload; acts = acts })
   long_turn old did id method params payload acts long (inl j) =
       passes old did (record { came = Some (request id method params); payload = payload; acts = acts })
-      (long, inl (j.job, j.key, j.gives, j.acts)) (ap (λ (x : S × PendingJobs (J × K)). x.0) j.started)
-      (λ slot. ap (λ (x : S × PendingJobs (J × K)). x.1 (Slot slot)) j.started)
+      (inl (j.job, (long, j.gives, j.is_for, j.acts))) (ap (λ (x : S × PendingJobs J). x.0) j.started)
+      (λ slot. ap (λ (x : S × PendingJobs J). x.1 (Slot slot)) j.started)
       (λ turn is earlier stand none. absurd (cc (none)))
   long_turn old did id method params payload acts long (inr a) =
       passes old did (record { came = Some (request id method params); payload = payload; acts = acts })
-      (long, inr (a.outcome, a.is, a.acts)) (ap (λ (x : S × PendingJobs (J × K)). x.0) a.left)
-      (λ slot. ap (λ (x : S × PendingJobs (J × K)). x.1 (Slot slot)) a.left)
+      (inr (long, a.outcome, a.is, a.acts)) (ap (λ (x : S × PendingJobs J). x.0) a.left)
+      (λ slot. ap (λ (x : S × PendingJobs J). x.1 (Slot slot)) a.left)
       (λ turn is earlier stand none. absurd (cc (none)))
 
-  -- a job came to an outcome
-  finishes_turn : (old did : PooledServer T S J K) (payload : Option (Asked P)) (acts : List (Act (Asked P)))
-      (own : List (Act P)) → acts ≡ map_list by_server own → Finishes may of_job (seen old) own (seen did)
+  -- a job came to something
+  finishes_turn : (old did : PooledServer T S J F) (payload : Option (Asked P)) (acts : List (Act (Asked P)))
+      (own : List (Act P)) → acts ≡ map_list by_server own → Finishes may (seen old) own (seen did)
       → TurnOf old did (record { came = None; payload = payload; acts = acts })
   finishes_turn old did payload acts own by_own f =
       called old did (record { came = None; payload = payload; acts = acts }) f.did.0 f.did.1 f.acts own by_own
-      (f.name, f.key, f.outcome, f.ended.0, f.ended.1, f.ended.2) same m does
+      (f.name, f.came, f.ended.0, f.ended.1, f.ended.2) same m does
     where
       m : Made plain may f.did.0 f.did.1 f.acts own (seen did)
       m = made plain may f.did.0 f.did.1 f.acts own (seen did) f.others
 
-      same : (slot : Id) (e : J × K) → f.did.1 (Slot slot) ≡ Some e → pended old (Slot slot) ≡ Some e
+      same : (slot : Id) (e : J) → f.did.1 (Slot slot) ≡ Some e → pended old (Slot slot) ≡ Some e
       same slot e has =
           fewer_slots f.name (pended old) slot e (sym (unanswered_slot f.acts (without f.name (pended old)) slot)
-          ∙ ap (λ (p : PendingJobs (J × K)). p (Slot slot)) (sym f.ended.3) ∙ has)
+          ∙ ap (λ (p : PendingJobs J). p (Slot slot)) (sym f.ended.3) ∙ has)
 
-      all : own ≡ (f.ended.0 ++ reply_at f.name (came_to f.outcome)) ++ at_ends may m.left
+      all : own ≡ (f.ended.0 ++ reply_at f.name f.came) ++ at_ends may m.left
       all = m.done ∙ ap (λ (l : List (Act P)). l ++ at_ends may m.left) f.ended.2
 
       does : (turn : Turn plain may) → turn.call ≡ record { came = None; payload = payload; acts = acts }
           → turn.old ≡ old.server → turn.asked ≡ f.did.0 → turn.left ≡ m.left → (earlier : List (Turn plain may))
           → AllStand plain may earlier (pended old) → ◌≡◌ {A = Option Message} None None
-          → WakeDoes plain may of_job earlier turn
+          → WakeDoes plain may earlier turn
       does turn is from asked left earlier stand none = inr (
         f.name,
         f.job,
-        f.key,
-        stands_at plain may earlier (pended old) stand f.name (f.job, f.key) f.waits,
+        stand f.name f.job f.waits,
         inr (inr (
-          f.outcome,
+          f.came,
           f.ended.0,
           f.comes,
-          subst (λ (x : S × S). may.finishes x.0 f.name f.key (came_to f.outcome) f.ended.0 x.1)
+          subst (λ (x : S × S). SeesEnd may x.0 f.name (end_of f.came) f.ended.0 x.1)
               (λ k. (sym from k, sym asked k)) f.ended.1,
           ap (λ (c : Call (Asked P)). c.acts) is ∙ by_own ∙ ap (map_list by_server) all
-              ∙ ap (λ (ls : List (Left may)). map_list by_server ((f.ended.0 ++ reply_at f.name (came_to f.outcome))
+              ∙ ap (λ (ls : List (Left may)). map_list by_server ((f.ended.0 ++ reply_at f.name f.came)
               ++ at_ends may ls)) (sym left),
         )),
       )
 
-  handed_turn : (old did : PooledServer T S J K) (arrived : Option Message) (payload : Option (Asked P))
+  handed_turn : (old did : PooledServer T S J F) (arrived : Option Message) (payload : Option (Asked P))
       (acts : List (Act (Asked P))) → Handed W old arrived payload acts did
       → TurnOf old did (record { came = arrived; payload = payload; acts = acts })
   handed_turn old did (Some (request id method params)) payload acts h = elim h.0 [
@@ -303,23 +346,21 @@ module _ (T : Type 0) {S J K P : Type 0} (plain : Plain S P) (may : WithJobs S J
       woken (inr (inl r)) = stays old did now tt r.same (λ turn is earlier stand none. inr (
         r.name,
         r.job,
-        r.key,
-        stands_at plain may earlier (pended old) stand r.name (r.job, r.key) r.waits,
+        stand r.name r.job r.waits,
         inl (r.method, r.params, r.reports, ap (λ (c : Call (Asked P)). c.acts) is ∙ r.acts),
       ))
       woken (inr (inr (inl a))) = stays old did now tt a.same (λ turn is earlier stand none. inr (
         a.name,
         a.job,
-        a.key,
-        stands_at plain may earlier (pended old) stand a.name (a.job, a.key) a.waits,
+        stand a.name a.job a.waits,
         inr (inl (a.method, a.params, a.number, a.may_ask, ap (λ (c : Call (Asked P)). c.acts) is ∙ a.acts)),
       ))
       woken (inr (inr (inr b))) = finishes_turn old did payload acts b.0 b.1 b.2
 
   -- what the server took back
-  took_back : (payloads : List (Asked P)) (old new : PooledServer T S J K) → TakesBack W.takes_back old payloads new
+  took_back : (payloads : List (Asked P)) (old new : PooledServer T S J F) → TakesBack W.takes_back old payloads new
       → (own : List P) × TakesBack plain.takes_back old.server own new.server
-  took_back [] old new same = ([], ap (λ (p : PooledServer T S J K). p.server) same)
+  took_back [] old new same = ([], ap (λ (p : PooledServer T S J F). p.server) same)
   took_back (ByServer payload ∷ payloads) old new back =
       let rest = took_back payloads back.0 new back.2 in
       (payload ∷ rest.0, (back.0.server, back.1.0, rest.1))
@@ -327,15 +368,24 @@ module _ (T : Type 0) {S J K P : Type 0} (plain : Plain S P) (may : WithJobs S J
       let rest = took_back payloads back.0 new back.2 in (
         rest.0,
         subst (λ (s : S). TakesBack plain.takes_back s rest.0 new.server)
-            (ap (λ (x : S × PendingJobs (J × K)). x.0) back.1) rest.1,
+            (ap (λ (x : S × PendingJobs J). x.0) back.1) rest.1,
       )
+
+  -- each job that is pending for a request then was before, or is given in this turn
+  comes_at : (old did : PooledServer T S J F) (call : Call (Asked P)) (turn : Turn plain may) → turn.call ≡ call
+      → turn.old ≡ old.server → ((id : Id) (e : J) → pended did (Request id) ≡ Some e
+      → FromCall (IsGiven plain may old.server call.acts) (pended old) call.came id e × Spares id call.acts)
+      → Comes plain may turn (pended old) (pended did)
+  comes_at old did call turn is from comes id e has =
+      subst (λ (x : Call (Asked P) × S). FromCall (IsGiven plain may x.1 x.0.acts) (pended old) x.0.came id e
+      × Spares id x.0.acts) (λ k. (sym is k, sym from k)) (comes id e has)
 
   record Turns (start : S) (earlier : List (Turn plain may)) (calls : List (Call (Asked P))) : Type 0 where
     turns : List (Turn plain may)
     are : map_list (λ (t : Turn plain may). t.call) turns ≡ calls
     linked : AreTurns plain may start turns
     wakes : (before later : List (Turn plain may)) (t : Turn plain may) → turns ≡ before ++ t ∷ later
-        → t.call.came ≡ None → WakeDoes plain may of_job (earlier ++ before) t
+        → t.call.came ≡ None → WakeDoes plain may (earlier ++ before) t
 
   no_turns : (start : S) (earlier : List (Turn plain may)) → Turns start earlier []
   no_turns start earlier = record {
@@ -346,11 +396,11 @@ module _ (T : Type 0) {S J K P : Type 0} (plain : Plain S P) (may : WithJobs S J
   }
     where
       never : (before later : List (Turn plain may)) (t : Turn plain may) → [] ≡ before ++ t ∷ later
-          → t.call.came ≡ None → WakeDoes plain may of_job (earlier ++ before) t
+          → t.call.came ≡ None → WakeDoes plain may (earlier ++ before) t
       never [] later t e = absurd (cc (e))
       never (x ∷ before) later t e = absurd (cc (e))
 
-  one_turn : (start : S) (old did : PooledServer T S J K) (earlier : List (Turn plain may)) (call : Call (Asked P))
+  one_turn : (start : S) (old did : PooledServer T S J F) (earlier : List (Turn plain may)) (call : Call (Asked P))
       (calls : List (Call (Asked P))) → ((own : List P) × TakesBack plain.takes_back start own old.server)
       → (t : TurnOf old did call) → AllStand plain may earlier (pended old)
       → Turns did.server (earlier ++ t.turn ∷ []) calls → Turns start earlier (call ∷ calls)
@@ -366,21 +416,21 @@ module _ (T : Type 0) {S J K P : Type 0} (plain : Plain S P) (may : WithJobs S J
   }
     where
       at : (before later : List (Turn plain may)) (x : Turn plain may) → t.turn ∷ rest.turns ≡ before ++ x ∷ later
-          → x.call.came ≡ None → WakeDoes plain may of_job (earlier ++ before) x
+          → x.call.came ≡ None → WakeDoes plain may (earlier ++ before) x
       at [] later x e none =
           let same : t.turn ≡ x = cc (e) in
           let came : call.came ≡ None = ap (λ (c : Call (Asked P)). c.came) (sym t.of_call)
           ∙ ap (λ (y : Turn plain may). y.call.came) same ∙ none in
-          subst (λ (y : List (Turn plain may) × Turn plain may). WakeDoes plain may of_job y.0 y.1)
+          subst (λ (y : List (Turn plain may) × Turn plain may). WakeDoes plain may y.0 y.1)
           (λ k. (sym (append-nil earlier) k, same k)) (t.wake earlier stand came)
       at (b ∷ before) later x e none =
           let same : t.turn ≡ b = cc (e) in
           let more : rest.turns ≡ before ++ x ∷ later = cc (e) in
-          subst (λ (ts : List (Turn plain may)). WakeDoes plain may of_job ts x)
+          subst (λ (ts : List (Turn plain may)). WakeDoes plain may ts x)
           (append_assoc earlier (t.turn ∷ []) before
           ∙ ap (λ (y : Turn plain may). earlier ++ y ∷ before) same) (rest.wakes before later x more none)
 
-  all_turns : (count : ℕ) (calls : List (Call (Asked P))) (start : S) (old last : PooledServer T S J K)
+  all_turns : (count : ℕ) (calls : List (Call (Asked P))) (start : S) (old last : PooledServer T S J F)
       (earlier : List (Turn plain may)) → ((own : List P) × TakesBack plain.takes_back start own old.server)
       → AllStand plain may earlier (pended old) → TakesCalls W count old calls last → Turns start earlier calls
   all_turns count [] start old last earlier between stand same = no_turns start earlier
@@ -388,31 +438,44 @@ module _ (T : Type 0) {S J K P : Type 0} (plain : Plain S P) (may : WithJobs S J
       let did = run.0 in
       let mid = run.1 in
       let t = handed_turn old did call.came call.payload call.acts run.2 in
-      let stands = stand_on plain may earlier t.turn (pended old) (pended did) stand t.moves in
+      let comes = comes_at old did call t.turn t.of_call t.from
+      (requests_then T plain may old did call.came call.payload call.acts run.2) in
+      let stands = stand_on plain may earlier t.turn (pended old) (pended did) stand t.moves
+      (t.gave ∙ ap (λ (c : Call (Asked P)). given_at plain may c.came (pended did)) (sym t.of_call)) comes in
       one_turn start old did earlier call calls between t stand
       (all_turns (ids_after_all count call.acts) calls did.server mid last (earlier ++ t.turn ∷ [])
       (took_back (unsent count call.acts) did mid run.3)
       (subst (AllStand plain may (earlier ++ t.turn ∷ []))
-      (sym (back_pending T plain may of_job (unsent count call.acts) did mid run.3)) stands) run.4)
+      (sym (back_pending T plain may (unsent count call.acts) did mid run.3)) stands) run.4)
 
-  pub slot_history : (start last : PooledServer T S J K) (opening : Exchange) (later : List Exchange) (m : Message)
+  pub slot_history : (start last : PooledServer T S J F) (opening : Exchange) (later : List Exchange) (m : Message)
       → pended start ≡ no_jobs → opening.came ≡ Some m → is_initialized m ≡ true
       → (part : TakesPart W start last opening later)
-      → SlotHistory plain may of_job start.server opening part.begun part.calls
+      → SlotHistory plain may start.server opening part.begun part.calls
   slot_history start last opening later m none came begins part =
-      let stand : AllStand plain may [] (pended start) = λ slot e has.
-      let no = ap (λ (p : PendingJobs (J × K)). p (Slot slot)) (sym none) ∙ has in absurd (cc (no)) in
+      let stand : AllStand plain may [] (pended start) = λ name e has. absurd (no_job name e has) in
       let t = opened in
       let all = one_turn start.server start part.did [] now part.calls ([], refl) t stand
       (all_turns (ids_after_all 0 part.begun) part.calls part.did.server part.first part.called ([] ++ t.turn ∷ [])
       (took_back (unsent 0 part.begun) part.did part.first part.took_back)
       (subst (AllStand plain may ([] ++ t.turn ∷ []))
-      (sym (back_pending T plain may of_job (unsent 0 part.begun) part.did part.first part.took_back))
-      (stand_on plain may [] t.turn (pended start) (pended part.did) stand t.moves)) part.took_calls) in
+      (sym (back_pending T plain may (unsent 0 part.begun) part.did part.first part.took_back))
+      (stand_on plain may [] t.turn (pended start) (pended part.did) stand t.moves
+      (t.gave ∙ ap (λ (c : Call (Asked P)). given_at plain may c.came (pended part.did)) (sym t.of_call))
+      (comes_at start part.did now t.turn t.of_call t.from (λ id e has. absurd (none_given id e has)))))
+      part.took_calls) in
       record { turns = all.turns; are = all.are; linked = all.linked; wakes = all.wakes }
     where
       now : Call (Asked P)
       now = record { came = opening.came; payload = None; acts = part.begun }
+
+      no_job : (name : JobName) (e : J) → pended start name ≡ Some e → ⊥
+      no_job name e has = let no = ap (λ (p : PendingJobs J). p name) (sym none) ∙ has in absurd (cc (no))
+
+      none_given : (id : Id) (e : J) → pended part.did (Request id) ≡ Some e → ⊥
+      none_given id e has =
+          (does_jobs plain may (λ id e. ⊥) (plain.at_initialized start.server) (pended start) part.began.0
+          (seen part.did) (λ id e has. absurd (no_job (Request id) e has)) part.began.2 id e has).0
 
       is_called : (m : Message) → is_initialized m ≡ true → (acts : List (Act P)) (mid : S)
           → plain.at_initialized start.server acts mid → IsCalled plain may start.server (Some m) acts mid
@@ -427,7 +490,7 @@ module _ (T : Type 0) {S J K P : Type 0} (plain : Plain S P) (may : WithJobs S J
           (λ none. absurd (cc (came, none)))
 
   -- up to the result of `initialize` no job is started
-  pub early_pending : (early : List Exchange) (old start : PooledServer T S J K) → AnswersInitialize W old early start
+  pub early_pending : (early : List Exchange) (old start : PooledServer T S J F) → AnswersInitialize W old early start
       → pended start ≡ pended old
   early_pending [] old start same = ap pended same
   early_pending (x ∷ early) old start run = early_pending early run.0 start run.2 ∙ at x.came run.1

@@ -36,35 +36,35 @@ pub one_longer : {J : Type 0} (known : Known J) (jobs : List J) (job : J) (next 
 one_longer known jobs job next is long = ap (λ (k : Known _). length (all_jobs k)) is ∙ length-append jobs (job ∷ [])
     ∙ ap (λ n. n + 1) long
 
-module _ {J K : Type 0} where
-  pub none_wait : (jobs : List J) (entries : PendingJobs (Entry J K)) → entries ≡ no_jobs → HaveTickets jobs entries
+module _ {J : Type 0} where
+  pub none_wait : (jobs : List J) (entries : PendingJobs (Entry J)) → entries ≡ no_jobs → HaveTickets jobs entries
   none_wait jobs entries none name entry found =
-      let never : Some entry ≡ None = sym found ∙ ap (λ (m : PendingJobs (Entry J K)). m name) none in
+      let never : Some entry ≡ None = sym found ∙ ap (λ (m : PendingJobs (Entry J)). m name) none in
       absurd (cc (never))
 
   -- an entry of a table that has one more
-  inserted : (jobs : List J) (entries : PendingJobs (Entry J K)) (new e : Entry J K) (name : JobName) (b : Bool)
+  inserted : (jobs : List J) (entries : PendingJobs (Entry J)) (new e : Entry J) (name : JobName) (b : Bool)
       → HaveTickets jobs entries → get_elem? jobs new.ticket ≡ some new.job.value
       → cond b (Some new) (entries name) ≡ Some e → get_elem? jobs e.ticket ≡ some e.job.value
   inserted jobs entries new e name true have is found = let same : new ≡ e = cc (found) in subst
-      (λ (x : Entry J K). get_elem? jobs x.ticket ≡ some x.job.value) same is
+      (λ (x : Entry J). get_elem? jobs x.ticket ≡ some x.job.value) same is
   inserted jobs entries new e name false have is found = have name e found
 
-  removed : (jobs : List J) (entries : PendingJobs (Entry J K)) (e : Entry J K) (name : JobName) (b : Bool)
+  removed : (jobs : List J) (entries : PendingJobs (Entry J)) (e : Entry J) (name : JobName) (b : Bool)
       → HaveTickets jobs entries → cond b None (entries name) ≡ Some e → get_elem? jobs e.ticket ≡ some e.job.value
   removed jobs entries e name true have found = absurd (cc (found))
   removed jobs entries e name false have found = have name e found
 
   -- a job got a ticket, and is not pending
-  pub one_more : (jobs : List J) (job : J) (known : Known J) (entries : PendingJobs (Entry J K)) → known
+  pub one_more : (jobs : List J) (job : J) (known : Known J) (entries : PendingJobs (Entry J)) → known
       ≡ All (jobs ++ job ∷ []) → HaveTickets jobs entries → HaveTickets (all_jobs known) entries
   one_more jobs job known entries is have name entry found =
       subst (λ (l : List J). get_elem? l entry.ticket ≡ some entry.job.value) (sym (ap all_jobs is)) (still jobs job
       entry.job.value entry.ticket (have name entry found))
 
   -- it is pending
-  pub entered : (jobs : List J) (job : J) (known : Known J) (entries more : PendingJobs (Entry J K)) (name : JobName)
-      (new : Entry J K) → known ≡ All (jobs ++ job ∷ []) → new.ticket ≡ length jobs → new.job.value ≡ job
+  pub entered : (jobs : List J) (job : J) (known : Known J) (entries more : PendingJobs (Entry J)) (name : JobName)
+      (new : Entry J) → known ≡ All (jobs ++ job ∷ []) → new.ticket ≡ length jobs → new.job.value ≡ job
       → more ≡ with_job name new entries → HaveTickets jobs entries → HaveTickets (all_jobs known) more
   entered jobs job known entries more name new is ticket named all have n entry found =
       let now : List J = all_jobs known in
@@ -72,29 +72,29 @@ module _ {J K : Type 0} where
       let mine : get_elem? now new.ticket ≡ some new.job.value = ap (get_elem? now) ticket
       ∙ ap (λ (l : List J). get_elem? l (length jobs)) grown ∙ newest jobs job ∙ ap some (sym named) in
       inserted now entries new entry n (same_name n name) (one_more jobs job known entries is have) mine
-      (ap (λ (m : PendingJobs (Entry J K)). m n) (sym all) ∙ found)
+      (ap (λ (m : PendingJobs (Entry J)). m n) (sym all) ∙ found)
 
   -- it is pending, if it was added
-  pub registered : {T E : Type 0} (jobs : List J) (job : J) (known : Known J) (entries more : PendingJobs (Entry J K))
-      (name : JobName) (new : Entry J K) (r : Result T E) → known ≡ All (jobs ++ job ∷ []) → new.ticket ≡ length jobs
+  pub registered : {T E : Type 0} (jobs : List J) (job : J) (known : Known J) (entries more : PendingJobs (Entry J))
+      (name : JobName) (new : Entry J) (r : Result T E) → known ≡ All (jobs ++ job ∷ []) → new.ticket ≡ length jobs
       → new.job.value ≡ job
       → OnOk r (more ≡ with_job name new entries) → OnErr r (more ≡ entries) → HaveTickets jobs entries
       → HaveTickets (all_jobs known) more
   registered jobs job known entries more name new (Ok x) is ticket named ok err have = entered jobs job known entries
       more name new is ticket named ok have
   registered jobs job known entries more name new (Err e) is ticket named ok err have =
-      subst (λ (m : PendingJobs (Entry J K)). HaveTickets (all_jobs known) m) (sym err) (one_more jobs job known
+      subst (λ (m : PendingJobs (Entry J)). HaveTickets (all_jobs known) m) (sym err) (one_more jobs job known
       entries is have)
 
   -- a job is pending no more
-  pub fewer : (jobs : List J) (entries less : PendingJobs (Entry J K)) (name : JobName) → less ≡ without name entries
+  pub fewer : (jobs : List J) (entries less : PendingJobs (Entry J)) (name : JobName) → less ≡ without name entries
       → HaveTickets jobs entries → HaveTickets jobs less
   fewer jobs entries less name is have n entry found =
-      removed jobs entries entry n (same_name n name) have (ap (λ (m : PendingJobs (Entry J K)). m n) (sym is) ∙ found)
+      removed jobs entries entry n (same_name n name) have (ap (λ (m : PendingJobs (Entry J)). m n) (sym is) ∙ found)
 
   -- an item is said by the pending job that has its ticket
   pub said_by : {R : Type 0} (comes_to : J → R → Type 0) (reports asks : J → List ℕ → Data → Type 0) (jobs : List J)
-      (entries before : PendingJobs (Entry J K)) (item : Item R) (entry : Entry J K) → entries ≡ before
+      (entries before : PendingJobs (Entry J)) (item : Item R) (entry : Entry J) → entries ≡ before
       → HaveTickets jobs entries → IsSaidBy comes_to reports asks jobs item → entries item.name ≡ Some entry
       → entry.ticket ≡ item.ticket
       → MaySay comes_to reports asks (λ name. option_map job_of (before name)) item.name item.message
@@ -102,7 +102,6 @@ module _ {J K : Type 0} where
       let same : said.0 ≡ entry.job.value = some-injective _ _ (sym said.1 ∙ ap (get_elem? jobs) (sym ticket)
       ∙ have item.name entry found) in (
         entry.job.value,
-        entry.kept,
-        ap (λ (m : PendingJobs (Entry J K)). option_map job_of (m item.name)) (sym is) ∙ ap (option_map job_of) found,
+        ap (λ (m : PendingJobs (Entry J)). option_map job_of (m item.name)) (sym is) ∙ ap (option_map job_of) found,
         subst (λ (job : J). MaySend comes_to reports asks job item.message) same said.2,
       )

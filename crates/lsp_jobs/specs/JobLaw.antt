@@ -11,14 +11,13 @@ use Rattle.lsp_service.specs.QueuedServer.{held_by}
 use Rattle.lsp_service.specs.SentByActs.{all_sends}
 use Rattle.lsp_service.specs.declared.server.Server.{Ghosts as Plain}
 use Rattle.lsp_jobs.specs.Asking.{by_server}
-use Rattle.lsp_jobs.specs.Ends.{Outcome, End, came_to}
+use Rattle.lsp_jobs.specs.Ends.{Came, ComesTo, End, Outcome, end_of, ended, reply_of}
 use Rattle.lsp_jobs.specs.JobSession.{JobSession, seen_with_jobs}
-use Rattle.lsp_jobs.specs.PendingJobs.{ComesTo}
 use Rattle.lsp_jobs.specs.Pooled.{reply_at}
+use Rattle.lsp_jobs.specs.Stated.{SeesEnd, StatedJobs}
 use Rattle.lsp_jobs.specs.declared.asking.Asked.{Asked}
 use Rattle.lsp_jobs.specs.declared.asking.Asked.TheVariants.{ByJob}
-use Rattle.lsp_jobs.specs.declared.job.Job.{Ghosts as OfJob}
-use Rattle.lsp_jobs.specs.declared.job_server.JobServer.{Ghosts as WithJobs}
+use Rattle.lsp_jobs.specs.declared.job_server.JobEnd.TheVariants.{Refused, Replaced, Stopped}
 use Rattle.lsp_jobs.specs.declared.names.JobName.{JobName}
 use Rattle.lsp_jobs.specs.declared.names.JobName.TheVariants.{Request, Slot}
 
@@ -62,22 +61,23 @@ abbrev pub SendsSo : {P : Type 0} → List (Act P) → List Message → Type 0
 SendsSo {P} acts output = (queues : Queues P) × (not_sent : List Message)
     × (all_sends queues acts ≡ output ++ not_sent)
 
--- a job ended before it came to an outcome
-abbrev pub IsLeft : End → Type 0
-IsLeft (came_to outcome) = ⊥
-IsLeft end = Unit {0}
+-- a job ended before it came to something
+abbrev pub IsLeft : {F : Type 0} → End F → Type 0
+IsLeft (ended Refused) = Unit {0}
+IsLeft (ended Replaced) = Unit {0}
+IsLeft (ended Stopped) = Unit {0}
+IsLeft end = ⊥
 
-module _ {S J K P : Type 0} (may : WithJobs S J K P) where
-  -- The job of a slot ended before it came to an outcome. The server sees that, and does this.
+module _ {S J F P : Type 0} (may : StatedJobs S J F P) where
+  -- The job of a slot ended before it came to something. The server sees that, and does this.
   pub record Left : Type 0 where
     pub slot : Id
-    pub key : K
-    pub end : End
+    pub end : End F
     pub is_left : IsLeft end
     pub old : S
     pub acts : List (Act P)
     pub new : S
-    pub saw : may.finishes old (Slot slot) key end acts new
+    pub saw : SeesEnd may old (Slot slot) end acts new
 
   -- what is done at these ends
   abbrev pub at_ends : List Left → List (Act P)
@@ -87,30 +87,29 @@ module _ {S J K P : Type 0} (may : WithJobs S J K P) where
   -- The server sees how a job ended, and then answers this request by itself.
   pub record RepliesItself (id : Id) (outcome : Outcome) : Type 0 where
     pub name : JobName
-    pub key : K
-    pub end : End
+    pub end : End F
     pub old : S
     pub before : List (Act P)
     pub after : List (Act P)
     pub new : S
-    pub saw : may.finishes old name key end (before ++ replies id outcome ∷ after) new
+    pub saw : SeesEnd may old name end (before ++ replies id outcome ∷ after) new
 
--- The last request under the id waits for a job that is for it, and may get this outcome: one that this job may find,
--- or the error of a failed allocation.
-pub record AnswersRequest {J : Type 0} (of_job : OfJob J) (earlier : List Exchange) (id : Id)
-    (outcome : Outcome) : Type 0 where
-  pub method : List ℕ
-  pub params : Data
-  pub waits : LastRequest earlier id method params
-  pub job : J
-  pub is_for : of_job.is_for job method params
-  pub comes : ComesTo of_job job outcome
+  -- The last request under the id waits for a job that is for it, and this is the reply to it, whatever that job came
+  -- to: what it may come to, or the error of a failed allocation or of a cancellation.
+  pub record AnswersRequest (earlier : List Exchange) (id : Id) (outcome : Outcome) : Type 0 where
+    pub method : List ℕ
+    pub params : Data
+    pub waits : LastRequest earlier id method params
+    pub job : J
+    pub is_for : may.is_for job method params
+    pub came : Came F
+    pub comes : ComesTo may.comes_to job came
+    pub reply : outcome ≡ reply_of came
 
-module _ {S J K P : Type 0} (may : WithJobs S J K P) (of_job : OfJob J) where
   -- The last request under the id waits for this job, which is for it. Nobody waits for a job in a slot: see `SlotLaw`.
   abbrev pub Waits : List Exchange → JobName → J → Type 0
   Waits earlier (Request id) job =
-      (method : List ℕ) × (params : Data) × of_job.is_for job method params × LastRequest earlier id method params
+      (method : List ℕ) × (params : Data) × may.is_for job method params × LastRequest earlier id method params
   Waits earlier (Slot slot) job = Unit {0}
 
   -- a job that is pending under some name reports
@@ -120,7 +119,7 @@ module _ {S J K P : Type 0} (may : WithJobs S J K P) (of_job : OfJob J) where
     pub method : List ℕ
     pub params : Data
     pub waits : Waits earlier name job
-    pub reports : of_job.reports job method params
+    pub reports : may.reports job method params
     pub sent : SendsSo {P = Asked P} (tells method params ∷ []) output
 
   -- a job that is pending under some name asks the client
@@ -131,31 +130,29 @@ module _ {S J K P : Type 0} (may : WithJobs S J K P) (of_job : OfJob J) where
     pub params : Data
     pub number : ℕ
     pub waits : Waits earlier name job
-    pub may_ask : of_job.asks job method params
+    pub may_ask : may.asks job method params
     pub sent : SendsSo {P = Asked P} (asks method params (ByJob number) ∷ []) output
 
-  -- A job came to this outcome. The server sees that and does something first, then the request gets it, if the job is
+  -- A job came to this. The server sees that and does something first, then the request gets the reply, if the job is
   -- for one. Then the server sees how jobs ended whose slots it changed.
-  pub record SendsOutcome (earlier : List Exchange) (output : List Message) : Type 0 where
+  pub record SendsReply (earlier : List Exchange) (output : List Message) : Type 0 where
     pub name : JobName
     pub job : J
-    pub key : K
-    pub outcome : Outcome
+    pub came : Came F
     pub waits : Waits earlier name job
-    pub comes : ComesTo of_job job outcome
+    pub comes : ComesTo may.comes_to job came
     pub old : S
     pub first : List (Act P)
     pub new : S
-    pub saw : may.finishes old name key (came_to outcome) first new
-    pub left : List (Left may)
-    pub sent : SendsSo (map by_server ((first ++ reply_at name (came_to outcome)) ++ at_ends may left))
-        output
+    pub saw : SeesEnd may old name (end_of came) first new
+    pub left : List Left
+    pub sent : SendsSo (map by_server ((first ++ reply_at name came) ++ at_ends left)) output
 
   -- what is sent at a wake, after these exchanges
   abbrev pub WakeSends : List Exchange → List Message → Type 0
   WakeSends earlier output = (output ≡ [])
       ⊎ (SendsReport earlier output
-      ⊎ (SendsRequest earlier output ⊎ SendsOutcome earlier output))
+      ⊎ (SendsRequest earlier output ⊎ SendsReply earlier output))
 
   -- at each wake this is sent, and replies go to no other requests
   abbrev pub AnswersByJobs : List Exchange → Type 0
@@ -164,15 +161,14 @@ module _ {S J K P : Type 0} (may : WithJobs S J K P) (of_job : OfJob J) where
       → x.came ≡ None
       → WakeSends earlier x.sent × RepliesToLast earlier x.sent
 
-module _ (T : Type 0) {S J K P : Type 0} (plain : Plain S P) (may : WithJobs S J K P)
-    (of_job : OfJob J) where
+module _ (T : Type 0) {S J F P : Type 0} (plain : Plain S P) (may : StatedJobs S J F P) where
   -- a session of a server with jobs, which keeps the laws of a session of a server, and in which each job answers its
   -- own request
   pub record LawfulJobSession (first last : S) (exchanges : List Exchange) (stop : Stop)
       (shutdown_reply : Option Message) (answer : SessionAnswer)
       : Type 0 where
-    pub session : JobSession T plain may of_job first last exchanges stop shutdown_reply answer
-    pub laws : KeepsLaws (seen_with_jobs T plain may of_job) session.old session.new
-        (held_by (seen_with_jobs T plain may of_job) session.session) exchanges stop shutdown_reply
+    pub session : JobSession T plain may first last exchanges stop shutdown_reply answer
+    pub laws : KeepsLaws (seen_with_jobs T plain may) session.old session.new
+        (held_by (seen_with_jobs T plain may) session.session) exchanges stop shutdown_reply
         answer
-    pub jobs : AnswersByJobs may of_job exchanges
+    pub jobs : AnswersByJobs may exchanges

@@ -9,16 +9,14 @@ use Rattle.lsp_jobs.specs.Pooled.{with_jobs}
 use Rattle.lsp_jobs.specs.Seen.{seen}
 use Rattle.lsp_jobs.specs.PendingJobs.{no_jobs}
 use Rattle.lsp_jobs.specs.declared.asking.Asked.{Asked}
-use Rattle.lsp_jobs.specs.declared.job.Job.{Ghosts as OfJob}
-use Rattle.lsp_jobs.specs.declared.job_server.JobServer.{Ghosts as WithJobs}
+use Rattle.lsp_jobs.specs.Stated.{StatedJobs}
 use Rattle.lsp_jobs.specs.declared.pooled_server.PooledServer.{PooledServer}
 
-module _ (T : Type 0) {S J K P : Type 0} (plain : Plain S P) (may : WithJobs S J K P)
-    (of_job : OfJob J) where
+module _ (T : Type 0) {S J F P : Type 0} (plain : Plain S P) (may : StatedJobs S J F P) where
   -- `with_jobs`, of what is seen of a server with its pool
-  abbrev pub seen_with_jobs : Stated (PooledServer T S J K) (Asked P)
+  abbrev pub seen_with_jobs : Stated (PooledServer T S J F) (Asked P)
   seen_with_jobs =
-      let w = with_jobs may of_job plain in record {
+      let w = with_jobs may plain in record {
         initializes = λ old params outcome new. w.initializes (seen old) params outcome (seen new);
         at_initialized = λ old acts new. w.at_initialized (seen old) acts (seen new);
         requested = λ old id method params acts new.
@@ -35,8 +33,8 @@ module _ (T : Type 0) {S J K P : Type 0} (plain : Plain S P) (may : WithJobs S J
   -- It is a session of the server with its jobs. No job is pending at first.
   pub record JobSession (first last : S) (exchanges : List Exchange) (stop : Stop)
       (shutdown_reply : Option Message) (answer : SessionAnswer) : Type 0 where
-    pub old : PooledServer T S J K
-    pub new : PooledServer T S J K
+    pub old : PooledServer T S J F
+    pub new : PooledServer T S J F
     pub from_first : seen old ≡ (first, no_jobs)
     pub to_last : last ≡ new.server
     pub session : ServerSession seen_with_jobs old new exchanges stop shutdown_reply answer

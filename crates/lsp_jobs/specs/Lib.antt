@@ -8,6 +8,7 @@ pub mod PoolView
 pub mod Pooled
 pub mod Progress
 pub mod Seen
+pub mod Stated
 pub mod ServerView
 pub mod SlotLaw
 pub mod PendingJobs

@@ -5,7 +5,7 @@ use Rattle.std.specs.Prelude.{◌≡◌, ℕ, List, [], ◌∷◌, ◌++◌, len
 use mathlib.Core.Option.{some}
 use lib.ListN.{get_elem?}
 use Rattle.lsp_jobs.specs.declared.channel.WorkerMessage.{WorkerMessage}
-use Rattle.lsp_jobs.specs.declared.channel.WorkerMessage.TheVariants.{Ask, Outcome, Report}
+use Rattle.lsp_jobs.specs.declared.channel.WorkerMessage.TheVariants.{Ask, Ran, Report}
 use Rattle.lsp_jobs.specs.declared.channel.Item.{Item}
 use Rattle.lsp_jobs.specs.declared.channel.Known.{Known}
 use Rattle.lsp_jobs.specs.declared.channel.Known.TheVariants.{All, One, Nothing}
@@ -38,7 +38,7 @@ module _ {J R : Type 0} (comes_to : J → R → Type 0) (reports asks : J → Li
   -- an outcome is one that the job may come to, a report one that it may make, and a request one that it may send the
   -- client
   abbrev pub MaySend : J → WorkerMessage R → Type 0
-  MaySend job (Outcome r) = comes_to job r
+  MaySend job (Ran r) = comes_to job r
   MaySend job (Report n) = reports job (string_bytes n.method) (view n.params)
   MaySend job (Ask method params number) = asks job (string_bytes method) (view params)
 

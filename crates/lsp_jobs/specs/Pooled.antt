@@ -1,4 +1,4 @@
--- A server at its pool of jobs: the server, and under the name of each job that is pending, this job and its key.
+-- A server at its pool of jobs: the server, and under the name of each job that is pending, this job.
 use Rattle.serde_json.specs.Data.{Data}
 use Rattle.std.specs.List.{FoldsTo}
 use Rattle.std.specs.Prelude.{◌≡◌, ◌⊎◌, ℕ, true, false, List, [], ◌∷◌, ◌++◌, Option, Some, None, Err, MatchOption}
@@ -7,12 +7,12 @@ use Rattle.lsp_service.specs.Acts.{Act, tells, asks, replies, cancelled_by}
 use Rattle.lsp_service.specs.Stated.{Stated}
 use Rattle.lsp_service.specs.declared.server.Server.{Ghosts as Plain}
 use Rattle.lsp_jobs.specs.Asking.{ByServers, WhoseAsked}
-use Rattle.lsp_jobs.specs.Ends.{Outcome, End, came_to, no_room, replaced, stopped, too_many, no_memory}
-use Rattle.lsp_jobs.specs.PendingJobs.{PendingJobs, ComesTo, no_jobs, without, with_job}
+use Rattle.lsp_jobs.specs.Ends.{Came, ComesTo, End, Outcome, end_of, ended, no_memory, reply_of, too_many}
+use Rattle.lsp_jobs.specs.PendingJobs.{PendingJobs, no_jobs, without, with_job}
+use Rattle.lsp_jobs.specs.Stated.{SeesEnd, StatedJobs}
 use Rattle.lsp_jobs.specs.declared.asking.Asked.{Asked}
 use Rattle.lsp_jobs.specs.declared.asking.Asked.TheVariants.{ByJob}
-use Rattle.lsp_jobs.specs.declared.job.Job.{Ghosts as OfJob}
-use Rattle.lsp_jobs.specs.declared.job_server.JobServer.{Ghosts as WithJobs}
+use Rattle.lsp_jobs.specs.declared.job_server.JobEnd.TheVariants.{Refused, Replaced, Stopped}
 use Rattle.lsp_jobs.specs.declared.job_server.SlotChange.{SlotChange}
 use Rattle.lsp_jobs.specs.declared.job_server.SlotChange.TheVariants.{Start, Stop}
 use Rattle.lsp_jobs.specs.declared.names.JobName.{JobName}
@@ -29,58 +29,55 @@ unanswered [] pending = pending
 unanswered (replies id outcome ∷ acts) pending = unanswered acts (without (Request id) pending)
 unanswered (act ∷ acts) pending = unanswered acts pending
 
--- The reply to the request of a job that came to an outcome. A job in a slot has none.
-abbrev pub reply_at : {P : Type 0} → JobName → End → List (Act P)
-reply_at (Request id) (came_to outcome) = replies id outcome ∷ []
-reply_at name end = []
+-- The reply to the request of a job. A job in a slot has none.
+abbrev pub reply_with : {P : Type 0} → JobName → Outcome → List (Act P)
+reply_with (Request id) outcome = replies id outcome ∷ []
+reply_with (Slot slot) outcome = []
+
+-- that of a job that came to this
+abbrev pub reply_at : {P F : Type 0} → JobName → Came F → List (Act P)
+reply_at name came = reply_with name (reply_of came)
 
 -- what a server states of its jobs
-module _ {S J K P : Type 0} (may : WithJobs S J K P) where
-  -- A job ended so, and is pending no more. The server sees that and does something first. If the job was for a
-  -- request, that gets its outcome then.
-  abbrev pub Ends : JobName → K → End → S × PendingJobs (J × K) → List (Act P) → S × PendingJobs (J × K) → Type 0
-  Ends name key end old acts new =
-      (first : List (Act P)) × may.finishes old.0 name key end first new.0
-      × (acts ≡ first ++ reply_at name end) × (new.1 ≡ unanswered acts old.1)
+module _ {S J F P : Type 0} (may : StatedJobs S J F P) where
+  -- A job ended so, and is pending no more. The server sees that and does something, and then this reply is sent.
+  abbrev pub Ends : JobName → End F → List (Act P) → S × PendingJobs J → List (Act P) → S × PendingJobs J → Type 0
+  Ends name end reply old acts new =
+      (first : List (Act P)) × SeesEnd may old.0 name end first new.0 × (acts ≡ first ++ reply)
+      × (new.1 ≡ unanswered acts old.1)
 
-  -- the same, behind acts that were done before
-  abbrev pub EndsThen : JobName → K → End → S × PendingJobs (J × K) × List (Act P) → S × PendingJobs (J × K)
-      × List (Act P) → Type 0
-  EndsThen name key end old new =
-      (acts : List (Act P)) × Ends name key end (old.0, old.1) acts (new.0, new.1) × (new.2 ≡ old.2 ++ acts)
+  -- the same without a reply, behind acts that were done before
+  abbrev pub EndsThen : JobName → End F → S × PendingJobs J × List (Act P) → S × PendingJobs J × List (Act P) → Type 0
+  EndsThen name end old new =
+      (acts : List (Act P)) × Ends name end [] (old.0, old.1) acts (new.0, new.1) × (new.2 ≡ old.2 ++ acts)
 
   -- A job is started under its name, where none is. Or too many jobs wait and run: it ends so.
-  abbrev pub StartsOne : JobName → J → K → S × PendingJobs (J × K) × List (Act P) → S × PendingJobs (J × K)
-      × List (Act P) → Type 0
-  StartsOne name job key old new =
-      (new ≡ (old.0, with_job name (job, key) old.1, old.2))
-      ⊎ EndsThen name key no_room (old.0, without name old.1, old.2) new
+  abbrev pub StartsOne : JobName → J → S × PendingJobs J × List (Act P) → S × PendingJobs J × List (Act P) → Type 0
+  StartsOne name job old new =
+      (new ≡ (old.0, with_job name job old.1, old.2))
+      ⊎ EndsThen name (ended Refused) (old.0, without name old.1, old.2) new
 
   -- if a job has this name, it ends so
-  abbrev pub Frees : JobName → End → S × PendingJobs (J × K) × List (Act P) → S × PendingJobs (J × K) × List (Act P)
-      → Type 0
+  abbrev pub Frees : JobName → End F → S × PendingJobs J × List (Act P) → S × PendingJobs J × List (Act P) → Type 0
   Frees name end old new = MatchOption (old.1 name) (new ≡ old)
-      (λ (e : J × K). EndsThen name e.1 end (old.0, without name old.1, old.2) new)
+      (λ (job : J). EndsThen name end (old.0, without name old.1, old.2) new)
 
   -- A slot is changed. A job that is started there takes the place of the one that is in the slot.
-  abbrev pub Changes : S × PendingJobs (J × K) × List (Act P) → SlotChange J K → S × PendingJobs (J × K)
-      × List (Act P) → Type 0
-  Changes old (Start slot job key) new =
-      (mid : S × PendingJobs (J × K) × List (Act P)) × Frees (Slot slot) replaced old mid
-      × StartsOne (Slot slot) job key mid new
-  Changes old (Stop slot) new = Frees (Slot slot) stopped old new
+  abbrev pub Changes : S × PendingJobs J × List (Act P) → SlotChange J → S × PendingJobs J × List (Act P) → Type 0
+  Changes old (Start slot job) new =
+      (mid : S × PendingJobs J × List (Act P)) × Frees (Slot slot) (ended Replaced) old mid
+      × StartsOne (Slot slot) job mid new
+  Changes old (Stop slot) new = Frees (Slot slot) (ended Stopped) old new
 
   -- After the server did these acts, it changes its slots, in order: these are all the acts.
-  pub record ChangesSlots (old : S × PendingJobs (J × K)) (acts all : List (Act P)) (new : S
-      × PendingJobs (J × K)) : Type 0 where
-    pub changes : List (SlotChange J K)
+  pub record ChangesSlots (old : S × PendingJobs J) (acts all : List (Act P)) (new : S × PendingJobs J) : Type 0 where
+    pub changes : List (SlotChange J)
     pub mid : S
     pub gives : may.changes old.0 changes mid
     pub made : FoldsTo Changes (mid, unanswered acts old.1, acts) changes (new.0, new.1, all)
 
   -- The server did these acts, and then changes its slots.
-  abbrev pub Does : (List (Act P) → S → Type 0) → PendingJobs (J × K) → List (Act P) → S × PendingJobs (J × K)
-      → Type 0
+  abbrev pub Does : (List (Act P) → S → Type 0) → PendingJobs J → List (Act P) → S × PendingJobs J → Type 0
   Does did pending all new = (acts : List (Act P)) × (mid : S) × did acts mid
       × ChangesSlots (mid, pending) acts all new
 
@@ -91,103 +88,93 @@ module _ {S J K P : Type 0} (may : WithJobs S J K P) where
       may.knows server id method params outcome ⊎ ((outcome ≡ Err too_many) ⊎ (outcome ≡ Err no_memory))
 
   -- The request is answered at once, and nothing else is done.
-  pub record AnswersAtOnce (old : S × PendingJobs (J × K)) (id : Id) (method : List ℕ) (params : Data)
-      (all : List (Act (Asked P))) (new : S × PendingJobs (J × K)) : Type 0 where
+  pub record AnswersAtOnce (old : S × PendingJobs J) (id : Id) (method : List ℕ) (params : Data)
+      (all : List (Act (Asked P))) (new : S × PendingJobs J) : Type 0 where
     pub outcome : Outcome
     pub is : IsAtOnce old.0 id method params outcome
     pub acts : all ≡ replies id outcome ∷ []
     pub left : new ≡ (old.0, without (Request id) old.1)
 
-  module _ (of_job : OfJob J) where
-    -- A job that is for the request is started, and nothing else is done.
-    pub record StartsJob (old : S × PendingJobs (J × K)) (id : Id) (method : List ℕ) (params : Data)
-        (all : List (Act (Asked P))) (new : S × PendingJobs (J × K)) : Type 0 where
-      pub job : J
-      pub key : K
-      pub is_for : of_job.is_for job method params
-      pub gives : may.gives old.0 id method params job key
-      pub acts : all ≡ []
-      pub started : new ≡ (old.0, with_job (Request id) (job, key) old.1)
+  -- A job that is for the request is started, and nothing else is done.
+  pub record StartsJob (old : S × PendingJobs J) (id : Id) (method : List ℕ) (params : Data)
+      (all : List (Act (Asked P))) (new : S × PendingJobs J) : Type 0 where
+    pub job : J
+    pub is_for : may.is_for job method params
+    pub gives : may.gives old.0 id method params job
+    pub acts : all ≡ []
+    pub started : new ≡ (old.0, with_job (Request id) job old.1)
 
-    -- What is done at a long request. An earlier job under its id is forgotten.
-    abbrev pub TakesLong : S × PendingJobs (J × K) → Id → List ℕ → Data → List (Act (Asked P)) → S
-        × PendingJobs (J × K) → Type 0
-    TakesLong old id method params all new =
-        StartsJob old id method params all new ⊎ AnswersAtOnce old id method params all new
+  -- What is done at a long request. An earlier job under its id is forgotten.
+  abbrev pub TakesLong : S × PendingJobs J → Id → List ℕ → Data → List (Act (Asked P)) → S × PendingJobs J → Type 0
+  TakesLong old id method params all new =
+      StartsJob old id method params all new ⊎ AnswersAtOnce old id method params all new
 
-    -- A pending job came to an outcome.
-    pub record Finishes (old : S × PendingJobs (J × K)) (all : List (Act P)) (new : S
-        × PendingJobs (J × K)) : Type 0 where
-      pub name : JobName
-      pub job : J
-      pub key : K
-      pub outcome : Outcome
-      pub waits : old.1 name ≡ Some (job, key)
-      pub comes : ComesTo of_job job outcome
-      pub acts : List (Act P)
-      pub did : S × PendingJobs (J × K)
-      pub ended : Ends name key (came_to outcome) (old.0, without name old.1) acts did
-      pub others : ChangesSlots did acts all new
+  -- A pending job came to something.
+  pub record Finishes (old : S × PendingJobs J) (all : List (Act P)) (new : S × PendingJobs J) : Type 0 where
+    pub name : JobName
+    pub job : J
+    pub came : Came F
+    pub waits : old.1 name ≡ Some job
+    pub comes : ComesTo may.comes_to job came
+    pub acts : List (Act P)
+    pub did : S × PendingJobs J
+    pub ended : Ends name (end_of came) (reply_at name came) (old.0, without name old.1) acts did
+    pub others : ChangesSlots did acts all new
 
-    -- A pending job reports.
-    pub record Reports (old : S × PendingJobs (J × K)) (all : List (Act (Asked P))) (new : S
-        × PendingJobs (J × K)) : Type 0 where
-      pub name : JobName
-      pub job : J
-      pub key : K
-      pub method : List ℕ
-      pub params : Data
-      pub waits : old.1 name ≡ Some (job, key)
-      pub reports : of_job.reports job method params
-      pub acts : all ≡ tells method params ∷ []
-      pub same : new ≡ old
+  -- A pending job reports.
+  pub record Reports (old : S × PendingJobs J) (all : List (Act (Asked P))) (new : S × PendingJobs J) : Type 0 where
+    pub name : JobName
+    pub job : J
+    pub method : List ℕ
+    pub params : Data
+    pub waits : old.1 name ≡ Some job
+    pub reports : may.reports job method params
+    pub acts : all ≡ tells method params ∷ []
+    pub same : new ≡ old
 
-    -- A pending job asks the client, and waits for the reply under this number.
-    pub record Asks (old : S × PendingJobs (J × K)) (all : List (Act (Asked P))) (new : S
-        × PendingJobs (J × K)) : Type 0 where
-      pub name : JobName
-      pub job : J
-      pub key : K
-      pub method : List ℕ
-      pub params : Data
-      pub number : ℕ
-      pub waits : old.1 name ≡ Some (job, key)
-      pub may_ask : of_job.asks job method params
-      pub acts : all ≡ asks method params (ByJob number) ∷ []
-      pub same : new ≡ old
+  -- A pending job asks the client, and waits for the reply under this number.
+  pub record Asks (old : S × PendingJobs J) (all : List (Act (Asked P))) (new : S × PendingJobs J) : Type 0 where
+    pub name : JobName
+    pub job : J
+    pub method : List ℕ
+    pub params : Data
+    pub number : ℕ
+    pub waits : old.1 name ≡ Some job
+    pub may_ask : may.asks job method params
+    pub acts : all ≡ asks method params (ByJob number) ∷ []
+    pub same : new ≡ old
 
-    -- at a wake nothing is done, or a job reports, or asks the client, or came to an outcome
-    abbrev pub Wakes : S × PendingJobs (J × K) → List (Act (Asked P)) → S × PendingJobs (J × K)
-        → Type 0
-    Wakes old all new = ((all ≡ []) × (new ≡ old))
-        ⊎ (Reports old all new
-        ⊎ (Asks old all new ⊎ ByServers (λ acts. Finishes old acts new) all))
+  -- at a wake nothing is done, or a job reports, or asks the client, or came to something
+  abbrev pub Wakes : S × PendingJobs J → List (Act (Asked P)) → S × PendingJobs J → Type 0
+  Wakes old all new = ((all ≡ []) × (new ≡ old))
+      ⊎ (Reports old all new
+      ⊎ (Asks old all new ⊎ ByServers (λ acts. Finishes old acts new) all))
 
-    -- What a server with its jobs may do. A request that the server may call long is answered by a job that is for it,
-    -- or at once; another by the server. A reply to a request of a job is not told to the server. At `shutdown` no job
-    -- is started, and none is pending any more.
-    abbrev pub with_jobs : Plain S P → Stated (S × PendingJobs (J × K)) (Asked P)
-    with_jobs plain = record {
-      initializes = λ old params outcome new. plain.initializes old.0 params outcome new.0
-          × (new.1 ≡ old.1);
-      at_initialized = λ old all new.
-          ByServers (λ acts. Does (plain.at_initialized old.0) old.1 acts new) all;
-      requested = λ old id method params all new.
-          (may.sorts old.0 method params true
-          × TakesLong old id method params all new)
-          ⊎ (may.sorts old.0 method params false × ByServers
-          (λ acts. Does (plain.requested old.0 id method params) (without (Request id) old.1) acts new) all);
-      notified = λ old method params all new.
-          ByServers (λ acts. Does (plain.notified old.0 method params)
-          (without_cancelled (cancelled_by method params) old.1) acts new) all;
-      replied = λ old asked outcome all new. WhoseAsked asked
-          (λ payload. ByServers (λ acts. Does (plain.replied old.0 payload outcome) old.1 acts new)
-          all)
-          ((all ≡ []) × (new ≡ old));
-      wakes = Wakes;
-      at_shutdown = λ old all new.
-          ByServers (λ acts. plain.at_shutdown old.0 acts new.0) all × (new.1 ≡ no_jobs);
-      takes_back = λ old asked new. WhoseAsked asked
-          (λ payload. plain.takes_back old.0 payload new.0 × (new.1 ≡ old.1))
-          (new ≡ old);
-    }
+  -- What a server with its jobs may do. A request that the server may call long is answered by a job that is for it,
+  -- or at once; another by the server. A reply to a request of a job is not told to the server. At `shutdown` no job
+  -- is started, and none is pending any more.
+  abbrev pub with_jobs : Plain S P → Stated (S × PendingJobs J) (Asked P)
+  with_jobs plain = record {
+    initializes = λ old params outcome new. plain.initializes old.0 params outcome new.0
+        × (new.1 ≡ old.1);
+    at_initialized = λ old all new.
+        ByServers (λ acts. Does (plain.at_initialized old.0) old.1 acts new) all;
+    requested = λ old id method params all new.
+        (may.sorts old.0 method params true
+        × TakesLong old id method params all new)
+        ⊎ (may.sorts old.0 method params false × ByServers
+        (λ acts. Does (plain.requested old.0 id method params) (without (Request id) old.1) acts new) all);
+    notified = λ old method params all new.
+        ByServers (λ acts. Does (plain.notified old.0 method params)
+        (without_cancelled (cancelled_by method params) old.1) acts new) all;
+    replied = λ old asked outcome all new. WhoseAsked asked
+        (λ payload. ByServers (λ acts. Does (plain.replied old.0 payload outcome) old.1 acts new)
+        all)
+        ((all ≡ []) × (new ≡ old));
+    wakes = Wakes;
+    at_shutdown = λ old all new.
+        ByServers (λ acts. plain.at_shutdown old.0 acts new.0) all × (new.1 ≡ no_jobs);
+    takes_back = λ old asked new. WhoseAsked asked
+        (λ payload. plain.takes_back old.0 payload new.0 × (new.1 ≡ old.1))
+        (new ≡ old);
+  }

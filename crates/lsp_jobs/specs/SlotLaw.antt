@@ -1,4 +1,4 @@
--- Of which jobs a server hears that it started in its slots: of the last one in each.
+-- Of which jobs a server hears: of the last one in each of its slots, and of the one for the last request under an id.
 use Rattle.serde_json.specs.Data.{Data}
 use Rattle.std.specs.Prelude.{◌≡◌, ◌⊎◌, ℕ, true, false, List, [], ◌∷◌, ◌++◌, map, Option, Some, None}
 use Rattle.lsp_message.specs.Id.{Id, same_id}
@@ -9,50 +9,57 @@ use Rattle.lsp_service.specs.Acts.{Act, tells, asks, replies, TakesBack}
 use Rattle.lsp_service.specs.Law.{Call}
 use Rattle.lsp_service.specs.declared.server.Server.{Ghosts as Plain}
 use Rattle.lsp_jobs.specs.Asking.{by_server}
-use Rattle.lsp_jobs.specs.Ends.{Outcome, came_to}
-use Rattle.lsp_jobs.specs.JobLaw.{Left, at_ends}
-use Rattle.lsp_jobs.specs.PendingJobs.{ComesTo}
+use Rattle.lsp_jobs.specs.Ends.{Came, ComesTo, Outcome, end_of}
+use Rattle.lsp_jobs.specs.JobLaw.{concerns, Left, at_ends}
 use Rattle.lsp_jobs.specs.Pooled.{reply_at, IsAtOnce}
 use Rattle.lsp_jobs.specs.declared.asking.Asked.{Asked}
 use Rattle.lsp_jobs.specs.declared.asking.Asked.TheVariants.{ByJob}
-use Rattle.lsp_jobs.specs.declared.job.Job.{Ghosts as OfJob}
-use Rattle.lsp_jobs.specs.declared.job_server.JobServer.{Ghosts as WithJobs}
+use Rattle.lsp_jobs.specs.Stated.{SeesEnd, StatedJobs}
 use Rattle.lsp_jobs.specs.declared.job_server.SlotChange.{SlotChange}
 use Rattle.lsp_jobs.specs.declared.job_server.SlotChange.TheVariants.{Start, Stop}
 use Rattle.lsp_jobs.specs.declared.names.JobName.{JobName}
 use Rattle.lsp_jobs.specs.declared.names.JobName.TheVariants.{Request, Slot}
 
-module _ {J K : Type 0} where
+module _ {P : Type 0} where
+  -- none of these acts replies under the id
+  abbrev pub Spares : Id → List (Act P) → Type 0
+  Spares id [] = Unit {0}
+  Spares id (replies i outcome ∷ acts) = (same_id id i ≡ false) × Spares id acts
+  Spares id (act ∷ acts) = Spares id acts
+
+module _ {J : Type 0} where
   -- the slot that is changed
-  abbrev pub slot_of : SlotChange J K → Id
-  slot_of (Start slot job key) = slot
+  abbrev pub slot_of : SlotChange J → Id
+  slot_of (Start slot job) = slot
   slot_of (Stop slot) = slot
 
   -- none of these changes is of this slot
-  abbrev pub LeavesAlone : Id → List (SlotChange J K) → Type 0
+  abbrev pub LeavesAlone : Id → List (SlotChange J) → Type 0
   LeavesAlone slot [] = Unit {0}
   LeavesAlone slot (change ∷ changes) = (same_id slot (slot_of change) ≡ false) × LeavesAlone slot changes
 
   -- The last of these changes that is of this slot starts this job there.
-  pub record StartsLast (changes : List (SlotChange J K)) (slot : Id) (job : J) (key : K) : Type 0 where
-    pub before : List (SlotChange J K)
-    pub after : List (SlotChange J K)
-    pub cut : changes ≡ before ++ Start slot job key ∷ after
+  pub record StartsLast (changes : List (SlotChange J)) (slot : Id) (job : J) : Type 0 where
+    pub before : List (SlotChange J)
+    pub after : List (SlotChange J)
+    pub cut : changes ≡ before ++ Start slot job ∷ after
     pub alone : LeavesAlone slot after
 
-module _ {S J K P : Type 0} (plain : Plain S P) (may : WithJobs S J K P) where
+module _ {S J F P : Type 0} (plain : Plain S P) (may : StatedJobs S J F P) where
   -- the server sees, one after another, how jobs ended whose slots it changed
   abbrev pub SeesLeft : S → List (Left may) → S → Type 0
   SeesLeft old [] new = new ≡ old
   SeesLeft old (l ∷ ls) new = (l.old ≡ old) × SeesLeft l.new ls new
 
   -- What a server did at a message, or at a wake, as far as it states that: it came from `old` to `asked`, where it was
-  -- asked for changes of its slots. These took it to `made`. Then it saw how jobs ended.
+  -- asked for changes of its slots. These took it to `made`. Then it saw how jobs ended. `given` is the job that it
+  -- gave for a long request.
   pub record Turn : Type 0 where
     pub call : Call (Asked P)
     pub old : S
+    pub given : Option J
     pub asked : S
-    pub changes : List (SlotChange J K)
+    pub changes : List (SlotChange J)
     pub made : S
     pub left : List (Left may)
     pub new : S
@@ -67,15 +74,21 @@ module _ {S J K P : Type 0} (plain : Plain S P) (may : WithJobs S J K P) where
       ⊎ ((is_initialized (notification method params) ≡ true) × plain.at_initialized old acts new)
   IsCalled old (Some (response id outcome)) acts new = (payload : P) × plain.replied old payload outcome acts new
   IsCalled old None acts new =
-      (name : JobName) × (key : K) × (outcome : Outcome) × (first : List (Act P))
-      × may.finishes old name key (came_to outcome) first new × (acts ≡ first ++ reply_at name (came_to outcome))
+      (name : JobName) × (came : Came F) × (first : List (Act P))
+      × SeesEnd may old name (end_of came) first new × (acts ≡ first ++ reply_at name came)
 
-  -- The server calls this request long. It gives a job, and nothing is done yet. Or this is the reply at once.
+  -- The server calls this request long and gives this job, which is for it. Nothing is done yet.
+  abbrev pub IsGiven : S → List (Act (Asked P)) → Id → List ℕ → Data → J → Type 0
+  IsGiven server acts id method params job =
+      may.sorts server method params true × may.gives server id method params job × may.is_for job method params
+      × (acts ≡ [])
+
+  -- The server calls this request long. It gives a job. Or this is the reply at once.
   abbrev pub IsLong : S → Id → List ℕ → Data → List (Act (Asked P)) → Type 0
   IsLong server id method params acts =
-      may.sorts server method params true
-      × (((job : J) × (key : K) × may.gives server id method params job key × (acts ≡ []))
-      ⊎ ((outcome : Outcome) × IsAtOnce may server id method params outcome × (acts ≡ replies id outcome ∷ [])))
+      ((job : J) × IsGiven server acts id method params job)
+      ⊎ (may.sorts server method params true × (outcome : Outcome)
+      × IsAtOnce may server id method params outcome × (acts ≡ replies id outcome ∷ []))
 
   -- It may come that the server does nothing: at a long request; at a reply to a job, or to nobody; at a wake at which
   -- no job ended.
@@ -103,43 +116,61 @@ module _ {S J K P : Type 0} (plain : Plain S P) (may : WithJobs S J K P) where
   AllLeaveAlone slot (t ∷ turns) = LeavesAlone slot t.changes × AllLeaveAlone slot turns
 
   -- This job was started in the slot in one of these turns, and the slot was not changed since.
-  pub record LastStart (turns : List Turn) (slot : Id) (job : J) (key : K) : Type 0 where
+  pub record LastStart (turns : List Turn) (slot : Id) (job : J) : Type 0 where
     pub before : List Turn
     pub turn : Turn
     pub since : List Turn
     pub cut : turns ≡ before ++ turn ∷ since
-    pub started : StartsLast turn.changes slot job key
+    pub started : StartsLast turn.changes slot job
     pub alone : AllLeaveAlone slot since
 
-  -- The job of a slot is the last that was started there. The law of requests says which one that of a request is.
-  abbrev pub Stands : List Turn → JobName → J → K → Type 0
-  Stands turns (Request id) job key = Unit {0}
-  Stands turns (Slot slot) job key = LastStart turns slot job key
+  -- in none of these turns a request under this id came, or its cancellation, or a reply under it was given
+  abbrev pub AllQuiet : Id → List Turn → Type 0
+  AllQuiet id [] = Unit {0}
+  AllQuiet id (t ∷ turns) = (concerns id t.call.came ≡ false) × Spares id t.call.acts × AllQuiet id turns
 
-  module _ (of_job : OfJob J) where
-    -- a job says this at a wake: it reports, asks, or came to an outcome, of which the server hears
-    abbrev pub JobSays : Turn → JobName → J → K → Type 0
-    JobSays t name job key =
-        ((method : List ℕ) × (params : Data) × of_job.reports job method params
-        × (t.call.acts ≡ tells method params ∷ []))
-        ⊎ (((method : List ℕ) × (params : Data) × (number : ℕ) × of_job.asks job method params
-        × (t.call.acts ≡ asks method params (ByJob number) ∷ []))
-        ⊎ ((outcome : Outcome) × (first : List (Act P)) × ComesTo of_job job outcome
-        × may.finishes t.old name key (came_to outcome) first t.asked
-        × (t.call.acts ≡ map by_server ((first ++ reply_at name (came_to outcome)) ++ at_ends may t.left))))
+  -- The last request under this id came in one of these turns, and the server gave this job for it. The request was not
+  -- cancelled since, and there was no reply to it.
+  pub record LastGiven (turns : List Turn) (id : Id) (job : J) : Type 0 where
+    pub before : List Turn
+    pub turn : Turn
+    pub since : List Turn
+    pub cut : turns ≡ before ++ turn ∷ since
+    pub method : List ℕ
+    pub params : Data
+    pub came : turn.call.came ≡ Some (request id method params)
+    pub given : turn.given ≡ Some job
+    pub is_given : IsGiven turn.old turn.call.acts id method params job
+    pub quiet : AllQuiet id since
 
-    -- at a wake, after these turns, nothing is done, or a job says something that stands there
-    abbrev pub WakeDoes : List Turn → Turn → Type 0
-    WakeDoes earlier t = (t.call.acts ≡ [])
-        ⊎ ((name : JobName) × (job : J) × (key : K) × Stands earlier name job key × JobSays t name job key)
+  -- The job of a slot is the last that was started there. That of a request is the one that was given for it.
+  abbrev pub Stands : List Turn → JobName → J → Type 0
+  Stands turns (Request id) job = LastGiven turns id job
+  Stands turns (Slot slot) job = LastStart turns slot job
 
-    -- From the state at the result of `initialize` on, these are the turns of a server: what it began at `initialized`,
-    -- and its calls. At each wake only the last job of a slot has a say.
-    pub record SlotHistory (start : S) (opening : Exchange) (begun : List (Act (Asked P)))
-        (calls : List (Call (Asked P))) : Type 0 where
-      pub turns : List Turn
-      pub are : map (λ (t : Turn). t.call) turns
-          ≡ record { came = opening.came; payload = None; acts = begun } ∷ calls
-      pub linked : AreTurns start turns
-      pub wakes : (earlier later : List Turn) (t : Turn) → turns ≡ earlier ++ t ∷ later → t.call.came ≡ None
-          → WakeDoes earlier t
+  -- a job says this at a wake: it reports, asks, or came to something, of which the server hears
+  abbrev pub JobSays : Turn → JobName → J → Type 0
+  JobSays t name job =
+      ((method : List ℕ) × (params : Data) × may.reports job method params
+      × (t.call.acts ≡ tells method params ∷ []))
+      ⊎ (((method : List ℕ) × (params : Data) × (number : ℕ) × may.asks job method params
+      × (t.call.acts ≡ asks method params (ByJob number) ∷ []))
+      ⊎ ((came : Came F) × (first : List (Act P)) × ComesTo may.comes_to job came
+      × SeesEnd may t.old name (end_of came) first t.asked
+      × (t.call.acts ≡ map by_server ((first ++ reply_at name came) ++ at_ends may t.left))))
+
+  -- at a wake, after these turns, nothing is done, or a job says something that stands there
+  abbrev pub WakeDoes : List Turn → Turn → Type 0
+  WakeDoes earlier t = (t.call.acts ≡ [])
+      ⊎ ((name : JobName) × (job : J) × Stands earlier name job × JobSays t name job)
+
+  -- From the state at the result of `initialize` on, these are the turns of a server: what it began at `initialized`,
+  -- and its calls. At each wake only the last job of a slot has a say, and only the job that a request waits for.
+  pub record SlotHistory (start : S) (opening : Exchange) (begun : List (Act (Asked P)))
+      (calls : List (Call (Asked P))) : Type 0 where
+    pub turns : List Turn
+    pub are : map (λ (t : Turn). t.call) turns
+        ≡ record { came = opening.came; payload = None; acts = begun } ∷ calls
+    pub linked : AreTurns start turns
+    pub wakes : (earlier later : List Turn) (t : Turn) → turns ≡ earlier ++ t ∷ later → t.call.came ≡ None
+        → WakeDoes earlier t

@@ -17,23 +17,22 @@ abbrev pub entry_of : {E : Type 0} → Entries E → PendingJobs E
 entry_of entries (Request id) = map.get entries.requests id
 entry_of entries (Slot slot) = map.get entries.slots slot
 
-module _ {J K : Type 0} where
-  -- a job, and what is kept with it
-  abbrev pub job_of : Entry J K → J × K
-  job_of entry = (entry.job.value, entry.kept)
+module _ {J : Type 0} where
+  abbrev pub job_of : Entry J → J
+  job_of entry = entry.job.value
 
-  -- under each name the job, and what is kept with it
-  abbrev pub pending_of : Entries (Entry J K) → PendingJobs (J × K)
+  -- under each name the job
+  abbrev pub pending_of : Entries (Entry J) → PendingJobs J
   pending_of entries = λ name. option_map job_of (entry_of entries name)
 
   -- each has the ticket of its job
-  abbrev pub HaveTickets : List J → PendingJobs (Entry J K) → Type 0
+  abbrev pub HaveTickets : List J → PendingJobs (Entry J) → Type 0
   HaveTickets jobs entries =
-      (name : JobName) (entry : Entry J K) → entries name ≡ Some entry
+      (name : JobName) (entry : Entry J) → entries name ≡ Some entry
       → get_elem? jobs entry.ticket ≡ some entry.job.value
 
-module _ {J K R : Type 0} (comes_to : J → R → Type 0) (reports asks : J → List ℕ → Data → Type 0) where
+module _ {J R : Type 0} (comes_to : J → R → Type 0) (reports asks : J → List ℕ → Data → Type 0) where
   -- the job that is pending under this name may say this
-  abbrev pub MaySay : PendingJobs (J × K) → JobName → WorkerMessage R → Type 0
+  abbrev pub MaySay : PendingJobs J → JobName → WorkerMessage R → Type 0
   MaySay pending name message =
-      (job : J) × (kept : K) × (pending name ≡ Some (job, kept)) × MaySend comes_to reports asks job message
+      (job : J) × (pending name ≡ Some job) × MaySend comes_to reports asks job message

@@ -1,11 +1,12 @@
 // Requests of jobs to the client, and the jobs that wait for the replies.
 use crate::cancellation::CancellationToken;
 use crossbeam_channel::{Receiver, Sender, bounded};
-use lsp_message::ResponseError;
+use lsp_message::{RequestId, ResponseError};
 use serde_json::Value;
 use std::alloc::{AllocError, Global};
 use std::collections::BTreeMap;
 use std::sync::{Arc, Mutex, Wait};
+use std::time::Duration;
 
 /// Who sent a request to the client. It is kept for the reply.
 #[derive(Drop)]
@@ -26,11 +27,19 @@ struct Waiter {
     reply: Sender<Reply>,
 }
 
-/// The jobs that wait for a reply, each under the number of its request.
+/// A job that shows progress which its client may cancel.
+#[derive(Drop)]
+struct Shown {
+    ticket: u64,
+    token: CancellationToken,
+}
+
+/// The jobs that wait for a reply, each under the number of its request, and those that show progress, each under the progress's token.
 #[derive(Drop)]
 struct Waiters {
     waiting: BTreeMap<u64, Waiter>,
     next: u64,
+    shown: BTreeMap<RequestId, Shown>,
 }
 
 /// The jobs of a pool that wait for replies of the client. Each has a channel of its own, whose end here is dropped when nobody waits for
@@ -46,6 +55,10 @@ pub(crate) struct Replies {
 pub(crate) struct Asker {
     replies: Replies,
     token: CancellationToken,
+    /// The job's.
+    ticket: u64,
+    /// Whether it shows progress that its client may cancel.
+    is_shown: bool,
 }
 
 impl Waiters {
@@ -68,6 +81,7 @@ impl Replies {
         let none = Waiters {
             waiting: BTreeMap::new(alloc),
             next: 0,
+            shown: BTreeMap::new(alloc),
         };
         match Arc::new(alloc, Mutex::new(none)) {
             Ok(waiters) => Ok(Replies { alloc, waiters }),
@@ -75,15 +89,17 @@ impl Replies {
         }
     }
 
-    /// What a job with this token needs to wait. The error means that an allocation failed.
-    pub fn asker(&self, token: &CancellationToken) -> Result<Asker, AllocError> {
+    /// What the job with this ticket and this token needs to wait. The error means that an allocation failed.
+    pub fn asker(&self, ticket: u64, token: CancellationToken) -> Result<Asker, AllocError> {
         let replies = Replies {
             alloc: self.alloc,
             waiters: Arc::try_clone(&self.waiters)?,
         };
         Ok(Asker {
             replies,
-            token: token.share()?,
+            token,
+            ticket,
+            is_shown: false,
         })
     }
 
@@ -102,6 +118,16 @@ impl Replies {
     pub fn give_up<T: Wait>(&self, rt: &T, number: u64) {
         let waiter = self.remove(rt, number);
         drop(waiter);
+    }
+
+    /// The client cancelled the progress with this token: the job that shows it is to end. If none does, nothing is done.
+    pub fn cancel_shown<T: Wait>(&self, rt: &T, token: &RequestId) {
+        let waiters = self.waiters.lock(rt);
+        if let Some(shown) = waiters.shown.get(token) {
+            shown.token.stop();
+        }
+        drop(waiters);
+        self.let_cancelled_go(rt);
     }
 
     /// Jobs whose token was cancelled go on without a reply.
@@ -134,6 +160,38 @@ impl Asker {
         }
         let number = waiters.add(waiter)?;
         Ok(Some((number, receiver)))
+    }
+
+    /// Whether the job is to end.
+    pub fn is_cancelled(&self) -> bool {
+        self.token.is_cancelled()
+    }
+
+    /// Sleeps for this time, or until the job is to end.
+    pub fn rest<T: Wait>(&self, rt: &T, time: Duration) {
+        self.token.rest(rt, time);
+    }
+
+    /// The job shows progress with this token, which its client may cancel. The error means that an allocation failed.
+    pub fn show<T: Wait>(&mut self, rt: &T, token: RequestId) -> Result<(), AllocError> {
+        let shown = Shown {
+            ticket: self.ticket,
+            token: self.token.share()?,
+        };
+        self.is_shown = true;
+        match self.replies.waiters.lock(rt).shown.insert(token, shown) {
+            Ok(_) => Ok(()),
+            Err(_) => Err(AllocError),
+        }
+    }
+
+    /// The job ended: it shows no progress any more.
+    pub fn leave<T: Wait>(self, rt: &T) {
+        if self.is_shown {
+            let ticket = self.ticket;
+            let mut waiters = self.replies.waiters.lock(rt);
+            waiters.shown.retain(|_, shown| shown.ticket != ticket);
+        }
     }
 
     /// The request was not sent: the job waits no more.

@@ -1,12 +1,14 @@
-// How a job is told that nobody waits for its outcome any more.
+// How a job is told to end.
 use crate::untaken_messages::UntakenMessages;
 use std::alloc::{AllocError, Global};
-use std::sync::Arc;
 use std::sync::atomic::{AtomicBool, Ordering};
+use std::sync::{Arc, Wait};
+use std::time::Duration;
 
-/// Tells a job that nobody waits for its outcome any more (LSP 3.17, "Cancellation Support").
+/// Tells a job that it is to end: nobody waits for its outcome any more (LSP 3.17, "Cancellation Support"), or its client cancelled the
+/// progress that it shows.
 #[derive(Drop)]
-pub struct CancellationToken {
+pub(crate) struct CancellationToken {
     request: UntakenMessages,
     pool: Arc<AtomicBool, Global>,
 }
@@ -14,14 +16,17 @@ pub struct CancellationToken {
 impl CancellationToken {
     /// A token that is not cancelled. The error means that an allocation failed.
     pub fn new(alloc: Global) -> Result<CancellationToken, AllocError> {
+        let Ok(pool) = Arc::new(alloc, AtomicBool::new(false)) else {
+            return Err(AllocError);
+        };
         Ok(CancellationToken {
             request: UntakenMessages::new(alloc)?,
-            pool: flag(alloc)?,
+            pool,
         })
     }
 
-    /// The token of another request of the same pool.
-    pub(crate) fn of_pool(&self, alloc: Global) -> Result<CancellationToken, AllocError> {
+    /// The token of another job of the same pool.
+    pub fn of_pool(&self, alloc: Global) -> Result<CancellationToken, AllocError> {
         Ok(CancellationToken {
             request: UntakenMessages::new(alloc)?,
             pool: Arc::try_clone(&self.pool)?,
@@ -29,43 +34,48 @@ impl CancellationToken {
     }
 
     /// The same token, for another thread.
-    pub(crate) fn share(&self) -> Result<CancellationToken, AllocError> {
+    pub fn share(&self) -> Result<CancellationToken, AllocError> {
         Ok(CancellationToken {
             request: self.request.share()?,
             pool: Arc::try_clone(&self.pool)?,
         })
     }
 
-    /// Whether the request was forgotten, another job was taken on under its id, or the pool ended. What the job comes to is dropped
-    /// then, so it may stop.
+    /// Whether the job is to end.
     pub fn is_cancelled(&self) -> bool {
-        self.request.is_cancelled() || self.pool.load(Ordering::SeqCst)
+        self.request.is_stopped() || self.pool.load(Ordering::SeqCst)
     }
 
-    /// Cancels the request of this token.
+    /// Nobody waits for the job any more.
     pub fn cancel(&self) {
         self.request.cancel();
+        self.stop();
     }
 
-    /// The count of the messages of this request's job, for another thread.
-    pub(crate) fn untaken(&self) -> Result<UntakenMessages, AllocError> {
+    /// The job is to end. Somebody waits for it.
+    pub fn stop(&self) {
+        self.request.stop();
+    }
+
+    /// Sleeps for this time, or until the job is to end.
+    pub fn rest<T: Wait>(&self, rt: &T, time: Duration) {
+        if !self.is_cancelled() {
+            self.request.rest(rt, time);
+        }
+    }
+
+    /// The count of the messages of this job, for another thread.
+    pub fn untaken(&self) -> Result<UntakenMessages, AllocError> {
         self.request.share()
     }
 
-    /// A message of this request's job was taken.
-    pub(crate) fn took(&self) {
+    /// A message of this job was taken.
+    pub fn took(&self) {
         self.request.remove();
     }
 
     /// Cancels all tokens of the pool.
-    pub(crate) fn cancel_all(&self) {
+    pub fn cancel_all(&self) {
         self.pool.store(true, Ordering::SeqCst);
-    }
-}
-
-fn flag(alloc: Global) -> Result<Arc<AtomicBool, Global>, AllocError> {
-    match Arc::new(alloc, AtomicBool::new(false)) {
-        Ok(flag) => Ok(flag),
-        Err(_) => Err(AllocError),
     }
 }

@@ -2,28 +2,28 @@
 // out is one that the job with its ticket may send.
 ghost use Rattle.serde_json.specs.Data.{Data};
 ghost use Rattle.serde_json.specs.View.{view};
-ghost use Rattle.std.specs.Prelude.{◌≡◌, ◌∷◌, ◌++◌, [], ℕ, List, length, IfOk, OnErr, OnOk, Some, string_bytes};
+ghost use Rattle.std.specs.Prelude.{◌≡◌, ◌∷◌, ◌++◌, [], ℕ, List, length, IfOk, IfSome, OnErr, OnOk, Some, string_bytes};
 ghost use Rattle.crossbeam_channel.specs.Claims.{IsSeatAt, view as knows};
 ghost use Rattle.crossbeam_channel.specs.Ends.{receives_on, sends_on};
 ghost use Rattle.lsp_jobs.specs.Outcomes.{KnowsAll, all_jobs};
 ghost use Rattle.lsp_jobs.specs.declared.channel.Known.TheVariants.{All, One};
 
 use crate::asking::{Asker, Reply};
-use crate::cancellation::CancellationToken;
-use crate::job::Progress;
+use crate::job::{Interrupted, JobContext};
 use crate::names::JobName;
 use crate::notifier::Notifier;
 use crate::untaken_messages::UntakenMessages;
 use crate::waiting_jobs::RunningJobs;
 use crossbeam_channel::protocol::{Lesson, Outcome, Protocol, Split};
 use crossbeam_channel::{Pass, RuledReceiver, RuledSender, bounded_with};
-use lsp_message::Notification;
+use lsp_message::{Notification, RequestId};
 use serde_json::Value;
 use std::alloc::{AllocError, Global};
 use std::collections::LinkedList;
 use std::marker::{Brand, Model, PhantomData};
 use std::snapshot::Snapshot;
 use std::sync::Wait;
+use std::time::Duration;
 
 /// What a worker does, and what may come of it.
 pub(crate) trait AnyJob<R>: Drop {
@@ -39,11 +39,11 @@ pub(crate) trait AnyJob<R>: Drop {
     /// It may ask the client this.
     ghost asks: { Self → List ℕ → Data → Type 0 };
 
-    fn perform<P: Progress>(self, token: &CancellationToken, progress: &mut P) -> R
+    fn perform<C: JobContext>(self, context: &mut C) -> R
         requires reporting { (method : List ℕ) (params : Data) → reports «self» method params
-            → P.may method params }
+            → C.may method params }
         requires asking { (method : List ℕ) (params : Data) → asks «self» method params
-            → P.may_ask method params }
+            → C.may_ask method params }
         ensures { comes_to «self» result };
 }
 
@@ -55,7 +55,7 @@ pub(crate) enum WorkerMessage<R> {
     /// A request to the client with this method and these params. The job waits for the reply under this number.
     Ask(String, Value, u64),
     /// What it came to.
-    Outcome(R),
+    Ran(R),
 }
 
 /// What goes through the channel: the ticket of a job, its name, and what it says.
@@ -247,7 +247,6 @@ impl<J: AnyJob<R>, R: Drop> JobSender<J, R> {
     pub fn perform<T: Wait + Copy + Drop, N: Notifier>(
         self,
         rt: T,
-        token: &CancellationToken,
         asker: Asker,
         notifier: N,
         running: &RunningJobs,
@@ -264,14 +263,14 @@ impl<J: AnyJob<R>, R: Drop> JobSender<J, R> {
         } = self;
         let ends = (report_sender, report_pass);
         let (outcome, name, untaken, mut notifier) = perform_telling::<Brand, T, J, R, N>(
-            job, token, ends, untaken, rt, ticket, name, asker, notifier,
+            job, ends, untaken, rt, ticket, name, asker, notifier,
         );
         running.end(name.is_slot());
         if untaken.add(&rt) {
             let item = Item {
                 ticket,
                 name,
-                message: WorkerMessage::Outcome(outcome),
+                message: WorkerMessage::Ran(outcome),
             };
             if was_sent(sender.send_as::<Further, T>(&rt, &mut pass, item)) {
                 notifier.notify(&rt);
@@ -305,7 +304,6 @@ impl Reportable for Brand {
 /// Performs a job, and sends what it reports meanwhile.
 fn perform_telling<W: Reportable, T: Wait + Drop, J: AnyJob<R>, R: Drop, N: Notifier>(
     job: J,
-    token: &CancellationToken,
     ends: (ItemSender<J, R>, ItemPass<J, R>),
     untaken: UntakenMessages,
     rt: T,
@@ -333,6 +331,7 @@ fn perform_telling<W: Reportable, T: Wait + Drop, J: AnyJob<R>, R: Drop, N: Noti
         ticket,
         sender,
         pass,
+        last: None,
     };
     let mut reporter = Reporter {
         rt,
@@ -342,13 +341,17 @@ fn perform_telling<W: Reportable, T: Wait + Drop, J: AnyJob<R>, R: Drop, N: Noti
         notifier,
         reports,
     };
-    let outcome = job.perform(token, &mut reporter);
+    let outcome = job.perform(&mut reporter);
+    reporter.send_last();
     let Reporter {
+        rt,
         name,
         untaken,
+        asker,
         notifier,
         ..
     } = reporter;
+    asker.leave(&rt);
     (outcome, name, untaken, notifier)
 }
 
@@ -360,11 +363,14 @@ struct Reports<W: Reportable, J: AnyJob<R>, R: Drop> {
     ticket: u64,
     sender: ItemSender<J, R>,
     pass: ItemPass<J, R>,
+    /// What is sent when the job ends.
+    last: Option<Notification>,
 }
 
 impl<W: Reportable, J: AnyJob<R>, R: Drop> Model for Reports<W, J, R> {
     ghost use Rattle.serde_json.specs.Data.{Data};
-    ghost use Rattle.std.specs.Prelude.{◌≡◌, ℕ, List};
+    ghost use Rattle.serde_json.specs.View.{view as tree_of};
+    ghost use Rattle.std.specs.Prelude.{◌≡◌, ℕ, IfSome, List, string_bytes};
     ghost use Rattle.crossbeam_channel.specs.Claims.{IsSeatAt, view as knows};
     ghost use Rattle.crossbeam_channel.specs.Ends.{sends_on};
     ghost use Rattle.lsp_jobs.specs.declared.channel.Known.TheVariants.{One};
@@ -378,10 +384,25 @@ impl<W: Reportable, J: AnyJob<R>, R: Drop> Model for Reports<W, J, R> {
         × ((method : List ℕ) (params : Data) → W.what method params
         → ⟦<J as AnyJob<R>>⟧.reports r.job.value method params)
         × ((method : List ℕ) (params : Data) → W.asked method params
-        → ⟦<J as AnyJob<R>>⟧.asks r.job.value method params) };
+        → ⟦<J as AnyJob<R>>⟧.asks r.job.value method params)
+        × IfSome r.last (λ told. W.what (string_bytes told.method) (tree_of told.params)) };
 }
 
 impl<W: Reportable, J: AnyJob<R>, R: Drop> Reports<W, J, R> {
+    /// This is sent when the job ends, in place of what was to be sent then.
+    fn keep_last(&mut self, last: Option<Notification>)
+        requires { IfSome last (λ told. W.what (string_bytes told.method) (view told.params)) }
+    {
+        self.last = last;
+    }
+
+    /// What is to be sent when the job ends.
+    fn take_last(&mut self) -> Option<Notification>
+        ensures { IfSome result (λ told. W.what (string_bytes told.method) (view told.params)) }
+    {
+        self.last.take()
+    }
+
     /// Sends a report, if there is room.
     fn try_send<T: Wait>(&mut self, rt: &T, name: JobName, notification: Notification) -> bool
         requires { W.what (string_bytes notification.method) (view notification.params) }
@@ -443,6 +464,13 @@ struct Reporter<W: Reportable, T: Wait + Drop, J: AnyJob<R>, R: Drop, N: Notifie
 }
 
 impl<W: Reportable, T: Wait + Drop, J: AnyJob<R>, R: Drop, N: Notifier> Reporter<W, T, J, R, N> {
+    /// Sends what is to be sent when the job ends.
+    fn send_last(&mut self) {
+        if let Some(last) = self.reports.take_last() {
+            self.send(last);
+        }
+    }
+
     /// Counts a message that is sent now, or was not sent.
     fn counted(&mut self, is_sent: bool) -> bool {
         if is_sent {
@@ -454,11 +482,20 @@ impl<W: Reportable, T: Wait + Drop, J: AnyJob<R>, R: Drop, N: Notifier> Reporter
     }
 }
 
-impl<W: Reportable, T: Wait + Drop, J: AnyJob<R>, R: Drop, N: Notifier> Progress
+impl<W: Reportable, T: Wait + Drop, J: AnyJob<R>, R: Drop, N: Notifier> JobContext
     for Reporter<W, T, J, R, N> {
     ghost may = { W.what };
 
     ghost may_ask = { W.asked };
+
+    fn is_cancelled(&self) -> bool {
+        self.asker.is_cancelled()
+    }
+
+    fn rest(&mut self, time: Duration) -> Result<(), Interrupted> {
+        self.asker.rest(&self.rt, time);
+        self.check()
+    }
 
     fn report(&mut self, notification: Notification) -> bool {
         let Ok(name) = self.name.clone() else {
@@ -497,5 +534,16 @@ impl<W: Reportable, T: Wait + Drop, J: AnyJob<R>, R: Drop, N: Notifier> Progress
             return Ok(None);
         }
         Ok(replies.recv(&self.rt).ok())
+    }
+
+    fn at_end(&mut self, last: Option<Notification>) {
+        self.reports.keep_last(last);
+    }
+
+    fn cancelled_with(&mut self, token: &Value) -> Result<(), AllocError> {
+        match RequestId::from_value(token)? {
+            Some(token) => self.asker.show(&self.rt, token),
+            None => Ok(()),
+        }
     }
 }

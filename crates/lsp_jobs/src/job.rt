@@ -1,13 +1,13 @@
 // The work of a long request, or of a server's own.
 ghost use Rattle.serde_json.specs.View.{view};
-ghost use Rattle.std.specs.Prelude.{IfOk, string_bytes};
+ghost use Rattle.std.specs.Prelude.{◌≡◌, None, Some, IfOk, IfSome, option_map, string_bytes};
 ghost use Rattle.lsp_message.specs.View.{outcome_view};
 
-use crate::cancellation::CancellationToken;
 use crate::channel::AnyJob;
 use lsp_message::{Notification, ResponseError};
 use serde_json::Value;
-use std::alloc::AllocError;
+use std::alloc::{AllocError, AllocFailed};
+use std::time::Duration;
 
 /// The work of one request or slot, with all that it needs. It runs in a thread of a `JobPool`.
 ///
@@ -15,14 +15,17 @@ use std::alloc::AllocError;
 /// out, that may be anything.
 pub trait Job: Drop {
     ghost use Rattle.serde_json.specs.Data.{Data};
-    ghost use Rattle.std.specs.Prelude.{ℕ, List, Result, ⊤};
-    ghost use Rattle.lsp_message.specs.Message.{ErrorObject};
+    ghost use Rattle.std.specs.Prelude.{ℕ, List, Option, ⊤};
+    ghost use Rattle.lsp_jobs.specs.Ends.{Outcome};
+
+    /// What a job finds for its server: a type of your own, `()` if that is nothing.
+    type Found: Drop;
 
     /// The job is for a request with this method and these params.
     ghost is_for: { Self → List ℕ → Data → Type 0 } = { λ _ _ _. ⊤ };
 
-    /// The job may come to this: the outcome of its request, or what the server gets that started it in a slot.
-    ghost finds: { Self → Result Data ErrorObject → Type 0 } = { λ _ _. ⊤ };
+    /// The job may come to this: the reply to its request, and what its server gets.
+    ghost comes_to: { Self → Option Outcome → Option Self.Found → Type 0 } = { λ _ _ _. ⊤ };
 
     /// The job may send a notification with this method and these params while it runs.
     ghost reports: { Self → List ℕ → Data → Type 0 } = { λ _ _ _. ⊤ };
@@ -30,23 +33,76 @@ pub trait Job: Drop {
     /// The job may send the client a request with this method and these params while it runs.
     ghost asks: { Self → List ℕ → Data → Type 0 } = { λ _ _ _. ⊤ };
 
-    /// Comes to the outcome of the request, or to what is found for the slot. It may look at the token, and stop early with any outcome. It
-    /// may tell by `progress` how far it is. An outer `Err` is a failed allocation: the outcome is the error -32603, `out of memory`, and
-    /// all else goes on.
-    fn run<P: Progress>(
-        self,
-        token: &CancellationToken,
-        progress: &mut P,
-    ) -> Result<Result<Value, ResponseError>, AllocError>
+    /// Does the work. A job that takes long calls `JobContext::check` now and then, and so ends soon after nobody waits for it any more. By
+    /// its context it tells how far it is, too.
+    fn run<C: JobContext>(self, context: &mut C) -> Result<JobResult<Self::Found>, Interrupted>
         requires reporting { (method : List ℕ) (params : Data) → reports «self» method params
-            → P.may method params }
+            → C.may method params }
         requires asking { (method : List ℕ) (params : Data) → asks «self» method params
-            → P.may_ask method params }
-        ensures { IfOk result (λ outcome. finds «self» (outcome_view outcome)) };
+            → C.may_ask method params }
+        ensures { IfOk result (λ done.
+            comes_to «self» (option_map outcome_view done.reply) done.found) };
 }
 
-/// Tells the client how far a job is, and asks it.
-pub trait Progress {
+/// What a job came to.
+#[derive(Debug, Drop)]
+pub struct JobResult<F> {
+    /// The reply to its request. If it has none, the request gets the error -32603, `no result`. A job in a slot needs none.
+    pub reply: Option<Result<Value, ResponseError>>,
+    /// What its server gets: see `Slots::found`.
+    pub found: Option<F>,
+}
+
+impl<F: Drop> JobResult<F> {
+    /// The reply to its request.
+    pub fn reply(outcome: Result<Value, ResponseError>) -> JobResult<F>
+        ensures { (option_map outcome_view result.reply ≡ Some (outcome_view outcome)) × (result.found ≡ None) }
+    {
+        JobResult {
+            reply: Some(outcome),
+            found: None,
+        }
+    }
+
+    /// What its server gets.
+    pub fn found(found: F) -> JobResult<F>
+        ensures { (result.reply ≡ None) × (result.found ≡ Some «found») }
+    {
+        JobResult {
+            reply: None,
+            found: Some(found),
+        }
+    }
+}
+
+/// Why a job ends before its work is done. `?` gives it.
+#[derive(Clone, Copy, Debug, PartialEq, Eq)]
+pub enum Interrupted {
+    /// Nobody waits for the job any more, or its client cancelled the progress that it shows. If its request still has no reply, it gets
+    /// the error -32800, `canceled by client`.
+    Cancelled,
+    /// An allocation failed. The request gets the error -32603, `out of memory`.
+    Memory,
+}
+
+impl From<AllocError> for Interrupted {
+    fn from(error: AllocError) -> Interrupted {
+        let _ = error;
+        Interrupted::Memory
+    }
+}
+
+impl<T: Drop> From<AllocFailed<T>> for Interrupted {
+    fn from(error: AllocFailed<T>) -> Interrupted {
+        drop(error);
+        Interrupted::Memory
+    }
+}
+
+/// What a job does beside its work: it sees whether somebody waits for it, rests, tells the client how far it is, and asks it.
+///
+/// A context for tests of a job of yours has `is_cancelled`, `report` and `send`.
+pub trait JobContext {
     ghost use Rattle.serde_json.specs.Data.{Data};
     ghost use Rattle.std.specs.Prelude.{ℕ, List, ⊤};
 
@@ -55,6 +111,24 @@ pub trait Progress {
 
     /// A request with this method and these params may be sent.
     ghost may_ask: { List ℕ → Data → Type 0 } = { λ _ _. ⊤ };
+
+    /// Whether the job is to end: nobody waits for it any more, or its client cancelled the progress that it shows.
+    fn is_cancelled(&self) -> bool;
+
+    /// `Err(Interrupted::Cancelled)` if the job is to end.
+    fn check(&self) -> Result<(), Interrupted> {
+        if self.is_cancelled() {
+            return Err(Interrupted::Cancelled);
+        }
+        Ok(())
+    }
+
+    /// Sleeps for this time. If the job is to end, it is woken, and gets `Err(Interrupted::Cancelled)`. A job that begins with a rest does
+    /// nothing where another takes its place soon.
+    fn rest(&mut self, time: Duration) -> Result<(), Interrupted> {
+        let _ = time;
+        self.check()
+    }
 
     /// Sends a notification while the job runs, such as `$/progress` (LSP 3.17, "Work Done Progress"), if there is room for it. False
     /// means that it was not sent: nobody waits for the job any more, 15 of its notifications or 256 of all jobs wait to be taken, or
@@ -70,9 +144,8 @@ pub trait Progress {
     /// Sends the client a request, such as `workspace/configuration` or `workspace/applyEdit`, and waits for its reply: the result or the
     /// error that the client sent. The job's thread runs nothing else meanwhile.
     ///
-    /// `None` means that no reply comes. Nobody waits for the job any more, since its request was cancelled or answered otherwise, or the
-    /// session or its pool ended: then the job goes on at once. Or the session has given out all of its ids. A client that never
-    /// replies keeps the job waiting until then. What comes of a reply that the job no longer waits for: it is dropped.
+    /// `None` means that no reply comes. The job is to end, and goes on at once. Or the session has given out all of its ids. A client
+    /// that never replies keeps the job waiting until then. What comes of a reply that the job no longer waits for: it is dropped.
     ///
     /// The error means that an allocation failed, and nothing was sent. By itself it gives `None`.
     fn ask(
@@ -85,23 +158,38 @@ pub trait Progress {
         let _ = (method, params);
         Ok(None)
     }
+
+    /// Has this sent when the job ends, in place of what was to be sent then: so progress that began has an end. By itself it does
+    /// nothing.
+    fn at_end(&mut self, last: Option<Notification>)
+        requires { IfSome last (λ told. may (string_bytes told.method) (view told.params)) }
+    {
+        drop(last);
+    }
+
+    /// From now on the job is to end if its client cancels the progress with this token: a text, or an integer of 32 bits (LSP 3.17,
+    /// "Canceling Work Done Progress"). The error means that an allocation failed. By itself it does nothing.
+    fn cancelled_with(&mut self, token: &Value) -> Result<(), AllocError> {
+        let _ = token;
+        Ok(())
+    }
 }
 
-/// What a job came to. The outer error is a failed allocation.
-pub(crate) type Ran = Result<Result<Value, ResponseError>, AllocError>;
+/// What a job came to, or why it came to nothing.
+pub(crate) type Ran<F> = Result<JobResult<F>, Interrupted>;
 
-impl<J: Job> AnyJob<Ran> for J {
+impl<J: Job> AnyJob<Ran<J::Found>> for J {
     ghost use Rattle.serde_json.specs.Data.{Data};
-    ghost use Rattle.std.specs.Prelude.{ℕ, List, IfOk};
+    ghost use Rattle.std.specs.Prelude.{ℕ, List, IfOk, option_map};
     ghost use Rattle.lsp_message.specs.View.{outcome_view};
 
-    ghost comes_to = { λ job ran. IfOk ran (λ outcome. J.finds job (outcome_view outcome)) };
+    ghost comes_to = { λ job ran. IfOk ran (λ done. J.comes_to job (option_map outcome_view done.reply) done.found) };
 
     ghost reports = { J.reports };
 
     ghost asks = { J.asks };
 
-    fn perform<P: Progress>(self, token: &CancellationToken, progress: &mut P) -> Ran {
-        self.run(token, progress)
+    fn perform<C: JobContext>(self, context: &mut C) -> Ran<J::Found> {
+        self.run(context)
     }
 }

@@ -16,10 +16,11 @@ ghost use Rattle.lsp_jobs.specs.JobSession.{JobSession, seen_with_jobs};
 ghost use Rattle.lsp_jobs.specs.PendingJobs.{no_jobs};
 ghost use Rattle.lsp_jobs.specs.PoolView.{pending_jobs};
 ghost use Rattle.lsp_jobs.specs.SlotLaw.{SlotHistory};
+ghost use Rattle.lsp_jobs.specs.Stated.{stated_jobs};
 ghost use Rattle.lsp_jobs.specs.declared.pooled_server.PooledServer.{PooledServer as Pooled};
 
 use crate::job::Job;
-use crate::job_server::JobServer;
+use crate::job_server::{JobServer, Slots};
 use lsp_session::Listener;
 use std::sync::Wait;
 
@@ -30,15 +31,15 @@ use std::sync::Wait;
 pub fn session_with_jobs_keeps_laws<T: Wait + Drop, S: JobServer<J>, J: Job>()
     ensures exchanges { (first last : S) (exchanges : List Exchange) (stop : Stop)
         (shutdown_reply : Option Message) (answer : SessionAnswer)
-        → JobSession T S.Server S.JobServer.own J.Job first last exchanges stop shutdown_reply
+        → JobSession T S.Server (stated_jobs S.JobServer.own ⟦<S::Slots as Slots<S, J>>⟧ J.Job) first last exchanges stop shutdown_reply
         answer
-        → LawfulJobSession T S.Server S.JobServer.own J.Job first last exchanges stop shutdown_reply
+        → LawfulJobSession T S.Server (stated_jobs S.JobServer.own ⟦<S::Slots as Slots<S, J>>⟧ J.Job) first last exchanges stop shutdown_reply
         answer }
     ensures bytes { (limit : Limits) (first last : S) (text : List ℕ) (before after : Option (List ℕ))
         (answer : Result EndOfSession FaultOfSession)
-        → ThreadsGiveOver true limit (JobSession T S.Server S.JobServer.own J.Job first last) text
+        → ThreadsGiveOver true limit (JobSession T S.Server (stated_jobs S.JobServer.own ⟦<S::Slots as Slots<S, J>>⟧ J.Job) first last) text
         before after answer
-        → ThreadsGiveOver true limit (LawfulJobSession T S.Server S.JobServer.own J.Job first last)
+        → ThreadsGiveOver true limit (LawfulJobSession T S.Server (stated_jobs S.JobServer.own ⟦<S::Slots as Slots<S, J>>⟧ J.Job) first last)
         text before after answer }
 {}
 
@@ -54,31 +55,32 @@ pub fn session_with_jobs_that_asks_keeps_laws<
     ensures bytes { (limit : Limits) (first last : S) (text : List ℕ) (heard heard_last : L)
         (before after : Option (List ℕ)) (answer : Result EndOfSession FaultOfSession)
         → ThreadsTellOver true L.hears limit
-        (JobSession T S.Server S.JobServer.own J.Job first last) text heard heard_last before
+        (JobSession T S.Server (stated_jobs S.JobServer.own ⟦<S::Slots as Slots<S, J>>⟧ J.Job) first last) text heard heard_last before
         after answer
         → ThreadsTellOver true L.hears limit
-        (LawfulJobSession T S.Server S.JobServer.own J.Job first last) text heard heard_last
+        (LawfulJobSession T S.Server (stated_jobs S.JobServer.own ⟦<S::Slots as Slots<S, J>>⟧ J.Job) first last) text heard heard_last
         before after answer }
     ensures nothing_passed { (limit : Limits) (first last : S) (text : List ℕ) (heard heard_last : L)
         (before after : Option (List ℕ)) (answer : Result EndOfSession FaultOfSession)
         → PassesNothingOver L.hears
         → ThreadsTellOver true L.hears limit
-        (JobSession T S.Server S.JobServer.own J.Job first last) text heard heard_last before
+        (JobSession T S.Server (stated_jobs S.JobServer.own ⟦<S::Slots as Slots<S, J>>⟧ J.Job) first last) text heard heard_last before
         after answer
-        → ThreadsGiveOver true limit (JobSession T S.Server S.JobServer.own J.Job first last) text
+        → ThreadsGiveOver true limit (JobSession T S.Server (stated_jobs S.JobServer.own ⟦<S::Slots as Slots<S, J>>⟧ J.Job) first last) text
         before after answer }
 {}
 
 /// Of each reply that is sent at a wake. The last request under its id came before, and since then no reply under the id was sent and no
-/// cancellation of it came. The outcome is one that a job may find which is for that request, or the error of a failed allocation. Or the
-/// server saw how a job ended, and then answered the request by itself: a server that does nothing then, as by the default of `finishes`,
-/// never does.
+/// cancellation of it came. The outcome is one that a job may come to which is for that request; or one of three errors: its job gave no
+/// reply, an allocation failed, its client cancelled it. Or the server saw how a job ended, and then answered the request by itself: a server
+/// that does nothing then, as by `NoSlots`, never does.
 pub fn requests_are_answered_by_their_jobs<S: JobServer<J>, J: Job>()
-    ensures { (exchanges : List Exchange) → AnswersByJobs S.JobServer.own J.Job exchanges
+    ensures { (exchanges : List Exchange) → AnswersByJobs (stated_jobs S.JobServer.own ⟦<S::Slots as Slots<S, J>>⟧ J.Job) exchanges
         → (earlier later : List Exchange) (x : Exchange) (before after : List Message) (id : Id)
         (outcome : Outcome) → exchanges ≡ earlier ++ x ∷ later → x.came ≡ None
         → x.sent ≡ before ++ response id outcome ∷ after
-        → AnswersRequest J.Job earlier id outcome ⊎ RepliesItself S.JobServer.own id outcome }
+        → AnswersRequest (stated_jobs S.JobServer.own ⟦<S::Slots as Slots<S, J>>⟧ J.Job) earlier id outcome
+        ⊎ RepliesItself (stated_jobs S.JobServer.own ⟦<S::Slots as Slots<S, J>>⟧ J.Job) id outcome }
 {}
 
 /// Of the jobs that a server starts, from the state at the result of `initialize` on (`GoesOn` in `lsp_service::laws`). Its turns are what
@@ -87,14 +89,15 @@ pub fn requests_are_answered_by_their_jobs<S: JobServer<J>, J: Job>()
 /// `too many requests are waiting`, or -32603, `out of memory`. At each wake nothing is done, or one
 /// pending job reports, asks or came to what it may find. If that is a job in a slot, it is the last that was started there: in an earlier
 /// turn, and since then the slot was not changed. So what is found of an earlier text never comes behind the start for a later one.
+/// A job for a request is one that the server may give for the last request under the id, which is long, was not cancelled and has no reply.
 /// Up to the result of `initialize` no job is pending (`first`).
 pub fn slots_hear_their_last_jobs<T: Wait + Drop, S: JobServer<J>, J: Job>()
-    ensures turns { (start last : Pooled T S J S.Key) (opening : Exchange)
+    ensures turns { (start last : Pooled T S J J.Found) (opening : Exchange)
         (later : List Exchange) (m : Message) → pending_jobs start.pool ≡ no_jobs
         → opening.came ≡ Some m → is_initialized m ≡ true
-        → (part : TakesPart (seen_with_jobs T S.Server S.JobServer.own J.Job) start last opening later)
-        → SlotHistory S.Server S.JobServer.own J.Job start.server opening part.begun part.calls }
-    ensures first { (early : List Exchange) (old start : Pooled T S J S.Key)
-        → AnswersInitialize (seen_with_jobs T S.Server S.JobServer.own J.Job) old early start
+        → (part : TakesPart (seen_with_jobs T S.Server (stated_jobs S.JobServer.own ⟦<S::Slots as Slots<S, J>>⟧ J.Job)) start last opening later)
+        → SlotHistory S.Server (stated_jobs S.JobServer.own ⟦<S::Slots as Slots<S, J>>⟧ J.Job) start.server opening part.begun part.calls }
+    ensures first { (early : List Exchange) (old start : Pooled T S J J.Found)
+        → AnswersInitialize (seen_with_jobs T S.Server (stated_jobs S.JobServer.own ⟦<S::Slots as Slots<S, J>>⟧ J.Job)) old early start
         → pending_jobs start.pool ≡ pending_jobs old.pool }
 {}

@@ -20,9 +20,8 @@ mod waiting_jobs;
 mod workers;
 
 pub use asking::Asked;
-pub use cancellation::CancellationToken;
-pub use job::{Job, Progress};
-pub use job_server::{AnsweredBy, JobEnd, JobServer, SlotChange};
+pub use job::{Interrupted, Job, JobContext, JobResult};
+pub use job_server::{AnsweredBy, JobEnd, JobServer, NoSlots, SlotChange, Slots};
 pub use names::{JobName, Slot};
 pub use pool::{JobMessage, JobPool, PoolSize, SubmitFault};
 pub use pooled_server::PooledServer;

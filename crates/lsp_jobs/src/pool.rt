@@ -1,21 +1,20 @@
 //! The pool: threads that run jobs, and the jobs that are pending.
-ghost use Rattle.std.specs.Prelude.{◌≡◌, Some, option_map, IfErr, IfOk, IfNone, IfSome, OnErr, OnOk};
+ghost use Rattle.std.specs.Prelude.{◌≡◌, Some, IfOk, IfNone, IfSome, OnErr, OnOk};
 ghost use Rattle.std.specs.Option.{is_some};
-ghost use Rattle.lsp_message.specs.View.{outcome_view};
 ghost use Rattle.lsp_jobs.specs.PendingJobs.{no_jobs, without, with_job, Tells};
-ghost use Rattle.lsp_jobs.specs.PoolView.{CameTo, GivesBack, job_message_view, pending_jobs};
+ghost use Rattle.lsp_jobs.specs.PoolView.{job_message_view, pending_jobs};
 
 use crate::asking::Replies;
 use crate::cancellation::CancellationToken;
 use crate::channel::{AnyJob, WorkerMessage};
-use crate::job::{Job, Ran};
+use crate::job::{Interrupted, Job, JobResult, Ran};
 use crate::names::JobName;
 use crate::notifier::Notifier;
-use crate::table::{Entry, JobTable};
+use crate::table::JobTable;
 use crate::waiting_jobs::{JobSource, WaitingJobs, queue_of_jobs};
 use crate::workers::{QueuedJob, join_all, start_job_workers};
 use crossbeam_channel::{Receiver, bounded};
-use lsp_message::{ErrorCode, Notification, ResponseError};
+use lsp_message::{Notification, RequestId, ResponseError};
 use lsp_threads::StartFault;
 use serde_json::Value;
 use std::alloc::{AllocError, Global};
@@ -78,45 +77,44 @@ impl From<usize> for PoolSize {
 
 /// Why a job was not submitted.
 #[derive(Clone, Copy, Debug, PartialEq, Eq)]
-pub enum SubmitFault<K> {
-    /// 1: as many jobs wait and run as may. It gives back what was to be kept.
-    Full(K),
+pub enum SubmitFault {
+    /// 1: as many jobs wait and run as may.
+    Full,
     /// 2: an allocation failed.
     Memory,
 }
 
 /// What a job says.
 #[derive(Debug, Drop)]
-pub enum JobMessage<K> {
+pub enum JobMessage<F> {
     /// A notification to send while it runs.
     Report(Notification),
     /// A request to send to the client, with this method and these params. The job waits until `JobPool::reply` gets the reply with this
     /// number.
     Ask(String, Value, u64),
-    /// What it came to, with what was kept for it.
-    Outcome(Result<Value, ResponseError>, K),
+    /// What it came to.
+    Ran(Result<JobResult<F>, Interrupted>),
 }
 
-/// Threads that run jobs, and the jobs that are pending. Contracts see these: under the name of each, the job, and what the caller keeps with
-/// it, a `K`: `()` if that is nothing.
+/// Threads that run jobs, and the jobs that are pending. Contracts see these: under the name of each, the job.
 ///
-/// No clause says that a job runs or comes to its end, nor that a token is cancelled.
+/// No clause says that a job runs or comes to its end, nor that it sees that it is to end.
 #[derive(Drop)]
-pub struct JobPool<T: Wait + Drop, J: Job, K: Drop> {
+pub struct JobPool<T: Wait + Drop, J: Job> {
     rt: T,
     alloc: Global,
     tokens: CancellationToken,
-    table: JobTable<J, K>,
-    waiting: WaitingJobs<QueuedJob<J, Ran>>,
+    table: JobTable<J>,
+    waiting: WaitingJobs<QueuedJob<J, Ran<J::Found>>>,
     replies: Replies,
     workers: Vec<JoinHandle<()>>,
 }
 
-impl<T, J, K> JobPool<T, J, K>
+impl<T, J> JobPool<T, J>
 where
     T: Threads + Wait + Copy + Drop + Send + 'static,
     J: Job + Send + 'static,
-    K: Drop,
+    J::Found: Send + 'static,
 {
     /// Starts threads that run jobs. It gives the pool, with no job, and the end of a channel on which a signal comes when jobs said
     /// something: then ask `take_message` until it gives `None`. One signal may stand for several messages. Up to 256 messages wait for
@@ -127,7 +125,7 @@ where
         rt: &T,
         alloc: Global,
         size: PoolSize,
-    ) -> Result<(JobPool<T, J, K>, Receiver<()>), StartFault>
+    ) -> Result<(JobPool<T, J>, Receiver<()>), StartFault>
         ensures { IfOk result (λ started. pending_jobs started.0 ≡ no_jobs) }
     {
         let Ok((signals, signalled)) = bounded(alloc, 1) else {
@@ -139,7 +137,7 @@ where
         }
     }
 
-    /// Cancels all tokens, and waits until each thread has ended: a job that runs then goes on until it sees its token or ends, and one
+    /// Has all jobs end, and waits until each thread has ended: a job that runs then goes on until it sees that it is to end, and one
     /// that has not begun never does. One that waits for a reply of the client goes on without. A pool that is only dropped cancels its jobs
     /// too, and waits for no thread; a job that waits for a reply then waits for ever.
     pub fn end(self) {
@@ -162,16 +160,16 @@ where
 }
 
 /// `JobPool::start`, with a notifier.
-pub(crate) fn start_pool<T, J, K, N>(
+pub(crate) fn start_pool<T, J, N>(
     rt: &T,
     alloc: Global,
     size: PoolSize,
     notifier: N,
-) -> Result<JobPool<T, J, K>, StartFault>
+) -> Result<JobPool<T, J>, StartFault>
 where
     T: Threads + Wait + Copy + Drop + Send + 'static,
     J: Job + Send + 'static,
-    K: Drop,
+    J::Found: Send + 'static,
     N: Notifier + Send + 'static,
     ensures { IfOk result (λ pool. pending_jobs pool ≡ no_jobs) }
 {
@@ -190,11 +188,11 @@ where
 }
 
 /// A pool for so many jobs, and the end of its queue at which workers take them.
-fn pool_without_workers<T: Wait + Drop, J: Job, K: Drop>(
+fn pool_without_workers<T: Wait + Drop, J: Job>(
     rt: T,
     alloc: Global,
     size: PoolSize,
-) -> Result<(JobPool<T, J, K>, JobSource<QueuedJob<J, Ran>>), AllocError>
+) -> Result<(JobPool<T, J>, JobSource<QueuedJob<J, Ran<J::Found>>>), AllocError>
     ensures { IfOk result (λ made. pending_jobs made.0 ≡ no_jobs) }
 {
     let tokens = CancellationToken::new(alloc)?;
@@ -213,26 +211,25 @@ fn pool_without_workers<T: Wait + Drop, J: Job, K: Drop>(
     Ok((pool, taken))
 }
 
-impl<T: Wait + Drop, J: Job, K: Drop> JobPool<T, J, K> {
+impl<T: Wait + Drop, J: Job> JobPool<T, J> {
     /// Whether there is room for the job of one more request. That stays so until a job is submitted.
     pub fn has_room(&self) -> bool {
         self.waiting.has_room(&self.rt, false)
     }
 
-    /// Gives a job to the threads, and keeps `kept` with it; it never waits for one. An earlier job with the name is forgotten, and what was
-    /// kept with it is dropped. After a fault no job has the name, and this one never runs.
-    pub fn submit(&mut self, name: JobName, job: J, kept: K) -> Result<(), SubmitFault<K>>
+    /// Gives a job to the threads; it never waits for one. An earlier job with the name is forgotten. After a fault no job has the name, and
+    /// this one never runs.
+    pub fn submit(&mut self, name: JobName, job: J) -> Result<(), SubmitFault>
         ensures ok { OnOk result
-            (pending_jobs self.new ≡ with_job name («job», «kept») (pending_jobs self.old)) }
+            (pending_jobs self.new ≡ with_job name «job» (pending_jobs self.old)) }
         ensures err { OnErr result (pending_jobs self.new ≡ without name (pending_jobs self.old)) }
-        ensures back { IfErr result (GivesBack «kept») }
     {
-        let earlier = self.forget(&name);
-        drop(earlier);
+        self.forget(&name);
         if !self.waiting.has_room(&self.rt, name.is_slot()) {
-            return Err(SubmitFault::Full(kept));
+            drop(job);
+            return Err(SubmitFault::Full);
         }
-        match self.hand_over(&name, job, kept) {
+        match self.hand_over(&name, job) {
             Ok(()) => Ok(()),
             Err(_) => Err(SubmitFault::Memory),
         }
@@ -240,39 +237,34 @@ impl<T: Wait + Drop, J: Job, K: Drop> JobPool<T, J, K> {
 
     /// Gives a job to the threads, whether there is room for it or not. The error means that an allocation failed: no job has the name then,
     /// and this one never runs.
-    pub(crate) fn hand_over(&mut self, name: &JobName, job: J, kept: K) -> Result<(), AllocError>
+    pub(crate) fn hand_over(&mut self, name: &JobName, job: J) -> Result<(), AllocError>
         ensures ok { OnOk result
-            (pending_jobs self.new ≡ with_job name.now («job», «kept») (pending_jobs self.old)) }
+            (pending_jobs self.new ≡ with_job name.now «job» (pending_jobs self.old)) }
         ensures err { OnErr result
             (pending_jobs self.new ≡ without name.now (pending_jobs self.old)) }
     {
-        match self.keep(name, job, kept) {
+        match self.keep(name, job) {
             Ok(()) => Ok(()),
             Err(error) => {
-                let kept = self.forget(name);
-                drop(kept);
+                self.forget(name);
                 Err(error)
             }
         }
     }
 
     /// Keeps a job, and gives it to the workers. After a fault it may be kept.
-    fn keep(&mut self, name: &JobName, job: J, kept: K) -> Result<(), AllocError>
+    fn keep(&mut self, name: &JobName, job: J) -> Result<(), AllocError>
         ensures ok { OnOk result
-            (pending_jobs self.new ≡ with_job name.now («job», «kept») (pending_jobs self.old)) }
+            (pending_jobs self.new ≡ with_job name.now «job» (pending_jobs self.old)) }
         ensures err { without name.now (pending_jobs self.new)
             ≡ without name.now (pending_jobs self.old) }
     {
         let token = self.tokens.of_pool(self.alloc)?;
         let theirs = token.share()?;
-        let asker = self.replies.asker(&token)?;
-        let (ticket, job_sender) = self.table.enter(name.clone()?, job, kept, token)?;
+        let asker = self.replies.asker(self.table.next_ticket(), theirs)?;
+        let (ticket, job_sender) = self.table.enter(name.clone()?, job, token)?;
         let is_in_slot = name.is_slot();
-        let queued = QueuedJob {
-            job_sender,
-            token: theirs,
-            asker,
-        };
+        let queued = QueuedJob { job_sender, asker };
         self.waiting.add(&self.rt, ticket, queued, is_in_slot)
     }
 
@@ -284,26 +276,19 @@ impl<T: Wait + Drop, J: Job, K: Drop> JobPool<T, J, K> {
     }
 
     /// Nobody needs what the job with this name comes to any more: its request was cancelled or answered otherwise, or its slot is needed.
-    /// Cancels the job's token, and what it says is dropped. A job that still waits for a thread is dropped at once, and another may wait
-    /// in its place. It gives back what was kept with the job, if one was pending.
-    pub fn forget(&mut self, name: &JobName) -> Option<K>
+    /// The job is to end, and what it says is dropped. A job that still waits for a thread is dropped at once, and another may wait
+    /// in its place. It says whether one was pending.
+    pub fn forget(&mut self, name: &JobName) -> bool
         ensures pending { pending_jobs self.new ≡ without name.now (pending_jobs self.old) }
-        ensures kept { result ≡ option_map (λ (e : J × K). e.1) (pending_jobs self.old name.now) }
+        ensures was { result ≡ is_some (pending_jobs self.old name.now) }
     {
-        match self.table.complete(name) {
-            Some(entry) => Some(self.let_go(entry)),
-            None => None,
-        }
-    }
-
-    /// The job that was pending so is let go. It gives what was kept with it.
-    fn let_go(&self, entry: Entry<J, K>) -> K
-        ensures { result ≡ entry.kept }
-    {
-        let (ticket, kept) = entry.cancel();
+        let Some(entry) = self.table.complete(name) else {
+            return false;
+        };
+        let ticket = entry.cancel();
         self.waiting.take_back(&self.rt, ticket);
         self.replies.let_cancelled_go(&self.rt);
-        kept
+        true
     }
 
     /// Nobody needs what jobs come to any more, since the client shuts the session down: `forget`, of each.
@@ -326,63 +311,29 @@ impl<T: Wait + Drop, J: Job, K: Drop> JobPool<T, J, K> {
         self.replies.give_up(&self.rt, number);
     }
 
-    /// What a pending job said next, with its name: a report or a request to the client, and the job goes on; or what it came to, with what
-    /// was kept for it, and it is pending no more. If an allocation failed in the job, that is the error -32603, `out of memory`. `None`
-    /// means that no pending job said anything new. It doesn't wait.
-    ///
-    /// The error is a failed allocation: the job with this name is pending no more then, so its request is still yours to answer.
-    pub fn take_message(&mut self) -> Result<Option<(JobName, JobMessage<K>)>, JobName>
-        ensures some { IfOk result (λ found. IfSome found (λ said.
-            Tells J.Job said.0 (pending_jobs self.old) (job_message_view said.1)
-            (pending_jobs self.new))) }
-        ensures none { IfOk result (λ found. IfNone found (pending_jobs self.new ≡ pending_jobs self.old)) }
-        ensures err { IfErr result (λ name. pending_jobs self.new ≡ without name (pending_jobs self.old)) }
-    {
-        let Some(said) = self.table.take(&self.rt) else {
-            return Ok(None);
-        };
-        let (name, message) = said;
-        match message {
-            WorkerMessage::Report(notification) => {
-                Ok(Some((name, JobMessage::Report(notification))))
-            }
-            WorkerMessage::Ask(method, params, number) => {
-                Ok(Some((name, JobMessage::Ask(method, params, number))))
-            }
-            WorkerMessage::Outcome(ran) => self.finish(name, ran),
-        }
+    /// The client cancelled the progress with this token (LSP 3.17, "Canceling Work Done Progress"): the job that shows it is to end. What it
+    /// comes to is still awaited.
+    pub fn cancel_progress(&self, token: &RequestId) {
+        self.replies.cancel_shown(&self.rt, token);
     }
 
-    /// The job with this name came to this.
-    fn finish(
-        &mut self,
-        name: JobName,
-        ran: Ran,
-    ) -> Result<Option<(JobName, JobMessage<K>)>, JobName>
-        requires { (job : J) × (kept : K) × (pending_jobs self.old name ≡ Some (job, kept))
-            × ⟦<J as AnyJob<Ran>>⟧.comes_to job «ran» }
-        ensures some { IfOk result (λ found. IfSome found (λ said.
+    /// What a pending job said next, with its name: a report or a request to the client, and the job goes on; or what it came to, and it is
+    /// pending no more. `None` means that no pending job said anything new. It doesn't wait.
+    pub fn take_message(&mut self) -> Option<(JobName, JobMessage<J::Found>)>
+        ensures some { IfSome result (λ said.
             Tells J.Job said.0 (pending_jobs self.old) (job_message_view said.1)
-            (pending_jobs self.new))) }
-        ensures none { IfOk result (λ found. IfNone found (pending_jobs self.new ≡ pending_jobs self.old)) }
-        ensures err { IfErr result (λ name. pending_jobs self.new ≡ without name (pending_jobs self.old)) }
+            (pending_jobs self.new)) }
+        ensures none { IfNone result (pending_jobs self.new ≡ pending_jobs self.old) }
     {
-        let Some(entry) = self.table.complete(&name) else {
-            return Ok(None);
+        let (name, message) = self.table.take(&self.rt)?;
+        let said = match message {
+            WorkerMessage::Report(notification) => JobMessage::Report(notification),
+            WorkerMessage::Ask(method, params, number) => JobMessage::Ask(method, params, number),
+            WorkerMessage::Ran(ran) => {
+                self.table.complete(&name);
+                JobMessage::Ran(ran)
+            }
         };
-        match outcome_of(self.alloc, ran) {
-            Ok(outcome) => Ok(Some((name, JobMessage::Outcome(outcome, entry.kept)))),
-            Err(_) => Err(name),
-        }
-    }
-}
-
-/// What is got of a job that came to this.
-fn outcome_of(alloc: Global, ran: Ran) -> Result<Result<Value, ResponseError>, AllocError>
-    ensures { IfOk result (λ outcome. CameTo «ran» (outcome_view outcome)) }
-{
-    match ran {
-        Ok(outcome) => Ok(outcome),
-        Err(_) => Ok(Err(ResponseError::new(alloc, ErrorCode::InternalError, "out of memory")?)),
+        Some((name, said))
     }
 }

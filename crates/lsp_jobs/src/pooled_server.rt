@@ -3,21 +3,24 @@ ghost use Rattle.std.specs.Prelude.{◌≡◌, ◌⊎◌, ◌∷◌, ◌++◌, [
 ghost use Rattle.serde_json.specs.Data.{Data};
 ghost use Rattle.serde_json.specs.View.{view};
 ghost use Rattle.std.specs.List.{FoldsTo};
+ghost use Rattle.lsp_message.specs.ErrorCode.{number_of};
 ghost use Rattle.lsp_message.specs.View.{error_view, outcome_view};
-ghost use Rattle.lsp_service.specs.Acts.{cancelled_by, replies};
+ghost use Rattle.lsp_message.specs.declared.msg.code.ErrorCode.TheVariants.{InternalError as CodeOfInternal};
+ghost use Rattle.lsp_service.specs.Acts.{canceled, cancelled_by, replies};
 ghost use Rattle.lsp_service.specs.View.{act_view};
 ghost use Rattle.lsp_jobs.specs.Asking.{by_server, ByServers};
-ghost use Rattle.lsp_jobs.specs.Ends.{no_memory, too_many};
+ghost use Rattle.lsp_jobs.specs.Ends.{end_of, end_with, ended, no_memory, reply_of, too_many};
 ghost use Rattle.lsp_jobs.specs.PendingJobs.{with_job, without};
-ghost use Rattle.lsp_jobs.specs.PoolView.{end_view, pending_jobs};
-ghost use Rattle.lsp_jobs.specs.Pooled.{reply_at, unanswered, without_cancelled, Changes, ChangesSlots, Ends, EndsThen, Frees, IsAtOnce, StartsOne, TakesLong};
+ghost use Rattle.lsp_jobs.specs.PoolView.{came_view, pending_jobs};
+ghost use Rattle.lsp_jobs.specs.Pooled.{reply_at, reply_with, unanswered, without_cancelled, Changes, ChangesSlots, Ends, EndsThen, Frees, IsAtOnce, StartsOne, TakesLong};
 ghost use Rattle.lsp_jobs.specs.ServerView.{AnsweredSo};
+ghost use Rattle.lsp_jobs.specs.Stated.{stated_jobs};
 ghost use Rattle.lsp_jobs.specs.declared.names.JobName.TheVariants.{Request as OfRequest};
 ghost use Rattle.lsp_jobs.specs.Seen.{seen};
 
 use crate::asking::Asked;
-use crate::job::Job;
-use crate::job_server::{AnsweredBy, JobEnd, JobServer, SlotChange};
+use crate::job::{Interrupted, Job, JobResult, Ran};
+use crate::job_server::{AnsweredBy, JobEnd, JobServer, SlotChange, Slots};
 use crate::names::JobName;
 use crate::pool::{JobMessage, JobPool, SubmitFault};
 use lsp_message::{ErrorCode, Notification, Request, RequestId, ResponseError};
@@ -26,18 +29,17 @@ use serde_json::Value;
 use std::alloc::{AllocError, Global};
 use std::sync::Wait;
 
-/// A server with the pool that runs its jobs. Contracts see the server, and under the name of each pending job, this job and what is kept
-/// with it.
+/// A server with the pool that runs its jobs. Contracts see the server, and under the name of each pending job, this job.
 #[derive(Drop)]
-pub struct PooledServer<T: Wait + Drop, S: Drop, J: Job, K: Drop> {
+pub struct PooledServer<T: Wait + Drop, S: Drop, J: Job> {
     alloc: Global,
     server: S,
-    pool: JobPool<T, J, K>,
+    pool: JobPool<T, J>,
 }
 
-impl<T: Wait + Drop, S: Drop, J: Job, K: Drop> PooledServer<T, S, J, K> {
+impl<T: Wait + Drop, S: Drop, J: Job> PooledServer<T, S, J> {
     /// A server with a pool that was started.
-    pub(crate) fn new(alloc: Global, server: S, pool: JobPool<T, J, K>) -> Self
+    pub(crate) fn new(alloc: Global, server: S, pool: JobPool<T, J>) -> Self
         ensures { seen result ≡ (server, pending_jobs pool) }
     {
         PooledServer {
@@ -48,7 +50,7 @@ impl<T: Wait + Drop, S: Drop, J: Job, K: Drop> PooledServer<T, S, J, K> {
     }
 
     /// The server, and its pool.
-    pub(crate) fn into_parts(self) -> (S, JobPool<T, J, K>)
+    pub(crate) fn into_parts(self) -> (S, JobPool<T, J>)
         ensures { result.0 ≡ self.server }
     {
         let PooledServer { server, pool, .. } = self;
@@ -65,8 +67,20 @@ impl<T: Wait + Drop, S: Drop, J: Job, K: Drop> PooledServer<T, S, J, K> {
         )) }
     {
         if let Some(id) = cancelled_id(notification)? {
-            let kept = self.pool.forget(&JobName::Request(id));
-            drop(kept);
+            self.pool.forget(&JobName::Request(id));
+        }
+        Ok(())
+    }
+
+    /// A job is to end whose progress a notification cancels (LSP 3.17, "Canceling Work Done Progress"). The job decides what comes of it.
+    fn stop_progress(&self, notification: &Notification) -> Result<(), AllocError> {
+        if notification.method.as_str() != "window/workDoneProgress/cancel" {
+            return Ok(());
+        }
+        if let Some(token) = notification.params.get("token") {
+            if let Some(token) = RequestId::from_value(token)? {
+                self.pool.cancel_progress(&token);
+            }
         }
         Ok(())
     }
@@ -78,74 +92,76 @@ impl<T: Wait + Drop, S: Drop, J: Job, K: Drop> PooledServer<T, S, J, K> {
     {
         for act in acts {
             if let Act::Reply(id, _) = act {
-                let kept = self.pool.forget(&JobName::Request(id.clone()?));
-                drop(kept);
+                self.pool.forget(&JobName::Request(id.clone()?));
             }
         }
         Ok(())
     }
 }
 
-impl<T, S, J> PooledServer<T, S, J, S::Key>
+impl<T, S, J> PooledServer<T, S, J>
 where
     T: Wait + Drop,
     S: JobServer<J> + Drop,
     J: Job,
 {
-    /// The job with this name ended so. If it is for a request, that is answered after what the server does when it sees the end.
-    fn end_job(
+    /// The job with this name came to this. If it is for a request, that is answered after what the server does when it sees the end.
+    fn end_run(
         &mut self,
         name: JobName,
-        key: S::Key,
-        end: JobEnd,
+        ran: Ran<J::Found>,
     ) -> Result<Vec<Act<S::Payload>>, AllocError>
         ensures { IfOk result (λ acts.
-            Ends S.JobServer.own name «key» (end_view «end») (seen self.old) (map act_view acts.items)
-            (seen self.new)) }
+            Ends (stated_jobs S.JobServer.own ⟦<S::Slots as Slots<S, J>>⟧ J.Job) name (end_of (came_view «ran»)) (reply_at name (came_view «ran»))
+            (seen self.old) (map act_view acts.items) (seen self.new)) }
     {
-        let mut acts = self.server.finished(&name, key, &end, self.alloc)?;
-        push_reply(&mut acts, name, end)?;
+        let (outcome, found, end) = parts_of(self.alloc, ran)?;
+        let mut acts = match found {
+            Some(found) => S::Slots::found(&mut self.server, &name, found, self.alloc)?,
+            None => S::Slots::ended(&mut self.server, &name, end, self.alloc)?,
+        };
+        push_reply(&mut acts, name, outcome)?;
         self.forget_answered(&acts)?;
         Ok(acts)
     }
 
-    /// The same, behind these acts.
-    fn end_job_then(
+    /// The job with this name ended so, behind these acts.
+    fn end_then(
         &mut self,
-        name: JobName,
-        key: S::Key,
+        name: &JobName,
         end: JobEnd,
         acts: &mut Vec<Act<S::Payload>>,
     ) -> Result<(), AllocError>
-        ensures { IfOk result (λ _. EndsThen S.JobServer.own name «key» (end_view «end»)
+        ensures { IfOk result (λ _. EndsThen (stated_jobs S.JobServer.own ⟦<S::Slots as Slots<S, J>>⟧ J.Job) name.now (ended end)
             (self.old.server, pending_jobs self.old.pool, map act_view acts.old.items)
             (self.new.server, pending_jobs self.new.pool, map act_view acts.new.items)) }
     {
-        let mut more = self.end_job(name, key, end)?;
+        let mut more = S::Slots::ended(&mut self.server, name, end, self.alloc)?;
+        self.forget_answered(&more)?;
         acts.append(&mut more)
     }
 
     /// Has a job answer a long request, or answers it at once.
     fn take_long(&mut self, request: Request) -> Result<Vec<Act<Asked<S::Payload>>>, AllocError>
         requires { pending_jobs self.old.pool (OfRequest request.id) ≡ None }
-        ensures { IfOk result (λ all. TakesLong S.JobServer.own J.Job (seen self.old) request.id
+        ensures { IfOk result (λ all. TakesLong (stated_jobs S.JobServer.own ⟦<S::Slots as Slots<S, J>>⟧ J.Job) (seen self.old) request.id
             (string_bytes request.method) (view request.params) (map act_view all.items)
             (seen self.new)) }
     {
         let id = request.id.clone()?;
         match self.answer_to(request)? {
-            AnsweredBy::Job(job, key) => self.start_for(id, job, key),
+            AnsweredBy::Job(job) => self.start_for(id, job),
             AnsweredBy::Reply(outcome) => one_act(self.alloc, Act::Reply(id, outcome)),
         }
     }
 
     /// What answers a long request, if there is room for a job and memory to make it. The reply says it if not.
-    fn answer_to(&self, request: Request) -> Result<AnsweredBy<J, S::Key>, AllocError>
+    fn answer_to(&self, request: Request) -> Result<AnsweredBy<J>, AllocError>
         ensures { IfOk result (λ by. AnsweredSo by
-            (λ job key. J.is_for job (string_bytes request.method) (view request.params)
+            (λ job. J.is_for job (string_bytes request.method) (view request.params)
             × S.JobServer.gives self.now.server request.id (string_bytes request.method)
-            (view request.params) job key)
-            (λ outcome. IsAtOnce S.JobServer.own self.now.server request.id
+            (view request.params) job)
+            (λ outcome. IsAtOnce (stated_jobs S.JobServer.own ⟦<S::Slots as Slots<S, J>>⟧ J.Job) self.now.server request.id
             (string_bytes request.method) (view request.params) outcome)) }
     {
         if !self.pool.has_room() {
@@ -163,12 +179,11 @@ where
         &mut self,
         id: RequestId,
         job: J,
-        key: S::Key,
     ) -> Result<Vec<Act<Asked<S::Payload>>>, AllocError>
         ensures { IfOk result (λ all.
             ((map act_view all.items ≡ []) × (seen self.new ≡ (
               self.old.server,
-              with_job (OfRequest id) («job», «key») (pending_jobs self.old.pool),
+              with_job (OfRequest id) «job» (pending_jobs self.old.pool),
             )))
             ⊎ ((map act_view all.items ≡ replies id (Err no_memory) ∷ []) × (seen self.new ≡ (
               self.old.server,
@@ -176,7 +191,7 @@ where
             )))) }
     {
         let name = JobName::Request(id.clone()?);
-        match self.pool.hand_over(&name, job, key) {
+        match self.pool.hand_over(&name, job) {
             Ok(()) => Ok(Vec::new(self.alloc)),
             Err(_) => one_act(self.alloc, Act::Reply(id, Err(out_of_memory(self.alloc)?))),
         }
@@ -188,7 +203,7 @@ where
         acts: Vec<Act<S::Payload>>,
     ) -> Result<Vec<Act<Asked<S::Payload>>>, AllocError>
         ensures { IfOk result (λ all. ByServers (λ own.
-            ChangesSlots S.JobServer.own (seen self.old) (map act_view acts.items) own
+            ChangesSlots (stated_jobs S.JobServer.own ⟦<S::Slots as Slots<S, J>>⟧ J.Job) (seen self.old) (map act_view acts.items) own
             (seen self.new)) (map act_view all.items)) }
     {
         let all = self.change_slots(acts)?;
@@ -201,22 +216,22 @@ where
         acts: Vec<Act<S::Payload>>,
     ) -> Result<Vec<Act<S::Payload>>, AllocError>
         ensures { IfOk result (λ all.
-            ChangesSlots S.JobServer.own (seen self.old) (map act_view acts.items)
+            ChangesSlots (stated_jobs S.JobServer.own ⟦<S::Slots as Slots<S, J>>⟧ J.Job) (seen self.old) (map act_view acts.items)
             (map act_view all.items) (seen self.new)) }
     {
         self.forget_answered(&acts)?;
-        let changes = self.server.take_changes(self.alloc)?;
+        let changes = S::Slots::take_changes(&mut self.server, self.alloc)?;
         self.change_all(changes, acts)
     }
 
     /// Changes slots, in order.
     fn change_all(
         &mut self,
-        changes: Vec<SlotChange<J, S::Key>>,
+        changes: Vec<SlotChange<J>>,
         acts: Vec<Act<S::Payload>>,
     ) -> Result<Vec<Act<S::Payload>>, AllocError>
         ensures { IfOk result (λ all.
-            FoldsTo (Changes S.JobServer.own)
+            FoldsTo (Changes (stated_jobs S.JobServer.own ⟦<S::Slots as Slots<S, J>>⟧ J.Job))
             (self.old.server, pending_jobs self.old.pool, map act_view acts.items) changes.items
             (self.new.server, pending_jobs self.new.pool, map act_view all.items)) }
     {
@@ -230,18 +245,18 @@ where
     /// Changes a slot.
     fn change(
         &mut self,
-        change: SlotChange<J, S::Key>,
+        change: SlotChange<J>,
         acts: &mut Vec<Act<S::Payload>>,
     ) -> Result<(), AllocError>
-        ensures { IfOk result (λ _. Changes S.JobServer.own
+        ensures { IfOk result (λ _. Changes (stated_jobs S.JobServer.own ⟦<S::Slots as Slots<S, J>>⟧ J.Job)
             (self.old.server, pending_jobs self.old.pool, map act_view acts.old.items) «change»
             (self.new.server, pending_jobs self.new.pool, map act_view acts.new.items)) }
     {
         match change {
-            SlotChange::Start(slot, job, key) => {
+            SlotChange::Start(slot, job) => {
                 let name = JobName::Slot(slot);
                 self.free(&name, JobEnd::Replaced, acts)?;
-                self.start_one(name, job, key, acts)
+                self.start_one(name, job, acts)
             }
             SlotChange::Stop(slot) => self.free(&JobName::Slot(slot), JobEnd::Stopped, acts),
         }
@@ -254,17 +269,14 @@ where
         end: JobEnd,
         acts: &mut Vec<Act<S::Payload>>,
     ) -> Result<(), AllocError>
-        ensures { IfOk result (λ _. Frees S.JobServer.own name.now (end_view «end»)
+        ensures { IfOk result (λ _. Frees (stated_jobs S.JobServer.own ⟦<S::Slots as Slots<S, J>>⟧ J.Job) name.now (ended end)
             (self.old.server, pending_jobs self.old.pool, map act_view acts.old.items)
             (self.new.server, pending_jobs self.new.pool, map act_view acts.new.items)) }
     {
-        match self.pool.forget(name) {
-            Some(key) => self.end_job_then(name.clone()?, key, end, acts),
-            None => {
-                drop(end);
-                Ok(())
-            }
+        if self.pool.forget(name) {
+            return self.end_then(name, end, acts);
         }
+        Ok(())
     }
 
     /// Starts a job under a name that none has. If too many wait and run, it ends.
@@ -272,35 +284,60 @@ where
         &mut self,
         name: JobName,
         job: J,
-        key: S::Key,
         acts: &mut Vec<Act<S::Payload>>,
     ) -> Result<(), AllocError>
         ensures { IfOk result (λ _.
-            StartsOne S.JobServer.own name «job» «key»
+            StartsOne (stated_jobs S.JobServer.own ⟦<S::Slots as Slots<S, J>>⟧ J.Job) name «job»
             (self.old.server, pending_jobs self.old.pool, map act_view acts.old.items)
             (self.new.server, pending_jobs self.new.pool, map act_view acts.new.items)) }
     {
-        match self.pool.submit(name.clone()?, job, key) {
+        match self.pool.submit(name.clone()?, job) {
             Ok(()) => Ok(()),
-            Err(SubmitFault::Full(key)) => self.end_job_then(name, key, JobEnd::Refused, acts),
+            Err(SubmitFault::Full) => self.end_then(&name, JobEnd::Refused, acts),
             Err(SubmitFault::Memory) => Err(AllocError),
         }
     }
 }
 
-/// Adds the reply to the request of a job that came to an outcome. A job in a slot has none.
-fn push_reply<P: Drop>(acts: &mut Vec<Act<P>>, name: JobName, end: JobEnd) -> Result<(), AllocError>
-    ensures { IfOk result (λ _. map act_view acts.new.items
-        ≡ map act_view acts.old.items ++ reply_at name (end_view «end»)) }
+/// The reply to the request of a job that came to this, what it found, and how it ended if it found nothing.
+fn parts_of<F: Drop>(
+    alloc: Global,
+    ran: Ran<F>,
+) -> Result<(Result<Value, ResponseError>, Option<F>, JobEnd), AllocError>
+    ensures { IfOk result (λ parts. (outcome_view parts.0 ≡ reply_of (came_view «ran»))
+        × (end_with parts.1 parts.2 ≡ end_of (came_view «ran»))) }
 {
-    match (name, end) {
-        (JobName::Request(id), JobEnd::Outcome(outcome)) => {
-            match acts.push(Act::Reply(id, outcome)) {
-                Ok(()) => Ok(()),
-                Err(_) => Err(AllocError),
-            }
+    match ran {
+        Ok(JobResult { reply, found }) => {
+            let outcome = match reply {
+                Some(outcome) => outcome,
+                None => Err(internal_error(alloc, "no result")?),
+            };
+            Ok((outcome, found, JobEnd::Done))
         }
-        _ => Ok(()),
+        Err(Interrupted::Memory) => Ok((Err(out_of_memory(alloc)?), None, JobEnd::Failed)),
+        Err(Interrupted::Cancelled) => Ok((Err(canceled_error(alloc)?), None, JobEnd::Cancelled)),
+    }
+}
+
+/// Adds the reply to the request of a job. A job in a slot has none.
+fn push_reply<P: Drop>(
+    acts: &mut Vec<Act<P>>,
+    name: JobName,
+    outcome: Result<Value, ResponseError>,
+) -> Result<(), AllocError>
+    ensures { IfOk result (λ _. map act_view acts.new.items
+        ≡ map act_view acts.old.items ++ reply_with name (outcome_view outcome)) }
+{
+    match name {
+        JobName::Request(id) => match acts.push(Act::Reply(id, outcome)) {
+            Ok(()) => Ok(()),
+            Err(_) => Err(AllocError),
+        },
+        JobName::Slot(slot) => {
+            drop((slot, outcome));
+            Ok(())
+        }
     }
 }
 
@@ -319,7 +356,22 @@ fn refusal(alloc: Global) -> Result<ResponseError, AllocError>
 fn out_of_memory(alloc: Global) -> Result<ResponseError, AllocError>
     ensures { IfOk result (λ error. error_view error ≡ no_memory) }
 {
-    ResponseError::new(alloc, ErrorCode::InternalError, "out of memory")
+    internal_error(alloc, "out of memory")
+}
+
+/// An error of the server's own.
+fn internal_error(alloc: Global, message: &str) -> Result<ResponseError, AllocError>
+    ensures { IfOk result (λ error. error_view error
+        ≡ record { code = number_of CodeOfInternal; message = message.now; details = None }) }
+{
+    ResponseError::new(alloc, ErrorCode::InternalError, message)
+}
+
+/// The error for a request that its client cancelled.
+fn canceled_error(alloc: Global) -> Result<ResponseError, AllocError>
+    ensures { IfOk result (λ error. error_view error ≡ canceled) }
+{
+    ResponseError::new(alloc, ErrorCode::RequestCanceled, "canceled by client")
 }
 
 /// Acts of the server, which keeps its own for the replies.
@@ -371,7 +423,7 @@ fn one_act<P: Drop>(alloc: Global, act: Act<P>) -> Result<Vec<Act<P>>, AllocErro
     }
 }
 
-impl<T, S, J> Server for PooledServer<T, S, J, S::Key>
+impl<T, S, J> Server for PooledServer<T, S, J>
 where
     T: Wait + Drop,
     S: JobServer<J> + Drop,
@@ -381,19 +433,19 @@ where
 
     type Payload = Asked<S::Payload>;
 
-    ghost initializes = { (seen_with_jobs T S.Server S.JobServer.own J.Job).initializes };
+    ghost initializes = { (seen_with_jobs T S.Server (stated_jobs S.JobServer.own ⟦<S::Slots as Slots<S, J>>⟧ J.Job)).initializes };
 
-    ghost at_initialized = { (seen_with_jobs T S.Server S.JobServer.own J.Job).at_initialized };
+    ghost at_initialized = { (seen_with_jobs T S.Server (stated_jobs S.JobServer.own ⟦<S::Slots as Slots<S, J>>⟧ J.Job)).at_initialized };
 
-    ghost requested = { (seen_with_jobs T S.Server S.JobServer.own J.Job).requested };
+    ghost requested = { (seen_with_jobs T S.Server (stated_jobs S.JobServer.own ⟦<S::Slots as Slots<S, J>>⟧ J.Job)).requested };
 
-    ghost notified = { (seen_with_jobs T S.Server S.JobServer.own J.Job).notified };
+    ghost notified = { (seen_with_jobs T S.Server (stated_jobs S.JobServer.own ⟦<S::Slots as Slots<S, J>>⟧ J.Job)).notified };
 
-    ghost replied = { (seen_with_jobs T S.Server S.JobServer.own J.Job).replied };
+    ghost replied = { (seen_with_jobs T S.Server (stated_jobs S.JobServer.own ⟦<S::Slots as Slots<S, J>>⟧ J.Job)).replied };
 
-    ghost at_shutdown = { (seen_with_jobs T S.Server S.JobServer.own J.Job).at_shutdown };
+    ghost at_shutdown = { (seen_with_jobs T S.Server (stated_jobs S.JobServer.own ⟦<S::Slots as Slots<S, J>>⟧ J.Job)).at_shutdown };
 
-    ghost takes_back = { (seen_with_jobs T S.Server S.JobServer.own J.Job).takes_back };
+    ghost takes_back = { (seen_with_jobs T S.Server (stated_jobs S.JobServer.own ⟦<S::Slots as Slots<S, J>>⟧ J.Job)).takes_back };
 
     fn initialize(&mut self, params: Value) -> Result<Result<Value, ResponseError>, AllocError> {
         self.server.initialize(params)
@@ -405,8 +457,7 @@ where
     }
 
     fn request(&mut self, request: Request) -> Result<Vec<Act<Asked<S::Payload>>>, AllocError> {
-        let kept = self.pool.forget(&JobName::Request(request.id.clone()?));
-        drop(kept);
+        self.pool.forget(&JobName::Request(request.id.clone()?));
         if self.server.is_long(&request) {
             return self.take_long(request);
         }
@@ -419,6 +470,7 @@ where
         notification: Notification,
     ) -> Result<Vec<Act<Asked<S::Payload>>>, AllocError> {
         self.forget_cancelled(&notification)?;
+        self.stop_progress(&notification)?;
         let acts = self.server.notification(notification)?;
         self.acts_with_changes(acts)
     }
@@ -457,7 +509,7 @@ where
     }
 }
 
-impl<T, S, J> WokenServer for PooledServer<T, S, J, S::Key>
+impl<T, S, J> WokenServer for PooledServer<T, S, J>
 where
     T: Wait + Drop,
     S: JobServer<J> + Drop,
@@ -465,13 +517,10 @@ where
 {
     ghost use Rattle.lsp_jobs.specs.JobSession.{seen_with_jobs};
 
-    ghost wakes = { (seen_with_jobs T S.Server S.JobServer.own J.Job).wakes };
+    ghost wakes = { (seen_with_jobs T S.Server (stated_jobs S.JobServer.own ⟦<S::Slots as Slots<S, J>>⟧ J.Job)).wakes };
 
     fn woken(&mut self, alloc: Global) -> Result<Vec<Act<Asked<S::Payload>>>, AllocError> {
-        let Ok(found) = self.pool.take_message() else {
-            return Err(AllocError);
-        };
-        let Some(said) = found else {
+        let Some(said) = self.pool.take_message() else {
             return Ok(Vec::new(alloc));
         };
         let (name, message) = said;
@@ -480,8 +529,8 @@ where
             JobMessage::Ask(method, params, number) => {
                 one_act(alloc, Act::Ask(method, params, Asked::ByJob(number)))
             }
-            JobMessage::Outcome(outcome, key) => {
-                let acts = self.end_job(name, key, JobEnd::Outcome(outcome))?;
+            JobMessage::Ran(ran) => {
+                let acts = self.end_run(name, ran)?;
                 self.acts_with_changes(acts)
             }
         }

@@ -6,7 +6,7 @@ ghost use Rattle.lsp_message.specs.Message.{notification};
 ghost use Rattle.lsp_message.specs.View.{notification_view};
 ghost use Rattle.lsp_jobs.specs.Progress.{create_method, create_params, if_token as if_token_spec, progress_method, progress_params, token_of};
 
-use crate::job::Progress;
+use crate::job::JobContext;
 use lsp_message::{Notification, RequestId};
 use serde_json::{Value, json, put};
 use std::alloc::{AllocError, Global};
@@ -52,16 +52,16 @@ impl WorkDone {
     /// Asks the client to show progress under this token, which no request of its own gave: a text, or an integer of 32 bits, that is used
     /// once (LSP 3.17, "Creating Work Done Progress"). It waits for the reply. If that is an error, or none comes, nothing is ever
     /// sent. Only a client with the capability `window.workDoneProgress` may be asked. The error means that an allocation failed.
-    pub fn create<P: Progress>(
+    pub fn create<C: JobContext>(
         alloc: Global,
-        progress: &mut P,
+        context: &mut C,
         token: Value,
     ) -> Result<WorkDone, AllocError>
-        requires { P.may_ask create_method (create_params (view token)) }
+        requires { C.may_ask create_method (create_params (view token)) }
         ensures { IfOk result (λ work. IfSome work (λ given. view given ≡ view token)) }
     {
         let (method, params) = creation_of(alloc, &token)?;
-        let token = match progress.ask(method, params)? {
+        let token = match context.ask(method, params)? {
             Some(Ok(_)) => Some(token),
             _ => None,
         };
@@ -69,50 +69,88 @@ impl WorkDone {
     }
 
     /// Begins, with a title. `percentage` is from 0 to 100; without it here, leave it out in reports too. It waits while there is no room
-    /// to send, and is dropped only if nobody waits for the job any more. The error means that an allocation failed.
-    pub fn begin<P: Progress>(
+    /// to send, and is dropped only if nobody waits for the job any more. If the job ends without `end`, an end is sent then. The error
+    /// means that an allocation failed.
+    pub fn begin<C: JobContext>(
         &self,
-        progress: &mut P,
+        context: &mut C,
         title: &str,
         message: Option<&str>,
         percentage: Option<u32>,
     ) -> Result<(), AllocError>
         requires { IfSome (option_map view self.now) (λ token. (value : Data)
-            → P.may progress_method (progress_params token value)) }
+            → C.may progress_method (progress_params token value)) }
     {
         let mut value = json!(in self.alloc; { "kind": "begin", "title": title })?;
         put_both(self.alloc, &mut value, message, percentage)?;
-        send(self.alloc, &self.token, progress, value)
+        self.begin_with(context, value)
     }
 
-    /// Says how far the job is. It is dropped if there is no room to send: see `Progress::report`. The error means that an allocation
-    /// failed.
-    pub fn report<P: Progress>(
+    /// Begins as `begin` does, and the client may cancel it by `window/workDoneProgress/cancel`: the job is to end then, as
+    /// `JobContext::check` tells it (LSP 3.17, "Canceling Work Done Progress").
+    pub fn begin_cancellable<C: JobContext>(
         &self,
-        progress: &mut P,
+        context: &mut C,
+        title: &str,
         message: Option<&str>,
         percentage: Option<u32>,
     ) -> Result<(), AllocError>
         requires { IfSome (option_map view self.now) (λ token. (value : Data)
-            → P.may progress_method (progress_params token value)) }
+            → C.may progress_method (progress_params token value)) }
+    {
+        if let Some(token) = &self.token {
+            context.cancelled_with(token)?;
+        }
+        let mut value =
+            json!(in self.alloc; { "cancellable": true, "kind": "begin", "title": title })?;
+        put_both(self.alloc, &mut value, message, percentage)?;
+        self.begin_with(context, value)
+    }
+
+    /// Sends what begins, and has an end sent when the job ends.
+    fn begin_with<C: JobContext>(&self, context: &mut C, value: Value) -> Result<(), AllocError>
+        requires { IfSome (option_map view self.now) (λ token. (value : Data)
+            → C.may progress_method (progress_params token value)) }
+    {
+        let end = json!(in self.alloc; { "kind": "end" })?;
+        let last = notification_of(self.alloc, &self.token, end)?;
+        context.at_end(last);
+        send(self.alloc, &self.token, context, value)
+    }
+
+    /// Says how far the job is. It is dropped if there is no room to send: see `JobContext::report`. The error means that an allocation
+    /// failed.
+    pub fn report<C: JobContext>(
+        &self,
+        context: &mut C,
+        message: Option<&str>,
+        percentage: Option<u32>,
+    ) -> Result<(), AllocError>
+        requires { IfSome (option_map view self.now) (λ token. (value : Data)
+            → C.may progress_method (progress_params token value)) }
     {
         let mut value = json!(in self.alloc; { "kind": "report" })?;
         put_both(self.alloc, &mut value, message, percentage)?;
         if let Some(report) = notification_of(self.alloc, &self.token, value)? {
-            progress.report(report);
+            context.report(report);
         }
         Ok(())
     }
 
     /// Ends. It waits while there is no room to send, and is dropped only if nobody waits for the job any more. The error means that
     /// an allocation failed.
-    pub fn end<P: Progress>(self, progress: &mut P, message: Option<&str>) -> Result<(), AllocError>
+    pub fn end<C: JobContext>(
+        self,
+        context: &mut C,
+        message: Option<&str>,
+    ) -> Result<(), AllocError>
         requires { IfSome (option_map view «self») (λ token. (value : Data)
-            → P.may progress_method (progress_params token value)) }
+            → C.may progress_method (progress_params token value)) }
     {
         let mut value = json!(in self.alloc; { "kind": "end" })?;
         put_both(self.alloc, &mut value, message, None)?;
-        send(self.alloc, &self.token, progress, value)
+        context.at_end(None);
+        send(self.alloc, &self.token, context, value)
     }
 }
 
@@ -157,11 +195,11 @@ impl PartialResults {
 
     /// Sends a part. It waits while there is no room to send, and is dropped only if nobody waits for the job any more. The error
     /// means that an allocation failed.
-    pub fn send<P: Progress>(&self, progress: &mut P, value: Value) -> Result<(), AllocError>
+    pub fn send<C: JobContext>(&self, context: &mut C, value: Value) -> Result<(), AllocError>
         requires { IfSome (option_map view self.now) (λ token. (value : Data)
-            → P.may progress_method (progress_params token value)) }
+            → C.may progress_method (progress_params token value)) }
     {
-        send(self.alloc, &self.token, progress, value)
+        send(self.alloc, &self.token, context, value)
     }
 }
 
@@ -210,17 +248,17 @@ fn if_token(value: &Value) -> Result<Option<Value>, AllocError>
 }
 
 /// Sends a value for whoever gave the token, if there is one.
-fn send<P: Progress>(
+fn send<C: JobContext>(
     alloc: Global,
     token: &Option<Value>,
-    progress: &mut P,
+    context: &mut C,
     value: Value,
 ) -> Result<(), AllocError>
     requires { IfSome (option_map view token.now) (λ token. (value : Data)
-        → P.may progress_method (progress_params token value)) }
+        → C.may progress_method (progress_params token value)) }
 {
     if let Some(told) = notification_of(alloc, token, value)? {
-        progress.send(told);
+        context.send(told);
     }
     Ok(())
 }

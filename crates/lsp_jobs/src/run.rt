@@ -3,9 +3,10 @@ ghost use Rattle.std.specs.Prelude.{true, [], Some, IfOk, IfSome};
 ghost use Rattle.lsp_threads.specs.Passing.{GivenTo, OfTaken, TakenFrom, noted};
 ghost use Rattle.lsp_threads.specs.Threads.{ThreadsTellOver};
 ghost use Rattle.lsp_jobs.specs.JobSession.{JobSession};
+ghost use Rattle.lsp_jobs.specs.Stated.{stated_jobs};
 
 use crate::job::Job;
-use crate::job_server::JobServer;
+use crate::job_server::{JobServer, Slots};
 use crate::pool::{PoolSize, start_pool};
 use crate::pooled_server::PooledServer;
 use lsp_relay::relay;
@@ -29,16 +30,18 @@ const ROOM: usize = 256;
 /// allocation failed, and nothing was read or written then.
 ///
 /// - A `$/cancelRequest` for a request that waits for its job is answered at once, with what the server does at it or else with the
-///   error -32800. The job's token is cancelled, and what it comes to is dropped (LSP 3.17, "Cancellation Support").
+///   error -32800. The job is to end, and what it comes to is dropped (LSP 3.17, "Cancellation Support").
 /// - A long request for whose job there is no room gets the error -32803, `too many requests are waiting`, and its job is not asked for.
 /// - If an allocation fails in a job, or as it is made or started, its request gets the error -32603, `out of memory`, and all else goes
 ///   on. Only if memory for that text is missing too, the session ends.
+/// - At `window/workDoneProgress/cancel` the job that shows this progress is to end, if it began it by `WorkDone::begin_cancellable`. If it
+///   ends as `JobContext::check` tells it, its request gets the error -32800, `canceled by client`, and the server is told.
 /// - Reports and outcomes are sent up to `shutdown`. There all jobs are cancelled: what they say later is dropped, and their requests get the
 ///   error -32800, `canceled by shutdown`, before the reply to `shutdown`.
 /// - At a content part that is no message (see `lsp_session::is_of_body`) the listener `bad_bodies` is asked, at once and on your thread,
 ///   from `initialized` up to `shutdown`. If it reads on, nothing is answered, the server is not told, and the next frame follows. Where
 ///   it ends the session, and before and after in any case, such a part is `SessionFault::Read`.
-/// - At the end all tokens are cancelled and all threads joined: it returns only when the jobs that run do.
+/// - At the end all jobs are to end, and all threads are joined: it returns only when the jobs that run do.
 ///
 /// `told` is of whatever reader and writer, also of standard input and output or a socket. It says of the bytes that the session took, with
 /// whatever follows them, and of those that were given, what `session` says where the reader's bytes are known.
@@ -58,16 +61,17 @@ where
     W: Write + Drop + Send + 'static,
     S: JobServer<J> + Drop,
     J: Job + Send + 'static,
+    J::Found: Send + 'static,
     L: Listener,
     ensures told { IfOk result.1 (λ done. OfTaken done.taken.parts (λ text.
         ThreadsTellOver true L.hears options.limits
-        (JobSession T S.Server S.JobServer.own J.Job server result.0) text
+        (JobSession T S.Server (stated_jobs S.JobServer.own ⟦<S::Slots as Slots<S, J>>⟧ J.Job) server result.0) text
         bad_bodies.old bad_bodies.new (Some []) (noted done.given) done.answer)) }
     ensures passed { IfOk result.1 (λ done. TakenFrom (R.remaining reader) done.taken.parts
         × GivenTo (W.contents writer) done.given.parts (W.contents done.writer)) }
     ensures session { IfSome (R.remaining reader) (λ text. IfOk result.1 (λ done.
         ThreadsTellOver true L.hears options.limits
-        (JobSession T S.Server S.JobServer.own J.Job server result.0) text
+        (JobSession T S.Server (stated_jobs S.JobServer.own ⟦<S::Slots as Slots<S, J>>⟧ J.Job) server result.0) text
         bad_bodies.old bad_bodies.new (W.contents writer) (W.contents done.writer) done.answer)) }
 {
     let Ok((mut tx, rx)) = relay::<Contents, ContentsPlan>(alloc, ROOM) else {

@@ -34,49 +34,40 @@ impl Drop for Wanted {
 
 /// A job that is pending.
 #[derive(Drop)]
-pub(crate) struct Entry<J: Job, K: Drop> {
+pub(crate) struct Entry<J> {
     pub(crate) job: Snapshot<J>,
     pub(crate) ticket: u64,
     wanted: Wanted,
-    /// What the caller keeps for it.
-    pub(crate) kept: K,
 }
 
-impl<J: Job, K: Drop> Entry<J, K> {
-    /// Nobody waits for it any more: its ticket, and what was kept for it.
-    pub fn cancel(self) -> (u64, K)
-        ensures { result.1 ≡ self.kept }
-    {
-        let Entry {
-            ticket,
-            wanted,
-            kept,
-            ..
-        } = self;
+impl<J> Entry<J> {
+    /// Nobody waits for it any more: its ticket.
+    pub fn cancel(self) -> u64 {
+        let Entry { ticket, wanted, .. } = self;
         drop(wanted);
-        (ticket, kept)
+        ticket
     }
 }
 
 /// The jobs that are pending, each with its ticket, and the end of the channel at which what jobs say is taken.
 #[derive(Drop)]
-pub(crate) struct JobTable<J: Job, K: Drop> {
-    sender: ItemSender<J, Ran>,
-    receiver: ItemReceiver<J, Ran>,
-    pass: ItemPass<J, Ran>,
+pub(crate) struct JobTable<J: Job> {
+    sender: ItemSender<J, Ran<J::Found>>,
+    receiver: ItemReceiver<J, Ran<J::Found>>,
+    pass: ItemPass<J, Ran<J::Found>>,
     next: u64,
-    jobs: Entries<Entry<J, K>>,
+    jobs: Entries<Entry<J>>,
     ghost known: { IsSeatAt (sends_on sender) pass × IsSeatAt (receives_on receiver) pass
         × KnowsAll (knows pass) × (length (all_jobs (knows pass)) ≡ next)
         × HaveTickets (all_jobs (knows pass)) (entry_of jobs) },
 }
 
-impl<J: Job, K: Drop> JobTable<J, K> {
+impl<J: Job> JobTable<J> {
     /// No job is pending. The error means that an allocation failed.
-    pub fn new(alloc: Global) -> Result<JobTable<J, K>, AllocError>
+    pub fn new(alloc: Global) -> Result<JobTable<J>, AllocError>
         ensures { IfOk result (λ table. pending_of table.jobs ≡ no_jobs) }
     {
-        let (sender, receiver, pass) = channel_of_items::<J, Ran>(alloc)?;
+        let (sender, receiver, pass) = channel_of_items::<J, Ran<J::Found>>(alloc)?;
         Ok(JobTable {
             sender,
             receiver,
@@ -86,16 +77,20 @@ impl<J: Job, K: Drop> JobTable<J, K> {
         })
     }
 
+    /// The ticket that the next job gets.
+    pub fn next_ticket(&self) -> u64 {
+        self.next
+    }
+
     /// This job is pending, and gets the next ticket. The error means that an allocation failed.
     pub fn enter(
         &mut self,
         name: JobName,
         job: J,
-        kept: K,
         token: CancellationToken,
-    ) -> Result<(u64, JobSender<J, Ran>), AllocError>
+    ) -> Result<(u64, JobSender<J, Ran<J::Found>>), AllocError>
         ensures ok { OnOk result
-            (pending_of self.new.jobs ≡ with_job name («job», «kept») (pending_of self.old.jobs)) }
+            (pending_of self.new.jobs ≡ with_job name «job» (pending_of self.old.jobs)) }
         ensures err { OnErr result (pending_of self.new.jobs ≡ pending_of self.old.jobs) }
     {
         let ticket = self.next;
@@ -108,7 +103,6 @@ impl<J: Job, K: Drop> JobTable<J, K> {
             job: Snapshot::of(&job),
             ticket,
             wanted: Wanted { token },
-            kept,
         };
         let job_sender = sender_for(&self.sender, &mut self.pass, ticket, same, job, untaken)?;
         self.next = next;
@@ -126,7 +120,7 @@ impl<J: Job, K: Drop> JobTable<J, K> {
     }
 
     /// The job with this name is pending no more.
-    pub fn complete(&mut self, name: &JobName) -> Option<Entry<J, K>>
+    pub fn complete(&mut self, name: &JobName) -> Option<Entry<J>>
         ensures value { result ≡ entry_of self.old.jobs name.now }
         ensures removed { pending_of self.new.jobs ≡ without name.now (pending_of self.old.jobs) }
     {
@@ -142,10 +136,10 @@ impl<J: Job, K: Drop> JobTable<J, K> {
     }
 
     /// Takes the next item of the channel.
-    fn take_item<T: Wait>(&mut self, rt: &T) -> Option<Item<Ran>>
+    fn take_item<T: Wait>(&mut self, rt: &T) -> Option<Item<Ran<J::Found>>>
         ensures same { self.new.jobs ≡ self.old.jobs }
         ensures said { IfSome result (λ item.
-            IsSaidBy ⟦<J as AnyJob<Ran>>⟧.comes_to J.reports J.asks (all_jobs (knows self.new.pass)) item) }
+            IsSaidBy ⟦<J as AnyJob<Ran<J::Found>>>⟧.comes_to J.reports J.asks (all_jobs (knows self.new.pass)) item) }
     {
         match self.receiver.try_recv_as::<Taking, T>(rt, &mut self.pass) {
             Ok(item) => Some(item),
@@ -154,8 +148,8 @@ impl<J: Job, K: Drop> JobTable<J, K> {
     }
 
     /// Whether the job that this item names is pending with the item's ticket. Then one message of that job is taken.
-    fn is_awaited(&self, item: &Item<Ran>) -> bool
-        ensures { IsTrue result → (entry : Entry J K)
+    fn is_awaited(&self, item: &Item<Ran<J::Found>>) -> bool
+        ensures { IsTrue result → (entry : Entry J)
             × (entry_of self.now.jobs item.now.name ≡ Some entry) × (entry.ticket ≡ item.now.ticket) }
     {
         match self.jobs.get(&item.name) {
@@ -168,10 +162,10 @@ impl<J: Job, K: Drop> JobTable<J, K> {
     }
 
     /// Takes what a pending job said next, with that job's name. What others said is dropped.
-    pub fn take<T: Wait>(&mut self, rt: &T) -> Option<(JobName, WorkerMessage<Ran>)>
+    pub fn take<T: Wait>(&mut self, rt: &T) -> Option<(JobName, WorkerMessage<Ran<J::Found>>)>
         ensures same { self.new.jobs ≡ self.old.jobs }
         ensures said { IfSome result (λ said.
-            MaySay ⟦<J as AnyJob<Ran>>⟧.comes_to J.reports J.asks (pending_of self.old.jobs) said.0 said.1) }
+            MaySay ⟦<J as AnyJob<Ran<J::Found>>>⟧.comes_to J.reports J.asks (pending_of self.old.jobs) said.0 said.1) }
     {
         for _ in rt.forever() {
             let item = self.take_item(rt)?;

@@ -4,6 +4,7 @@ use std::alloc::{AllocError, Global};
 use std::sync::atomic::{AtomicU64, Ordering};
 use std::sync::{Arc, Wait};
 use std::thread::yield_now;
+use std::time::Duration;
 
 /// How many messages of a job may wait to be taken.
 const MESSAGES: u64 = 16;
@@ -15,18 +16,31 @@ const REPORTS: u64 = 15;
 const CANCELLED: u64 = 0x8000_0000;
 
 /// Counts the messages of a job that were sent and not taken. It is counted up before one is sent and down after one is taken: so there
-/// are never more of them than it says. The one word also says whether nobody waits for the job any more: so the thread of the job
+/// are never more of them than it says. The same word says whether nobody waits for the job any more: so the thread of the job
 /// sleeps at this word alone.
 #[derive(Drop)]
 pub(crate) struct UntakenMessages {
-    word: Arc<AtomicU64, Global>,
+    words: Arc<Words, Global>,
+}
+
+/// What the threads of a job and of its pool share.
+#[derive(Drop)]
+struct Words {
+    /// How many messages were sent and not taken, and whether nobody waits for the job any more.
+    untaken: AtomicU64,
+    /// 1, if the job is to end. Its thread rests at this word.
+    ends: AtomicU64,
 }
 
 impl UntakenMessages {
     /// None was sent. The error means that an allocation failed.
     pub fn new(alloc: Global) -> Result<UntakenMessages, AllocError> {
-        match Arc::new(alloc, AtomicU64::new(0)) {
-            Ok(word) => Ok(UntakenMessages { word }),
+        let none = Words {
+            untaken: AtomicU64::new(0),
+            ends: AtomicU64::new(0),
+        };
+        match Arc::new(alloc, none) {
+            Ok(words) => Ok(UntakenMessages { words }),
             Err(_) => Err(AllocError),
         }
     }
@@ -34,15 +48,15 @@ impl UntakenMessages {
     /// The same count, for another thread.
     pub fn share(&self) -> Result<UntakenMessages, AllocError> {
         Ok(UntakenMessages {
-            word: Arc::try_clone(&self.word)?,
+            words: Arc::try_clone(&self.words)?,
         })
     }
 
     /// One more report is about to be sent. False if there is no room for it, or nobody waits for the job.
     pub fn try_add(&self) -> bool {
-        let has_room = self.word.load(Ordering::SeqCst) < REPORTS;
+        let has_room = self.words.untaken.load(Ordering::SeqCst) < REPORTS;
         if has_room {
-            let _ = self.word.fetch_add(1, Ordering::SeqCst);
+            let _ = self.words.untaken.fetch_add(1, Ordering::SeqCst);
         }
         has_room
     }
@@ -50,15 +64,15 @@ impl UntakenMessages {
     /// One more message is about to be sent, once there is room for it. False if nobody waits for the job.
     pub fn add<T: Wait>(&self, rt: &T) -> bool {
         for _ in rt.forever() {
-            let seen = self.word.load(Ordering::SeqCst);
+            let seen = self.words.untaken.load(Ordering::SeqCst);
             if seen >= CANCELLED {
                 return false;
             }
             if seen < MESSAGES {
-                let _ = self.word.fetch_add(1, Ordering::SeqCst);
+                let _ = self.words.untaken.fetch_add(1, Ordering::SeqCst);
                 return true;
             }
-            self.word.park(rt, seen as u32);
+            self.words.untaken.park(rt, seen as u32);
         }
         unreachable!()
     }
@@ -79,8 +93,8 @@ impl UntakenMessages {
 
     /// One was taken, or was not sent.
     pub fn remove(&self) {
-        if self.word.fetch_sub(1, Ordering::SeqCst) >= MESSAGES {
-            self.word.wake_all();
+        if self.words.untaken.fetch_sub(1, Ordering::SeqCst) >= MESSAGES {
+            self.words.untaken.wake_all();
         }
     }
 
@@ -90,13 +104,29 @@ impl UntakenMessages {
             return;
         }
         // The job's thread sleeps only where there is no room.
-        if self.word.fetch_add(CANCELLED, Ordering::SeqCst) >= MESSAGES {
-            self.word.wake_all();
+        if self.words.untaken.fetch_add(CANCELLED, Ordering::SeqCst) >= MESSAGES {
+            self.words.untaken.wake_all();
         }
     }
 
     /// Whether nobody waits for the job any more.
     pub fn is_cancelled(&self) -> bool {
-        self.word.load(Ordering::SeqCst) >= CANCELLED
+        self.words.untaken.load(Ordering::SeqCst) >= CANCELLED
+    }
+
+    /// The job is to end.
+    pub fn stop(&self) {
+        self.words.ends.store(1, Ordering::SeqCst);
+        self.words.ends.wake_all();
+    }
+
+    /// Whether the job is to end.
+    pub fn is_stopped(&self) -> bool {
+        self.words.ends.load(Ordering::SeqCst) != 0
+    }
+
+    /// Sleeps for this time, or until the job is to end.
+    pub fn rest<T: Wait>(&self, rt: &T, time: Duration) {
+        self.words.ends.park_timeout(rt, 0, time);
     }
 }

@@ -1,7 +1,6 @@
 // The threads that run jobs. Each is started for any such job, since the check finds that it may own its ends only if it need not
 // look into the types.
 use crate::asking::Asker;
-use crate::cancellation::CancellationToken;
 use crate::channel::{AnyJob, JobSender};
 use crate::job::{Job, Ran};
 use crate::notifier::Notifier;
@@ -32,13 +31,12 @@ pub(crate) trait Work: Drop {
 #[derive(Drop)]
 pub(crate) struct QueuedJob<J: AnyJob<R>, R: Drop> {
     pub(crate) job_sender: JobSender<J, R>,
-    pub(crate) token: CancellationToken,
     pub(crate) asker: Asker,
 }
 
 impl<J: AnyJob<R>, R: Drop> Work for QueuedJob<J, R> {
     fn is_wanted(&self) -> bool {
-        !self.token.is_cancelled()
+        !self.asker.is_cancelled()
     }
 
     fn end(self, running: &RunningJobs) {
@@ -52,12 +50,8 @@ impl<J: AnyJob<R>, R: Drop> Work for QueuedJob<J, R> {
         notifier: N,
         running: &RunningJobs,
     ) -> N {
-        let QueuedJob {
-            job_sender,
-            token,
-            asker,
-        } = self;
-        job_sender.perform(rt, &token, asker, notifier, running)
+        let QueuedJob { job_sender, asker } = self;
+        job_sender.perform(rt, asker, notifier, running)
     }
 }
 
@@ -132,16 +126,17 @@ where
 pub(crate) fn start_job_workers<T, J, N>(
     rt: &T,
     size: PoolSize,
-    waiting: JobSource<QueuedJob<J, Ran>>,
+    waiting: JobSource<QueuedJob<J, Ran<J::Found>>>,
     notifier: &mut N,
     workers: &mut Vec<JoinHandle<()>>,
 ) -> Result<(), StartFault>
 where
     T: Threads + Wait + Copy + Drop + Send + 'static,
     J: Job + Send + 'static,
+    J::Found: Send + 'static,
     N: Notifier + Send + 'static,
 {
-    start_workers::<T, QueuedJob<J, Ran>, N>(rt, size, waiting, notifier, workers)
+    start_workers::<T, QueuedJob<J, Ran<J::Found>>, N>(rt, size, waiting, notifier, workers)
 }
 
 /// Joins threads.

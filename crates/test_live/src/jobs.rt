@@ -3,27 +3,40 @@ ghost use Rattle.serde_json.specs.Data.{Data};
 ghost use Rattle.std.specs.Prelude.{ℕ, List};
 
 use crate::signals::{Signal, Signals};
-use lsp_jobs::{CancellationToken, Job, PartialResults, Progress, Slot, WorkDone};
+use lsp_jobs::{Interrupted, Job, JobContext, JobResult, PartialResults, Slot, WorkDone};
 use lsp_message::{ErrorCode, Notification, ResponseError};
 use serde_json::Value;
 use std::alloc::{AllocError, Global};
 use std::sync::Arc;
+use std::time::Duration;
 use std::{mem, thread};
 
-/// Does what its script says, and comes to its value. A script has words, `, ` between them:
+/// Does what its script says, and comes to its value, which it replies or, in a slot, finds. It finds its number in any case. A script has
+/// words, `, ` between them:
 ///
-/// - `soon`: nothing. `after N`: waits until N messages were written. `cancelled`: waits until its token is cancelled.
+/// - `soon`: nothing. `after N`: waits until N messages were written. `cancelled`: waits until it is to end, and goes on. `rests`: rests for
+///   an hour, and ends at once if it is to end. `checks`: ends if it is to end.
 /// - `reports N`: makes N reports, numbered on from those before. `sends N`: the same of notifications that are not to be dropped.
-/// - `begins`, `steps N`, `ends`: tells of its work, if the client gave a token for that. `parts N`: sends N partial results, if the
-///   client gave a token for those.
+/// - `begins`, `steps N`, `ends`: tells of its work, if the client gave a token for that. `offers`: begins, and its client may cancel it.
+///   `parts N`: sends N partial results, if the client gave a token for those.
 /// - `asks`: asks its client `demo/asked` with its value, and comes to the reply. Where none comes it counts as stopped.
 /// - `creates TOKEN`: from now on it tells of its work under this token, if the client agrees.
 /// - `counted`: comes to the count of reports that were taken. `fails`: comes to an error. `starves`: finds no memory.
+/// - `replies nothing`: gives no reply. `finds nothing`: not its number either.
 #[derive(Drop)]
 pub struct Scripted {
     pub alloc: Global,
     pub means: Means,
     pub value: Value,
+    pub number: u64,
+    pub is_in_slot: bool,
+}
+
+/// What a job finds: its number and, in a slot, the value that it comes to, if that is no error.
+#[derive(Debug, Drop)]
+pub struct Found {
+    pub number: u64,
+    pub value: Option<Value>,
 }
 
 /// What a job has beside its value.
@@ -70,7 +83,8 @@ enum Ending {
     NoMemory,
 }
 
-/// How far a job is: the reports that it made, those of them that were taken, what it told by a token, and what it will come to.
+/// How far a job is: the reports that it made, those of them that were taken, what it told by a token, what it will come to, and whether it
+/// will give a reply, and find something.
 #[derive(Drop)]
 struct Course {
     alloc: Global,
@@ -83,53 +97,63 @@ struct Course {
     ending: Ending,
     value: Value,
     reply: Option<Result<Value, ResponseError>>,
+    replies: bool,
+    finds: bool,
 }
 
 impl Course {
-    fn act<P: Progress>(
-        &mut self,
-        word: &str,
-        token: &CancellationToken,
-        progress: &mut P,
-    ) -> Result<(), AllocError>
-        requires reporting { (method : List ℕ) (params : Data) → P.may method params }
-        requires asking { (method : List ℕ) (params : Data) → P.may_ask method params }
+    fn act<C: JobContext>(&mut self, word: &str, context: &mut C) -> Result<(), Interrupted>
+        requires reporting { (method : List ℕ) (params : Data) → C.may method params }
+        requires asking { (method : List ℕ) (params : Data) → C.may_ask method params }
     {
         let (name, rest) = word.split_once(" ").unwrap_or((word, "0"));
         let number = rest.parse::<u64>().unwrap_or(0);
         match name {
-            "asks" => self.ask(progress),
-            "creates" => self.create(rest, progress),
-            "reports" => self.report(number, progress),
-            "sends" => self.send(number, progress),
-            "begins" | "steps" | "ends" => self.tell_work(name, number, progress),
-            "parts" => self.send_parts(number, progress),
-            _ => {
-                self.act_alone(name, number, token);
-                Ok(())
-            }
+            "asks" => self.ask(context)?,
+            "creates" => self.create(rest, context)?,
+            "reports" => self.report(number, context)?,
+            "sends" => self.send(number, context)?,
+            "begins" | "offers" | "steps" | "ends" => self.tell_work(name, number, context)?,
+            "parts" => self.send_parts(number, context)?,
+            "rests" | "checks" => return self.stop_if_told(name, context),
+            "cancelled" => self.await_cancelled(context),
+            _ => self.act_alone(name, number),
         }
+        Ok(())
     }
 
     /// What it does without its client.
-    fn act_alone(&mut self, name: &str, number: u64, token: &CancellationToken) {
+    fn act_alone(&mut self, name: &str, number: u64) {
         match name {
             "after" => self.await_written(number),
-            "cancelled" => self.await_cancelled(token),
             "counted" => self.ending = Ending::Count,
             "fails" => self.ending = Ending::Error,
             "starves" => self.ending = Ending::NoMemory,
+            "replies" => self.replies = false,
+            "finds" => self.finds = false,
             _ => {}
         }
+    }
+
+    /// Rests or checks. If it is to end, that counts as stopped.
+    fn stop_if_told<C: JobContext>(&self, name: &str, context: &mut C) -> Result<(), Interrupted> {
+        let outcome = match name {
+            "rests" => context.rest(Duration::from_secs(3600)),
+            _ => context.check(),
+        };
+        if outcome.is_err() {
+            self.signals.tell(Signal::Stopped);
+        }
+        outcome
     }
 
     fn await_written(&self, count: u64) {
         let _ = self.signals.wait(Signal::Messages, count);
     }
 
-    fn await_cancelled(&self, token: &CancellationToken) {
+    fn await_cancelled<C: JobContext>(&self, context: &C) {
         for _ in 0..u64::MAX {
-            if token.is_cancelled() {
+            if context.is_cancelled() {
                 self.signals.tell(Signal::Stopped);
                 return;
             }
@@ -137,11 +161,11 @@ impl Course {
         }
     }
 
-    fn ask<P: Progress>(&mut self, progress: &mut P) -> Result<(), AllocError>
-        requires { (method : List ℕ) (params : Data) → P.may_ask method params }
+    fn ask<C: JobContext>(&mut self, context: &mut C) -> Result<(), AllocError>
+        requires { (method : List ℕ) (params : Data) → C.may_ask method params }
     {
         let method = String::from_str(self.alloc, "demo/asked")?;
-        let reply = progress.ask(method, self.value.clone()?)?;
+        let reply = context.ask(method, self.value.clone()?)?;
         if reply.is_none() {
             self.signals.tell(Signal::Stopped);
         }
@@ -149,21 +173,21 @@ impl Course {
         Ok(())
     }
 
-    fn create<P: Progress>(&mut self, token: &str, progress: &mut P) -> Result<(), AllocError>
-        requires { (method : List ℕ) (params : Data) → P.may_ask method params }
+    fn create<C: JobContext>(&mut self, token: &str, context: &mut C) -> Result<(), AllocError>
+        requires { (method : List ℕ) (params : Data) → C.may_ask method params }
     {
         let token = Value::String(String::from_str(self.alloc, token)?);
-        let work = WorkDone::create(self.alloc, progress, token)?;
+        let work = WorkDone::create(self.alloc, context, token)?;
         drop(mem::replace(&mut self.work, Some(work)));
         Ok(())
     }
 
-    fn report<P: Progress>(&mut self, number: u64, progress: &mut P) -> Result<(), AllocError>
-        requires { (method : List ℕ) (params : Data) → P.may method params }
+    fn report<C: JobContext>(&mut self, number: u64, context: &mut C) -> Result<(), AllocError>
+        requires { (method : List ℕ) (params : Data) → C.may method params }
     {
         for _ in 0..number {
             self.made = self.made.saturating_add(1);
-            if progress.report(progress_of(self.alloc, self.made)?) {
+            if context.report(progress_of(self.alloc, self.made)?) {
                 self.taken = self.taken.saturating_add(1);
             }
         }
@@ -171,41 +195,45 @@ impl Course {
         Ok(())
     }
 
-    fn send<P: Progress>(&mut self, number: u64, progress: &mut P) -> Result<(), AllocError>
-        requires { (method : List ℕ) (params : Data) → P.may method params }
+    fn send<C: JobContext>(&mut self, number: u64, context: &mut C) -> Result<(), AllocError>
+        requires { (method : List ℕ) (params : Data) → C.may method params }
     {
         for _ in 0..number {
             self.made = self.made.saturating_add(1);
-            if progress.send(progress_of(self.alloc, self.made)?) {
+            if context.send(progress_of(self.alloc, self.made)?) {
                 self.taken = self.taken.saturating_add(1);
             }
         }
         Ok(())
     }
 
-    fn tell_work<P: Progress>(
+    fn tell_work<C: JobContext>(
         &mut self,
         name: &str,
         number: u64,
-        progress: &mut P,
+        context: &mut C,
     ) -> Result<(), AllocError>
-        requires { (method : List ℕ) (params : Data) → P.may method params }
+        requires { (method : List ℕ) (params : Data) → C.may method params }
     {
         match name {
             "begins" => match &self.work {
-                Some(work) => work.begin(progress, "Working", None, Some(0)),
+                Some(work) => work.begin(context, "Working", None, Some(0)),
                 None => Ok(()),
             },
-            "steps" => self.tell_steps(number, progress),
+            "offers" => match &self.work {
+                Some(work) => work.begin_cancellable(context, "Working", None, Some(0)),
+                None => Ok(()),
+            },
+            "steps" => self.tell_steps(number, context),
             _ => match self.work.take() {
-                Some(work) => work.end(progress, Some("done")),
+                Some(work) => work.end(context, Some("done")),
                 None => Ok(()),
             },
         }
     }
 
-    fn tell_steps<P: Progress>(&mut self, number: u64, progress: &mut P) -> Result<(), AllocError>
-        requires { (method : List ℕ) (params : Data) → P.may method params }
+    fn tell_steps<C: JobContext>(&mut self, number: u64, context: &mut C) -> Result<(), AllocError>
+        requires { (method : List ℕ) (params : Data) → C.may method params }
     {
         let Some(work) = &self.work else {
             return Ok(());
@@ -214,7 +242,7 @@ impl Course {
             self.told = self.told.saturating_add(1);
             let told = self.told;
             let message = format!(in self.alloc; "step {told}")?;
-            let reported = work.report(progress, Some(message.as_str()), Some(told));
+            let reported = work.report(context, Some(message.as_str()), Some(told));
             drop(message);
             reported?;
         }
@@ -222,13 +250,13 @@ impl Course {
         Ok(())
     }
 
-    fn send_parts<P: Progress>(&mut self, number: u64, progress: &mut P) -> Result<(), AllocError>
-        requires { (method : List ℕ) (params : Data) → P.may method params }
+    fn send_parts<C: JobContext>(&mut self, number: u64, context: &mut C) -> Result<(), AllocError>
+        requires { (method : List ℕ) (params : Data) → C.may method params }
     {
         for _ in 0..number {
             self.told = self.told.saturating_add(1);
             let part = list_of(self.alloc, Value::from(self.told))?;
-            self.parts.send(progress, part)?;
+            self.parts.send(context, part)?;
         }
         Ok(())
     }
@@ -252,15 +280,15 @@ fn progress_of(alloc: Global, number: u64) -> Result<Notification, AllocError> {
 }
 
 impl Job for Scripted {
-    fn run<P: Progress>(
-        self,
-        token: &CancellationToken,
-        progress: &mut P,
-    ) -> Result<Result<Value, ResponseError>, AllocError> {
+    type Found = Found;
+
+    fn run<C: JobContext>(self, context: &mut C) -> Result<JobResult<Found>, Interrupted> {
         let Scripted {
             alloc,
             means,
             value,
+            number,
+            is_in_slot,
         } = self;
         let Means {
             signals,
@@ -280,35 +308,94 @@ impl Job for Scripted {
             ending: Ending::Value,
             value,
             reply: None,
+            replies: !is_in_slot,
+            finds: true,
         };
-        let outcome = course.go(script.as_str(), token, progress);
+        let outcome = course.go(script.as_str(), context);
+        let (replies, finds) = (course.replies, course.finds);
         drop(course);
-        outcome
+        let outcome = outcome?;
+        if is_in_slot {
+            return Ok(slot_result(number, finds, outcome));
+        }
+        Ok(request_result(number, replies, finds, outcome))
+    }
+}
+
+/// What the job of a request gives.
+fn request_result(
+    number: u64,
+    replies: bool,
+    finds: bool,
+    outcome: Result<Value, ResponseError>,
+) -> JobResult<Found> {
+    let found = finds.then_some(number).map(|number| Found {
+        number,
+        value: None,
+    });
+    if replies {
+        return JobResult {
+            reply: Some(outcome),
+            found,
+        };
+    }
+    drop(outcome);
+    JobResult { reply: None, found }
+}
+
+/// What a job in a slot gives.
+fn slot_result(
+    number: u64,
+    finds: bool,
+    outcome: Result<Value, ResponseError>,
+) -> JobResult<Found> {
+    let value = match outcome {
+        Ok(value) => Some(value),
+        Err(error) => {
+            drop(error);
+            None
+        }
+    };
+    if finds {
+        return JobResult::found(Found { number, value });
+    }
+    drop(value);
+    JobResult {
+        reply: None,
+        found: None,
     }
 }
 
 impl Course {
     /// What the script comes to.
-    fn go<P: Progress>(
+    fn go<C: JobContext>(
         &mut self,
         script: &str,
-        token: &CancellationToken,
-        progress: &mut P,
-    ) -> Result<Result<Value, ResponseError>, AllocError>
-        requires reporting { (method : List ℕ) (params : Data) → P.may method params }
-        requires asking { (method : List ℕ) (params : Data) → P.may_ask method params }
+        context: &mut C,
+    ) -> Result<Result<Value, ResponseError>, Interrupted>
+        requires reporting { (method : List ℕ) (params : Data) → C.may method params }
+        requires asking { (method : List ℕ) (params : Data) → C.may_ask method params }
     {
-        for word in script.split(", ") {
-            self.act(word, token, progress)?;
-        }
+        let acted = self.act_all(script, context);
         self.signals.tell(Signal::Ended);
+        acted?;
         match self.reply.take() {
             Some(reply) => Ok(reply),
             None => self.outcome(),
         }
     }
 
-    fn outcome(&mut self) -> Result<Result<Value, ResponseError>, AllocError> {
+    fn act_all<C: JobContext>(&mut self, script: &str, context: &mut C) -> Result<(), Interrupted>
+        requires reporting { (method : List ℕ) (params : Data) → C.may method params }
+        requires asking { (method : List ℕ) (params : Data) → C.may_ask method params }
+    {
+        for word in script.split(", ") {
+            self.act(word, context)?;
+        }
+        Ok(())
+    }
+
+    fn outcome(&mut self) -> Result<Result<Value, ResponseError>, Interrupted> {
         match self.ending {
             Ending::Value => Ok(Ok(mem::replace(&mut self.value, Value::Null))),
             Ending::Count => Ok(Ok(Value::from(self.taken))),
@@ -317,7 +404,7 @@ impl Course {
                 ErrorCode::RequestFailed,
                 "it failed",
             )?)),
-            Ending::NoMemory => Err(AllocError),
+            Ending::NoMemory => Err(Interrupted::Memory),
         }
     }
 }

@@ -1,24 +1,25 @@
 // A pool by hand: `pool WORKERS STEP; STEP ..`, or `WORKERS:WAITING` if only so many jobs may wait. A step is one of these, with what is
 // told of it:
 //
-// - `submit NAME KEY SCRIPT`: gives the pool a job (`jobs.rt`), which comes to the list of the key: `taken`, `full KEY` or `no memory`. The
-//   name is a request's number, or that of a slot behind an `s`.
+// - `submit NAME NUMBER SCRIPT`: gives the pool a job (`jobs.rt`), which comes to the list of the number: `taken`, `full` or `no memory`.
+//   The name is a request's number, or that of a slot behind an `s`.
 // - `begun N`, `ended N`, `reported N`: waits until N jobs began, ended or were done with their reports; nothing is told.
 // - `hear`: waits for a signal: `heard`, or `closed`.
-// - `message`: takes the next message: `ID report PARAMS`, `ID ask NUMBER METHOD PARAMS`, `ID outcome VALUE of KEY`,
-//   `ID error CODE of KEY`, `nothing`, or `ID no memory`.
+// - `message`: takes the next message: `ID report PARAMS`, `ID ask NUMBER METHOD PARAMS`, `ID outcome VALUE`, `ID error CODE`, `ID no reply`;
+//   in a slot `ID found VALUE`; `ID cancelled` or `ID no memory` if the job came to nothing; or `nothing`.
 // - `listen N`: takes N messages, and waits for a signal where there is none.
 // - `rounds N M`: N times, submits M jobs at once, and takes the outcomes of those that were taken. `R refused`.
 // - `reply N`, `give_up N`: the request number N of a job gets the reply `true`, or none; nothing is told.
+// - `cancel TOKEN`: the client cancels the progress with this token. Nothing is told.
 // - `waits ID`: `waits` or `free`. `forget ID`: nothing is told.
 //
 // The client of such a job gave the tokens `w` and 7. At the end the pool is ended, nothing more may be heard then, and it is told how many jobs began and how many saw their cancellation.
 use crate::attempt::{Attempt, Stop};
-use crate::jobs::{Means, Scripted, list_of};
+use crate::jobs::{Found, Means, Scripted, list_of};
 use crate::signals::{Signal, Signals};
 use crate::table::pool_of;
 use crossbeam_channel::Receiver;
-use lsp_jobs::{JobMessage, JobName, JobPool, Slot, SubmitFault};
+use lsp_jobs::{Interrupted, JobMessage, JobName, JobPool, JobResult, Slot, SubmitFault};
 use lsp_message::RequestId;
 use serde_json::Value;
 use std::alloc::{AllocError, Global};
@@ -32,7 +33,7 @@ struct Bench<R: Wait + Drop> {
     rt: R,
     alloc: Global,
     signals: Arc<Signals>,
-    pool: JobPool<R, Scripted, i32>,
+    pool: JobPool<R, Scripted>,
     woken: Receiver<()>,
     told: String,
 }
@@ -63,7 +64,7 @@ where
     Ok(Attempt::came(told?))
 }
 
-/// The number of an id or a key. What is no such number is 0.
+/// The number of an id. What is no such number is 0.
 fn small_of(text: &str) -> i32 {
     text.parse::<i32>().unwrap_or(0)
 }
@@ -132,7 +133,7 @@ impl<R: Wait + Drop> Bench<R> {
                 self.go_silently(name, rest);
                 Ok(())
             }
-            "submit" | "hear" | "listen" | "message" | "rounds" | "waits" => {
+            "submit" | "hear" | "listen" | "message" | "rounds" | "waits" | "cancel" => {
                 Ok(self.tell(name, rest)?)
             }
             _ => Err(Stop::Table),
@@ -161,6 +162,7 @@ impl<R: Wait + Drop> Bench<R> {
             "hear" => self.hear(),
             "listen" => self.listen(count_of(rest)),
             "rounds" => self.run_rounds(rest),
+            "cancel" => self.cancel(rest),
             "waits" => self.tell_waiting(name_of(rest)),
             _ => match self.take_message(true) {
                 Ok(_) => Ok(()),
@@ -169,17 +171,28 @@ impl<R: Wait + Drop> Bench<R> {
         }
     }
 
+    /// The client cancels the progress with this token.
+    fn cancel(&self, token: &str) -> Result<(), AllocError> {
+        let token = String::from_str(self.alloc, token)?;
+        self.pool.cancel_progress(&RequestId::from(token));
+        Ok(())
+    }
+
     fn submit(&mut self, words: &str) -> Result<(), AllocError> {
         let (id, words) = words.split_once(" ").unwrap_or(("", words));
-        let (key, script) = words.split_once(" ").unwrap_or(("", words));
-        let key = small_of(key);
-        let submitted = match job_of(self.alloc, &self.signals, script, key) {
-            Ok(job) => self.pool.submit(name_of(id), job, key),
-            Err(error) => return Err(error),
-        };
-        match submitted {
+        let (number, script) = words.split_once(" ").unwrap_or(("", words));
+        let name = name_of(id);
+        let is_in_slot = matches!(name, JobName::Slot(_));
+        let job = job_of(
+            self.alloc,
+            &self.signals,
+            script,
+            count_of(number),
+            is_in_slot,
+        )?;
+        match self.pool.submit(name, job) {
             Ok(()) => self.told.push_str("taken, "),
-            Err(SubmitFault::Full(key)) => write!(self.told, "full {key}, "),
+            Err(SubmitFault::Full) => self.told.push_str("full, "),
             Err(SubmitFault::Memory) => self.told.push_str("no memory, "),
         }
     }
@@ -240,15 +253,7 @@ impl<R: Wait + Drop> Bench<R> {
 
     /// Takes the next message. False if there is none, which is told if that is asked for.
     fn take_message(&mut self, tells: bool) -> Result<bool, AllocError> {
-        let found = match self.pool.take_message() {
-            Ok(found) => found,
-            Err(name) => {
-                tell_name(&mut self.told, &name)?;
-                self.told.push_str(" no memory, ")?;
-                return Ok(true);
-            }
-        };
-        match found {
+        match self.pool.take_message() {
             Some((name, message)) => {
                 let told = match tell_name(&mut self.told, &name) {
                     Ok(()) => self.tell_message(&message),
@@ -268,16 +273,33 @@ impl<R: Wait + Drop> Bench<R> {
         }
     }
 
-    fn tell_message(&mut self, message: &JobMessage<i32>) -> Result<(), AllocError> {
+    fn tell_message(&mut self, message: &JobMessage<Found>) -> Result<(), AllocError> {
         match message {
             JobMessage::Report(report) => write!(self.told, " report {}, ", report.params),
             JobMessage::Ask(method, params, number) => {
                 write!(self.told, " ask {number} {method} {params}, ")
             }
-            JobMessage::Outcome(outcome, key) => match outcome {
-                Ok(value) => write!(self.told, " outcome {value} of {key}, "),
-                Err(error) => write!(self.told, " error {} of {key}, ", error.code),
-            },
+            JobMessage::Ran(Ok(done)) => self.tell_result(done),
+            JobMessage::Ran(Err(Interrupted::Cancelled)) => self.told.push_str(" cancelled, "),
+            JobMessage::Ran(Err(Interrupted::Memory)) => self.told.push_str(" no memory, "),
+        }
+    }
+
+    /// What a job came to.
+    fn tell_result(&mut self, done: &JobResult<Found>) -> Result<(), AllocError> {
+        match &done.reply {
+            Some(Ok(value)) => return write!(self.told, " outcome {value}, "),
+            Some(Err(error)) => return write!(self.told, " error {}, ", error.code),
+            None => {}
+        }
+        match &done.found {
+            Some(
+                Found {
+                    value: Some(value),
+                    ..
+                },
+            ) => write!(self.told, " found {value}, "),
+            _ => self.told.push_str(" no reply, "),
         }
     }
 
@@ -296,14 +318,17 @@ fn job_of(
     alloc: Global,
     signals: &Arc<Signals>,
     script: &str,
-    key: i32,
+    number: u64,
+    is_in_slot: bool,
 ) -> Result<Scripted, AllocError> {
-    let value = list_of(alloc, Value::from(key))?;
+    let value = list_of(alloc, Value::from(number))?;
     match means_of(alloc, signals, script) {
         Ok(means) => Ok(Scripted {
             alloc,
             means,
             value,
+            number,
+            is_in_slot,
         }),
         Err(error) => {
             drop(value);

@@ -1,7 +1,7 @@
 // The handler of all rows, and their server: it speaks, asks, and starts jobs.
-use crate::jobs::{Means, Scripted, list_of, own_slot};
+use crate::jobs::{Found, Means, Scripted, list_of, own_slot};
 use crate::signals::{Signal, Signals};
-use lsp_jobs::{AnsweredBy, JobEnd, JobName, JobServer, Slot, SlotChange};
+use lsp_jobs::{AnsweredBy, JobEnd, JobName, JobServer, Slot, SlotChange, Slots};
 use lsp_message::{Notification, Request, RequestId, ResponseError};
 use lsp_service::{Act, Server};
 use lsp_session::{Handler, initialize_result};
@@ -59,13 +59,13 @@ pub enum Asked {
 /// - It answers `demo/echo` with its params, asks its client `demo/asked` at `demo/ask` and answers with the reply, keeps `demo/hold`
 ///   until the next notification, and knows no other method but two:
 /// - `job SCRIPT` gives a job with this script (`jobs.rt`), which comes to the params. `later SCRIPT` is one that it starts in a slot at the
-///   notification `start`, and whose result it gives as the reply. What it keeps for a job is the job's number, from 1.
+///   notification `start`, and whose result it gives as the reply. Jobs have numbers, from 1.
 /// - `long known` is answered at once with its params, where a job might run. For the job of `long unmade` memory is missing.
-/// - The notification `job SCRIPT` starts a job in a slot of its own, whose outcome it publishes; `stop` stops it. At `answer` it answers the
-///   request whose id is the first of the params itself. At one whose method begins with `$/` it does nothing.
+/// - The notification `job SCRIPT` starts a job in a slot of its own, whose result it publishes; `stop` stops it. At `answer` it answers the
+///   request whose id is the first of the params itself. At one whose method begins with `$/` or `window/` it does nothing.
 /// - At another notification it pushes its params, asks for the configuration and answers what it keeps.
 /// - At a reply with the configuration it pushes the number of the question.
-/// - Of a job in a slot that found no room it pushes the number.
+/// - Of a job in a slot that found no room it pushes the slot's name.
 #[derive(Drop)]
 pub struct Talker {
     alloc: Global,
@@ -77,13 +77,13 @@ pub struct Talker {
     later: Vec<Change>,
     /// The requests that jobs in slots answer, each with the number of its job.
     kept: Vec<(RequestId, u64)>,
-    /// The names and numbers of the jobs whose end it saw, each behind a space.
+    /// The names of the jobs whose end it saw, each behind a space, with the number that the job found or how it ended.
     pub finished: String,
 }
 
 type Acts = Vec<Act<Asked>>;
 
-type Change = SlotChange<Scripted, u64>;
+type Change = SlotChange<Scripted>;
 
 impl Talker {
     /// A server to which nothing came.
@@ -144,19 +144,17 @@ impl Talker {
         }
     }
 
-    /// A job with this script, and its number.
-    fn job_of(&self, script: &str, value: Value) -> Result<(Scripted, u64), AllocError> {
+    /// A job with this script and the next number.
+    fn job_of(&self, script: &str, value: Value, is_in_slot: bool) -> Result<Scripted, AllocError> {
         let number = self.numbered.fetch_add(1, Ordering::SeqCst).wrapping_add(1);
         match Means::of(self.alloc, &self.signals, script, &value) {
-            Ok(means) => {
-                let alloc = self.alloc;
-                let job = Scripted {
-                    alloc,
-                    means,
-                    value,
-                };
-                Ok((job, number))
-            }
+            Ok(means) => Ok(Scripted {
+                alloc: self.alloc,
+                means,
+                value,
+                number,
+                is_in_slot,
+            }),
             Err(error) => {
                 drop(value);
                 Err(error)
@@ -166,25 +164,25 @@ impl Talker {
 
     /// Keeps the job of a request `later SCRIPT`.
     fn keep_job(&mut self, id: RequestId, script: &str, params: Value) -> Result<Acts, AllocError> {
-        let (job, key) = match self.job_of(script, params) {
-            Ok(made) => made,
+        let job = match self.job_of(script, params, true) {
+            Ok(job) => job,
             Err(error) => {
                 drop(id);
                 return Err(error);
             }
         };
         let name = format!(in self.alloc; "later {id}")?;
-        self.later
-            .push(SlotChange::Start(Slot::from(name), job, key))?;
-        self.kept.push((id, key))?;
+        let number = job.number;
+        self.later.push(SlotChange::Start(Slot::from(name), job))?;
+        self.kept.push((id, number))?;
         Ok(Vec::new(self.alloc))
     }
 
     /// Starts a job in a slot of its own.
     fn start_job(&mut self, script: &str, params: Value) -> Result<Acts, AllocError> {
-        let (job, key) = self.job_of(script, params)?;
+        let job = self.job_of(script, params, true)?;
         self.changes
-            .push(SlotChange::Start(own_slot(self.alloc)?, job, key))?;
+            .push(SlotChange::Start(own_slot(self.alloc)?, job))?;
         Ok(Vec::new(self.alloc))
     }
 
@@ -193,7 +191,7 @@ impl Talker {
         if let Some(script) = method.strip_prefix("job ") {
             return self.start_job(script, params);
         }
-        if method.starts_with("$/") {
+        if method.starts_with("$/") || method.starts_with("window/") {
             drop(params);
             return Ok(Vec::new(self.alloc));
         }
@@ -215,16 +213,16 @@ impl Talker {
     }
 
     /// What it does when a job in a slot found this: it answers the request for which it kept the job, or publishes it.
-    fn found(&mut self, key: u64, value: &Value) -> Result<Acts, AllocError> {
-        match self.kept_for(key) {
-            Some(id) => self.one(Act::Reply(id, Ok(value.clone()?))),
-            None => self.tell("published", value.clone()?),
+    fn show(&mut self, number: u64, value: Value) -> Result<Acts, AllocError> {
+        match self.kept_for(number) {
+            Some(id) => self.one(Act::Reply(id, Ok(value))),
+            None => self.tell("published", value),
         }
     }
 
     /// The request that this job answers, if it is one that was kept.
-    fn kept_for(&mut self, key: u64) -> Option<RequestId> {
-        let at = self.kept.iter().position(|kept| kept.1 == key)?;
+    fn kept_for(&mut self, number: u64) -> Option<RequestId> {
+        let at = self.kept.iter().position(|kept| kept.1 == number)?;
         let (id, _) = self.kept.swap_remove(at);
         Some(id)
     }
@@ -325,20 +323,14 @@ impl Server for Talker {
 }
 
 impl JobServer<Scripted> for Talker {
-    ghost use Rattle.std.specs.Prelude.{⊤};
-
-    type Key = u64;
-
-    ghost changes = { λ _ _ _. ⊤ };
-
-    ghost finishes = { λ _ _ _ _ _ _. ⊤ };
+    type Slots = Talker;
 
     fn is_long(&self, request: &Request) -> bool {
         let method = request.method.as_str();
         method.starts_with("job ") || method.starts_with("long ")
     }
 
-    fn job(&self, request: Request) -> Result<AnsweredBy<Scripted, u64>, AllocError> {
+    fn job(&self, request: Request) -> Result<AnsweredBy<Scripted>, AllocError> {
         let Request { id, method, params } = request;
         drop(id);
         match method.as_str() {
@@ -350,51 +342,77 @@ impl JobServer<Scripted> for Talker {
             method => self.job_named(method, params),
         }
     }
+}
 
-    fn take_changes(&mut self, alloc: Global) -> Result<Vec<Change>, AllocError> {
-        Ok(mem::replace(&mut self.changes, Vec::new(alloc)))
+impl Slots<Talker, Scripted> for Talker {
+    ghost use Rattle.std.specs.Prelude.{⊤};
+
+    ghost changes = { λ _ _ _. ⊤ };
+
+    ghost hears = { λ _ _ _ _ _. ⊤ };
+
+    ghost finishes = { λ _ _ _ _ _. ⊤ };
+
+    fn take_changes(server: &mut Talker, alloc: Global) -> Result<Vec<Change>, AllocError> {
+        Ok(mem::replace(&mut server.changes, Vec::new(alloc)))
     }
 
-    fn finished(
-        &mut self,
+    fn found(
+        server: &mut Talker,
         name: &JobName,
-        key: u64,
-        end: &JobEnd,
+        found: Found,
         alloc: Global,
     ) -> Result<Acts, AllocError> {
+        let Found { number, value } = found;
         match name {
-            JobName::Request(id) => write!(self.finished, " {id}:{key}")?,
-            JobName::Slot(slot) => write!(self.finished, " {slot}:{key}")?,
+            JobName::Request(id) => write!(server.finished, " {id}:{number}")?,
+            JobName::Slot(slot) => write!(server.finished, " {slot}:{number}")?,
         }
-        match end {
-            JobEnd::Refused => {
-                self.finished.push_str(" refused")?;
-                self.tell("refused", list_of(alloc, Value::from(key))?)
-            }
-            JobEnd::Outcome(Ok(value)) if matches!(name, JobName::Slot(_)) => self.found(
-                key, value,
-            ),
-            JobEnd::Outcome(_) => Ok(Vec::new(alloc)),
-            JobEnd::Replaced => self.note_end(" replaced"),
-            JobEnd::Stopped => self.note_end(" stopped"),
+        match value {
+            Some(value) => server.show(number, value),
+            None => Ok(Vec::new(alloc)),
+        }
+    }
+
+    fn ended(
+        server: &mut Talker,
+        name: &JobName,
+        end: JobEnd,
+        alloc: Global,
+    ) -> Result<Acts, AllocError> {
+        let how = match end {
+            JobEnd::Done => "done",
+            JobEnd::Failed => "failed",
+            JobEnd::Cancelled => "cancelled",
+            JobEnd::Refused => "refused",
+            JobEnd::Replaced => "replaced",
+            JobEnd::Stopped => "stopped",
+        };
+        match name {
+            JobName::Request(id) => write!(server.finished, " {id} {how}")?,
+            JobName::Slot(slot) => write!(server.finished, " {slot} {how}")?,
+        }
+        match name {
+            JobName::Slot(slot) if end == JobEnd::Refused => server.tell_refused(slot),
+            _ => Ok(Vec::new(alloc)),
         }
     }
 }
 
 impl Talker {
-    fn job_named(
-        &self,
-        method: &str,
-        params: Value,
-    ) -> Result<AnsweredBy<Scripted, u64>, AllocError> {
-        match self.job_of(method.strip_prefix("job ").unwrap_or(""), params) {
-            Ok((job, number)) => Ok(AnsweredBy::Job(job, number)),
+    fn job_named(&self, method: &str, params: Value) -> Result<AnsweredBy<Scripted>, AllocError> {
+        match self.job_of(method.strip_prefix("job ").unwrap_or(""), params, false) {
+            Ok(job) => Ok(AnsweredBy::Job(job)),
             Err(error) => Err(error),
         }
     }
 
-    fn note_end(&mut self, end: &str) -> Result<Acts, AllocError> {
-        self.finished.push_str(end)?;
-        Ok(Vec::new(self.alloc))
+    /// Pushes the name of a slot for whose job there was no room.
+    fn tell_refused(&self, slot: &Slot) -> Result<Acts, AllocError> {
+        let printed = format!(in self.alloc; "{slot}")?;
+        match Value::from_str(self.alloc, printed.as_str()) {
+            Ok(name) => self.tell("refused", list_of(self.alloc, name)?),
+            Err(_) => Err(AllocError),
+        }
     }
 }

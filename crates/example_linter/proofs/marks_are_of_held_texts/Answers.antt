@@ -2,15 +2,17 @@ use Rattle.example_linter.proofs.Turns.{all_shown}
 use Rattle.example_linter.proofs.marks_are_of_held_texts.Goals as goal
 
 pub returns : goal.returns
-returns c = all_shown _ _ _ (record {
+returns c = all_shown _ _ (record {
   began = λ old acts new h. h.1;
   requested = λ old id method params acts new h. h.1;
   notified = λ old method params acts new h. h.0;
   replied = λ old payload outcome acts new h. h.1;
   took_back = λ old payload new h. h;
   changed = λ old changes new h. h;
-  finished = λ old name key end acts new h. h;
-  found = λ job outcome h. h;
+  heard = λ old name found acts new h. h;
+  finished = λ old name end acts new h. h;
+  for_none = λ job method params h. h;
+  finds = λ job reply found h. h;
   reported = λ job method params h. h;
   asked = λ job method params h. h;
 })

@@ -7,14 +7,17 @@ use Rattle.serde_json.specs.Data.{Data}
 use Rattle.serde_json.specs.View.{view}
 use Rattle.lsp_text.specs.Columns.{line_text}
 use Rattle.lsp_text.specs.Lines.{starts_of}
-use Rattle.example_linter.proofs.Marks.{SoFar, all_marks, has_none, no_mark, one_mark}
+use Rattle.example_linter.proofs.Marks.{SoFar, all_marks, has_none, no_mark, no_marks, one_mark}
 use Rattle.example_linter.specs.Marks.{mark_of, mark_at}
 use Rattle.example_linter.proofs.marks_in.Goals as goal
 use Rattle.example_linter.proofs.marks_in.Goals.{then-contains+in_ok-mark+in_ok-push, else-contains}
 use Rattle.example_linter.proofs.marks_in.Goals.{else-loop-number-test, then-loop-number-test+in_default}
 
+pub loop-number-init : goal.loop-number-init
+loop-number-init g c = rw c.new-marks.ensures.items (no_marks c.args.text.now)
+
 pub loop-number-preserved : goal.loop-number-preserved
-loop-number-preserved c =
+loop-number-preserved g c =
     let text = c.args.text.now in
     let n = c.loop-number.number in
     let before = map view c.loop-number.marks.items in
@@ -35,7 +38,7 @@ loop-number-preserved c =
     ]
 
 pub returns : goal.returns
-returns c =
+returns g c =
     let text = c.args.text.now in
     let marks = map view c.loop-number.marks.items in
     elim c.loop-number-test.branch [

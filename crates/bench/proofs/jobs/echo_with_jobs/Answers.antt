@@ -1,4 +1,4 @@
-use Rattle.std.proofs.Common.{ap, true, Ok, ◌∙◌}
+use Rattle.std.proofs.Common.{ap, true, Ok, Some, ◌∙◌}
 use Rattle.lsp_message.specs.Frame.{no_limit}
 use Rattle.lsp_threads.proofs.Sessions.{started_as, started_untold}
 use Rattle.lsp_threads.specs.declared.run.Threaded.{Threaded}
@@ -8,8 +8,8 @@ use Rattle.bench.proofs.jobs.echo_with_jobs.Goals as goal
 pub returns : goal.returns
 returns g c =
     started_as _ _ (λ exchanges stop shutdown_reply answer session.
-    echo_at_wakes _ _ (λ old name key end acts new finishes. finishes.0)
-    (λ job method params outcome for found. found ∙ ap Ok for) exchanges
+    echo_at_wakes _ (λ old name it acts new h. h.0) (λ old name end acts new h. h.0)
+    (λ job method params reply found for comes. comes ∙ ap (λ d. Some (Ok d)) for) exchanges
     (c.requests_are_answered_by_their_jobs.ensures exchanges
     (c.session_with_jobs_keeps_laws.ensures.exchanges _ _ exchanges stop shutdown_reply answer session).jobs))
     true no_limit (λ (done : Threaded _). g.W.Write.contents done.writer) (λ (done : Threaded _). done.answer) _ _ _

@@ -4,15 +4,17 @@ use Rattle.lsp_threads.proofs.Sessions.{none_passed}
 use Rattle.lsp_jobs.specs.JobLaw.{LawfulJobSession}
 use Rattle.lsp_jobs.specs.JobSession.{JobSession}
 use Rattle.lsp_jobs.proofs.JobSessions.{lawful_jobs}
+use Rattle.lsp_jobs.specs.Stated.{stated_jobs}
 use Rattle.lsp_jobs.proofs.laws.session_with_jobs_that_asks_keeps_laws.Goals as goal
 
 pub returns : goal.returns
-returns g c = record {
-  bytes = λ limit first last text heard heard_last before after answer tells.
-      over_as (JobSession g.row.T.Denot g.S.Server g.S.JobServer g.J.Job first last)
-      (LawfulJobSession g.row.T.Denot g.S.Server g.S.JobServer g.J.Job first last)
-      (lawful_jobs g.row.T.Denot g.S.Server g.S.JobServer g.J.Job first last) _ (text, heard) _ _ tells;
-  nothing_passed = λ limit first last text heard heard_last before after answer never tells.
-      none_passed true g.L.Listener.hears limit heard heard_last never
-      (JobSession g.row.T.Denot g.S.Server g.S.JobServer g.J.Job first last) text before after answer tells;
-}
+returns g c =
+    let may = stated_jobs g.S.JobServer g.S.Slots.Slots g.J.Job in record {
+      bytes = λ limit first last text heard heard_last before after answer tells.
+          over_as (JobSession g.row.T.Denot g.S.Server may first last)
+          (LawfulJobSession g.row.T.Denot g.S.Server may first last)
+          (lawful_jobs g.row.T.Denot g.S.Server may first last) _ (text, heard) _ _ tells;
+      nothing_passed = λ limit first last text heard heard_last before after answer never tells.
+          none_passed true g.L.Listener.hears limit heard heard_last never
+          (JobSession g.row.T.Denot g.S.Server may first last) text before after answer tells;
+    }

@@ -7,17 +7,19 @@ use Rattle.lsp_threads.specs.declared.run.Threaded.{Threaded}
 use Rattle.lsp_jobs.proofs.JobSessions.{job_session}
 use Rattle.lsp_jobs.specs.JobSession.{JobSession, seen_with_jobs}
 use Rattle.lsp_jobs.specs.declared.pooled_server.PooledServer.{PooledServer}
+use Rattle.lsp_jobs.specs.Stated.{stated_jobs}
 use Rattle.lsp_jobs.proofs.run.run_jobs.Goals as goal
 
 pub returns-clause-session : goal.returns-clause-session
 returns-clause-session g c =
-    let may = seen_with_jobs g.row.T.Denot g.S.Server g.S.JobServer g.J.Job in
+    let jobs = stated_jobs g.S.JobServer g.S.Slots.Slots g.J.Job in
+    let may = seen_with_jobs g.row.T.Denot g.S.Server jobs in
     let old = c.new-queued.result in
     let new = c.run_threads_of_service_over-done.new.service in
     started_told_as true g.L.Listener.hears c.args.options.limits c.args.bad_bodies.now _
-    (SessionOut (woken_with_queues may) old new) (JobSession g.row.T.Denot g.S.Server g.S.JobServer g.J.Job
+    (SessionOut (woken_with_queues may) old new) (JobSession g.row.T.Denot g.S.Server jobs
     c.args.server _)
-    (job_session g.row.T.Denot g.S.Server g.S.JobServer g.J.Job old new c.new-pooled.result c.args.server _
+    (job_session g.row.T.Denot g.S.Server jobs old new c.new-pooled.result c.args.server _
     c.new-queued.ensures
     (c.new-pooled.ensures ∙ ap (λ t. (c.args.server, t)) c.in-Ok-start_pool.ensures)
     (c.into_parts-server.ensures ∙ ap (λ (p : PooledServer _ _ _ _). p.server) c.into_server.ensures))
@@ -26,13 +28,14 @@ returns-clause-session g c =
 
 pub returns-clause-told : goal.returns-clause-told
 returns-clause-told g c =
-    let may = seen_with_jobs g.row.T.Denot g.S.Server g.S.JobServer g.J.Job in
+    let jobs = stated_jobs g.S.JobServer g.S.Slots.Slots g.J.Job in
+    let may = seen_with_jobs g.row.T.Denot g.S.Server jobs in
     let old = c.new-queued.result in
     let new = c.run_threads_of_service_over-done.new.service in
     taken_told_as true g.L.Listener.hears c.args.options.limits c.args.bad_bodies.now _
-    (SessionOut (woken_with_queues may) old new) (JobSession g.row.T.Denot g.S.Server g.S.JobServer g.J.Job
+    (SessionOut (woken_with_queues may) old new) (JobSession g.row.T.Denot g.S.Server jobs
     c.args.server _)
-    (job_session g.row.T.Denot g.S.Server g.S.JobServer g.J.Job old new c.new-pooled.result c.args.server _
+    (job_session g.row.T.Denot g.S.Server jobs old new c.new-pooled.result c.args.server _
     c.new-queued.ensures
     (c.new-pooled.ensures ∙ ap (λ t. (c.args.server, t)) c.in-Ok-start_pool.ensures)
     (c.into_parts-server.ensures ∙ ap (λ (p : PooledServer _ _ _ _). p.server) c.into_server.ensures))

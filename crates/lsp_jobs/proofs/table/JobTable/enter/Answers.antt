@@ -43,8 +43,8 @@ invariant_of-self-2 g c =
 
 pub returns-in-Ok-clause-ok : goal.returns-in-Ok-clause-ok
 returns-in-Ok-clause-ok g c =
-    pending_insert job_of _ _ c.args.name _ c.in-Ok.ensures.ok ∙ ap (λ job. with_job c.args.name (job, c.args.kept)
-    (pending_of c.args.self.now.jobs)) c.of.ensures
+    pending_insert job_of _ _ c.args.name _ c.in-Ok.ensures.ok
+    ∙ ap (λ job. with_job c.args.name job (pending_of c.args.self.now.jobs)) c.of.ensures
 
 pub returns-in-Err-clause-err : goal.returns-in-Err-clause-err
 returns-in-Err-clause-err g c = ap (jobs_in job_of) c.in-Err.ensures.err

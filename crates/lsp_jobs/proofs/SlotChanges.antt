@@ -1,0 +1,265 @@
+-- What comes of changes of slots: which jobs are pending then, and what the server did at the ends of those that are
+-- not.
+use Rattle.std.proofs.Common.{◌≡◌, ◌⊎◌, refl, sym, ◌∙◌, ap, subst, inl, inr, Bool, true, false, cond, List, [], ◌∷◌}
+use Rattle.std.proofs.Common.{◌++◌, append_assoc, append-nil, Option, Some, None}
+use Rattle.std.specs.List.{FoldsTo}
+use Rattle.std.specs.Ordering.{eq_by_cmp}
+use Rattle.std.specs.Prelude.{MatchOption}
+use Rattle.lsp_message.specs.Id.{Id, id_cmp, same_id}
+use Rattle.lsp_message.specs.IdLaws.{id_decides}
+use Rattle.lsp_service.specs.Acts.{Act, tells, asks, replies, cancels}
+use Rattle.lsp_service.specs.declared.server.Server.{Ghosts as Plain}
+use Rattle.lsp_jobs.specs.Ends.{End, ended}
+use Rattle.lsp_jobs.specs.JobLaw.{IsLeft, Left, at_ends}
+use Rattle.lsp_jobs.specs.PendingJobs.{PendingJobs, without}
+use Rattle.lsp_jobs.specs.Pooled.{unanswered, Changes, EndsThen, Frees, StartsOne}
+use Rattle.lsp_jobs.specs.SlotLaw.{LeavesAlone, SeesLeft, Spares, StartsLast}
+use Rattle.lsp_jobs.specs.Stated.{StatedJobs}
+use Rattle.lsp_jobs.specs.declared.job_server.JobEnd.TheVariants.{Refused, Replaced, Stopped}
+use Rattle.lsp_jobs.specs.declared.job_server.SlotChange.{SlotChange}
+use Rattle.lsp_jobs.specs.declared.job_server.SlotChange.TheVariants.{Start, Stop}
+use Rattle.lsp_jobs.specs.declared.names.JobName.{JobName}
+use Rattle.lsp_jobs.specs.declared.names.JobName.TheVariants.{Request, Slot}
+
+module _ {P : Type 0} where
+  pub spares-append : (id : Id) (xs ys : List (Act P)) → Spares id xs → Spares id ys → Spares id (xs ++ ys)
+  spares-append id [] ys first second = second
+  spares-append id (replies i outcome ∷ xs) ys first second = (first.0, spares-append id xs ys first.1 second)
+  spares-append id (tells method params ∷ xs) ys first second = spares-append id xs ys first second
+  spares-append id (asks method params payload ∷ xs) ys first second = spares-append id xs ys first second
+  spares-append id (cancels z ∷ xs) ys first second = spares-append id xs ys first second
+
+module _ {A : Type 0} where
+  -- what is kept where something else is gone
+  kept_if : (b : Bool) (o : Option A) (e : A) → cond b None o ≡ Some e → (o ≡ Some e) × (b ≡ false)
+  kept_if true o e has = absurd (cc (has))
+  kept_if false o e has = (has, refl)
+
+  pub without_request : (i : Id) (pending : PendingJobs A) (id : Id) (e : A) → without (Request i) pending (Request id)
+      ≡ Some e → (pending (Request id) ≡ Some e) × (eq_by_cmp id_cmp id i ≡ false)
+  without_request i pending id e has = kept_if (same_id id i) (pending (Request id)) e has
+
+  without_slot : (t : Id) (pending : PendingJobs A) (s : Id) (e : A) → without (Slot t) pending (Slot s) ≡ Some e
+      → (pending (Slot s) ≡ Some e) × (same_id s t ≡ false)
+  without_slot t pending s e has = kept_if (same_id s t) (pending (Slot s)) e has
+
+  -- whatever job is gone
+  pub fewer_requests : (name : JobName) (pending : PendingJobs A) (id : Id) (e : A) → without name pending (Request id)
+      ≡ Some e → pending (Request id) ≡ Some e
+  fewer_requests (Request i) pending id e has = (without_request i pending id e has).0
+  fewer_requests (Slot slot) pending id e has = has
+
+  pub fewer_slots : (name : JobName) (pending : PendingJobs A) (s : Id) (e : A) → without name pending (Slot s)
+      ≡ Some e → pending (Slot s) ≡ Some e
+  fewer_slots (Request i) pending s e has = has
+  fewer_slots (Slot t) pending s e has = (without_slot t pending s e has).0
+
+module _ {A P : Type 0} where
+  pub unanswered_has : (acts : List (Act P)) (pending : PendingJobs A) (id : Id) (e : A) → unanswered acts pending
+      (Request id) ≡ Some e → (pending (Request id) ≡ Some e) × Spares id acts
+  unanswered_has [] pending id e has = (has, tt)
+  unanswered_has (replies i outcome ∷ acts) pending id e has =
+      let rest = unanswered_has acts (without (Request i) pending) id e has in
+      let own = without_request i pending id e rest.0 in
+      (own.0, (own.1, rest.1))
+  unanswered_has (tells method params ∷ acts) pending id e has = unanswered_has acts pending id e has
+  unanswered_has (asks method params payload ∷ acts) pending id e has = unanswered_has acts pending id e has
+  unanswered_has (cancels z ∷ acts) pending id e has = unanswered_has acts pending id e has
+
+  -- replies leave slots as they are
+  pub unanswered_slot : (acts : List (Act P)) (pending : PendingJobs A) (slot : Id) → unanswered acts pending
+      (Slot slot) ≡ pending (Slot slot)
+  unanswered_slot [] pending slot = refl
+  unanswered_slot (replies i outcome ∷ acts) pending slot = unanswered_slot acts (without (Request i) pending) slot
+  unanswered_slot (tells method params ∷ acts) pending slot = unanswered_slot acts pending slot
+  unanswered_slot (asks method params payload ∷ acts) pending slot = unanswered_slot acts pending slot
+  unanswered_slot (cancels z ∷ acts) pending slot = unanswered_slot acts pending slot
+
+module _ {S J F P : Type 0} (plain : Plain S P) (may : StatedJobs S J F P) where
+  abbrev State : Type 0
+  State = S × PendingJobs J × List (Act P)
+
+  -- what the server saw and did, and which jobs are pending
+  pub record Went (old new : State) : Type 0 where
+    pub left : List (Left may)
+    pub linked : SeesLeft plain may old.0 left new.0
+    pub acts : new.2 ≡ old.2 ++ at_ends may left
+    pub requests : (id : Id) (e : J) → new.1 (Request id) ≡ Some e → (old.1 (Request id) ≡ Some e)
+        × Spares id (at_ends may left)
+
+  -- what becomes of the jobs in slots, by these changes
+  abbrev pub Moves : List (SlotChange J) → State → State → Type 0
+  Moves changes old new = (slot : Id) (e : J) → new.1 (Slot slot) ≡ Some e
+      → ((old.1 (Slot slot) ≡ Some e) × LeavesAlone slot changes) ⊎ StartsLast changes slot e
+
+  at_ends-append : (xs ys : List (Left may)) → at_ends may (xs ++ ys) ≡ at_ends may xs ++ at_ends may ys
+  at_ends-append [] ys = refl
+  at_ends-append (l ∷ xs) ys = ap (λ (acts : List (Act P)). l.acts ++ acts) (at_ends-append xs ys)
+      ∙ sym (append_assoc l.acts (at_ends may xs) (at_ends may ys))
+
+  linked-append : (xs ys : List (Left may)) (old mid new : S) → SeesLeft plain may old xs mid
+      → SeesLeft plain may mid ys new → SeesLeft plain may old (xs ++ ys) new
+  linked-append [] ys old mid new first second = subst (λ (s : S). SeesLeft plain may s ys new) first second
+  linked-append (l ∷ xs) ys old mid new first second = (first.0, linked-append xs ys l.new mid new first.1 second)
+
+  went_nowhere : (old new : State) → new ≡ old → Went old new
+  went_nowhere old new is = record {
+    left = [];
+    linked = ap (λ (x : State). x.0) is;
+    acts = ap (λ (x : State). x.2) is ∙ sym (append-nil old.2);
+    requests = λ id e has. (ap (λ (x : State). x.1 (Request id)) (sym is) ∙ has, tt);
+  }
+
+  went_on : (old mid new : State) → Went old mid → Went mid new → Went old new
+  went_on old mid new first second = record {
+    left = first.left ++ second.left;
+    linked = linked-append first.left second.left old.0 mid.0 new.0 first.linked second.linked;
+    acts = second.acts ∙ ap (λ (acts : List (Act P)). acts ++ at_ends may second.left) first.acts
+        ∙ append_assoc old.2 (at_ends may first.left) (at_ends may second.left)
+        ∙ ap (λ (acts : List (Act P)). old.2 ++ acts) (sym (at_ends-append first.left second.left));
+    requests = λ id e has.
+        let later = second.requests id e has in
+        let own = first.requests id e later.0 in (
+          own.0,
+          subst (Spares id) (sym (at_ends-append first.left second.left)) (spares-append id (at_ends may first.left)
+              (at_ends may second.left) own.1 later.1),
+        );
+  }
+
+  -- a job in a slot ended
+  went_end : (slot : Id) (end : End F) → IsLeft end → (old new : State)
+      → EndsThen may (Slot slot) end (old.0, without (Slot slot) old.1, old.2) new → Went old new
+  went_end slot end is old new ends =
+      let e = ends.1 in
+      let l : Left may = record {
+        slot = slot;
+        end = end;
+        is_left = is;
+        old = old.0;
+        acts = e.0;
+        new = new.0;
+        saw = e.1;
+      } in record {
+        left = l ∷ [];
+        linked = (refl, refl);
+        acts = ends.2 ∙ ap (λ (acts : List (Act P)). old.2 ++ acts) e.2;
+        requests = λ id x has.
+            let own = unanswered_has ends.0 (without (Slot slot) old.1) id x
+            (ap (λ (p : PendingJobs J). p (Request id)) (sym e.3) ∙ has) in
+            (own.0, subst (Spares id) e.2 own.1);
+      }
+
+  end_slots : (slot : Id) (end : End F) (old new : State)
+      → EndsThen may (Slot slot) end (old.0, without (Slot slot) old.1, old.2) new → (s : Id) (e : J)
+      → new.1 (Slot s) ≡ Some e → (old.1 (Slot s) ≡ Some e) × (same_id s slot ≡ false)
+  end_slots slot end old new ends s e has =
+      without_slot slot old.1 s e (sym (unanswered_slot ends.0 (without (Slot slot) old.1) s)
+      ∙ ap (λ (p : PendingJobs J). p (Slot s)) (sym ends.1.3) ∙ has)
+
+  -- a slot is freed
+  went_free : (slot : Id) (end : End F) → IsLeft end → (old new : State) → Frees may (Slot slot) end old new
+      → Went old new
+  went_free slot end is old new frees = at (old.1 (Slot slot)) frees
+    where
+      at : (o : Option J) → MatchOption o (new ≡ old)
+          (λ (e : J). EndsThen may (Slot slot) end (old.0, without (Slot slot) old.1, old.2) new) → Went old new
+      at None same = went_nowhere old new same
+      at (Some e) ends = went_end slot end is old new ends
+
+  free_slots : (slot : Id) (end : End F) (old new : State) → Frees may (Slot slot) end old new → (s : Id) (e : J)
+      → new.1 (Slot s) ≡ Some e → (old.1 (Slot s) ≡ Some e) × (same_id s slot ≡ false)
+  free_slots slot end old new frees s e has = at (old.1 (Slot slot)) refl frees
+    where
+      at : (o : Option J) → old.1 (Slot slot) ≡ o → MatchOption o (new ≡ old)
+          (λ (e : J). EndsThen may (Slot slot) end (old.0, without (Slot slot) old.1, old.2) new)
+          → (old.1 (Slot s) ≡ Some e) × (same_id s slot ≡ false)
+      at None none same = (was, other (same_id s slot) refl)
+        where
+          was : old.1 (Slot s) ≡ Some e
+          was = ap (λ (x : State). x.1 (Slot s)) (sym same) ∙ has
+
+          other : (b : Bool) → same_id s slot ≡ b → b ≡ false
+          other false at = refl
+          other true at =
+              let it : s ≡ slot = (id_decides s slot).0 at in
+              let no : Some e ≡ None = sym was ∙ ap (λ (i : Id). old.1 (Slot i)) it ∙ none in
+              absurd (cc (no))
+      at (Some x) some ends = end_slots slot end old new ends s e has
+
+  -- a job is started in it
+  went_start : (slot : Id) (job : J) (old new : State) → StartsOne may (Slot slot) job old new
+      → Went old new
+  went_start slot job old new (inl is) = record {
+    left = [];
+    linked = ap (λ (x : State). x.0) is;
+    acts = ap (λ (x : State). x.2) is ∙ sym (append-nil old.2);
+    requests = λ id e has. (ap (λ (x : State). x.1 (Request id)) (sym is) ∙ has, tt);
+  }
+  went_start slot job old new (inr ends) = went_end slot (ended Refused) tt old new ends
+
+  start_slots : (slot : Id) (job : J) (old new : State) → StartsOne may (Slot slot) job old new → (s : Id)
+      (e : J) → new.1 (Slot s) ≡ Some e → ((old.1 (Slot s) ≡ Some e) × (same_id s slot ≡ false))
+      ⊎ ((slot ≡ s) × (job ≡ e))
+  start_slots slot job old new (inl is) s e has = at (same_id s slot) refl
+      (ap (λ (x : State). x.1 (Slot s)) (sym is) ∙ has)
+    where
+      at : (b : Bool) → same_id s slot ≡ b → cond b (Some job) (old.1 (Slot s)) ≡ Some e
+          → ((old.1 (Slot s) ≡ Some e) × (same_id s slot ≡ false)) ⊎ ((slot ≡ s) × (job ≡ e))
+      at true is has = inr (sym ((id_decides s slot).0 is), cc (has))
+      at false is has = inl (has, is)
+  start_slots slot job old new (inr ends) s e has = inl (end_slots slot (ended Refused) old new ends s e has)
+
+  went_change : (change : SlotChange J) (old new : State) → Changes may old change new → Went old new
+  went_change (Start slot job) old new c =
+      went_on old c.0 new (went_free slot (ended Replaced) tt old c.0 c.1) (went_start slot job c.0 new c.2)
+  went_change (Stop slot) old new frees = went_free slot (ended Stopped) tt old new frees
+
+  moves_change : (change : SlotChange J) (old new : State) → Changes may old change new → Moves (change ∷ []) old new
+  moves_change (Start slot job) old new c s e has =
+      elim (start_slots slot job c.0 new c.2 s e has) [
+        | inl was ↦ inl ((free_slots slot (ended Replaced) old c.0 c.1 s e was.0).0, (was.1, tt))
+        | inr mine ↦ inr (record {
+          before = [];
+          after = [];
+          cut = λ k. Start (mine.0 k) (mine.1 k) ∷ [];
+          alone = tt;
+        })
+      ]
+  moves_change (Stop slot) old new frees s e has =
+      let own = free_slots slot (ended Stopped) old new frees s e has in
+      inl (own.0, (own.1, tt))
+
+  alone-append : (slot : Id) (xs ys : List (SlotChange J)) → LeavesAlone slot xs → LeavesAlone slot ys
+      → LeavesAlone slot (xs ++ ys)
+  alone-append slot [] ys first second = second
+  alone-append slot (x ∷ xs) ys first second = (first.0, alone-append slot xs ys first.1 second)
+
+  -- all of them, in order
+  pub went_all : (changes : List (SlotChange J)) (old new : State) → FoldsTo (Changes may) old changes new
+      → Went old new
+  went_all [] old new run = went_nowhere old new (sym run)
+  went_all (change ∷ changes) old new run =
+      went_on old run.0 new (went_change change old run.0 run.1) (went_all changes run.0 new run.2)
+
+  pub moves_all : (changes : List (SlotChange J)) (old new : State) → FoldsTo (Changes may) old changes new
+      → Moves changes old new
+  moves_all [] old new run slot e has = inl (ap (λ (x : State). x.1 (Slot slot)) run ∙ has, tt)
+  moves_all (change ∷ changes) old new run slot e has =
+      elim (moves_all changes run.0 new run.2 slot e has) [
+        | inr last ↦ inr (record {
+          before = change ∷ last.before;
+          after = last.after;
+          cut = ap (λ (l : List (SlotChange J)). change ∷ l) last.cut;
+          alone = last.alone;
+        })
+        | inl was ↦ elim (moves_change change old run.0 run.1 slot e was.0) [
+          | inl own ↦ inl (own.0, (own.1.0, was.1))
+          | inr first ↦ inr (record {
+            before = first.before;
+            after = first.after ++ changes;
+            cut = ap (λ (l : List (SlotChange J)). l ++ changes) first.cut
+                ∙ append_assoc first.before (Start slot e ∷ first.after) changes;
+            alone = alone-append slot first.after changes first.alone was.1;
+          })
+        ]
+      ]

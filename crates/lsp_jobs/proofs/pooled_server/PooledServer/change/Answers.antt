@@ -1,0 +1,18 @@
+use Rattle.std.proofs.Common.{map}
+use Rattle.std.proofs.lemmas.Result.{IfOk-weaker}
+use Rattle.lsp_service.specs.View.{act_view}
+use Rattle.lsp_jobs.specs.PoolView.{pending_jobs}
+use Rattle.lsp_jobs.proofs.pooled_server.PooledServer.change.Goals as goal
+
+pub returns-in_ok-free-in-Start : goal.returns-in_ok-free-in-Start
+returns-in_ok-free-in-Start g c =
+    rw c.in-Start.is
+    (IfOk-weaker c.start_one.result _ _ (λ done started. (
+      (
+        c.free.new.self.server,
+        pending_jobs c.free.new.self.pool,
+        map (act_view {P = g.row.S-Payload.Denot}) c.free.new.acts.items,
+      ),
+      c.in_ok-free-in-Start.ensures,
+      started,
+    )) c.start_one.ensures)
