@@ -34,7 +34,7 @@ pub data Came (F : Type 0) : Type 0 where
   gave : Option Outcome → Option F → Came F
   -- an allocation failed in it
   out_of_memory : Came F
-  -- it ended since its client cancelled it
+  -- it ended as cancelled
   gave_up : Came F
 
 -- how a job ended, as its server sees it

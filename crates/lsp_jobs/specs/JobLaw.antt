@@ -95,7 +95,7 @@ module _ {S J F P : Type 0} (may : StatedJobs S J F P) where
     pub saw : SeesEnd may old name end (before ++ replies id outcome ∷ after) new
 
   -- The last request under the id waits for a job that is for it, and this is the reply to it, whatever that job came
-  -- to: what it may come to, or the error of a failed allocation or of a cancellation.
+  -- to: what it may come to, or an error: it gave no reply, an allocation failed, or it ended as cancelled.
   pub record AnswersRequest (earlier : List Exchange) (id : Id) (outcome : Outcome) : Type 0 where
     pub method : List ℕ
     pub params : Data

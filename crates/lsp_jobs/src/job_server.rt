@@ -109,7 +109,8 @@ pub enum JobEnd {
     Done,
     /// An allocation failed in it. If it is for a request, the reply follows: the error -32603, `out of memory`.
     Failed,
-    /// Its client cancelled the progress that it shows. If it is for a request, the reply follows: the error -32800, `canceled by client`.
+    /// It ended by `Interrupted::Cancelled` while it was awaited: its client cancelled the progress that it shows. If it is for a request, the
+    /// reply follows: the error -32800, `canceled by client`.
     Cancelled,
     /// It was for a slot, found no room, and never ran.
     Refused,

@@ -72,7 +72,7 @@ pub fn session_with_jobs_that_asks_keeps_laws<
 
 /// Of each reply that is sent at a wake. The last request under its id came before, and since then no reply under the id was sent and no
 /// cancellation of it came. The outcome is one that a job may come to which is for that request; or one of three errors: its job gave no
-/// reply, an allocation failed, its client cancelled it. Or the server saw how a job ended, and then answered the request by itself: a server
+/// reply, an allocation failed, or it ended by `Interrupted::Cancelled`, for whatever reason. Or the server saw how a job ended, and then answered the request by itself: a server
 /// that does nothing then, as by `NoSlots`, never does.
 pub fn requests_are_answered_by_their_jobs<S: JobServer<J>, J: Job>()
     ensures { (exchanges : List Exchange) → AnswersByJobs (stated_jobs S.JobServer.own ⟦<S::Slots as Slots<S, J>>⟧ J.Job) exchanges
