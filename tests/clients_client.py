@@ -8,6 +8,7 @@ that listens at a port or at a socket file itself, with words that are refused, 
 at the first difference.
 """
 import json
+import os
 import resource
 import signal
 import socket
@@ -33,6 +34,8 @@ WAYS = [
 LEFT = "the client left without a shutdown"
 # A descriptor each for standard input, output and error, and for the socket that listens.
 FOR_NO_CLIENT = 4
+# More bytes than a program says on standard error.
+MOST_SAID = 1 << 20
 
 
 def command(way):
@@ -75,8 +78,8 @@ class Listening:
         expect("standard error after a whole session", self.lines()[self.lines_seen :], [])
 
     def lines(self):
-        self.errors.seek(0)
-        return self.errors.read().decode().splitlines()
+        """What it said on standard error. It is read at places of its own: a seek would move the place where the program writes."""
+        return os.pread(self.errors.fileno(), MOST_SAID, 0).decode().splitlines()
 
     def says(self, what):
         """The next line on standard error, as soon as it is there."""
