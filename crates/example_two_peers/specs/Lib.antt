@@ -1,1 +1,1 @@
-pub mod Talk
+pub mod Exchanged

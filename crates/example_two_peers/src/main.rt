@@ -1,174 +1,94 @@
 //! Two peers that send each other requests and replies, over links whose bytes arrive in any pieces (JSON-RPC 2.0, sections 4
-//! and 5; LSP 3.17, "Cancellation Support"). Each line of standard input is a step, as `script.rt` says. A line that begins
-//! with `#` is a title, and a blank line ends a run of two new peers. What came of each step is printed behind it. The line `talk`
-//! lets a client and a server talk, as `talk.rt` says, and `requests 1000` runs so many requests in one world.
+//! and 5). Whatever the order of their steps, each takes exactly what the other wrote, and each reply gives back the payload of its
+//! own request, once: `exchange.rt` has that as a contract.
+//!
+//! Standard input has runs, each of two new peers, with a blank line behind it: a title, and steps as in `script.rt`. If the first
+//! word below the title is a number, the steps are taken so often, with `N` standing for 0, 1, 2, ..
 #![tactic(auto)]
 
 mod exchange;
-mod long;
 mod script;
-mod talk;
 
 use anyhow::Result;
 use exchange::run_through;
-use long::ask_often;
-use lsp_message::Message;
-use lsp_peers::{Outcome, Side, Step, World, WorldFault};
-use script::{side_of, step_of};
-use std::alloc::{AllocError, Global};
+use lsp_peers::{Outcome, Side, Step, World};
+use script::step_of;
+use std::alloc::Global;
 use std::io;
-use talk::talk;
 
 fn main(rt: HostRuntime) -> Result<()> {
     let alloc = rt.alloc();
     let script = io::read_to_string(alloc, rt.reader())?;
-    let mut lines = Vec::new(alloc);
-    for line in script.as_str().lines() {
-        take_line(&rt, alloc, &mut lines, line)?;
+    for run in script.as_str().split_terminator("\n\n") {
+        let (title, lines) = run.split_once("\n").unwrap_or((run, ""));
+        println!(&rt; "{title}")?;
+        match lines.split_once(" times\n") {
+            Some((times, lines)) => show_often(&rt, alloc, times.parse()?, lines)?,
+            None => show_run(&rt, alloc, lines)?,
+        }
     }
     Ok(())
 }
 
-/// Does what a line asks for, or keeps it as a step.
-fn take_line<'a, R: Print>(
-    rt: &R,
-    alloc: Global,
-    lines: &mut Vec<&'a str>,
-    line: &'a str,
-) -> Result<()> {
-    if line.starts_with("#") {
-        Ok(println!(rt; "{line}")?)
-    } else if line.is_empty() {
-        let ran = run_lines(rt, alloc, lines.as_slice());
-        lines.clear();
-        ran
-    } else if line == "talk" {
-        show_talk(rt, alloc)
-    } else if let Some(requests) = line.strip_prefix("requests ") {
-        show_long(rt, alloc, requests)
-    } else {
-        Ok(lines.push(line)?)
+/// Runs two new peers through the steps of these lines, and shows what came of each.
+fn show_run<R: Print>(rt: &R, alloc: Global, lines: &str) -> Result<()> {
+    match run_through(alloc, steps_of(alloc, lines)?) {
+        Ok((world, outcomes, all)) => {
+            for (line, outcome) in lines.lines().zip(outcomes.iter()) {
+                println!(rt; "{line}: {outcome:?}")?;
+            }
+            show_side(rt, alloc, &world, Side::A)?;
+            show_side(rt, alloc, &world, Side::B)?;
+            Ok(println!(rt; "Each took all that the other wrote: {all}\n")?)
+        }
+        Err(fault) => Ok(println!(rt; "fault {}: {fault}\n", fault.number())?),
     }
 }
 
-/// Runs two new peers through the steps of these lines, and says what came of it.
-fn run_lines<R: Print>(rt: &R, alloc: Global, lines: &[&str]) -> Result<()> {
-    let ran = run_through(alloc, steps_of(alloc, lines)?);
-    let shown = match &ran {
-        Ok((world, outcomes, all)) => show_run(rt, alloc, lines, world, outcomes.as_slice(), *all),
-        Err(fault) => show_fault(rt, *fault),
-    };
-    drop(ran);
-    shown
-}
-
-/// The steps of these lines.
-fn steps_of(alloc: Global, lines: &[&str]) -> Result<Vec<Step>> {
+fn steps_of(alloc: Global, lines: &str) -> Result<Vec<Step>> {
     let mut steps = Vec::new(alloc);
-    for line in lines {
+    for line in lines.lines() {
         steps.push(step_of(alloc, line)?)?;
     }
     Ok(steps)
 }
 
-/// Shows what came of each line, what each side took, and what is left.
-fn show_run<R: Print>(
-    rt: &R,
-    alloc: Global,
-    lines: &[&str],
-    world: &World,
-    outcomes: &[Outcome],
-    all: bool,
-) -> Result<()> {
-    let mut pending = String::new(alloc);
-    for (line, outcome) in lines.iter().zip(outcomes.iter()) {
-        let came = text_of(alloc, outcome)?;
-        println!(rt; "{line}: {came}")?;
-        if let Some(payload) = pending_of(world, side_of(line), outcome) {
-            let text = format!(in alloc; "{line}: {payload} is still pending\n")?;
-            pending.push_str(text.as_str())?;
+/// Shows what a side took, whether it waits for a reply, and whether it holds a request.
+fn show_side<R: Print>(rt: &R, alloc: Global, world: &World, side: Side) -> Result<()> {
+    for message in world.taken(side) {
+        let text = message.member_text(alloc)?;
+        println!(rt; "{side:?} took {text}")?;
+    }
+    let waits = world.queue(side).outgoing.has_pending();
+    let holds = world.queue(side).incoming.has_pending();
+    Ok(println!(rt; "{side:?} waits: {waits}, holds: {holds}")?)
+}
+
+/// Takes the steps so often in one world, where both sides hand out what they took after each time. Shows how many replies gave back
+/// N, and how many messages were handed out.
+fn show_often<R: Print>(rt: &R, alloc: Global, times: u64, lines: &str) -> Result<()> {
+    let mut world = World::new(alloc);
+    let (mut returned, mut handed_out): (u64, usize) = (0, 0);
+    for n in 0..times {
+        let lines = lines.replace(alloc, "N", format!(in alloc; "{n}")?.as_str())?;
+        returned = returned.saturating_add(take_steps(alloc, &mut world, n, lines.as_str())?);
+        let both = world
+            .hand_out(alloc, Side::A)
+            .len()
+            .saturating_add(world.hand_out(alloc, Side::B).len());
+        handed_out = handed_out.saturating_add(both);
+    }
+    Ok(println!(rt; "{returned} replies gave back N, {handed_out} messages were handed out\n")?)
+}
+
+/// Takes these steps. Says how many replies gave back this payload.
+fn take_steps(alloc: Global, world: &mut World, payload: u64, lines: &str) -> Result<u64> {
+    let mut returned: u64 = 0;
+    for line in lines.lines() {
+        let outcome = world.step(step_of(alloc, line)?)?;
+        if matches!(&outcome, Outcome::Returned(_, Some(found)) if *found == payload) {
+            returned = returned.saturating_add(1);
         }
     }
-    show_both(rt, alloc, world)?;
-    let end = if all {
-        "Each took all that the other wrote."
-    } else {
-        "Some bytes are still in the links."
-    };
-    Ok(println!(rt; "{pending}{end}\n")?)
-}
-
-/// Lets a client and a server talk, and shows what each of them took.
-fn show_talk<R: Print>(rt: &R, alloc: Global) -> Result<()> {
-    let talked = talk(alloc);
-    let shown = match &talked {
-        Ok((world, ended)) => show_talked(rt, alloc, world, *ended),
-        Err(fault) => show_fault(rt, *fault),
-    };
-    drop(talked);
-    shown
-}
-
-fn show_talked<R: Print>(rt: &R, alloc: Global, world: &World, ended: bool) -> Result<()> {
-    show_both(rt, alloc, world)?;
-    let end = if ended { "came" } else { "did not come" };
-    Ok(println!(rt; "The talk {end} to its end.\n")?)
-}
-
-/// Lets A ask so often, and shows how many replies came back to their own request, and how many messages were handed out.
-fn show_long<R: Print>(rt: &R, alloc: Global, requests: &str) -> Result<()> {
-    match ask_often(alloc, requests.parse()?) {
-        Ok((returned, handed_out)) => Ok(println!(rt;
-            "{returned} of {requests} replies gave back the payload of their request.\n\
-            {handed_out} messages were handed out.\n"
-        )?),
-        Err(fault) => show_fault(rt, fault),
-    }
-}
-
-fn show_fault<R: Print>(rt: &R, fault: WorldFault) -> Result<()> {
-    let number = fault.number();
-    Ok(println!(rt; "fault {number}: {fault}\n")?)
-}
-
-/// What came of a step.
-fn text_of(alloc: Global, outcome: &Outcome) -> std::result::Result<String, AllocError> {
-    match outcome {
-        Outcome::Registered(id) => format!(in alloc; "registered {id}"),
-        Outcome::Spent => String::from_str(alloc, "no id is left"),
-        Outcome::Told => String::from_str(alloc, "told"),
-        Outcome::Passed(count) => format!(in alloc; "passed {count}"),
-        Outcome::Arrived(id) => format!(in alloc; "request {id} arrived"),
-        Outcome::Returned(id, Some(payload)) => format!(in alloc; "reply {id} gave back {payload}"),
-        Outcome::Returned(id, None) => format!(in alloc; "reply {id} gave back nothing"),
-        Outcome::Notified => String::from_str(alloc, "a notification arrived"),
-        Outcome::Waiting => String::from_str(alloc, "waiting"),
-        Outcome::Answered(label) => format!(in alloc; "answered, held as {label}"),
-        Outcome::Cancelled => String::from_str(alloc, "cancelled"),
-        Outcome::GaveUp(label) => format!(in alloc; "gave up, held as {label}"),
-        Outcome::Absent => String::from_str(alloc, "absent"),
-    }
-}
-
-/// Shows the messages that each side took.
-fn show_both<R: Print>(rt: &R, alloc: Global, world: &World) -> Result<()> {
-    show_taken(rt, alloc, "A", world.taken(Side::A))?;
-    show_taken(rt, alloc, "B", world.taken(Side::B))
-}
-
-/// Shows the messages that a side took, in order.
-fn show_taken<R: Print>(rt: &R, alloc: Global, name: &str, taken: &[Message]) -> Result<()> {
-    for message in taken {
-        let text = message.member_text(alloc)?;
-        println!(rt; "{name} took {text}")?;
-    }
-    Ok(())
-}
-
-/// The payload of the request that this outcome registered, if its side still waits for the reply.
-fn pending_of(world: &World, side: Side, outcome: &Outcome) -> Option<u64> {
-    let Outcome::Registered(id) = outcome else {
-        return None;
-    };
-    world.queue(side).outgoing.data(id).copied()
+    Ok(returned)
 }

@@ -22,26 +22,6 @@ use Rattle.lsp_peers.specs.Sides.{side_of, other}
 use Rattle.lsp_peers.proofs.Entries.{of_other}
 use Rattle.lsp_peers.proofs.FactLemmas.{last_taken}
 
--- an entry of the history that wrote this message, and is one of the side
-record Wrote (side : Side) (message : Message) (history : List Entry) : Type 0 where
-  pub earlier : List Entry
-  pub entry : Entry
-  pub later : List Entry
-  pub history_is : earlier ++ entry ∷ later ≡ history
-  pub by : side_of entry.step ≡ side
-  pub wrote : written_in entry.step entry.outcome ≡ message ∷ []
-
-wrote_later : (side : Side) (message : Message) (history : List Entry) (e : Entry) → Wrote side message history
-    → Wrote side message (e ∷ history)
-wrote_later side message history e found = record {
-  earlier = e ∷ found.earlier;
-  entry = found.entry;
-  later = found.later;
-  history_is = ap (λ (l : List Entry). e ∷ l) found.history_is;
-  by = found.by;
-  wrote = found.wrote;
-}
-
 -- an entry writes at most one message
 at_most_one : (step : Step) (outcome : Outcome) (x y : Message) (rest : List Message) → written_in step outcome ≡ x ∷ y
     ∷ rest → ⊥
@@ -52,14 +32,29 @@ at_most_one (Refuse side id code text) (Answered label) x y rest two = cc
 at_most_one (Cancel side id) Cancelled x y rest two = cc
 at_most_one step outcome x y rest two = cc
 
-module _ (side : Side) (message : Message) where
+module _ (side : Side) (id : Id) (answer : Result Data ErrorObject) where
+  abbrev message : Message
+  message = response id answer
+
+  -- one more entry stands before those
+  wrote_later : (history : List Entry) (e : Entry) → AnsweredBy side id answer history → AnsweredBy side id answer (e
+      ∷ history)
+  wrote_later history e found = record {
+    earlier = e ∷ found.earlier;
+    entry = found.entry;
+    later = found.later;
+    history_is = ap (λ (l : List Entry). e ∷ l) found.history_is;
+    by = found.by;
+    wrote = found.wrote;
+  }
+
   -- the messages that an entry wrote stand before those of the others
   wrote_in : (e : Entry) (history : List Entry) (ws : List Message) (xs ys : List Message) → side_of e.step ≡ side
       → written_in e.step e.outcome ≡ ws →
       ws ++ messages (frames_written (entries_of side history)) ≡ xs ++ message ∷ ys →
       ((us vs : List Message) → messages (frames_written (entries_of side history)) ≡ us ++ message ∷ vs
-      → Wrote side message history) → Wrote side message (e ∷ history)
-  wrote_in e history [] xs ys by is whole rest = wrote_later side message history e (rest xs ys whole)
+      → AnsweredBy side id answer history) → AnsweredBy side id answer (e ∷ history)
+  wrote_in e history [] xs ys by is whole rest = wrote_later history e (rest xs ys whole)
   wrote_in e history (w ∷ []) [] ys by is whole rest =
       let same : w ≡ message = cc in
       record {
@@ -73,7 +68,7 @@ module _ (side : Side) (message : Message) where
       }
   wrote_in e history (w ∷ []) (x ∷ xs) ys by is whole rest =
       let tail : messages (frames_written (entries_of side history)) ≡ xs ++ message ∷ ys = cc in
-      wrote_later side message history e (rest xs ys tail)
+      wrote_later history e (rest xs ys tail)
   wrote_in e history (w ∷ v ∷ ws) xs ys by is whole rest = absurd (at_most_one e.step e.outcome w v ws is)
 
   written_of : (e : Entry) (entries : List Entry) → messages e.wrote ≡ written_in e.step e.outcome
@@ -85,16 +80,16 @@ module _ (side : Side) (message : Message) where
       → messages e.wrote ≡ written_in e.step e.outcome →
       messages (frames_written (only_of s t e ++ entries_of side history)) ≡ xs ++ message ∷ ys →
       ((us vs : List Message) → messages (frames_written (entries_of side history)) ≡ us ++ message ∷ vs
-      → Wrote side message history) → Wrote side message (e ∷ history)
+      → AnsweredBy side id answer history) → AnsweredBy side id answer (e ∷ history)
   wrote_step A A e history xs ys ours theirs is whole rest = wrote_in e history _ xs ys (theirs ∙ sym ours) refl
       (sym (written_of e (entries_of side history) is) ∙ whole) rest
   wrote_step B B e history xs ys ours theirs is whole rest = wrote_in e history _ xs ys (theirs ∙ sym ours) refl
       (sym (written_of e (entries_of side history) is) ∙ whole) rest
-  wrote_step A B e history xs ys ours theirs is whole rest = wrote_later side message history e (rest xs ys whole)
-  wrote_step B A e history xs ys ours theirs is whole rest = wrote_later side message history e (rest xs ys whole)
+  wrote_step A B e history xs ys ours theirs is whole rest = wrote_later history e (rest xs ys whole)
+  wrote_step B A e history xs ys ours theirs is whole rest = wrote_later history e (rest xs ys whole)
 
   wrote_from : (before history : List Entry) → AllFollow before history → (xs ys : List Message)
-      → messages (frames_written (entries_of side history)) ≡ xs ++ message ∷ ys → Wrote side message history
+      → messages (frames_written (entries_of side history)) ≡ xs ++ message ∷ ys → AnsweredBy side id answer history
   wrote_from before [] happen [] ys is = cc
   wrote_from before [] happen (x ∷ xs) ys is = cc
   wrote_from before (e ∷ history) happen xs ys is =
@@ -124,18 +119,9 @@ answered_law world new handed before e was now side label id payload is comes =
     ap messages (sym (take-append-drop (taken_count own) (frames_written others)))
     ∙ map-append (λ (l : SentFrame). l.message) (frames_taken own others) (frames_left own others)
     ∙ ap (λ (l : List Message). l ++ messages (frames_left own others)) (sym took) ∙ append_assoc first
-    (response id answer ∷ []) (messages (frames_left own others)) in
-    let found = wrote_from (other side) (response id answer) [] before was.lawful first
-    (messages (frames_left own others)) (ap (λ (l : List Entry). messages (frames_written l))
-    (sym (of_other side before e by)) ∙ all) in (
+    (response id answer ∷ []) (messages (frames_left own others)) in (
       answer,
       told.1,
-      record {
-        earlier = found.earlier;
-        entry = found.entry;
-        later = found.later;
-        history_is = found.history_is;
-        by = found.by;
-        wrote = found.wrote;
-      },
+      wrote_from (other side) id answer [] before was.lawful first (messages (frames_left own others))
+          (ap (λ (l : List Entry). messages (frames_written l)) (sym (of_other side before e by)) ∙ all),
     )

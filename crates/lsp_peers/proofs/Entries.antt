@@ -1,11 +1,10 @@
 -- What one more entry adds to what the entries of a side come to.
 use Rattle.std.proofs.Common.{◌≡◌, ℕ, ◌+◌, ◌≤◌, List, [], ◌∷◌, ◌++◌, length, take, drop, refl, sym, ap, ◌∙◌, subst}
-use Rattle.std.proofs.Common.{arith}
-use Rattle.std.proofs.Common.{append-nil, append_assoc, length-append, length-drop}
+use Rattle.std.proofs.Common.{arith, append-nil, append_assoc, length-append, length-drop}
 use Rattle.std.proofs.lemmas.Grind.{flat_map-append}
 use Rattle.std.proofs.lemmas.List.{take-append-le, drop-append-le, drop-drop}
 use Rattle.std.proofs.Math.Seq.{take-add}
-use Rattle.std.specs.List.{flat_map}
+use Rattle.std.specs.List.{flat_map, AllByRecursion}
 use Rattle.std.specs.Option.{option_map_or}
 use Rattle.std.specs.Prelude.{Option, None, Some, nat_le, if◌then◌else◌, true, false, Bool}
 use Rattle.lsp_message.specs.Id.{Id}
@@ -15,8 +14,7 @@ use Rattle.lsp_peers.specs.declared.step.Side.{Side}
 use Rattle.lsp_peers.specs.declared.step.Side.TheVariants.{A, B}
 use Rattle.lsp_peers.specs.declared.step.Step.{Step}
 use Rattle.lsp_peers.specs.History.{Entry, payload_in, arrival_in, closed_in, replied_in, returned_in, count_in}
-use Rattle.lsp_peers.specs.History.{bytes_in}
-use Rattle.lsp_peers.specs.History.{taken_count, passed_count, frames_written, frames_taken, frames_left}
+use Rattle.lsp_peers.specs.History.{bytes_in, taken_count, passed_count, frames_written, frames_taken, frames_left}
 use Rattle.lsp_peers.specs.History.{outcome_of_taking, Follows, only_of, entries_of, AllFollow, IsHistory}
 use Rattle.lsp_peers.specs.Post.{Post}
 use Rattle.lsp_peers.specs.SentFrame.{SentFrame, first_passed}
@@ -194,3 +192,12 @@ pub last_of : (before xs : List Entry) (e : Entry) → AllFollow before (xs ++ e
 last_of before [] e all = subst (λ (l : List Entry). Happens l e) (sym (append-nil before)) all.0
 last_of before (x ∷ xs) e all = subst (λ (l : List Entry). Happens l e) (append_assoc before (x ∷ []) xs)
     (last_of (before ++ x ∷ []) xs e all.1)
+
+-- one of these, of which all have this
+pub all_at : {X : Type 0} (P : X → Type 0) (before rest all : List X) (x : X) → before ++ x ∷ rest ≡ all
+    → AllByRecursion P all → P x
+all_at {X} P before rest all x is holds = at before (subst (AllByRecursion P) (sym is) holds)
+  where
+    at : (before : List X) → AllByRecursion P (before ++ x ∷ rest) → P x
+    at [] holds = holds.0
+    at (y ∷ before) holds = at before holds.1

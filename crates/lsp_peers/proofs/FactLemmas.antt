@@ -1,34 +1,109 @@
 -- The facts of a history over its steps and outcomes alone, and what a Take adds to the messages taken.
-use Rattle.std.proofs.Common.{◌≡◌, ℕ, ◌+◌, List, [], ◌∷◌, ◌++◌, length, take, refl, sym, ap, ◌∙◌, subst, arith}
+use Rattle.std.proofs.Common.{◌≡◌, ℕ, ◌<◌, List, [], ◌∷◌, ◌++◌, length, refl, sym, ap, ◌∙◌, subst, arith}
 use Rattle.std.proofs.Common.{append_assoc}
-use Rattle.std.proofs.Math.Seq.{take-add}
 use Rattle.std.proofs.lemmas.List.{append_cancel_left, map-append}
-use Rattle.std.specs.List.{flat_map}
-use Rattle.std.specs.Prelude.{◌==◌, Bool, true, false, Option, None, Some, if◌then◌else◌, map as each}
+use Rattle.std.proofs.lemmas.List.Folds.{flat_map-map}
+use Rattle.std.specs.Prelude.{Option, None, Some, false, IsSome, ◌==◌, Bool, true, if◌then◌else◌, map as each}
 use Rattle.lsp_message.specs.Id.{Id}
 use Rattle.lsp_message.specs.Message.{Message, request, notification, response}
 use Rattle.lsp_message.specs.View.{message_view}
 use Rattle.lsp_queue.specs.Queue.{all_ids}
+use Rattle.lsp_peers.specs.History.{Entry, payloads, labels, returned, passed_count, frames_taken, frames_left}
+use Rattle.lsp_peers.specs.History.{next_sent, outcome_of_taking, outcome_of, entries_of, IsHistory, count_in, closed}
+use Rattle.lsp_peers.specs.History.{held, where_held, only_of}
+use Rattle.lsp_peers.specs.Ids.{nth_id, item_at, has}
+use Rattle.lsp_peers.specs.SentFrame.{SentFrame, frames, messages}
+use Rattle.lsp_peers.specs.Sides.{side_of, other}
+use Rattle.lsp_peers.specs.declared.step.Outcome.TheVariants.{Arrived, Returned, Registered, Spent, Notified}
+use Rattle.lsp_peers.specs.declared.step.Outcome.TheVariants.{Answered, Cancelled, GaveUp}
 use Rattle.lsp_peers.specs.declared.step.Outcome.{Outcome}
-use Rattle.lsp_peers.specs.declared.step.Outcome.TheVariants.{Registered, Spent, Arrived, Returned, Notified, Answered}
-use Rattle.lsp_peers.specs.declared.step.Outcome.TheVariants.{Cancelled, GaveUp}
 use Rattle.lsp_peers.specs.declared.step.Side.{Side}
-use Rattle.lsp_peers.specs.declared.step.Side.TheVariants.{A, B}
 use Rattle.lsp_peers.specs.declared.step.Step.{Step}
-use Rattle.lsp_peers.specs.declared.step.Step.TheVariants.{Register, Take, Answer, Refuse, Cancel, GiveUp}
+use Rattle.lsp_peers.specs.declared.step.Step.TheVariants.{Take, Register, Answer, Refuse, Cancel, GiveUp}
+use Rattle.lsp_peers.specs.declared.step.Side.TheVariants.{A, B}
 use Rattle.lsp_peers.specs.declared.world.World.{World}
 use Rattle.lsp_peers.specs.Exchange.{WorldAfter, seen_at}
-use Rattle.lsp_peers.specs.History.{Entry, count_in, payloads, labels, closed, returned, held, where_held, taken_count}
-use Rattle.lsp_peers.specs.History.{frames_written, frames_taken, frames_left, next_sent, outcome_of_taking, outcome_of}
-use Rattle.lsp_peers.specs.History.{only_of, entries_of, IsHistory}
 use Rattle.lsp_peers.specs.HistoryLaw.{IsFact, bare, AllFacts, FactsOf, TakenAs}
-use Rattle.lsp_peers.specs.Ids.{nth_id, item_at, has}
-use Rattle.lsp_peers.specs.SentFrame.{SentFrame, messages}
-use Rattle.lsp_peers.specs.Sides.{side_of, other}
-use Rattle.lsp_peers.proofs.Entries.{of_own, of_other, beginning_of, last_of, taking, payload_of, label_of_arrival}
-use Rattle.lsp_peers.proofs.Entries.{closed_id}
-use Rattle.lsp_peers.proofs.Entries.{returned_id, count_push, next_first}
-use Rattle.lsp_peers.proofs.HistoryLaws.{back_law, arrival_law}
+use Rattle.lsp_peers.proofs.Entries.{taking, next_first, beginning_of, last_of, of_own, of_other, payload_of}
+use Rattle.lsp_peers.proofs.Entries.{label_of_arrival, closed_id, returned_id, taken_same, taken_took}
+use Rattle.lsp_peers.proofs.Orderly.{Orderly, orderly_of, orderly_other, reply_first, request_first, comes_of}
+
+-- ---- what a Take's outcome says, in every history
+
+-- what follows of an entry, by its step
+came : (before : List Entry) (e : Entry) (step : Step) (outcome : Outcome) → IsHistory (before ++ e ∷ []) → e.step
+    ≡ step → e.outcome ≡ outcome → outcome ≡ outcome_of (entries_of (side_of step) before)
+    (entries_of (other (side_of step)) before) step
+came before e step outcome history is comes =
+    sym comes ∙ (last_of [] before e history).outcome_is ∙ ap (λ (s : Step). outcome_of (entries_of (side_of s) before)
+    (entries_of (other (side_of s)) before) s) is
+
+-- what a side gives back, and what arrives there
+abbrev GivesBack : List Entry → Id → Option ℕ → Type 0
+GivesBack own id payload = IsSome payload × (payload ≡ item_at (payloads own) id) × (has id (returned own) ≡ false)
+
+abbrev Arrives : List Entry → List Entry → Id → Type 0
+Arrives own others id = (id ≡ nth_id (length (labels own))) × (length (labels own) < length (payloads others))
+
+module _ (own others : List Entry) (mine : Orderly own others) (theirs : Orderly others own) where
+  back_message : (f : SentFrame) (rest : List SentFrame) (m : Message) (id : Id) (payload : Option ℕ)
+      → frames_left own others ≡ f ∷ rest → f.message ≡ m → Returned id payload ≡ outcome_of_taking own others m
+      → GivesBack own id payload
+  back_message f rest (request key method params) id payload first is came = cc
+  back_message f rest (response key answer) id payload first is came =
+      let law = reply_first own others f rest first mine key answer is in
+      let same : id ≡ key = cc in
+      let given : payload ≡ item_at (payloads own) key = cc in (
+        subst IsSome (sym given) law.1,
+        given ∙ ap (item_at (payloads own)) (sym same),
+        ap (λ (i : Id). has i (returned own)) same ∙ law.0,
+      )
+  back_message f rest (notification method params) id payload first is came = cc
+
+  gives_back : (o : Option SentFrame) (id : Id) (payload : Option ℕ) → next_sent own others ≡ o → Returned id payload
+      ≡ taking own others o → GivesBack own id payload
+  gives_back None id payload is came = cc
+  gives_back (Some f) id payload is came =
+      let first = next_first (length (frames (frames_taken own others))) (passed_count own) (frames_left own others) f
+      is in
+      back_message f first.0 f.message id payload first.1 refl came
+
+  comes_message : (f : SentFrame) (rest : List SentFrame) (m : Message) (id : Id) → frames_left own others ≡ f ∷ rest
+      → f.message ≡ m → Arrived id ≡ outcome_of_taking own others m → Arrives own others id
+  comes_message f rest (request key method params) id first is came =
+      let law = request_first own others f rest first theirs key method params is in
+      let same : id ≡ key = cc in
+      (same ∙ law.0, law.1)
+  comes_message f rest (response key answer) id first is came = cc
+  comes_message f rest (notification method params) id first is came = cc
+
+  comes : (o : Option SentFrame) (id : Id) → next_sent own others ≡ o → Arrived id ≡ taking own others o → Arrives own
+      others id
+  comes None id is came = cc
+  comes (Some f) id is came =
+      let first = next_first (length (frames (frames_taken own others))) (passed_count own) (frames_left own others) f
+      is in
+      comes_message f first.0 f.message id first.1 refl came
+
+pub back_law : (before : List Entry) (e : Entry) → IsHistory (before ++ e ∷ []) → (side : Side) (label : ℕ) (id : Id)
+    (payload : Option ℕ) → e.step ≡ Take side label → e.outcome ≡ Returned id payload
+    → GivesBack (entries_of side before) id payload
+back_law before e history side label id payload is back =
+    let lawful = beginning_of before (e ∷ []) history in
+    gives_back _ _ (orderly_of before lawful side) (orderly_other before lawful side) (next_sent (entries_of side
+    before)
+    (entries_of (other side) before)) id payload refl (came before e (Take side label) (Returned id payload) history is
+    back)
+
+pub arrival_law : (before : List Entry) (e : Entry) → IsHistory (before ++ e ∷ []) → (side : Side) (label : ℕ) (id : Id)
+    → e.step ≡ Take side label → e.outcome ≡ Arrived id → Arrives (entries_of side before) (entries_of (other side)
+    before) id
+arrival_law before e history side label id is back =
+    let lawful = beginning_of before (e ∷ []) history in
+    comes _ _ (orderly_of before lawful side) (orderly_other before lawful side) (next_sent (entries_of side before)
+    (entries_of (other side) before)) id refl (came before e (Take side label) (Arrived id) history is back)
+
+-- ---- the facts of a history over its steps and outcomes alone, and what a Take adds to the messages taken
 
 -- ---- what an entry says without what it wrote
 
@@ -48,22 +123,17 @@ entries_bared side (e ∷ history) =
     (λ i. only_bared side (side_of e.step) e i ++ entries_bared side history i)
     ∙ sym (map-append bared (only_of side (side_of e.step) e) (entries_of side history))
 
-flat_bared : {Y : Type 0} (f : Entry → List Y) (entries : List Entry) → ((e : Entry) → f (bared e) ≡ f e)
-    → flat_map f (each bared entries) ≡ flat_map f entries
-flat_bared f [] same = refl
-flat_bared f (e ∷ entries) same = λ i. same e i ++ flat_bared f entries same i
-
 payloads_bared : (entries : List Entry) → payloads (each bared entries) ≡ payloads entries
-payloads_bared entries = flat_bared payload_of entries (λ e. refl)
+payloads_bared entries = flat_map-map payload_of bared entries
 
 labels_bared : (entries : List Entry) → labels (each bared entries) ≡ labels entries
-labels_bared entries = flat_bared label_of_arrival entries (λ e. refl)
+labels_bared entries = flat_map-map label_of_arrival bared entries
 
 closed_bared : (entries : List Entry) → closed (each bared entries) ≡ closed entries
-closed_bared entries = flat_bared closed_id entries (λ e. refl)
+closed_bared entries = flat_map-map closed_id bared entries
 
 returned_bared : (entries : List Entry) → returned (each bared entries) ≡ returned entries
-returned_bared entries = flat_bared returned_id entries (λ e. refl)
+returned_bared entries = flat_map-map returned_id bared entries
 
 held_bared : (entries : List Entry) (id : Id) → held (each bared entries) id ≡ held entries id
 held_bared entries id = λ i. if has id (closed_bared entries i) then None else item_at (labels_bared entries i) id
@@ -98,14 +168,6 @@ fact_bared own others (GiveUp side id) outcome fact = fact ∙ ap (λ (o : Optio
 fact_bared own others step outcome fact = tt
 
 -- ---- the facts
-
--- what follows of an entry, by its step
-came : (before : List Entry) (e : Entry) (step : Step) (outcome : Outcome) → IsHistory (before ++ e ∷ []) → e.step
-    ≡ step → e.outcome ≡ outcome → outcome ≡ outcome_of (entries_of (side_of step) before)
-    (entries_of (other (side_of step)) before) step
-came before e step outcome history is comes =
-    sym comes ∙ (last_of [] before e history).outcome_is ∙ ap (λ (s : Step). outcome_of (entries_of (side_of s) before)
-    (entries_of (other (side_of s)) before) s) is
 
 registered : (b : Bool) (id : Id) (n : ℕ) → Registered id ≡ (if b then Spent else Registered (nth_id n)) → id ≡ nth_id n
 registered true id n is = cc
@@ -149,64 +211,30 @@ facts_of history is = facts_from [] history is
 
 -- ---- what a Take adds to the messages taken
 
--- so many of these messages, and then one more
-module _ (own others : List Entry) (label : ℕ) (side : Side) where
-  one_more : (sent_frame : SentFrame) (rest : List SentFrame) (n : ℕ) → frames_left own others ≡ sent_frame ∷ rest → n
-      ≡ taken_count own + 1 → messages (take n (frames_written others)) ≡ messages (frames_taken own others)
-      ++ sent_frame.message ∷ []
-  one_more sent_frame rest n first is =
-      ap (λ (k : ℕ). messages (take k (frames_written others))) is
-      ∙ ap messages (take-add (taken_count own) 1 (frames_written others) ∙ ap (λ (l : List SentFrame). frames_taken own
-      others ++ take 1 l) first)
-      ∙ map-append (λ (l : SentFrame). l.message) (frames_taken own others) (sent_frame ∷ [])
+module _ (own others : List Entry) where
+  as_message : (m : Message) (ms : List Message) → TakenAs (outcome_of_taking own others m) ms (ms ++ m ∷ [])
+  as_message (request id method params) ms = (method, params, refl)
+  as_message (response id answer) ms = (answer, refl)
+  as_message (notification method params) ms = (method, params, refl)
 
-  taken_message : (sent_frame : SentFrame) (rest : List SentFrame) (m : Message) (outcome : Outcome) (n : ℕ)
-      → frames_left own others ≡ sent_frame ∷ rest → sent_frame.message ≡ m → outcome ≡ outcome_of_taking own others m
-      → n ≡ taken_count own + count_in (Take side label) outcome → TakenAs outcome (messages (frames_taken own others))
-      (messages (take n (frames_written others)))
-  taken_message sent_frame rest (request id method params) outcome n first is comes count =
-      let k : n ≡ taken_count own + 1 = count ∙ ap (λ (o : Outcome). taken_count own + count_in (Take side label) o)
-      comes in
+  took_as : (e : Entry) (side : Side) (label : ℕ) → e.step ≡ Take side label → (o : Option SentFrame)
+      → next_sent own others ≡ o → e.outcome ≡ taking own others o → TakenAs e.outcome (messages (frames_taken own
+      others)) (messages (frames_taken (own ++ e ∷ []) others))
+  took_as e side label by None is comes =
+      let none : count_in e.step e.outcome ≡ 0 = λ i. count_in (by i) (comes i) in
       subst (λ (o : Outcome). TakenAs o (messages (frames_taken own others))
-      (messages (take n (frames_written others)))) (sym comes) (
-        method,
-        params,
-        one_more sent_frame rest n first k ∙ ap (λ (x : Message). messages (frames_taken own others) ++ x
-            ∷ []) is,
-      )
-  taken_message sent_frame rest (response id answer) outcome n first is comes count =
-      let k : n ≡ taken_count own + 1 = count ∙ ap (λ (o : Outcome). taken_count own + count_in (Take side label) o)
-      comes in
+      (messages (frames_taken (own ++ e ∷ []) others))) (sym comes) (ap messages (taken_same own others e none))
+  took_as e side label by (Some f) is comes =
+      let first = next_first _ _ (frames_left own others) f is in
+      let one : count_in e.step e.outcome ≡ 1 = (λ i. count_in (by i) (comes i))
+      ∙ (comes_of own others side label f.message).0 in
+      let more : messages (frames_taken (own ++ e ∷ []) others) ≡ messages (frames_taken own others) ++ f.message ∷ [] =
+      ap messages (taken_took own others e one f first.0 first.1) ∙ map-append (λ (l : SentFrame). l.message)
+      (frames_taken own others) (f ∷ []) in
       subst (λ (o : Outcome). TakenAs o (messages (frames_taken own others))
-      (messages (take n (frames_written others)))) (sym comes) (
-        answer,
-        one_more sent_frame rest n first k ∙ ap (λ (x : Message). messages (frames_taken own others) ++ x ∷ [])
-            is,
-      )
-  taken_message sent_frame rest (notification method params) outcome n first is comes count =
-      let k : n ≡ taken_count own + 1 = count ∙ ap (λ (o : Outcome). taken_count own + count_in (Take side label) o)
-      comes in
-      subst (λ (o : Outcome). TakenAs o (messages (frames_taken own others))
-      (messages (take n (frames_written others)))) (sym comes) (
-        method,
-        params,
-        one_more sent_frame rest n first k ∙ ap (λ (x : Message). messages (frames_taken own others) ++ x
-            ∷ []) is,
-      )
-
-  taken_sent_frame : (o : Option SentFrame) (outcome : Outcome) (n : ℕ) → next_sent own others ≡ o → outcome
-      ≡ taking own others o → n ≡ taken_count own + count_in (Take side label) outcome
-      → TakenAs outcome (messages (frames_taken own others)) (messages (take n (frames_written others)))
-  taken_sent_frame None outcome n is comes count =
-      let none : n ≡ taken_count own + 0 = count ∙ ap (λ (o : Outcome). taken_count own + count_in (Take side label) o)
-      comes in
-      let k : n ≡ taken_count own = omega arith in
-      subst (λ (o : Outcome). TakenAs o (messages (frames_taken own others))
-      (messages (take n (frames_written others)))) (sym comes)
-      (ap (λ (j : ℕ). messages (take j (frames_written others))) k)
-  taken_sent_frame (Some sent_frame) outcome n is comes count =
-      let first = next_first _ _ (frames_left own others) sent_frame is in
-      taken_message sent_frame first.0 sent_frame.message outcome n first.1 refl comes count
+      (messages (frames_taken (own ++ e ∷ []) others))) (sym comes) (subst (TakenAs (outcome_of_taking own others
+      f.message) (messages (frames_taken own others))) (sym more) (as_message f.message (messages (frames_taken own
+      others))))
 
 pub taken_law : (before : List Entry) (e : Entry) → IsHistory (before ++ e ∷ []) → (side : Side) (label : ℕ) → e.step
     ≡ Take side label →
@@ -214,46 +242,37 @@ pub taken_law : (before : List Entry) (e : Entry) → IsHistory (before ++ e ∷
     (messages (frames_taken (entries_of side (before ++ e ∷ [])) (entries_of (other side) (before ++ e ∷ []))))
 taken_law before e history side label is =
     let by : side_of e.step ≡ side = ap side_of is in
-    let own = of_own side before e by in
-    let others = of_other side before e by in
-    let count : taken_count (entries_of side (before ++ e ∷ [])) ≡ taken_count (entries_of side before) + count_in
-    (Take side label) e.outcome =
-    ap taken_count own ∙ count_push (entries_of side before) e ∙ ap (λ (s : Step). taken_count (entries_of side before)
-    + count_in s e.outcome) is in
-    subst (λ (l : List Entry). TakenAs e.outcome (messages (frames_taken (entries_of side before)
-    (entries_of (other side) before))) (messages (frames_taken (entries_of side (before ++ e ∷ [])) l)))
-    (sym others)
-    (taken_sent_frame (entries_of side before) (entries_of (other side) before) label side
-    (next_sent (entries_of side before) (entries_of (other side) before)) e.outcome _ refl (came before e
-    (Take side label) e.outcome history is refl) count)
+    let own = sym (of_own side before e by) in
+    let others = sym (of_other side before e by) in
+    subst (λ (l : List SentFrame). TakenAs e.outcome (messages (frames_taken (entries_of side before)
+    (entries_of (other side) before))) (messages l)) (λ i. frames_taken (own i) (others i))
+    (took_as (entries_of side before) (entries_of (other side) before) e side label is _ refl (came before e
+    (Take side label) e.outcome history is refl))
 
-taken_at : (outcome : Outcome) (handed old new all more : List Message) → handed ++ old ≡ all → handed ++ new ≡ more
-    → TakenAs outcome all more → TakenAs outcome old new
-taken_at (Arrived id) handed old new all more was now told = (
+-- the same of the messages behind those that were handed out
+behind : (outcome : Outcome) (handed old new : List Message) → TakenAs outcome (handed ++ old) (handed ++ new)
+    → TakenAs outcome old new
+behind (Arrived id) handed old new told = (
   told.0,
   told.1,
-  append_cancel_left handed _ _ (now
-      ∙ told.2 ∙ ap (λ (l : List Message). l ++ request id told.0 told.1 ∷ []) (sym was) ∙ append_assoc handed old
-      (request id told.0 told.1 ∷ [])),
+  append_cancel_left handed _ _ (told.2 ∙ append_assoc handed old (request id told.0 told.1 ∷ [])),
 )
-taken_at (Returned id payload) handed old new all more was now told = (
+behind (Returned id payload) handed old new told = (
   told.0,
-  append_cancel_left handed _ _ (now
-      ∙ told.1 ∙ ap (λ (l : List Message). l ++ response id told.0 ∷ []) (sym was) ∙ append_assoc handed old
-      (response id told.0 ∷ [])),
+  append_cancel_left handed _ _ (told.1 ∙ append_assoc handed old (response id told.0 ∷ [])),
 )
-taken_at Notified handed old new all more was now told = (
+behind Notified handed old new told = (
   told.0,
   told.1,
-  append_cancel_left handed _ _ (now ∙ told.2
-      ∙ ap (λ (l : List Message). l ++ notification told.0 told.1 ∷ []) (sym was) ∙ append_assoc handed old
-      (notification told.0 told.1 ∷ [])),
+  append_cancel_left handed _ _ (told.2 ∙ append_assoc handed old (notification told.0 told.1 ∷ [])),
 )
-taken_at outcome handed old new all more was now told = append_cancel_left handed _ _ (now ∙ told ∙ sym was)
+behind outcome handed old new told = append_cancel_left handed _ _ told
 
 pub last_taken : (world new : World) (handed : Side → List Message) (before : List Entry) (e : Entry) → WorldAfter world
     handed before → WorldAfter new handed (before ++ e ∷ []) → (side : Side) (label : ℕ) → e.step ≡ Take side label →
     TakenAs e.outcome (each message_view (seen_at side world).taken) (each message_view (seen_at side new).taken)
 last_taken world new handed before e was now side label is =
-    taken_at e.outcome (handed side) _ _ _ _ (was.sides side).took (now.sides side).took (taken_law before e now.lawful
-    side label is)
+    behind e.outcome (handed side) _ _ (subst (λ (l : List Message). TakenAs e.outcome l (handed side
+    ++ each message_view (seen_at side new).taken)) (sym (was.sides side).took) (subst (TakenAs e.outcome (messages
+    (frames_taken (entries_of side before) (entries_of (other side) before)))) (sym (now.sides side).took)
+    (taken_law before e now.lawful side label is)))

@@ -1,17 +1,11 @@
 mod AnswerLemmas
 mod Entries
 mod FactLemmas
-mod FrontLemmas
-mod HistoryLaws
-mod IdLemmas
 mod KeptItems
-mod LineLemmas
 mod LinkLemmas
-mod MoveLemmas
 mod Orderly
 mod PeerLemmas
 mod PlaceLemmas
-mod PostLemmas
 mod Refused
 mod ShallowLemmas
 mod WorldLemmas

@@ -1,11 +1,11 @@
 -- What every history keeps of the requests of a side and of their replies.
-use Rattle.std.proofs.Common.{◌≡◌, ℕ, suc, ◌+◌, ◌≤◌, ◌<◌, List, [], ◌∷◌, ◌++◌, length, refl, sym, ap, ◌∙◌, subst}
-use Rattle.std.proofs.Common.{arith, append-nil, append_assoc, length-append, ◌⊎◌, inl, inr, ⊎_elim}
+use Rattle.std.proofs.Common.{◌≡◌, ℕ, suc, ◌+◌, ◌≤◌, ◌<◌, List, [], ◌∷◌, ◌++◌, length, refl, sym, ap, ◌∙◌, subst, arith}
+use Rattle.std.proofs.Common.{append-nil, append_assoc, length-append, ◌⊎◌, inl, inr, ⊎_elim}
 use Rattle.std.proofs.lemmas.Grind.{flat_map-append}
+use Rattle.std.proofs.lemmas.List.Folds.{flat_map-map}
 use Rattle.std.specs.List.{flat_map, AllByRecursion}
-use Rattle.std.specs.Prelude.{◌==◌, Option, None, Some, IsSome, Bool, true, false, if◌then◌else◌}
+use Rattle.std.specs.Prelude.{◌==◌, Option, None, Some, IsSome, Bool, true, false, if◌then◌else◌, Result}
 use Rattle.serde_json.specs.Data.{Data}
-use Rattle.std.specs.Prelude.{Result}
 use Rattle.lsp_message.specs.Id.{Id}
 use Rattle.lsp_message.specs.Message.{Message, ErrorObject, request, notification, response}
 use Rattle.lsp_message.proofs.Ids.{cases_id}
@@ -18,9 +18,8 @@ use Rattle.lsp_peers.specs.declared.step.Side.TheVariants.{A, B}
 use Rattle.lsp_peers.specs.declared.step.Step.{Step}
 use Rattle.lsp_peers.specs.declared.step.Step.TheVariants.{Register, Tell, Take, Answer, Refuse, Cancel, GiveUp}
 use Rattle.lsp_peers.specs.History.{Entry, written_in, payload_in, arrival_in, closed_in, replied_in, returned_in}
-use Rattle.lsp_peers.specs.History.{count_in}
-use Rattle.lsp_peers.specs.History.{payloads, labels, closed, replied, returned, held, where_held, taken_count}
-use Rattle.lsp_peers.specs.History.{passed_count, frames_written, frames_taken, frames_left, next_sent}
+use Rattle.lsp_peers.specs.History.{count_in, payloads, labels, closed, replied, returned, held, where_held}
+use Rattle.lsp_peers.specs.History.{taken_count, passed_count, frames_written, frames_taken, frames_left, next_sent}
 use Rattle.lsp_peers.specs.History.{outcome_of_taking, outcome_of, Follows, entries_of, AllFollow, IsHistory}
 use Rattle.lsp_peers.specs.Ids.{nth_id, item_at, has}
 use Rattle.lsp_peers.specs.InOnePlace.{reply_of, replies}
@@ -28,12 +27,10 @@ use Rattle.lsp_peers.specs.Post.{ReadsBack}
 use Rattle.lsp_peers.specs.SentFrame.{SentFrame, messages, frames}
 use Rattle.lsp_peers.specs.Sides.{side_of, other}
 use Rattle.lsp_peers.proofs.Entries.{payload_of, label_of_arrival, closed_id, replied_id, returned_id, taking}
-use Rattle.lsp_peers.proofs.Entries.{flat_push}
-use Rattle.lsp_peers.proofs.Entries.{length-push, left_same, left_took, left_wrote, within_took, within_wrote}
-use Rattle.lsp_peers.proofs.Entries.{count_push}
-use Rattle.lsp_peers.proofs.Entries.{next_first, of_own, of_other}
-use Rattle.lsp_peers.proofs.IdLemmas.{get-end, one_some, at_most, some_of, item_shorter}
-use Rattle.lsp_peers.proofs.KeptItems.{occurs, occurs-append, absent, never, here_once, not_there}
+use Rattle.lsp_peers.proofs.Entries.{flat_push, length-push, left_same, left_took, left_wrote, within_took}
+use Rattle.lsp_peers.proofs.Entries.{within_wrote, count_push, next_first, of_own, of_other}
+use Rattle.lsp_peers.proofs.KeptItems.{get-end, one_some, at_most, some_of, item_shorter, occurs, occurs-append, absent}
+use Rattle.lsp_peers.proofs.KeptItems.{never, here_once, not_there}
 use Rattle.lsp_peers.proofs.ShallowLemmas.{written_reads}
 
 -- ---- what frames are, by their messages
@@ -55,8 +52,7 @@ replies_in [] id = 0
 replies_in (m ∷ ms) id = reply_of m id + replies_in ms id
 
 ids_are : (fs : List SentFrame) → request_ids fs ≡ flat_map ids_in (messages fs)
-ids_are [] = refl
-ids_are (f ∷ fs) = ap (λ (l : List Id). ids_in f.message ++ l) (ids_are fs)
+ids_are fs = sym (flat_map-map ids_in (λ (f : SentFrame). f.message) fs)
 
 replies_are : (fs : List SentFrame) (id : Id) → replies fs id ≡ replies_in (messages fs) id
 replies_are [] id = refl
@@ -124,32 +120,14 @@ Shut own step outcome =
     ⊎ ((key : Id) × (label : ℕ) × (closed_in step outcome ≡ key ∷ []) × (held own key ≡ Some label))
 
 module _ (own others : List Entry) where
-  took_message : (side : Side) (label : ℕ) (f : SentFrame) (rest : List SentFrame) → frames_left own others ≡ f ∷ rest
-      → (m : Message) → f.message ≡ m → Took own others (Take side label) (outcome_of_taking own others m)
-  took_message side label f rest first (request key method params) is = inr (record {
-    first = f;
-    rest = rest;
-    is = first;
-    one = refl;
-    back = λ id. sym (ap (λ (m : Message). reply_of m id) is);
-    came = sym (ap (λ (m : Message). length (ids_in m)) is);
-  })
-  took_message side label f rest first (response key answer) is = inr (record {
-    first = f;
-    rest = rest;
-    is = first;
-    one = refl;
-    back = λ id. omega (arith, ap (λ (m : Message). reply_of m id) is);
-    came = sym (ap (λ (m : Message). length (ids_in m)) is);
-  })
-  took_message side label f rest first (notification method params) is = inr (record {
-    first = f;
-    rest = rest;
-    is = first;
-    one = refl;
-    back = λ id. sym (ap (λ (m : Message). reply_of m id) is);
-    came = sym (ap (λ (m : Message). length (ids_in m)) is);
-  })
+  -- what comes of a message gives back its reply, and its request arrives
+  pub comes_of : (side : Side) (label : ℕ) (m : Message)
+      → (count_in (Take side label) (outcome_of_taking own others m) ≡ 1)
+      × ((id : Id) → occurs id (returned_in (Take side label) (outcome_of_taking own others m)) ≡ reply_of m id)
+      × (length (arrival_in (Take side label) (outcome_of_taking own others m)) ≡ length (ids_in m))
+  comes_of side label (request key method params) = (refl, λ id. refl, refl)
+  comes_of side label (response key answer) = (refl, λ id. omega arith, refl)
+  comes_of side label (notification method params) = (refl, λ id. refl, refl)
 
   took_at : (side : Side) (label : ℕ) (o : Option SentFrame) → next_sent own others ≡ o → Took own others
       (Take side label) (taking own others o)
@@ -157,7 +135,8 @@ module _ (own others : List Entry) where
   took_at side label (Some f) is =
       let first = next_first (length (frames (frames_taken own others))) (passed_count own) (frames_left own others) f
       is in
-      took_message side label f first.0 first.1 f.message refl
+      let comes = comes_of side label f.message in
+      inr (record { first = f; rest = first.0; is = first.1; one = comes.0; back = comes.1; came = comes.2 })
 
   took : (step : Step) → Took own others step (outcome_of own others step)
   took (Take side label) = took_at side label (next_sent own others) refl
@@ -303,25 +282,11 @@ module _ (own others : List Entry) (e : Entry) (follows : Follows own others e) 
   labels_more = ap (λ (l : List ℕ). length l) (flat_push label_of_arrival own e) ∙ length-append (labels own)
       (label_of_arrival e)
 
-  order_message : (f : SentFrame) (rest : List SentFrame) (m : Message) → f.message ≡ m → (n : ℕ) → n
-      ≡ length (labels own) + length (ids_in f.message) → Ascends (length (labels own)) (ids_in f.message ++ request_ids
-      rest) (length (payloads others)) → Ascends n (request_ids rest) (length (payloads others))
-  order_message f rest (request key method params) is n count up =
-      let more : Ascends (length (labels own)) (key ∷ request_ids rest) (length (payloads others)) =
-      subst (λ (m : Message). Ascends (length (labels own)) (ids_in m ++ request_ids rest) (length (payloads others)))
-      is
-      up in
-      ascends_at _ _ _ _ _ _ (omega (arith, count, ap (λ (m : Message). length (ids_in m)) is)) refl refl more.1
-  order_message f rest (notification method params) is n count up =
-      ascends_at _ _ _ _ _ _ (omega (arith, count, ap (λ (m : Message). length (ids_in m)) is)) refl refl
-      (subst (λ (m : Message). Ascends (length (labels own)) (ids_in m ++ request_ids rest) (length (payloads others)))
-      is
-      up)
-  order_message f rest (response key answer) is n count up =
-      ascends_at _ _ _ _ _ _ (omega (arith, count, ap (λ (m : Message). length (ids_in m)) is)) refl refl
-      (subst (λ (m : Message). Ascends (length (labels own)) (ids_in m ++ request_ids rest) (length (payloads others)))
-      is
-      up)
+  order_message : (m : Message) (rest : List Id) → Ascends (length (labels own)) (ids_in m ++ rest)
+      (length (payloads others)) → Ascends (length (labels own) + length (ids_in m)) rest (length (payloads others))
+  order_message (request key method params) rest up = ascends_at _ _ _ _ _ _ (omega arith) refl refl up.1
+  order_message (notification method params) rest up = ascends_at _ _ _ _ _ _ (omega arith) refl refl up
+  order_message (response key answer) rest up = ascends_at _ _ _ _ _ _ (omega arith) refl refl up
 
   order_took : Took own others e.step e.outcome → Ascends (length (labels (own ++ e ∷ []))) (request_ids (frames_left
       (own ++ e ∷ []) others)) (length (payloads others))
@@ -334,12 +299,9 @@ module _ (own others : List Entry) (e : Entry) (follows : Follows own others e) 
       let first : Ascends (length (labels own)) (ids_in one.first.message ++ request_ids one.rest)
       (length (payloads others)) = subst (λ (l : List SentFrame). Ascends (length (labels own)) (request_ids l)
       (length (payloads others))) one.is theirs.order in
-      ascends_at _ _ _ _ _ _ refl (ap request_ids (left_took own others e one.one one.first one.rest one.is)) refl
-      (order_message one.first one.rest one.first.message refl (length (labels (own ++ e ∷ []))) (omega (
-        arith,
-        labels_more,
-        one.came,
-      )) first)
+      ascends_at _ _ _ _ _ _ (labels_more ∙ ap (λ (n : ℕ). length (labels own) + n) one.came) (ap request_ids
+      (left_took own others e one.one one.first one.rest one.is)) refl (order_message one.first.message (request_ids
+      one.rest) first)
 
   labels_within : (id : Id) → one_some (item_at (labels own) id) ≤ one_some (item_at (labels (own ++ e ∷ [])) id)
   labels_within id = item_shorter (labels own) (labels (own ++ e ∷ [])) id (omega (arith, labels_more))

@@ -1,14 +1,13 @@
 -- What each kind of entry does to the two sides.
 use Rattle.std.proofs.Common.{◌≡◌, ℕ, ◌+◌, ◌≤◌, ◌<◌, List, [], ◌∷◌, ◌++◌, length, take, drop, min, refl, sym, ap, ◌∙◌}
-use Rattle.std.proofs.Common.{subst}
-use Rattle.std.proofs.Common.{◌-◌, String, Vec, Global, arith, append_assoc, length-append, take-append-drop}
+use Rattle.std.proofs.Common.{subst, ◌-◌, String, Vec, Global, arith, append_assoc, length-append, take-append-drop}
 use Rattle.std.proofs.lemmas.Bool.{ne_eqb, eq-eqb, cond-false, cond-true}
 use Rattle.std.proofs.lemmas.Grind.{flat_map-append}
 use Rattle.std.proofs.lemmas.List.{map-append}
 use Rattle.std.specs.FinMap as map
 use Rattle.std.specs.FinMap.{get-empty}
-use Rattle.std.specs.Prelude.{Option, None, Some, Result, Bool, true, false, option_map, is_some, ◌==◌}
-use Rattle.std.specs.Prelude.{if◌then◌else◌, map as each, string_bytes, IfSome}
+use Rattle.std.specs.Prelude.{Option, None, Some, Result, Bool, true, false, option_map, is_some, ◌==◌, if◌then◌else◌}
+use Rattle.std.specs.Prelude.{map as each, string_bytes, IfSome}
 use Rattle.serde_json.specs.Data.{Data}
 use Rattle.serde_json.specs.View.{view}
 use Rattle.serde_json.specs.declared.value.Value.{Value}
@@ -29,23 +28,21 @@ use Rattle.lsp_peers.specs.declared.step.Step.TheVariants.{Register, Tell, Pass,
 use Rattle.lsp_peers.specs.Delivery.{Delivers, PeersAfter}
 use Rattle.lsp_peers.specs.Exchange.{Seen, SideAfter, seen}
 use Rattle.lsp_peers.specs.History.{Entry, written_in, payload_in, arrival_in, closed_in, returned_in, count_in}
-use Rattle.lsp_peers.specs.History.{bytes_in}
-use Rattle.lsp_peers.specs.History.{payloads, labels, closed, returned, held, pending}
-use Rattle.lsp_peers.specs.History.{where_held, taken_count, passed_count, frames_written, frames_taken, frames_left}
-use Rattle.lsp_peers.specs.History.{next_sent, outcome_of_taking, outcome_of, Follows, entries_of}
+use Rattle.lsp_peers.specs.History.{bytes_in, payloads, labels, closed, returned, held, pending, where_held}
+use Rattle.lsp_peers.specs.History.{taken_count, passed_count, frames_written, frames_taken, frames_left, next_sent}
+use Rattle.lsp_peers.specs.History.{outcome_of_taking, outcome_of, Follows, entries_of}
 use Rattle.lsp_peers.specs.Ids.{nth_id, item_at, has}
 use Rattle.lsp_peers.specs.Post.{Post, Line, Carries, posted, passed_on, unpassed, next, one_taken, message_of}
-use Rattle.lsp_peers.specs.Post.{after_take}
-use Rattle.lsp_peers.specs.Post.{empty_post, IfNext, ReadsBack}
+use Rattle.lsp_peers.specs.Post.{after_take, empty_post, IfNext, ReadsBack}
 use Rattle.lsp_peers.specs.SentFrame.{SentFrame, messages, frames}
 use Rattle.lsp_peers.specs.Shallow.{IsShallow}
 use Rattle.lsp_peers.specs.Sides.{side_of, other}
 use Rattle.lsp_peers.proofs.Entries.{entry, payload_of, label_of_arrival, closed_id, returned_id, taking, post_of}
-use Rattle.lsp_peers.proofs.Entries.{flat_push, flat_push_none, length-push, passed_push, left_same}
-use Rattle.lsp_peers.proofs.Entries.{taken_same, left_took, taken_took, left_wrote, taken_wrote, next_first, of_own}
-use Rattle.lsp_peers.proofs.Entries.{of_other, history_more}
-use Rattle.lsp_peers.proofs.IdLemmas.{get-nothing}
-use Rattle.lsp_peers.proofs.KeptItems.{Sets, sets_both, insert_sets, remove_sets, kept_more, kept_less, kept_same}
+use Rattle.lsp_peers.proofs.Entries.{flat_push, flat_push_none, length-push, passed_push, left_same, taken_same}
+use Rattle.lsp_peers.proofs.Entries.{left_took, taken_took, left_wrote, taken_wrote, next_first, of_own, of_other}
+use Rattle.lsp_peers.proofs.Entries.{history_more}
+use Rattle.lsp_peers.proofs.KeptItems.{get-nothing, Sets, sets_both, insert_sets, remove_sets, kept_more, kept_less}
+use Rattle.lsp_peers.proofs.KeptItems.{kept}
 use Rattle.lsp_peers.proofs.Orderly.{Orderly, AllReadBack, orderly_of, orderly_other, reply_first, request_first}
 use Rattle.lsp_peers.proofs.Orderly.{new_open}
 
@@ -95,26 +92,16 @@ module _ (own others : List Entry) (e : Entry) (handed : List Message) where
 -- ---- the near side, part by part
 
 module _ (own others : List Entry) (e : Entry) where
-  same_payloads : payload_of e ≡ [] → payloads (own ++ e ∷ []) ≡ payloads own
-  same_payloads none = flat_push_none payload_of own e none
-
-  same_returned : returned_id e ≡ [] → returned (own ++ e ∷ []) ≡ returned own
-  same_returned none = flat_push_none returned_id own e none
-
-  same_labels : label_of_arrival e ≡ [] → labels (own ++ e ∷ []) ≡ labels own
-  same_labels none = flat_push_none label_of_arrival own e none
-
-  same_closed : closed_id e ≡ [] → closed (own ++ e ∷ []) ≡ closed own
-  same_closed none = flat_push_none closed_id own e none
-
   asks_same : payload_of e ≡ [] → returned_id e ≡ [] → (id : Id) → pending (own ++ e ∷ []) id ≡ pending own id
-  asks_same unpaid unreturned id = kept_same _ _ _ _ (same_payloads unpaid) (same_returned unreturned) id
+  asks_same unpaid unreturned id = λ i. kept (flat_push_none payload_of own e unpaid i)
+      (flat_push_none returned_id own e unreturned i) id
 
   holds_same : label_of_arrival e ≡ [] → closed_id e ≡ [] → (id : Id) → held (own ++ e ∷ []) id ≡ held own id
-  holds_same unarrived unclosed id = kept_same _ _ _ _ (same_labels unarrived) (same_closed unclosed) id
+  holds_same unarrived unclosed id = λ i. kept (flat_push_none label_of_arrival own e unarrived i)
+      (flat_push_none closed_id own e unclosed i) id
 
   count_same : payload_of e ≡ [] → length (payloads (own ++ e ∷ [])) ≡ length (payloads own)
-  count_same unpaid = ap (λ (l : List ℕ). length l) (same_payloads unpaid)
+  count_same unpaid = ap (λ (l : List ℕ). length l) (flat_push_none payload_of own e unpaid)
 
   -- the side after an entry at which it takes nothing
   near_untaken : (handed : List Message) (side new : Seen) → count_in e.step e.outcome ≡ 0 → new.taken ≡ side.taken
@@ -288,7 +275,8 @@ module _ (near far : Peer) (side : Side) (handed : Side → List Message) (histo
           }) after.near_side (λ id. after.near_side.asks id ∙ sym (asks_same own others e unpaid unreturned id))
           (sets_both after.near_side.holds (subst (λ (p : Pending ℕ). Sets (map.get near.queue.incoming) (map.get p) key
           None) (sym removed) (remove_sets near.queue.incoming key)) (kept_less (labels own) (labels (own ++ e ∷ []))
-          (closed own) (closed (own ++ e ∷ [])) key (same_labels own others e unarrived) (flat_push closed_id own e
+          (closed own) (closed (own ++ e ∷ [])) key (flat_push_none label_of_arrival own e unarrived)
+          (flat_push closed_id own e
           ∙ ap (λ (l : List Id). closed own ++ l) closes))) (after.near_side.count ∙ sym (count_same own others e
           unpaid))
 
@@ -396,7 +384,7 @@ module _ (near far : Peer) (side : Side) (handed : Side → List Message) (histo
         (Some payload)) n (insert_sets (pending_of near.queue.outgoing) (nth_id (count_of near.queue.outgoing))
         payload))) (kept_more (payloads own) (payloads (own ++ e ∷ [])) (returned own) (returned (own ++ e ∷ []))
         payload
-        more (same_returned own others e refl) (new_open own others mine)))
+        more (flat_push_none returned_id own e refl) (new_open own others mine)))
         (λ key. after.near_side.holds key ∙ sym (holds_same own others e refl refl key))
         (ap (λ (a : Asked ℕ). count_of a) outgoing ∙ ap (λ (k : ℕ). k + 1) n ∙ sym (ap (λ (l : List ℕ). length l) more
         ∙ length-push (payloads own) payload)))
@@ -448,7 +436,7 @@ module _ (near far : Peer) (side : Side) (handed : Side → List Message) (histo
         (nth_id (length (labels own))) (Some label)) (sym gives.1) (subst (λ (k : Id). Sets
         (map.get near.queue.incoming) (map.get (map.insert near.queue.incoming key label)) k (Some label)) law.0
         (insert_sets near.queue.incoming key label))) (kept_more (labels own) (labels (own ++ e ∷ [])) (closed own)
-        (closed (own ++ e ∷ [])) label (flat_push label_of_arrival own e) (same_closed own others e refl)
+        (closed (own ++ e ∷ [])) label (flat_push label_of_arrival own e) (flat_push_none closed_id own e refl)
         (subst (λ (k : Id). has k (closed own) ≡ false) law.0 law.2)))
         (ap (λ (a : Asked ℕ). count_of a) gives.2 ∙ after.near_side.count ∙ sym (count_same own others e refl))))
     takes_keep queue line taken f m (response key answer) outcome means is same carries gives pushed =
@@ -467,7 +455,7 @@ module _ (near far : Peer) (side : Side) (handed : Side → List Message) (histo
         (sets_both after.near_side.asks (subst (λ (a : Asked ℕ). Sets (map.get (pending_of near.queue.outgoing))
         (map.get (pending_of a)) key None) (sym gives.1) (remove_sets (pending_of near.queue.outgoing) key))
         (kept_less (payloads own) (payloads (own ++ e ∷ [])) (returned own) (returned (own ++ e ∷ [])) key
-        (same_payloads own others e refl) (flat_push returned_id own e)))
+        (flat_push_none payload_of own e refl) (flat_push returned_id own e)))
         (λ id. ap (λ (p : Pending ℕ). map.get p id) gives.2 ∙ after.near_side.holds id ∙ sym (holds_same own others e
         refl refl id))
         (ap (λ (a : Asked ℕ). count_of a) gives.1 ∙ after.near_side.count ∙ sym (count_same own others e refl))))
@@ -511,10 +499,6 @@ pub sent_frame_is : (o : Option SentFrame) (message : Message) → Some message 
     × (o ≡ Some sent_frame) × (message ≡ sent_frame.message)
 sent_frame_is None message is = cc
 sent_frame_is (Some sent_frame) message is = (sent_frame, refl, cc)
-
-pub no_frame_is : (o : Option SentFrame) → ◌≡◌ {A = Option Message} None (message_of o) → o ≡ None
-no_frame_is None is = refl
-no_frame_is (Some sent_frame) is = cc
 
 pub after_taken : (post : Post) (sent_frame : SentFrame) → next post ≡ Some sent_frame → after_take post
     ≡ one_taken post

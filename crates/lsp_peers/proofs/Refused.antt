@@ -1,11 +1,11 @@
 -- Outcomes that no history and no run has: these lists of steps and outcomes are refused, whatever the messages' frames
 -- are.
 use Rattle.std.proofs.Common.{◌≡◌, ◌≢◌, ℕ, ℤ, ◌+◌, ◌-◌, ◌<◌, ◌≤◌, List, [], ◌∷◌, ◌++◌, String, Global, length, codes}
-use Rattle.std.proofs.Common.{min}
-use Rattle.std.proofs.Common.{refl, sym, ap, ◌∙◌, subst, arith, length-append}
+use Rattle.std.proofs.Common.{min, refl, sym, ap, ◌∙◌, subst, arith, length-append}
 use Rattle.std.proofs.lemmas.Bool.{le-leb, cond-true}
 use Rattle.std.proofs.lemmas.List.{append_cancel_left, length-map}
 use Rattle.std.specs.Fmt.{decimal}
+use Rattle.std.specs.List.{AllByRecursion}
 use Rattle.std.specs.Prelude.{pos, Option, None, Some, Result, Ok, Err, Bool, true, false, if◌then◌else◌, nat_le}
 use Rattle.std.specs.Prelude.{string_bytes, map as each}
 use Rattle.serde_json.specs.Data.{Data, depth}
@@ -29,7 +29,7 @@ use Rattle.lsp_peers.specs.declared.step.Side.TheVariants.{A, B}
 use Rattle.lsp_peers.specs.declared.step.Step.{Step}
 use Rattle.lsp_peers.specs.declared.step.Step.TheVariants.{Register, Pass, Take, Answer, Refuse}
 use Rattle.lsp_peers.proofs.AnswerLemmas.{answered_law}
-use Rattle.lsp_peers.proofs.Entries.{entry, taking}
+use Rattle.lsp_peers.proofs.Entries.{entry, taking, all_at}
 use Rattle.lsp_peers.proofs.ShallowLemmas.{shallow_of}
 
 -- a frame is not empty
@@ -157,34 +157,18 @@ module _ (world new : World) (handed : Side → List Message) (method : String G
       × (each message_view (seen_at A new).taken ≡ each message_view (seen_at A world).taken ++ response (nth_id 0)
       answer ∷ [])
 
+  -- an entry of these that is of B, and writes an answer to the request, writes this one
+  abbrev Says : Result Data ErrorObject → Result Data ErrorObject → Entry → Type 0
+  Says said answer e =
+      side_of e.step ≡ B → written_in e.step e.outcome ≡ response (nth_id 0) answer ∷ [] → answer ≡ said
+
   only_this : (reply : Step) (said answer : Result Data ErrorObject) → written_in reply (Answered 5)
-      ≡ response (nth_id 0) said ∷ [] → (earlier : List Entry) (e : Entry) (later : List Entry) → earlier ++ e ∷ later
-      ≡ asked reply → side_of e.step ≡ B → written_in e.step e.outcome ≡ response (nth_id 0) answer ∷ [] → answer ≡ said
-  only_this reply said answer says [] e later is by wrote =
-      let same : e ≡ entry (Register A method params 7) (Registered (nth_id 0)) w1 = cc in
-      let never : A ≡ B = subst (λ (x : Entry). side_of x.step ≡ B) same by in
-      cc
-  only_this reply said answer says (x ∷ []) e later is by wrote =
-      let same : e ≡ entry (Pass B 1000) (Passed n) w2 = cc in
-      let never : [] ≡ response (nth_id 0) answer ∷ [] = subst (λ (x : Entry). written_in x.step x.outcome
-      ≡ response (nth_id 0) answer ∷ []) same wrote in
-      cc
-  only_this reply said answer says (x ∷ y ∷ []) e later is by wrote =
-      let same : e ≡ entry (Take B 5) (Arrived (nth_id 0)) w3 = cc in
-      let never : [] ≡ response (nth_id 0) answer ∷ [] = subst (λ (x : Entry). written_in x.step x.outcome
-      ≡ response (nth_id 0) answer ∷ []) same wrote in
-      cc
-  only_this reply said answer says (x ∷ y ∷ z ∷ []) e later is by wrote =
-      let same : e ≡ entry reply (Answered 5) w4 = cc in
-      let both : response (nth_id 0) said ∷ [] ≡ response (nth_id 0) answer ∷ [] = sym says
-      ∙ subst (λ (x : Entry). written_in x.step x.outcome ≡ response (nth_id 0) answer ∷ []) same wrote in
-      cc
-  only_this reply said answer says (x ∷ y ∷ z ∷ u ∷ []) e later is by wrote =
-      let same : e ≡ entry (Pass A 1000) (Passed m) w5 = cc in
-      let never : A ≡ B = subst (λ (x : Entry). side_of x.step ≡ B) same by in
-      cc
-  only_this reply said answer says (x ∷ y ∷ z ∷ u ∷ v ∷ []) e later is by wrote = cc
-  only_this reply said answer says (x ∷ y ∷ z ∷ u ∷ v ∷ w ∷ more) e later is by wrote = cc
+      ≡ response (nth_id 0) said ∷ [] → AllByRecursion (Says said answer) (asked reply)
+  only_this reply said answer says =
+      let this : Says said answer (entry reply (Answered 5) w4) = λ by wrote.
+      let both : response (nth_id 0) said ∷ [] ≡ response (nth_id 0) answer ∷ [] = sym says ∙ wrote in
+      cc in
+      (λ by wrote. cc, (λ by wrote. cc, (λ by wrote. cc, (this, (λ by wrote. cc, tt)))))
 
   took_this : (reply : Step) (said answer : Result Data ErrorObject) → written_in reply (Answered 5)
       ≡ response (nth_id 0) said ∷ [] → Took reply answer → answer ≡ said
@@ -194,7 +178,8 @@ module _ (world new : World) (handed : Side → List Message) (method : String G
       let both : response (nth_id 0) answer ∷ [] ≡ response (nth_id 0) law.0 ∷ [] = append_cancel_left
       (each message_view (seen_at A world).taken) _ _ (sym took.3 ∙ law.1) in
       let same : answer ≡ law.0 = cc in
-      same ∙ only_this reply said law.0 says law.2.earlier law.2.entry law.2.later law.2.history_is law.2.by law.2.wrote
+      same ∙ all_at (Says said law.0) law.2.earlier law.2.later (asked reply) law.2.entry law.2.history_is (only_this
+      reply said law.0 says) law.2.by law.2.wrote
 
   -- an answer that comes with another result
   pub another_result : (result : Value) (other : Data) → other ≢ view result → Took (Answer B (nth_id 0) result)

@@ -12,7 +12,7 @@ use Rattle.lsp_peers.specs.declared.world.World.{World}
 use Rattle.lsp_peers.specs.Delivery.{PeersAfter, Continues}
 use Rattle.lsp_peers.specs.Exchange.{WorldAfter, IsWholeRun, SideAfter, peer_at, seen_at}
 use Rattle.lsp_peers.specs.History.{Entry, entries_of}
-use Rattle.lsp_peers.specs.Shallow.{IsShallow, AllShallow}
+use Rattle.lsp_peers.specs.Shallow.{IsShallow}
 use Rattle.lsp_peers.specs.Sides.{side_of, other}
 use Rattle.lsp_peers.proofs.Entries.{entry}
 
@@ -82,12 +82,3 @@ whole_more steps outcomes world new step outcome all run pushed goes =
       map-append (λ (e : Entry). e.outcome) run.0 (more.0 ∷ []) ∙ (λ i. run.2 i ++ more.2 i ∷ []) ∙ sym pushed,
       more.3,
     )
-
--- a step among shallow ones
-pub shallow_at : (before rest all : List Step) (step : Step) → before ++ step ∷ rest ≡ all → AllShallow all
-    → IsShallow step
-shallow_at before rest all step is shallow = at before (subst AllShallow (sym is) shallow)
-  where
-    at : (before : List Step) → AllShallow (before ++ step ∷ rest) → IsShallow step
-    at [] shallow = shallow.0
-    at (x ∷ before) shallow = at before shallow.1

@@ -2,6 +2,8 @@
 use Rattle.std.specs.Prelude.{◌≡◌, ◌≤◌, ℕ, ◌+◌, ◌-◌, List, [], ◌∷◌, ◌++◌, length, take, drop, Option, None, Some}
 use Rattle.std.specs.Prelude.{if◌then◌else◌, min, IfSome, is_some}
 use Rattle.lsp_message.specs.Message.{Message}
+use Rattle.lsp_message.specs.declared.frame.Front.{Front}
+use Rattle.lsp_message.specs.declared.frame.Front.TheVariants.{Whole, More, Fault}
 use Rattle.serde_json.specs.Read.{max_depth}
 use Rattle.lsp_message.specs.Ranges.{nesting}
 use Rattle.lsp_message.specs.Tree.{without_null_details}
@@ -83,3 +85,12 @@ IfNext P post = IfSome (next post) (λ sent_frame. P sent_frame.message)
 -- the post after a take: one more is taken, if there is a next frame
 abbrev pub after_take : Post → Post
 after_take post = if is_some (next post) then one_taken post else post
+
+-- What the front of the arrived bytes says of the next frame: it has not arrived whole, or it is the first bytes, this
+-- many, and can be taken. Nothing is wrong with it.
+abbrev pub Shows : Line → Post → Front → Type 0
+Shows line post More = next post ≡ None
+Shows line post (Fault number) = ⊥
+Shows line post (Whole count) =
+    (sent_frame : SentFrame) × (next post ≡ Some sent_frame) × (take count line.arrived ≡ sent_frame.frame)
+    × Carries (record { arrived = drop count line.arrived; on_way = line.on_way }) (one_taken post)

@@ -3,7 +3,7 @@ ghost use Rattle.std.specs.Prelude.{◌≡◌, ◌≤◌, ℕ, length, Ok, Err, 
 ghost use Rattle.lsp_message.specs.Front.{front_of};
 ghost use Rattle.lsp_message.specs.View.{message_view};
 ghost use Rattle.lsp_peers.specs.WorldFault.{fault_of};
-ghost use Rattle.lsp_peers.specs.Post.{SentFrame, Post, Carries, ReadsBack, posted, passed_on, unpassed, next, message_of, empty_post, IfNext, after_take};
+ghost use Rattle.lsp_peers.specs.Post.{SentFrame, Post, Carries, ReadsBack, Shows, posted, passed_on, unpassed, next, message_of, empty_post, IfNext, after_take};
 
 use crate::fault::WorldFault;
 use lsp_message::{Front, Message, ReadFault, front};
@@ -108,12 +108,11 @@ impl Link {
         ensures comes { (post : Post) → Carries self.old post → result ≡ Ok None
             → next post ≡ None }
     {
-        let arrived = &self.bytes[self.start..self.end];
-        match front(arrived) {
+        match self.first() {
             Front::More => Ok(None),
             Front::Fault(_) => Err(WorldFault::NotReadBack),
             Front::Whole(count) => {
-                let mut frame = &arrived[..count];
+                let mut frame = &self.arrived()[..count];
                 match Message::read(self.alloc, &mut frame) {
                     Ok(Some(message)) => {
                         self.remove(count);
@@ -132,8 +131,7 @@ impl Link {
         ensures { (post : Post) → Carries self.old post → (result ≡ is_some (next post))
             × Carries self.new (after_take post) }
     {
-        let arrived = &self.bytes[self.start..self.end];
-        match front(arrived) {
+        match self.first() {
             Front::Whole(count) => {
                 self.remove(count);
                 true
@@ -141,6 +139,15 @@ impl Link {
             Front::More => false,
             Front::Fault(_) => false,
         }
+    }
+
+    /// How much of what has arrived is the first frame.
+    fn first(&self) -> Front
+        ensures front { result ≡ front_of self.now.arrived }
+        ensures within { (count : ℕ) → result ≡ Front.Whole count → count ≤ length self.now.arrived }
+        ensures shows { (post : Post) → Carries self.now post → Shows self.now post result }
+    {
+        front(&self.bytes[self.start..self.end])
     }
 
     /// Removes the first of the bytes that have arrived. Once more were taken than are left, it

@@ -1,7 +1,7 @@
 use Rattle.std.proofs.Common.{◌+◌, ◌-◌, ◌≤◌, length, drop, take, ap, ◌∙◌, arith, length-drop}
 use Rattle.std.proofs.lemmas.List.{length-take}
 use Rattle.lsp_peers.specs.Post.{Line}
-use Rattle.lsp_peers.proofs.LineLemmas.{line_taken}
+use Rattle.lsp_peers.proofs.LinkLemmas.{line_taken}
 use Rattle.lsp_peers.proofs.link.Link.remove.Goals as goal
 
 pub returns-else-self-left-clause-arrived : goal.returns-else-self-left-clause-arrived

@@ -7,12 +7,6 @@ use Rattle.lsp_peers.specs.SentFrame.{refused}
 use Rattle.lsp_peers.specs.declared.step.Step.TheVariants.{Answer, Refuse}
 use Rattle.lsp_peers.proofs.peer.Peer.step.Goals as goal
 
-pub returns-in-Take-clause-ok : goal.returns-in-Take-clause-ok
-returns-in-Take-clause-ok c = rw c.in-Take.is (c.take.ensures.ok _)
-
-pub returns-in-Cancel-clause-ok : goal.returns-in-Cancel-clause-ok
-returns-in-Cancel-clause-ok c = rw c.in-Cancel.is (c.cancel.ensures.ok _)
-
 pub returns-in-Answer-clause-ok : goal.returns-in-Answer-clause-ok
 returns-in-Answer-clause-ok c = rw c.in-Answer.is (c.answer.ensures.ok (Answer c.in-Answer.side c.in-Answer.id
     c.in-Answer.value)

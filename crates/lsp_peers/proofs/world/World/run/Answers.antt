@@ -7,7 +7,9 @@ use Rattle.lsp_peers.specs.Exchange.{IsWholeRun}
 use Rattle.lsp_peers.specs.declared.fault.WorldFault.TheVariants.{Memory}
 use Rattle.lsp_peers.specs.declared.step.Outcome.{Outcome}
 use Rattle.lsp_peers.specs.declared.step.Step.{Step}
-use Rattle.lsp_peers.proofs.WorldLemmas.{whole_nothing, whole_more, shallow_at}
+use Rattle.lsp_peers.specs.Shallow.{IsShallow}
+use Rattle.lsp_peers.proofs.Entries.{all_at}
+use Rattle.lsp_peers.proofs.WorldLemmas.{whole_nothing, whole_more}
 use Rattle.lsp_message.proofs.Joined.{all_taken}
 use Rattle.lsp_peers.proofs.world.World.run.Goals as goal
 
@@ -41,8 +43,8 @@ returns-in_err-outcome-clause-deep c = λ shallow.
     let turn : into_iter_items c.loop-step.step-iterator ≡ c.in-Some.step ∷ rest = c.in-Some.ensures.steps.0 in
     let whole : c.loop-step.yielded ++ c.in-Some.step ∷ rest ≡ c.args.steps.items = ap
     (λ (l : List Step). c.loop-step.yielded ++ l) (sym turn) ∙ before.2 in
-    let memory = c.in_err-outcome.ensures.err (λ side. []) before.3.0 before.3.3 (shallow_at c.loop-step.yielded rest
-    c.args.steps.items c.in-Some.step whole shallow) in
+    let memory = c.in_err-outcome.ensures.err (λ side. []) before.3.0 before.3.3 (all_at IsShallow c.loop-step.yielded
+    rest c.args.steps.items c.in-Some.step whole shallow) in
     let fault : c.in_err-outcome.field-0.0 ≡ Memory = cc in
     let told = err_from_is_err_and c.from_residual.result c.from_residual.ensures.1 in
     subst (λ r. OnErr r (r ≡ Err Memory)) (sym (told.1 ∙ ap (λ f. Err f) (told.2 ∙ fault))) refl
