@@ -4,6 +4,9 @@
 It sends 60 requests of 256 KB, or of `--length` bytes, which get their params back, and takes no reply. When nothing moves any more it
 notes the peak of the program's resident memory (Linux, `VmHWM`), and ends the program. `{"":0}` lists and lists of lists are what takes the
 most memory for a byte, and a string what takes the least.
+
+With `--searches` it asks `example_search jobs` for so many lists of symbols of 1.3 MB each, takes none, and notes how much more memory the
+program has then than before (`VmRSS`), for each byte of the results. `--times` is how much that may be.
 """
 import argparse
 import os
@@ -13,9 +16,12 @@ from pathlib import Path
 
 sys.dont_write_bytecode = True
 
-from client import INITIALIZE, INITIALIZED, SERVE, Difference, Server, frame
+from client import INITIALIZE, INITIALIZED, SERVE, Difference, Server, compact, frame
 
 BENCH = SERVE.parent.parent.parent / "bench" / "out" / "bench"
+SEARCH = SERVE.parents[2] / "example_search" / "out" / "example_search"
+# A symbol takes some 130 bytes.
+HEADINGS = 10_000
 LENGTH = 256_000
 COUNT = 60
 FIRST_ID = 100_000
@@ -60,23 +66,61 @@ def write_some(server, rest):
         return rest
 
 
+def send_unread(server, bodies):
+    """Sends until nothing moves any more: how many of the bytes were sent."""
+    rest = memoryview(b"".join(frame(body) for body in bodies))
+    whole = len(rest)
+    os.set_blocking(server.input(), False)
+    end = time.monotonic() + LONGEST
+    seen, since = None, time.monotonic()
+    while time.monotonic() < min(end, since + STILL):
+        rest = write_some(server, rest) if rest else rest
+        now = (len(rest), processor_ticks(server.process))
+        if now != seen:
+            seen, since = now, time.monotonic()
+        else:
+            time.sleep(0.01)
+    return whole - len(rest)
+
+
 def peak(command, params):
     """The peak memory, and how many of the bytes were sent."""
     bodies = [b'{"jsonrpc":"2.0","id":%d,"method":"demo/echo","params":%s}' % (FIRST_ID + number, params) for number in range(COUNT)]
-    rest = memoryview(b"".join(frame(body) for body in [INITIALIZE, INITIALIZED, *bodies]))
-    whole = len(rest)
     with Server(command) as server:
-        os.set_blocking(server.input(), False)
-        end = time.monotonic() + LONGEST
-        seen, since = None, time.monotonic()
-        while time.monotonic() < min(end, since + STILL):
-            rest = write_some(server, rest) if rest else rest
-            now = (len(rest), processor_ticks(server.process))
-            if now != seen:
-                seen, since = now, time.monotonic()
-            else:
-                time.sleep(0.01)
-        return status_bytes(server.process, "VmHWM"), whole - len(rest)
+        sent = send_unread(server, [INITIALIZE, INITIALIZED, *bodies])
+        return status_bytes(server.process, "VmHWM"), sent
+
+
+def search(number):
+    return compact({"jsonrpc": "2.0", "id": number, "method": "workspace/symbol", "params": {"query": "h"}})
+
+
+def searched(count):
+    """How much memory results that nobody reads take, and how many bytes they have."""
+    document = {"uri": "file:///a.sums", "languageId": "sums", "version": 1, "text": "# heading\n" * HEADINGS}
+    opened = {"jsonrpc": "2.0", "method": "textDocument/didOpen", "params": {"textDocument": document}}
+    with Server([SEARCH, "jobs", "--stdio"]) as server:
+        for body in [INITIALIZE, INITIALIZED, compact(opened), search(FIRST_ID)]:
+            server.send_bytes(frame(body))
+        # The reply to `initialize`, what is wrong with the text, and the symbols.
+        length = max(len(server.receive()) for _ in range(3))
+        before = status_bytes(server.process, "VmRSS")
+        send_unread(server, [search(FIRST_ID + 1 + number) for number in range(count)])
+        return status_bytes(server.process, "VmRSS") - before, count * length
+
+
+def look_at_searches(arguments):
+    """0 if the results took no more memory than they may."""
+    try:
+        taken, length = searched(arguments.searches)
+    except (Difference, OSError) as fault:
+        print(f"unread_client.py: FAILED: jobs: {fault}", file=sys.stderr)
+        return 1
+    print(f"{arguments.searches} results of jobs that nobody reads, {length / 1e6:.1f} MB: {taken / 1e6:.1f} MB more, {taken / length:.1f} times that")
+    if arguments.times is not None and taken > arguments.times * length:
+        print(f"unread_client.py: FAILED: more than {arguments.times} times", file=sys.stderr)
+        return 1
+    return 0
 
 
 def command(way, arguments):
@@ -93,11 +137,15 @@ def parse_arguments():
     parser.add_argument("--params", nargs="+", default=list(PARAMS), choices=PARAMS)
     parser.add_argument("--length", type=int, default=LENGTH, help="how many bytes a request has")
     parser.add_argument("--most", type=float, help="fail where a way takes more MB than this")
+    parser.add_argument("--searches", type=int, help="how many results of jobs are to wait, in place of the ways")
+    parser.add_argument("--times", type=float, help="fail where these take more memory than so many times their text")
     return parser.parse_args()
 
 
 def main():
     arguments = parse_arguments()
+    if arguments.searches is not None:
+        return look_at_searches(arguments)
     failed = False
     print(f"{COUNT} requests of {arguments.length} bytes, and no reply is read: peak MB (MB sent)")
     print("| params | " + " | ".join(arguments.ways) + " |\n" + "|---" * (len(arguments.ways) + 1) + "|", flush=True)

@@ -44,6 +44,8 @@ class Job:
         self.replies = self.finds = True
         # Whether a reply came, or no more comes; the reply of its client, and the token that it asks its client to agree to.
         self.is_answered, self.reply, self.created = False, None, None
+        # Whether it waits for the reply to a request that it sent.
+        self.is_asking = False
 
     def token(self, member):
         """A text or a whole number of 32 bits. Else there is none."""
@@ -66,6 +68,8 @@ class Pool:
     def __init__(self, workers, waiting, wake):
         self.workers, self.waiting, self.wake = [None] * max(workers, 1), waiting, wake
         self.queue, self.table, self.said, self.is_ended = [], {}, [], False
+        # The jobs whose requests were sent to the client, and have no reply yet.
+        self.unanswered = []
         self.counts = {"begun": 0, "stopped": 0, "ended": 0, "reported": 0, "messages": 0}
 
     def forget(self, name):
@@ -184,10 +188,14 @@ class Pool:
         if job.is_cancelled:
             return
         method, params = ("window/workDoneProgress/create", {"token": token}) if token else ("demo/asked", job.value)
+        job.is_asking = True
         self.say(job, ("ask", {"method": method, "params": params}))
 
     def hear_reply(self, job):
-        """The reply, or none, since nobody waits for the job. Without agreement nothing is told under the token."""
+        """The reply, or none, since the job is to end, and that is told. Without agreement nothing is told under the token."""
+        if job.is_asking and not job.is_answered and job.is_cancelled:
+            self.wake()
+        job.is_asking = False
         if job.created:
             job.params = {"workDoneToken": job.created} if "result" in (job.reply or {}) else {}
             job.reply = None
@@ -220,6 +228,14 @@ class Pool:
             self.say(job, ("report", {"method": "$/progress", "params": params}))
         return is_taken
 
+    def unneeded(self):
+        """A job that is to end, whose request to the client has no reply yet: it is cancelled there, once (LSP 3.17, "Cancellation Support")."""
+        for job in self.unanswered:
+            if job.is_cancelled:
+                self.unanswered.remove(job)
+                return job
+        return None
+
     def cancel_progress(self, token):
         """The job that shows progress with this token is to end (LSP 3.17, "Canceling Work Done Progress"). It is awaited as before."""
         for job in filter(None, self.workers):
@@ -244,9 +260,9 @@ class Pool:
 class Working(Talker):
     """The server that speaks, with jobs. Each has a number."""
 
-    def __init__(self):
+    def __init__(self, unanswered):
         super().__init__()
-        self.numbered, self.starts, self.later, self.kept = 0, [], [], {}
+        self.numbered, self.starts, self.later, self.kept, self.unanswered = 0, [], [], {}, unanswered
 
     def make(self, script, params):
         self.numbered += 1
@@ -269,6 +285,8 @@ class Working(Talker):
         if not isinstance(why, Job):
             return super().replied(came)
         self.asked[came["id"]] = None
+        if why in self.unanswered:
+            self.unanswered.remove(why)
         if not why.is_cancelled:
             why.is_answered, why.reply = True, {it: came[it] for it in came if it in ("result", "error")}
         return []
@@ -289,6 +307,10 @@ class Working(Talker):
             self.starts.append((Slot("own"), None))
         elif is_note(came, "answer"):
             return [{"id": params[0], "result": "by the server"}]
+        elif is_note(came, "withdraw"):
+            # It cancels what it asked for this request, in the order of the ids, if no reply came.
+            asked = [it for it, why in enumerate(self.asked) if isinstance(why, dict) and why["id"] == params[0]]
+            return [{"method": "$/cancelRequest", "params": {"id": it}} for it in asked]
         elif "id" in came or not method.startswith(("$/", "window/")):
             return super().heard(came)
         return []
@@ -302,7 +324,7 @@ class JobSession:
         self.passed = dict.fromkeys(OF_BODY, 0) if passes else {}
         self.data, self.pauses, self.at, self.limit, self.room = data, list(pauses), 0, limit, room
         self.pool = Pool(*pool, self.wake)
-        self.server, self.state, self.end = Working(), "new", None
+        self.server, self.state, self.end = Working(self.pool.unanswered), "new", None
         # What comes to the server: messages, faults and wakes. What goes to the writer, and what it wrote.
         self.queue, self.outbox, self.written = [], [], b""
         self.is_failed, self.is_read, self.pending, self.finished = False, False, set(), ""
@@ -386,6 +408,8 @@ class JobSession:
 
     def serve_next(self):
         came = self.queue.pop(0)
+        if came == "wake" and self.state == "open" and (job := self.pool.unneeded()):
+            return self.send({"method": "$/cancelRequest", "params": {"id": self.server.asked.index(job)}})
         if came == "wake":
             said = self.pool.message() if self.state == "open" else None
             return self.hear(*said) if said else None
@@ -448,6 +472,7 @@ class JobSession:
         if kind == "report":
             return self.send(said)
         if kind == "ask":
+            self.pool.unanswered.append(job)
             return self.send(self.server.ask(said["method"], said["params"], job))
         end, reply, found = came_of(said, job)
         self.finished += f" {json.dumps(name)} {end}" if found is None else f" {json.dumps(name)}:{found}"
@@ -521,6 +546,9 @@ class HandPool:
             self.run_rounds(*map(int, words.split()))
         elif verb == "message":
             self.told += self.message()
+        elif verb == "unneeded":
+            job = self.pool.unneeded()
+            self.told += f"unneeded {self.asked.index(job)}, " if job else "all needed, "
         elif verb == "waits":
             self.told += "waits, " if hand_name(words) in self.pool.table else "free, "
         elif verb == "forget":
@@ -529,6 +557,8 @@ class HandPool:
             self.pool.cancel_progress(words)
         elif verb in ("reply", "give_up"):
             for job in self.asked[int(words) : int(words) + 1]:
+                if job in self.pool.unanswered:
+                    self.pool.unanswered.remove(job)
                 if not (job.is_cancelled or job.is_answered):
                     job.is_answered, job.reply = True, {"result": True} if verb == "reply" else None
         if not self.todo:
@@ -549,6 +579,7 @@ class HandPool:
             return f"{name} report {ordered(said['params'])}, "
         if kind == "ask":
             self.asked.append(job)
+            self.pool.unanswered.append(job)
             return f"{name} ask {len(self.asked) - 1} {said['method']} {ordered(said['params'])}, "
         return f"{name} {self.shown_end(name, said, job)}, "
 

@@ -9,16 +9,16 @@ use Rattle.lsp_message.specs.Id.{Id, id_cmp, number}
 use Rattle.lsp_message.specs.IdLaws.{id_decides}
 use Rattle.lsp_message.specs.Message.{Message, ErrorObject, request, notification, response}
 use Rattle.lsp_message.specs.Methods.{is_initialized}
-use Rattle.lsp_queue.specs.Queue.{count_of, pending_of}
+use Rattle.lsp_queue.specs.Queue.{count_of, pending_of, ids_where}
 use Rattle.lsp_session.proofs.Ran.{Ran, reaches_ran, Idle, early_request, early_note, unasked, uninvited, leaves, exits}
 use Rattle.lsp_session.proofs.Ran.{late, stays, StepCase, at_initialize, at_initialized, at_served, at_woken}
 use Rattle.lsp_session.proofs.Ran.{at_shutdown, idle, row, part_none}
 use Rattle.lsp_session.specs.Session.{Exchange, SessionAnswer, Stop, Phase, starting, replied as in_reply, serving}
 use Rattle.lsp_session.specs.Session.{phase_after, Step}
 use Rattle.lsp_service.proofs.Acting.{acts_at}
-use Rattle.lsp_service.proofs.Counting.{how_many-append, Fresh}
-use Rattle.lsp_service.specs.Acts.{Act, Queues, tells, asks, replies, cancels, TakesBack, cancelled_by, cancel_method}
-use Rattle.lsp_service.specs.Acts.{cancel_params, does, does_all, is_spent, unsent}
+use Rattle.lsp_service.proofs.Counting.{how_many-append, none_cancelled, Fresh}
+use Rattle.lsp_service.specs.Acts.{Act, Queues, tells, asks, replies, cancels, TakesBack, cancelled_by}
+use Rattle.lsp_service.specs.Acts.{does, does_all, is_spent, unsent}
 use Rattle.lsp_service.specs.Law.{Handed, how_many, is_reply_under}
 use Rattle.lsp_service.specs.QueuedServer.{with_queues, OpensSending, WorksSending}
 use Rattle.lsp_service.specs.Stated.{Stated}
@@ -29,7 +29,7 @@ use Rattle.lsp_service.specs.declared.server.Server.{Ghosts as Plain}
 use Rattle.lsp_jobs.proofs.Owed.{fewer, waits_now, waits_on, replies_at_wake, waits_called, waits_opened}
 use Rattle.lsp_jobs.proofs.Owed.{HeldWaits}
 use Rattle.lsp_jobs.proofs.SlotChanges.{spares-append, fewer_requests, unanswered_has, went_all, without_request, Went}
-use Rattle.lsp_jobs.specs.Asking.{by_server, ByServers}
+use Rattle.lsp_jobs.specs.Asking.{by_server, of_job, ByServers}
 use Rattle.lsp_jobs.specs.JobLaw.{concerns, is_that, AnswersByJobs, Left, at_ends, RepliesToLast, Waits, WakeSends}
 use Rattle.lsp_jobs.specs.JobSession.{JobSession, seen_with_jobs}
 use Rattle.lsp_jobs.specs.Pooled.{reply_at, unanswered, without_cancelled, ChangesSlots, Does, Finishes, TakesLong}
@@ -78,14 +78,13 @@ module _ {P : Type 0} where
       (none_unless (is_reply_under id) (is_spent (count_of d.asked)) (request (number (pos (count_of d.asked))) method
       params) refl)
       (mute id acts (does d (asks method params payload)) spares)
-  mute id (cancels z ∷ acts) d spares =
-      mute_more id d (cancels z) acts
-      (none_if (is_reply_under id) (map.contains_key (pending_of d.asked) (number z)) (notification cancel_method
-      (cancel_params z)) refl)
-      (mute id acts (does d (cancels z)) spares)
+  mute id (cancels such ∷ acts) d spares =
+      mute_more id d (cancels such) acts (none_cancelled id (ids_where such (pending_of d.asked)))
+      (mute id acts (does d (cancels such)) spares)
 
   sent_one : (d : Queues P) (act : Act P) → (does d act).sent ≡ d.sent ++ sends_by d act
   sent_one d (tells method params) = refl
+  sent_one d (cancels such) = refl
   sent_one d act = grind (arith, append-nil)
 
   sent_all : (d : Queues P) (acts : List (Act P)) → (does_all d acts).sent ≡ d.sent ++ all_sends d acts
@@ -255,7 +254,9 @@ module _ (T : Type 0) {S J F P : Type 0} (plain : Plain S P) (may : StatedJobs S
   woken old did acts (inr (inr (inl a))) =
       idles old did None acts (asks a.method a.params (ByJob a.number) ∷ []) (λ id. refl) (λ id. tt) a.acts
       (as_seen old did a.same)
-  woken old did acts (inr (inr (inr b))) =
+  woken old did acts (inr (inr (inr (inr w)))) =
+      idles old did None acts (cancels (of_job w.number) ∷ []) (λ id. refl) (λ id. tt) w.acts (as_seen old did w.same)
+  woken old did acts (inr (inr (inr (inl b)))) =
       by_servers old None (pended did) (λ own. Finishes may (seen old) own (seen did)) acts ended b
     where
       from : Id → J → Type 0
@@ -413,7 +414,11 @@ module _ (T : Type 0) {S J F P : Type 0} (plain : Plain S P) (may : StatedJobs S
     may_ask = a.may_ask;
     sent = (d, not_sent, sym (ap (all_sends d) a.acts) ∙ is);
   })))
-  wake_sends earlier old did acts output not_sent d is (inr (inr (inr b))) waits =
+  wake_sends earlier old did acts output not_sent d is (inr (inr (inr (inr w)))) waits = inr (inr (inr (inr (
+    w.number,
+    (d, not_sent, sym (ap (all_sends d) w.acts) ∙ is),
+  ))))
+  wake_sends earlier old did acts output not_sent d is (inr (inr (inr (inl b)))) waits =
       let own = b.0 in
       let f = b.2 in
       let s = changes_slots plain may (λ id e. Unit {0}) [] f.did (seen did) f.acts own f.others
@@ -421,7 +426,7 @@ module _ (T : Type 0) {S J F P : Type 0} (plain : Plain S P) (may : StatedJobs S
       let first = f.ended.0 in
       let all : own ≡ (first ++ reply_at f.name f.came) ++ at_ends may s.1.0 =
       s.1.1 ∙ ap (λ (l : List (Act P)). l ++ at_ends may s.1.0) f.ended.2 in
-      inr (inr (inr (record {
+      inr (inr (inr (inl (record {
         name = f.name;
         job = f.job;
         came = f.came;
@@ -433,7 +438,7 @@ module _ (T : Type 0) {S J F P : Type 0} (plain : Plain S P) (may : StatedJobs S
         saw = f.ended.1;
         left = s.1.0;
         sent = (d, not_sent, sym (ap (all_sends d) (b.1 ∙ ap (map_list by_server) all)) ∙ is);
-      })))
+      }))))
 
   -- ---- a session
 

@@ -9,10 +9,11 @@ use Rattle.std.specs.contracts.result.Result as result
 use Rattle.serde_json.proofs.value.Value.TheLaws.TheKnot.{send-Value}
 use Rattle.serde_json.specs.contracts.value.Value as tree
 use Rattle.lsp_message.specs.contracts.msg.Notification as notice
+use Rattle.lsp_message.proofs.Sendable.{text_send}
 use Rattle.lsp_message.specs.contracts.msg.ResponseError as error
 use Rattle.lsp_message.specs.contracts.msg.id.RequestId as id
+use Rattle.lsp_jobs.specs.contracts.job.DoneJob as done
 use Rattle.lsp_jobs.specs.contracts.job.Interrupted as interrupted
-use Rattle.lsp_jobs.specs.contracts.job.JobResult as done
 use Rattle.lsp_jobs.specs.contracts.names.JobName as name
 use Rattle.lsp_jobs.specs.contracts.names.Slot as slot
 
@@ -51,7 +52,7 @@ module _ (F : RattleType) where
   done_send found =
       recorded_send (done.the_field F).row _ _ (done.the_type F).to_one
       (struct_send (shape (done.the_type F)) (
-        search (tree_send, error_send, both, sendable) depth 60,
+        search (text_send, error_send, both, sendable) depth 60,
         (search (found, both, sendable) depth 40, tt),
       ))
 

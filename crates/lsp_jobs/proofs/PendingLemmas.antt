@@ -15,9 +15,9 @@ use Rattle.lsp_jobs.specs.PendingJobs.{PendingJobs, no_jobs, without, with_job}
 use Rattle.lsp_jobs.specs.Pooled.{EndsThen, Frees, TakesLong}
 use Rattle.lsp_jobs.specs.Stated.{StatedJobs}
 use Rattle.lsp_jobs.specs.declared.asking.Asked.{Asked}
+use Rattle.lsp_jobs.specs.declared.job.DoneJob.{DoneJob}
 use Rattle.lsp_jobs.specs.declared.job.Interrupted.{Interrupted}
 use Rattle.lsp_jobs.specs.declared.job.Interrupted.TheVariants.{Cancelled, Memory}
-use Rattle.lsp_jobs.specs.declared.job.JobResult.{JobResult}
 use Rattle.lsp_jobs.specs.declared.names.JobName.{JobName}
 use Rattle.lsp_jobs.specs.declared.names.JobName.TheVariants.{Request}
 
@@ -59,7 +59,7 @@ appended (Err e) new old more is holds = tt
 
 -- what a job came to, as it is seen
 pub came : {J F : Type 0} (comes_to : J → Option Outcome → Option F → Type 0) (job : J)
-    (ran : Result (JobResult F) Interrupted)
+    (ran : Result (DoneJob F) Interrupted)
     → IfOk ran (λ done. comes_to job (option_map outcome_view done.reply) done.found)
     → ComesTo comes_to job (came_view ran)
 came comes_to job (Ok done) comes = comes

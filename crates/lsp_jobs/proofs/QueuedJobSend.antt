@@ -6,6 +6,7 @@ use Rattle.std.proofs.Crossing.{crosses}
 use Rattle.std.proofs.MapsCrossing.{BTreeMap-send}
 use Rattle.std.specs.contracts.alloc.Global as Heap
 use Rattle.std.specs.contracts.impls.GlobalAllocator.TheImpl.{ghosts}
+use Rattle.std.specs.contracts.option.Option as option
 use Rattle.std.specs.contracts.result.Result as result
 use Rattle.crossbeam_channel.specs.contracts.channel.Sender as sender
 use Rattle.serde_json.specs.contracts.value.Value as tree
@@ -28,13 +29,18 @@ token_parts = search (crosses, sendable) depth 80
 reply_send : IsSend (result.the_row tree.the_row error.the_row)
 reply_send = search (tree_send, error_send, both, sendable) depth 60
 
-reply_end_send : IsSend (sender.the_field (result.the_row tree.the_row error.the_row) Heap.the_row ghosts).row
-reply_end_send = search (reply_send, crosses, sendable) depth 80 fits 20000
+reply_end_row_send : IsSend (sender.the_row (result.the_row tree.the_row error.the_row) Heap.the_row ghosts)
+reply_end_row_send = search (reply_send, crosses, sendable) depth 80 fits 20000
+
+-- it may be gone
+kept_end_send : IsSend (option.the_field (sender.the_row (result.the_row tree.the_row error.the_row) Heap.the_row
+    ghosts)).row
+kept_end_send = search (reply_end_row_send, both, sendable) depth 40
 
 waiter_send : IsSend waiter.the_row
 waiter_send =
     recorded_send (waiter.the_field).row _ _ (waiter.the_type).to_one
-    (struct_send (shape waiter.the_type) (token_parts, (reply_end_send, tt)))
+    (struct_send (shape waiter.the_type) (token_parts, (kept_end_send, (search sendable, tt))))
 
 shown_send : IsSend shown.the_row
 shown_send =

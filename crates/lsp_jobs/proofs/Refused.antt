@@ -8,16 +8,16 @@ use Rattle.std.specs.Prelude.{Err, pos, map as map_list, if◌then◌else◌}
 use Rattle.lsp_message.specs.Id.{Id, id_cmp, number}
 use Rattle.lsp_message.specs.IdLaws.{id_decides}
 use Rattle.lsp_message.specs.Message.{Message, request, notification, response}
-use Rattle.lsp_queue.specs.Queue.{count_of, pending_of}
+use Rattle.lsp_queue.specs.Queue.{count_of, pending_of, ids_where}
 use Rattle.lsp_session.proofs.Ran.{messages_both}
 use Rattle.lsp_session.specs.Session.{Exchange, SessionAnswer, Stop, messages_of, sends_of}
 use Rattle.lsp_service.proofs.Counting.{how_many-append}
 use Rattle.lsp_service.specs.Acts.{Act, Queues, tells, asks, replies, cancels, cancelled_by, does, is_spent}
-use Rattle.lsp_service.specs.Acts.{cancel_method, cancel_params}
+use Rattle.lsp_service.specs.Acts.{cancel_all, cancel_method, cancel_params}
 use Rattle.lsp_service.specs.Law.{how_many, is_reply_under, is_request_under, one_if}
 use Rattle.lsp_service.specs.SentByActs.{all_sends}
 use Rattle.lsp_service.specs.declared.server.Server.{Ghosts as Plain}
-use Rattle.lsp_jobs.specs.Asking.{by_server}
+use Rattle.lsp_jobs.specs.Asking.{by_server, of_job}
 use Rattle.lsp_jobs.specs.Ends.{Came, ComesTo, End, Outcome, end_of, reply_of, too_many}
 use Rattle.lsp_jobs.specs.JobLaw.{concerns, is_that, AnswersRequest, IsQuiet, LastRequest, LawfulJobSession, Left}
 use Rattle.lsp_jobs.specs.JobLaw.{at_ends}
@@ -81,6 +81,18 @@ no_request_is_reply : {A : Type 0} (i : Id) (method : List ℕ) (params : Data) 
     method params ≡ response id outcome → A
 no_request_is_reply i method params id outcome e = absurd (cc (e))
 
+-- cancellations are sent, and then others
+cancelled_before : (ids : List Id) (id : Id) (outcome : Outcome) (rest before after : List Message) → cancel_all ids
+    ++ rest ≡ before ++ response id outcome ∷ after → (more : List Message) × (rest ≡ more ++ response id outcome
+    ∷ after)
+cancelled_before [] id outcome rest before after e = (before, e)
+cancelled_before (i ∷ ids) id outcome rest before after e =
+    elim (first_or_later (notification cancel_method (cancel_params i)) (response id outcome) (cancel_all ids ++ rest)
+    before after e) [
+      | inl wrong ↦ no_notice cancel_method (cancel_params i) id outcome wrong
+      | inr later ↦ cancelled_before ids id outcome rest later.0 after later.1
+    ]
+
 module _ {P : Type 0} where
   -- a reply is sent by an act that gives it
   by_an_act : (acts : List (Act P)) (d : Queues P) (id : Id) (outcome : Outcome) (before after : List Message)
@@ -107,12 +119,9 @@ module _ {P : Type 0} where
             ([], acts, λ k. replies (the k) (it k) ∷ acts)
         | inr later ↦ has_later _ _ acts (by_an_act acts (does d (replies i o)) id outcome later.0 after later.1)
       ]
-  by_an_act (cancels z ∷ acts) d id outcome before after e =
-      elim (sent_or_later (map.contains_key (pending_of d.asked) (number z)) (notification cancel_method
-      (cancel_params z)) (response id outcome) _ before after e) [
-        | inl wrong ↦ no_notice cancel_method (cancel_params z) id outcome wrong
-        | inr later ↦ has_later _ _ acts (by_an_act acts (does d (cancels z)) id outcome later.0 after later.1)
-      ]
+  by_an_act (cancels such ∷ acts) d id outcome before after e =
+      let later = cancelled_before (ids_where such (pending_of d.asked)) id outcome _ before after e in
+      has_later _ _ acts (by_an_act acts (does d (cancels such)) id outcome later.0 after later.1)
 
   -- an act of the server that gives it
   own_reply : (act : Act P) (id : Id) (outcome : Outcome) → by_server act ≡ replies id outcome → act
@@ -257,7 +266,15 @@ module _ {S J F P : Type 0} (may : StatedJobs S J F P) where
         | inl wrong ↦ absurd (cc (wrong))
         | inr later ↦ not_empty later.0 has.1 (replies id outcome) later.1
       ]
-  whose earlier output before after id outcome (inr (inr (inr o))) cut =
+  whose earlier output before after id outcome (inr (inr (inr (inr w)))) cut =
+      let has = by_an_act (cancels (of_job w.0) ∷ []) w.1.0 id outcome before (after ++ w.1.1)
+      (w.1.2 ∙ ap (λ (l : List Message). l ++ w.1.1) cut ∙ append_assoc before (response id outcome ∷ after)
+      w.1.1) in
+      elim (first_or_later (cancels (of_job w.0)) (replies id outcome) [] has.0 has.1 has.2) [
+        | inl wrong ↦ absurd (cc (wrong))
+        | inr later ↦ not_empty later.0 has.1 (replies id outcome) later.1
+      ]
+  whose earlier output before after id outcome (inr (inr (inr (inl o)))) cut =
       by_outcome earlier o id outcome (by_own _ id outcome (by_an_act _ o.sent.0 id outcome before
       (after ++ o.sent.1)
       (o.sent.2 ∙ ap (λ (l : List Message). l ++ o.sent.1) cut ∙ append_assoc before (response id outcome ∷ after)
@@ -489,21 +506,23 @@ module _ {S J F P : Type 0} (plain : Plain S P) (may : StatedJobs S J F P) where
         → Unasked earlier id → t.call.acts ≡ replies id outcome ∷ [] → WakeDoes plain may earlier t → ⊥
     reply_unasked earlier t id outcome unasked said (inl nothing) =
         let no : replies id outcome ∷ [] ≡ [] = sym said ∙ nothing in absurd (cc (no))
-    reply_unasked earlier t id outcome unasked said (inr w) = elim w.3 [
+    reply_unasked earlier t id outcome unasked said (inr (inr c)) =
+        let no : replies id outcome ∷ [] ≡ cancels (of_job c.0) ∷ [] = sym said ∙ c.1 in absurd (cc (no))
+    reply_unasked earlier t id outcome unasked said (inr (inl w)) = elim w.3 [
       | inl r ↦ (let no : replies id outcome ∷ [] ≡ tells r.0 r.1 ∷ [] = sym said ∙ r.3 in absurd (cc (no)))
       | inr more ↦ elim more [
         | inl a ↦
             let no : replies id outcome ∷ [] ≡ asks a.0 a.1 (ByJob a.2) ∷ [] = sym said ∙ a.4 in absurd (cc (no))
-        | inr o ↦ at w.0 w.2 o.0 (sym said ∙ o.4 ∙ ap (map_list by_server) (λ k.
+        | inr o ↦ at w.0 w.1 w.2 o.0 (sym said ∙ o.4 ∙ ap (map_list by_server) (λ k.
             (silent t.old w.0 (end_of o.0) o.1 t.asked o.3 k ++ reply_at w.0 o.0) ++ none_at t.left k))
       ]
     ]
       where
-        at : (name : JobName) → Stands plain may earlier name w.1 → (came : Came F)
+        at : (name : JobName) (job : J) → Stands plain may earlier name job → (came : Came F)
             → ◌≡◌ {A = List (Act (Asked P))} (replies id outcome ∷ [])
             (map_list by_server (([] ++ reply_at name came) ++ [])) → ⊥
-        at (Slot slot) stands came e = absurd (cc (e))
-        at (Request i) stands came e =
+        at (Slot slot) job stands came e = absurd (cc (e))
+        at (Request i) job stands came e =
             let is : id ≡ i = cc (e) in
-            for_no_request earlier id w.1 unasked
-            (subst (λ (x : Id). Stands plain may earlier (Request x) w.1) (sym is) stands)
+            for_no_request earlier id job unasked
+            (subst (λ (x : Id). Stands plain may earlier (Request x) job) (sym is) stands)

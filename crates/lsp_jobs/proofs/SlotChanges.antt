@@ -75,6 +75,14 @@ module _ {A P : Type 0} where
   unanswered_slot (asks method params payload ∷ acts) pending slot = unanswered_slot acts pending slot
   unanswered_slot (cancels z ∷ acts) pending slot = unanswered_slot acts pending slot
 
+  -- the requests of the first act, and then those of the others
+  pub unanswered_first : (act : Act P) (acts : List (Act P)) (pending : PendingJobs A) → unanswered (act ∷ acts) pending
+      ≡ unanswered acts (unanswered (act ∷ []) pending)
+  unanswered_first (replies i outcome) acts pending = refl
+  unanswered_first (tells method params) acts pending = refl
+  unanswered_first (asks method params payload) acts pending = refl
+  unanswered_first (cancels z) acts pending = refl
+
 module _ {S J F P : Type 0} (plain : Plain S P) (may : StatedJobs S J F P) where
   abbrev State : Type 0
   State = S × PendingJobs J × List (Act P)

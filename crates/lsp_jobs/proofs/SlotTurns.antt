@@ -292,7 +292,7 @@ module _ (T : Type 0) {S J F P : Type 0} (plain : Plain S P) (may : StatedJobs S
           → turn.old ≡ old.server → turn.asked ≡ f.did.0 → turn.left ≡ m.left → (earlier : List (Turn plain may))
           → AllStand plain may earlier (pended old) → ◌≡◌ {A = Option Message} None None
           → WakeDoes plain may earlier turn
-      does turn is from asked left earlier stand none = inr (
+      does turn is from asked left earlier stand none = inr (inl (
         f.name,
         f.job,
         stand f.name f.job f.waits,
@@ -306,7 +306,7 @@ module _ (T : Type 0) {S J F P : Type 0} (plain : Plain S P) (may : StatedJobs S
               ∙ ap (λ (ls : List (Left may)). map_list by_server ((f.ended.0 ++ reply_at f.name f.came)
               ++ at_ends may ls)) (sym left),
         )),
-      )
+      ))
 
   handed_turn : (old did : PooledServer T S J F) (arrived : Option Message) (payload : Option (Asked P))
       (acts : List (Act (Asked P))) → Handed W old arrived payload acts did
@@ -343,19 +343,21 @@ module _ (T : Type 0) {S J F P : Type 0} (plain : Plain S P) (may : StatedJobs S
       woken : W.wakes old acts did → TurnOf old did now
       woken (inl nothing) = stays old did now tt nothing.1 (λ turn is earlier stand none.
           inl (ap (λ (c : Call (Asked P)). c.acts) is ∙ nothing.0))
-      woken (inr (inl r)) = stays old did now tt r.same (λ turn is earlier stand none. inr (
+      woken (inr (inl r)) = stays old did now tt r.same (λ turn is earlier stand none. inr (inl (
         r.name,
         r.job,
         stand r.name r.job r.waits,
         inl (r.method, r.params, r.reports, ap (λ (c : Call (Asked P)). c.acts) is ∙ r.acts),
-      ))
-      woken (inr (inr (inl a))) = stays old did now tt a.same (λ turn is earlier stand none. inr (
+      )))
+      woken (inr (inr (inl a))) = stays old did now tt a.same (λ turn is earlier stand none. inr (inl (
         a.name,
         a.job,
         stand a.name a.job a.waits,
         inr (inl (a.method, a.params, a.number, a.may_ask, ap (λ (c : Call (Asked P)). c.acts) is ∙ a.acts)),
-      ))
-      woken (inr (inr (inr b))) = finishes_turn old did payload acts b.0 b.1 b.2
+      )))
+      woken (inr (inr (inr (inl b)))) = finishes_turn old did payload acts b.0 b.1 b.2
+      woken (inr (inr (inr (inr w)))) = stays old did now tt w.same (λ turn is earlier stand none.
+          inr (inr (w.number, ap (λ (c : Call (Asked P)). c.acts) is ∙ w.acts)))
 
   -- what the server took back
   took_back : (payloads : List (Asked P)) (old new : PooledServer T S J F) → TakesBack W.takes_back old payloads new

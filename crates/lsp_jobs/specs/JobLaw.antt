@@ -5,12 +5,12 @@ use Rattle.std.specs.Prelude.{◌≡◌, ◌⊎◌, ℕ, Bool, false, List, [], 
 use Rattle.lsp_message.specs.Id.{Id, id_cmp}
 use Rattle.lsp_message.specs.Message.{Message, request, notification}
 use Rattle.lsp_session.specs.Session.{Exchange, SessionAnswer, Stop}
-use Rattle.lsp_service.specs.Acts.{Act, Queues, tells, asks, replies, cancelled_by}
+use Rattle.lsp_service.specs.Acts.{Act, Queues, tells, asks, replies, cancels, cancelled_by}
 use Rattle.lsp_service.specs.Law.{KeepsLaws, how_many, is_reply_under}
 use Rattle.lsp_service.specs.QueuedServer.{held_by}
 use Rattle.lsp_service.specs.SentByActs.{all_sends}
 use Rattle.lsp_service.specs.declared.server.Server.{Ghosts as Plain}
-use Rattle.lsp_jobs.specs.Asking.{by_server}
+use Rattle.lsp_jobs.specs.Asking.{by_server, of_job}
 use Rattle.lsp_jobs.specs.Ends.{Came, ComesTo, End, Outcome, end_of, ended, reply_of}
 use Rattle.lsp_jobs.specs.JobSession.{JobSession, seen_with_jobs}
 use Rattle.lsp_jobs.specs.Pooled.{reply_at}
@@ -148,11 +148,15 @@ module _ {S J F P : Type 0} (may : StatedJobs S J F P) where
     pub left : List Left
     pub sent : SendsSo (map by_server ((first ++ reply_at name came) ++ at_ends left)) output
 
+  -- what one job asked the client is cancelled, if it has no reply yet
+  abbrev pub SendsCancellation : List Message → Type 0
+  SendsCancellation output = (number : ℕ) × SendsSo {P = Asked P} (cancels (of_job number) ∷ []) output
+
   -- what is sent at a wake, after these exchanges
   abbrev pub WakeSends : List Exchange → List Message → Type 0
   WakeSends earlier output = (output ≡ [])
       ⊎ (SendsReport earlier output
-      ⊎ (SendsRequest earlier output ⊎ SendsReply earlier output))
+      ⊎ (SendsRequest earlier output ⊎ (SendsReply earlier output ⊎ SendsCancellation output)))
 
   -- at each wake this is sent, and replies go to no other requests
   abbrev pub AnswersByJobs : List Exchange → Type 0

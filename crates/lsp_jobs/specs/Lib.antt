@@ -1,3 +1,4 @@
+pub mod AskedLaws
 pub mod Asking
 pub mod Ends
 pub mod JobLaw

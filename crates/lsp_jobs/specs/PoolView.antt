@@ -5,9 +5,9 @@ use Rattle.lsp_message.specs.View.{outcome_view}
 use Rattle.lsp_jobs.specs.Ends.{Came, gave, gave_up, out_of_memory}
 use Rattle.lsp_jobs.specs.PendingJobs.{PendingJobs, FromJob, reports, asks, ends}
 use Rattle.lsp_jobs.specs.Waiting.{pending_of}
+use Rattle.lsp_jobs.specs.declared.job.DoneJob.{DoneJob}
 use Rattle.lsp_jobs.specs.declared.job.Interrupted.{Interrupted}
 use Rattle.lsp_jobs.specs.declared.job.Interrupted.TheVariants.{Cancelled as GaveUp, Memory}
-use Rattle.lsp_jobs.specs.declared.job.JobResult.{JobResult}
 use Rattle.lsp_jobs.specs.declared.pool.JobMessage.{JobMessage}
 use Rattle.lsp_jobs.specs.declared.pool.JobMessage.TheVariants.{Report, Ask, Ran}
 use Rattle.lsp_jobs.specs.declared.pool.JobPool.{JobPool}
@@ -18,7 +18,7 @@ pending_jobs pool = pending_of pool.table.jobs
 
 module _ {F : Type 0} where
   -- what a job came to
-  abbrev pub came_view : Result (JobResult F) Interrupted → Came F
+  abbrev pub came_view : Result (DoneJob F) Interrupted → Came F
   came_view (Ok done) = gave (option_map outcome_view done.reply) done.found
   came_view (Err Memory) = out_of_memory
   came_view (Err GaveUp) = gave_up

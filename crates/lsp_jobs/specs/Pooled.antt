@@ -3,10 +3,10 @@ use Rattle.serde_json.specs.Data.{Data}
 use Rattle.std.specs.List.{FoldsTo}
 use Rattle.std.specs.Prelude.{◌≡◌, ◌⊎◌, ℕ, true, false, List, [], ◌∷◌, ◌++◌, Option, Some, None, Err, MatchOption}
 use Rattle.lsp_message.specs.Id.{Id}
-use Rattle.lsp_service.specs.Acts.{Act, tells, asks, replies, cancelled_by}
+use Rattle.lsp_service.specs.Acts.{Act, tells, asks, replies, cancels, cancelled_by}
 use Rattle.lsp_service.specs.Stated.{Stated}
 use Rattle.lsp_service.specs.declared.server.Server.{Ghosts as Plain}
-use Rattle.lsp_jobs.specs.Asking.{ByServers, WhoseAsked}
+use Rattle.lsp_jobs.specs.Asking.{ByServers, WhoseAsked, of_job}
 use Rattle.lsp_jobs.specs.Ends.{Came, ComesTo, End, Outcome, end_of, ended, no_memory, reply_of, too_many}
 use Rattle.lsp_jobs.specs.PendingJobs.{PendingJobs, no_jobs, without, with_job}
 use Rattle.lsp_jobs.specs.Stated.{SeesEnd, StatedJobs}
@@ -144,11 +144,18 @@ module _ {S J F P : Type 0} (may : StatedJobs S J F P) where
     pub acts : all ≡ asks method params (ByJob number) ∷ []
     pub same : new ≡ old
 
-  -- at a wake nothing is done, or a job reports, or asks the client, or came to something
+  -- The request of one job to the client is cancelled, if it has no reply yet.
+  pub record Withdraws (old : S × PendingJobs J) (all : List (Act (Asked P))) (new : S × PendingJobs J) : Type 0 where
+    pub number : ℕ
+    pub acts : all ≡ cancels (of_job number) ∷ []
+    pub same : new ≡ old
+
+  -- At a wake nothing is done, or a job reports, or asks the client, or came to something. Or what a job asked that
+  -- waits no more is cancelled.
   abbrev pub Wakes : S × PendingJobs J → List (Act (Asked P)) → S × PendingJobs J → Type 0
   Wakes old all new = ((all ≡ []) × (new ≡ old))
       ⊎ (Reports old all new
-      ⊎ (Asks old all new ⊎ ByServers (λ acts. Finishes old acts new) all))
+      ⊎ (Asks old all new ⊎ (ByServers (λ acts. Finishes old acts new) all ⊎ Withdraws old all new)))
 
   -- What a server with its jobs may do. A request that the server may call long is answered by a job that is for it,
   -- or at once; another by the server. A reply to a request of a job is not told to the server. At `shutdown` no job

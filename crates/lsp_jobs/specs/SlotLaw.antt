@@ -5,10 +5,10 @@ use Rattle.lsp_message.specs.Id.{Id, same_id}
 use Rattle.lsp_message.specs.Message.{Message, request, notification, response}
 use Rattle.lsp_message.specs.Methods.{is_initialized}
 use Rattle.lsp_session.specs.Session.{Exchange}
-use Rattle.lsp_service.specs.Acts.{Act, tells, asks, replies, TakesBack}
+use Rattle.lsp_service.specs.Acts.{Act, tells, asks, replies, cancels, TakesBack}
 use Rattle.lsp_service.specs.Law.{Call}
 use Rattle.lsp_service.specs.declared.server.Server.{Ghosts as Plain}
-use Rattle.lsp_jobs.specs.Asking.{by_server}
+use Rattle.lsp_jobs.specs.Asking.{by_server, of_job}
 use Rattle.lsp_jobs.specs.Ends.{Came, ComesTo, Outcome, end_of}
 use Rattle.lsp_jobs.specs.JobLaw.{concerns, Left, at_ends}
 use Rattle.lsp_jobs.specs.Pooled.{reply_at, IsAtOnce}
@@ -159,10 +159,12 @@ module _ {S J F P : Type 0} (plain : Plain S P) (may : StatedJobs S J F P) where
       × SeesEnd may t.old name (end_of came) first t.asked
       × (t.call.acts ≡ map by_server ((first ++ reply_at name came) ++ at_ends may t.left))))
 
-  -- at a wake, after these turns, nothing is done, or a job says something that stands there
+  -- At a wake, after these turns, nothing is done, or a job says something that stands there. Or what a job asked is
+  -- cancelled.
   abbrev pub WakeDoes : List Turn → Turn → Type 0
   WakeDoes earlier t = (t.call.acts ≡ [])
-      ⊎ ((name : JobName) × (job : J) × Stands earlier name job × JobSays t name job)
+      ⊎ (((name : JobName) × (job : J) × Stands earlier name job × JobSays t name job)
+      ⊎ ((number : ℕ) × (t.call.acts ≡ cancels (of_job number) ∷ [])))
 
   -- From the state at the result of `initialize` on, these are the turns of a server: what it began at `initialized`,
   -- and its calls. At each wake only the last job of a slot has a say, and only the job that a request waits for.

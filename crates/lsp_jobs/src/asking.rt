@@ -17,14 +17,64 @@ pub enum Asked<P> {
     ByJob(u64),
 }
 
+impl<P: PartialEq> PartialEq for Asked<P> {
+    ghost use Rattle.lsp_jobs.specs.AskedLaws.{same_asked_laws};
+    ghost use Rattle.lsp_jobs.specs.Asking.{same_asked};
+
+    ghost eq = { same_asked P.eq };
+
+    ghost laws = { same_asked_laws P.eq P.laws };
+
+    fn eq(&self, other: &Asked<P>) -> bool {
+        match other {
+            Asked::ByServer(payload) => match self {
+                Asked::ByServer(kept) => *kept == *payload,
+                Asked::ByJob(_) => false,
+            },
+            Asked::ByJob(number) => match self {
+                Asked::ByServer(_) => false,
+                Asked::ByJob(asked) => *asked == *number,
+            },
+        }
+    }
+}
+
 /// What the client replied.
 pub(crate) type Reply = Result<Value, ResponseError>;
 
-/// A job that waits for a reply.
+/// A job that asked the client.
 #[derive(Drop)]
 struct Waiter {
     token: CancellationToken,
-    reply: Sender<Reply>,
+    /// Where the reply goes. `None` means that the job waits no more.
+    reply: Option<Sender<Reply>>,
+    /// Whether the request was taken, to be sent to the client.
+    is_taken: bool,
+}
+
+impl Waiter {
+    /// A job that is to end goes on without a reply. False if its request need not be cancelled at the client: it was not taken, and never is.
+    fn let_go(&mut self) -> bool {
+        if !self.token.is_cancelled() {
+            return true;
+        }
+        self.reply = None;
+        self.is_taken || self.token.is_wanted()
+    }
+
+    /// The reply came. If the job waits no more, it is dropped.
+    fn give<T: Wait>(self, rt: &T, reply: Reply) {
+        let Waiter { reply: sender, .. } = self;
+        match sender {
+            Some(sender) => drop(sender.send(rt, reply)),
+            None => drop(reply),
+        }
+    }
+
+    /// Whether the request is to be cancelled at the client.
+    fn is_unneeded(&self) -> bool {
+        self.is_taken && self.reply.is_none()
+    }
 }
 
 /// A job that shows progress which its client may cancel.
@@ -34,7 +84,7 @@ struct Shown {
     token: CancellationToken,
 }
 
-/// The jobs that wait for a reply, each under the number of its request, and those that show progress, each under the progress's token.
+/// The jobs that asked the client, each under the number of its request, and those that show progress, each under the progress's token.
 #[derive(Drop)]
 struct Waiters {
     waiting: BTreeMap<u64, Waiter>,
@@ -42,8 +92,8 @@ struct Waiters {
     shown: BTreeMap<RequestId, Shown>,
 }
 
-/// The jobs of a pool that wait for replies of the client. Each has a channel of its own, whose end here is dropped when nobody waits for
-/// the job any more: so the job goes on.
+/// The jobs of a pool that asked the client. Each has a channel of its own, whose end here is dropped when the job is to end: so it goes on.
+/// It stays here until its request is cancelled at the client.
 #[derive(Drop)]
 pub(crate) struct Replies {
     alloc: Global,
@@ -62,6 +112,16 @@ pub(crate) struct Asker {
 }
 
 impl Waiters {
+    /// The number of the first request that is to be cancelled at the client.
+    fn unneeded(&self) -> Option<u64> {
+        for (number, waiter) in self.waiting.iter() {
+            if waiter.is_unneeded() {
+                return Some(*number);
+            }
+        }
+        None
+    }
+
     /// Adds a job, and gives the number of its request.
     fn add(&mut self, waiter: Waiter) -> Result<u64, AllocError> {
         let number = self.next;
@@ -106,12 +166,25 @@ impl Replies {
     /// Hands a reply to the job that waits under this number. If none does, the reply is dropped.
     pub fn hand<T: Wait>(&self, rt: &T, number: u64, reply: Reply) {
         match self.remove(rt, number) {
-            Some(waiter) => {
-                drop(waiter.reply.send(rt, reply));
-                drop(waiter);
-            }
+            Some(waiter) => waiter.give(rt, reply),
             None => drop(reply),
         }
+    }
+
+    /// The request with this number was taken, to be sent to the client.
+    pub fn was_taken<T: Wait>(&self, rt: &T, number: u64) {
+        if let Some(waiter) = self.waiters.lock(rt).waiting.get_mut(&number) {
+            waiter.is_taken = true;
+        }
+    }
+
+    /// The number of a request to cancel at the client, once: its job waits no more, and no reply came.
+    pub fn take_unneeded<T: Wait>(&self, rt: &T) -> Option<u64> {
+        let mut waiters = self.waiters.lock(rt);
+        let number = waiters.unneeded()?;
+        let waiter = waiters.waiting.remove(&number);
+        drop(waiter);
+        Some(number)
     }
 
     /// No reply comes under this number: the job that waits goes on without one.
@@ -133,9 +206,7 @@ impl Replies {
     /// Jobs whose token was cancelled go on without a reply.
     pub fn let_cancelled_go<T: Wait>(&self, rt: &T) {
         let mut waiters = self.waiters.lock(rt);
-        waiters
-            .waiting
-            .retain(|_, waiter| !waiter.token.is_cancelled());
+        waiters.waiting.retain(|_, waiter| waiter.let_go());
     }
 
     fn remove<T: Wait>(&self, rt: &T, number: u64) -> Option<Waiter> {
@@ -144,6 +215,11 @@ impl Replies {
 }
 
 impl Asker {
+    /// The allocator of the pool.
+    pub fn alloc(&self) -> Global {
+        self.replies.alloc
+    }
+
     /// The job will wait for a reply: gives the number of its request, and the end of a channel on which the reply comes. If the channel is
     /// disconnected, none comes. `None` means that nobody waits for the job any more. The error means that an allocation failed.
     ///
@@ -152,7 +228,8 @@ impl Asker {
         let (sender, receiver) = bounded(self.replies.alloc, 1)?;
         let waiter = Waiter {
             token: self.token.share()?,
-            reply: sender,
+            reply: Some(sender),
+            is_taken: false,
         };
         let mut waiters = self.replies.waiters.lock(rt);
         if self.token.is_cancelled() {

@@ -46,6 +46,11 @@ impl CancellationToken {
         self.request.is_stopped() || self.pool.load(Ordering::SeqCst)
     }
 
+    /// Whether somebody waits for the job.
+    pub fn is_wanted(&self) -> bool {
+        !self.request.is_cancelled()
+    }
+
     /// Nobody waits for the job any more.
     pub fn cancel(&self) {
         self.request.cancel();

@@ -39,7 +39,7 @@ pub(crate) trait AnyJob<R>: Drop {
     /// It may ask the client this.
     ghost asks: { Self → List ℕ → Data → Type 0 };
 
-    fn perform<C: JobContext>(self, context: &mut C) -> R
+    fn perform<C: JobContext>(self, alloc: Global, context: &mut C) -> R
         requires reporting { (method : List ℕ) (params : Data) → reports «self» method params
             → C.may method params }
         requires asking { (method : List ℕ) (params : Data) → asks «self» method params
@@ -325,6 +325,7 @@ fn perform_telling<W: Reportable, T: Wait + Drop, J: AnyJob<R>, R: Drop, N: Noti
     ensures { J.comes_to «job» result.0 }
 {
     let (sender, pass) = ends;
+    let alloc = asker.alloc();
     let reports: Reports<W, J, R> = Reports {
         what: PhantomData,
         job: Snapshot::of(&job),
@@ -341,7 +342,7 @@ fn perform_telling<W: Reportable, T: Wait + Drop, J: AnyJob<R>, R: Drop, N: Noti
         notifier,
         reports,
     };
-    let outcome = job.perform(&mut reporter);
+    let outcome = job.perform(alloc, &mut reporter);
     reporter.send_last();
     let Reporter {
         rt,
@@ -471,6 +472,13 @@ impl<W: Reportable, T: Wait + Drop, J: AnyJob<R>, R: Drop, N: Notifier> Reporter
         }
     }
 
+    /// No reply came. If the job is to end, its request may be cancelled at the client.
+    fn tell_unneeded(&mut self) {
+        if self.asker.is_cancelled() {
+            self.notifier.notify(&self.rt);
+        }
+    }
+
     /// Counts a message that is sent now, or was not sent.
     fn counted(&mut self, is_sent: bool) -> bool {
         if is_sent {
@@ -533,7 +541,13 @@ impl<W: Reportable, T: Wait + Drop, J: AnyJob<R>, R: Drop, N: Notifier> JobConte
             self.asker.end(&self.rt, number);
             return Ok(None);
         }
-        Ok(replies.recv(&self.rt).ok())
+        match replies.recv(&self.rt) {
+            Ok(reply) => Ok(Some(reply)),
+            Err(_) => {
+                self.tell_unneeded();
+                Ok(None)
+            }
+        }
     }
 
     fn at_end(&mut self, last: Option<Notification>) {

@@ -4,9 +4,9 @@ ghost use Rattle.std.specs.Prelude.{◌≡◌, None, Some, IfOk, IfSome, option_
 ghost use Rattle.lsp_message.specs.View.{outcome_view};
 
 use crate::channel::AnyJob;
-use lsp_message::{Notification, ResponseError};
+use lsp_message::{Notification, ResponseError, ResultText};
 use serde_json::Value;
-use std::alloc::{AllocError, AllocFailed};
+use std::alloc::{AllocError, AllocFailed, Global};
 use std::time::Duration;
 
 /// The work of one request or slot, with all that it needs. It runs in a thread of a `JobPool`.
@@ -145,7 +145,8 @@ pub trait JobContext {
     /// error that the client sent. The job's thread runs nothing else meanwhile.
     ///
     /// `None` means that no reply comes. The job is to end, and goes on at once. Or the session has given out all of its ids. A client
-    /// that never replies keeps the job waiting until then. What comes of a reply that the job no longer waits for: it is dropped.
+    /// that never replies keeps the job waiting until then. A request to which no reply came is cancelled at the client (LSP 3.17,
+    /// "Cancellation Support") if the job is to end, and a reply that still comes is dropped.
     ///
     /// The error means that an allocation failed, and nothing was sent. By itself it gives `None`.
     fn ask(
@@ -175,8 +176,17 @@ pub trait JobContext {
     }
 }
 
+/// What a job came to, as it waits for its server.
+#[derive(Debug, Drop)]
+pub struct DoneJob<F> {
+    /// The reply to its request, with its result as text.
+    pub reply: Option<Result<ResultText, ResponseError>>,
+    /// What its server gets.
+    pub found: Option<F>,
+}
+
 /// What a job came to, or why it came to nothing.
-pub(crate) type Ran<F> = Result<JobResult<F>, Interrupted>;
+pub(crate) type Ran<F> = Result<DoneJob<F>, Interrupted>;
 
 impl<J: Job> AnyJob<Ran<J::Found>> for J {
     ghost use Rattle.serde_json.specs.Data.{Data};
@@ -189,7 +199,41 @@ impl<J: Job> AnyJob<Ran<J::Found>> for J {
 
     ghost asks = { J.asks };
 
-    fn perform<C: JobContext>(self, context: &mut C) -> Ran<J::Found> {
-        self.run(context)
+    fn perform<C: JobContext>(self, alloc: Global, context: &mut C) -> Ran<J::Found> {
+        match self.run(context) {
+            Ok(done) => with_text(alloc, done),
+            Err(end) => Err(end),
+        }
+    }
+}
+
+/// What a job came to, with the text of its result. If an allocation fails, the job ends so.
+fn with_text<F: Drop>(alloc: Global, done: JobResult<F>) -> Ran<F>
+    ensures { IfOk result (λ kept. (option_map outcome_view kept.reply ≡ option_map outcome_view done.reply)
+        × (kept.found ≡ done.found)) }
+{
+    let JobResult { reply, found } = done;
+    let Some(outcome) = reply else {
+        return Ok(DoneJob { reply: None, found });
+    };
+    match outcome_with_text(alloc, outcome) {
+        Ok(outcome) => Ok(DoneJob {
+            reply: Some(outcome),
+            found,
+        }),
+        Err(_) => Err(Interrupted::Memory),
+    }
+}
+
+/// An outcome, with its result as text.
+fn outcome_with_text(
+    alloc: Global,
+    outcome: Result<Value, ResponseError>,
+) -> Result<Result<ResultText, ResponseError>, AllocError>
+    ensures { IfOk result (λ kept. outcome_view kept ≡ outcome_view outcome) }
+{
+    match outcome {
+        Ok(tree) => Ok(Ok(ResultText::of(alloc, tree)?)),
+        Err(error) => Ok(Err(error)),
     }
 }

@@ -155,7 +155,7 @@ pub trait Slots<S: Server, J: Job> {
         alloc: Global,
     ) -> Result<Vec<Act<S::Payload>>, AllocError>
         ensures { IfOk result (λ acts.
-            hears server.old name.now «found» (map act_view acts.items) server.new) };
+            hears server.old name.now «found» (map (act_view S.Payload.eq) acts.items) server.new) };
 
     /// Sees how a job ended that found nothing.
     fn ended(
@@ -165,7 +165,7 @@ pub trait Slots<S: Server, J: Job> {
         alloc: Global,
     ) -> Result<Vec<Act<S::Payload>>, AllocError>
         ensures { IfOk result (λ acts.
-            finishes server.old name.now end (map act_view acts.items) server.new) };
+            finishes server.old name.now end (map (act_view S.Payload.eq) acts.items) server.new) };
 }
 
 /// The server has no slots, and does nothing when a job ended.

@@ -25,7 +25,7 @@ use lsp_session::Listener;
 use std::sync::Wait;
 
 /// A session that was run by `run_jobs`, with a limit or without one, and that passes over nothing. At each wake nothing is sent, or one
-/// notification or request of a pending job, or what is done at its outcome: see `AnswersByJobs`. And it keeps the laws of
+/// notification or request of a pending job, or what is done at its outcome, or the request of one job is cancelled: see `AnswersByJobs`. And it keeps the laws of
 /// `lsp_service::laws::server_keeps_laws`: under no id more replies than requests, whatever jobs come to and when; one reply for the last
 /// request under an id, unless it is still held or the session ended at it, and one for each that was cancelled; and before `initialized` nothing but errors and the result of `initialize`, nothing after the reply to `shutdown`.
 pub fn session_with_jobs_keeps_laws<T: Wait + Drop, S: JobServer<J>, J: Job>()
@@ -86,7 +86,7 @@ pub fn requests_are_answered_by_their_jobs<S: JobServer<J>, J: Job>()
 /// Of the jobs that a server starts, from the state at the result of `initialize` on (`GoesOn` in `lsp_service::laws`). Its turns are what
 /// it did at `initialized` and at its calls, each from the state that the one before left. At a request that it calls long, the server
 /// stays as it is. Nothing is sent, since it gave a job for the request; or one reply: what it knows (`knows`), or the error -32803,
-/// `too many requests are waiting`, or -32603, `out of memory`. At each wake nothing is done, or one
+/// `too many requests are waiting`, or -32603, `out of memory`. At each wake nothing is done, or what a job asked is cancelled, or one
 /// pending job reports, asks or came to what it may find. If that is a job in a slot, it is the last that was started there: in an earlier
 /// turn, and since then the slot was not changed. So what is found of an earlier text never comes behind the start for a later one.
 /// A job for a request is one that the server may give for the last request under the id, which is long, was not cancelled and has no reply.

@@ -20,7 +20,7 @@ mod waiting_jobs;
 mod workers;
 
 pub use asking::Asked;
-pub use job::{Interrupted, Job, JobContext, JobResult};
+pub use job::{DoneJob, Interrupted, Job, JobContext, JobResult};
 pub use job_server::{AnsweredBy, JobEnd, JobServer, NoSlots, SlotChange, Slots};
 pub use names::{JobName, Slot};
 pub use pool::{JobMessage, JobPool, PoolSize, SubmitFault};

@@ -7,7 +7,7 @@ ghost use Rattle.lsp_jobs.specs.PoolView.{job_message_view, pending_jobs};
 use crate::asking::Replies;
 use crate::cancellation::CancellationToken;
 use crate::channel::{AnyJob, WorkerMessage};
-use crate::job::{Interrupted, Job, JobResult, Ran};
+use crate::job::{DoneJob, Interrupted, Job, Ran};
 use crate::names::JobName;
 use crate::notifier::Notifier;
 use crate::table::JobTable;
@@ -93,7 +93,7 @@ pub enum JobMessage<F> {
     /// number.
     Ask(String, Value, u64),
     /// What it came to.
-    Ran(Result<JobResult<F>, Interrupted>),
+    Ran(Result<DoneJob<F>, Interrupted>),
 }
 
 /// Threads that run jobs, and the jobs that are pending. Contracts see these: under the name of each, the job.
@@ -311,6 +311,12 @@ impl<T: Wait + Drop, J: Job> JobPool<T, J> {
         self.replies.give_up(&self.rt, number);
     }
 
+    /// The number of a request of a job to cancel at the client, if there is one: the job is to end, and waits no more, and the client did not
+    /// reply yet (LSP 3.17, "Cancellation Support"). Each is given once, and a signal comes for it too.
+    pub fn take_unneeded(&self) -> Option<u64> {
+        self.replies.take_unneeded(&self.rt)
+    }
+
     /// The client cancelled the progress with this token (LSP 3.17, "Canceling Work Done Progress"): the job that shows it is to end. What it
     /// comes to is still awaited.
     pub fn cancel_progress(&self, token: &RequestId) {
@@ -328,7 +334,10 @@ impl<T: Wait + Drop, J: Job> JobPool<T, J> {
         let (name, message) = self.table.take(&self.rt)?;
         let said = match message {
             WorkerMessage::Report(notification) => JobMessage::Report(notification),
-            WorkerMessage::Ask(method, params, number) => JobMessage::Ask(method, params, number),
+            WorkerMessage::Ask(method, params, number) => {
+                self.replies.was_taken(&self.rt, number);
+                JobMessage::Ask(method, params, number)
+            }
             WorkerMessage::Ran(ran) => {
                 self.table.complete(&name);
                 JobMessage::Ran(ran)

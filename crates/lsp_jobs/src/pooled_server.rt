@@ -8,7 +8,7 @@ ghost use Rattle.lsp_message.specs.View.{error_view, outcome_view};
 ghost use Rattle.lsp_message.specs.declared.msg.code.ErrorCode.TheVariants.{InternalError as CodeOfInternal};
 ghost use Rattle.lsp_service.specs.Acts.{canceled, cancelled_by, replies};
 ghost use Rattle.lsp_service.specs.View.{act_view};
-ghost use Rattle.lsp_jobs.specs.Asking.{by_server, ByServers};
+ghost use Rattle.lsp_jobs.specs.Asking.{by_server, same_asked, ByServers};
 ghost use Rattle.lsp_jobs.specs.Ends.{end_of, end_with, ended, no_memory, reply_of, too_many};
 ghost use Rattle.lsp_jobs.specs.PendingJobs.{with_job, without};
 ghost use Rattle.lsp_jobs.specs.PoolView.{came_view, pending_jobs};
@@ -19,11 +19,11 @@ ghost use Rattle.lsp_jobs.specs.declared.names.JobName.TheVariants.{Request as O
 ghost use Rattle.lsp_jobs.specs.Seen.{seen};
 
 use crate::asking::Asked;
-use crate::job::{Interrupted, Job, JobResult, Ran};
+use crate::job::{DoneJob, Interrupted, Job, Ran};
 use crate::job_server::{AnsweredBy, JobEnd, JobServer, SlotChange, Slots};
 use crate::names::JobName;
 use crate::pool::{JobMessage, JobPool, SubmitFault};
-use lsp_message::{ErrorCode, Notification, Request, RequestId, ResponseError};
+use lsp_message::{ErrorCode, Notification, Request, RequestId, ResponseError, ResultText};
 use lsp_service::{Act, Server, WokenServer, cancelled_id};
 use serde_json::Value;
 use std::alloc::{AllocError, Global};
@@ -86,15 +86,36 @@ impl<T: Wait + Drop, S: Drop, J: Job> PooledServer<T, S, J> {
     }
 
     /// A request that the server answers by itself needs no job any more.
-    fn forget_answered<P: Drop>(&mut self, acts: &[Act<P>]) -> Result<(), AllocError>
-        ensures { IfOk result (λ _. seen self.new
-            ≡ (self.old.server, unanswered (map act_view acts.now) (pending_jobs self.old.pool))) }
+    fn forget_answered<P: Drop + PartialEq>(&mut self, acts: &[Act<P>]) -> Result<(), AllocError>
+        ensures { IfOk result (λ _. seen self.new ≡ (
+          self.old.server,
+          unanswered (map (act_view P.eq) acts.now) (pending_jobs self.old.pool),
+        )) }
     {
         for act in acts {
-            if let Act::Reply(id, _) = act {
-                self.pool.forget(&JobName::Request(id.clone()?));
-            }
+            self.forget_if_answered(act)?;
         }
+        Ok(())
+    }
+
+    /// The same of one act.
+    fn forget_if_answered<P: Drop + PartialEq>(&mut self, act: &Act<P>) -> Result<(), AllocError>
+        ensures { IfOk result (λ _. seen self.new
+            ≡ (self.old.server, unanswered (act_view P.eq act.now ∷ []) (pending_jobs self.old.pool))) }
+    {
+        match act {
+            Act::Reply(id, _) => self.forget_request(id),
+            Act::ReplyText(id, _) => self.forget_request(id),
+            _ => Ok(()),
+        }
+    }
+
+    /// The request with this id needs no job any more.
+    fn forget_request(&mut self, id: &RequestId) -> Result<(), AllocError>
+        ensures { IfOk result (λ _. seen self.new
+            ≡ (self.old.server, without (OfRequest id.now) (pending_jobs self.old.pool))) }
+    {
+        self.pool.forget(&JobName::Request(id.clone()?));
         Ok(())
     }
 }
@@ -113,7 +134,7 @@ where
     ) -> Result<Vec<Act<S::Payload>>, AllocError>
         ensures { IfOk result (λ acts.
             Ends (stated_jobs S.JobServer.own ⟦<S::Slots as Slots<S, J>>⟧ J.Job) name (end_of (came_view «ran»)) (reply_at name (came_view «ran»))
-            (seen self.old) (map act_view acts.items) (seen self.new)) }
+            (seen self.old) (map (act_view S.Payload.eq) acts.items) (seen self.new)) }
     {
         let (outcome, found, end) = parts_of(self.alloc, ran)?;
         let mut acts = match found {
@@ -133,8 +154,8 @@ where
         acts: &mut Vec<Act<S::Payload>>,
     ) -> Result<(), AllocError>
         ensures { IfOk result (λ _. EndsThen (stated_jobs S.JobServer.own ⟦<S::Slots as Slots<S, J>>⟧ J.Job) name.now (ended end)
-            (self.old.server, pending_jobs self.old.pool, map act_view acts.old.items)
-            (self.new.server, pending_jobs self.new.pool, map act_view acts.new.items)) }
+            (self.old.server, pending_jobs self.old.pool, map (act_view S.Payload.eq) acts.old.items)
+            (self.new.server, pending_jobs self.new.pool, map (act_view S.Payload.eq) acts.new.items)) }
     {
         let mut more = S::Slots::ended(&mut self.server, name, end, self.alloc)?;
         self.forget_answered(&more)?;
@@ -145,8 +166,8 @@ where
     fn take_long(&mut self, request: Request) -> Result<Vec<Act<Asked<S::Payload>>>, AllocError>
         requires { pending_jobs self.old.pool (OfRequest request.id) ≡ None }
         ensures { IfOk result (λ all. TakesLong (stated_jobs S.JobServer.own ⟦<S::Slots as Slots<S, J>>⟧ J.Job) (seen self.old) request.id
-            (string_bytes request.method) (view request.params) (map act_view all.items)
-            (seen self.new)) }
+            (string_bytes request.method) (view request.params)
+            (map (act_view (same_asked S.Payload.eq)) all.items) (seen self.new)) }
     {
         let id = request.id.clone()?;
         match self.answer_to(request)? {
@@ -181,11 +202,11 @@ where
         job: J,
     ) -> Result<Vec<Act<Asked<S::Payload>>>, AllocError>
         ensures { IfOk result (λ all.
-            ((map act_view all.items ≡ []) × (seen self.new ≡ (
+            ((map (act_view (same_asked S.Payload.eq)) all.items ≡ []) × (seen self.new ≡ (
               self.old.server,
               with_job (OfRequest id) «job» (pending_jobs self.old.pool),
             )))
-            ⊎ ((map act_view all.items ≡ replies id (Err no_memory) ∷ []) × (seen self.new ≡ (
+            ⊎ ((map (act_view (same_asked S.Payload.eq)) all.items ≡ replies id (Err no_memory) ∷ []) × (seen self.new ≡ (
               self.old.server,
               without (OfRequest id) (pending_jobs self.old.pool),
             )))) }
@@ -203,8 +224,8 @@ where
         acts: Vec<Act<S::Payload>>,
     ) -> Result<Vec<Act<Asked<S::Payload>>>, AllocError>
         ensures { IfOk result (λ all. ByServers (λ own.
-            ChangesSlots (stated_jobs S.JobServer.own ⟦<S::Slots as Slots<S, J>>⟧ J.Job) (seen self.old) (map act_view acts.items) own
-            (seen self.new)) (map act_view all.items)) }
+            ChangesSlots (stated_jobs S.JobServer.own ⟦<S::Slots as Slots<S, J>>⟧ J.Job) (seen self.old) (map (act_view S.Payload.eq) acts.items) own
+            (seen self.new)) (map (act_view (same_asked S.Payload.eq)) all.items)) }
     {
         let all = self.change_slots(acts)?;
         acts_by_server(self.alloc, all)
@@ -216,8 +237,8 @@ where
         acts: Vec<Act<S::Payload>>,
     ) -> Result<Vec<Act<S::Payload>>, AllocError>
         ensures { IfOk result (λ all.
-            ChangesSlots (stated_jobs S.JobServer.own ⟦<S::Slots as Slots<S, J>>⟧ J.Job) (seen self.old) (map act_view acts.items)
-            (map act_view all.items) (seen self.new)) }
+            ChangesSlots (stated_jobs S.JobServer.own ⟦<S::Slots as Slots<S, J>>⟧ J.Job) (seen self.old) (map (act_view S.Payload.eq) acts.items)
+            (map (act_view S.Payload.eq) all.items) (seen self.new)) }
     {
         self.forget_answered(&acts)?;
         let changes = S::Slots::take_changes(&mut self.server, self.alloc)?;
@@ -232,8 +253,8 @@ where
     ) -> Result<Vec<Act<S::Payload>>, AllocError>
         ensures { IfOk result (λ all.
             FoldsTo (Changes (stated_jobs S.JobServer.own ⟦<S::Slots as Slots<S, J>>⟧ J.Job))
-            (self.old.server, pending_jobs self.old.pool, map act_view acts.items) changes.items
-            (self.new.server, pending_jobs self.new.pool, map act_view all.items)) }
+            (self.old.server, pending_jobs self.old.pool, map (act_view S.Payload.eq) acts.items) changes.items
+            (self.new.server, pending_jobs self.new.pool, map (act_view S.Payload.eq) all.items)) }
     {
         let mut acts = acts;
         for change in changes {
@@ -249,8 +270,8 @@ where
         acts: &mut Vec<Act<S::Payload>>,
     ) -> Result<(), AllocError>
         ensures { IfOk result (λ _. Changes (stated_jobs S.JobServer.own ⟦<S::Slots as Slots<S, J>>⟧ J.Job)
-            (self.old.server, pending_jobs self.old.pool, map act_view acts.old.items) «change»
-            (self.new.server, pending_jobs self.new.pool, map act_view acts.new.items)) }
+            (self.old.server, pending_jobs self.old.pool, map (act_view S.Payload.eq) acts.old.items) «change»
+            (self.new.server, pending_jobs self.new.pool, map (act_view S.Payload.eq) acts.new.items)) }
     {
         match change {
             SlotChange::Start(slot, job) => {
@@ -270,8 +291,8 @@ where
         acts: &mut Vec<Act<S::Payload>>,
     ) -> Result<(), AllocError>
         ensures { IfOk result (λ _. Frees (stated_jobs S.JobServer.own ⟦<S::Slots as Slots<S, J>>⟧ J.Job) name.now (ended end)
-            (self.old.server, pending_jobs self.old.pool, map act_view acts.old.items)
-            (self.new.server, pending_jobs self.new.pool, map act_view acts.new.items)) }
+            (self.old.server, pending_jobs self.old.pool, map (act_view S.Payload.eq) acts.old.items)
+            (self.new.server, pending_jobs self.new.pool, map (act_view S.Payload.eq) acts.new.items)) }
     {
         if self.pool.forget(name) {
             return self.end_then(name, end, acts);
@@ -288,8 +309,8 @@ where
     ) -> Result<(), AllocError>
         ensures { IfOk result (λ _.
             StartsOne (stated_jobs S.JobServer.own ⟦<S::Slots as Slots<S, J>>⟧ J.Job) name «job»
-            (self.old.server, pending_jobs self.old.pool, map act_view acts.old.items)
-            (self.new.server, pending_jobs self.new.pool, map act_view acts.new.items)) }
+            (self.old.server, pending_jobs self.old.pool, map (act_view S.Payload.eq) acts.old.items)
+            (self.new.server, pending_jobs self.new.pool, map (act_view S.Payload.eq) acts.new.items)) }
     {
         match self.pool.submit(name.clone()?, job) {
             Ok(()) => Ok(()),
@@ -303,12 +324,12 @@ where
 fn parts_of<F: Drop>(
     alloc: Global,
     ran: Ran<F>,
-) -> Result<(Result<Value, ResponseError>, Option<F>, JobEnd), AllocError>
+) -> Result<(Result<ResultText, ResponseError>, Option<F>, JobEnd), AllocError>
     ensures { IfOk result (λ parts. (outcome_view parts.0 ≡ reply_of (came_view «ran»))
         × (end_with parts.1 parts.2 ≡ end_of (came_view «ran»))) }
 {
     match ran {
-        Ok(JobResult { reply, found }) => {
+        Ok(DoneJob { reply, found }) => {
             let outcome = match reply {
                 Some(outcome) => outcome,
                 None => Err(internal_error(alloc, "no result")?),
@@ -321,16 +342,16 @@ fn parts_of<F: Drop>(
 }
 
 /// Adds the reply to the request of a job. A job in a slot has none.
-fn push_reply<P: Drop>(
+fn push_reply<P: Drop + PartialEq>(
     acts: &mut Vec<Act<P>>,
     name: JobName,
-    outcome: Result<Value, ResponseError>,
+    outcome: Result<ResultText, ResponseError>,
 ) -> Result<(), AllocError>
-    ensures { IfOk result (λ _. map act_view acts.new.items
-        ≡ map act_view acts.old.items ++ reply_with name (outcome_view outcome)) }
+    ensures { IfOk result (λ _. map (act_view P.eq) acts.new.items
+        ≡ map (act_view P.eq) acts.old.items ++ reply_with name (outcome_view outcome)) }
 {
     match name {
-        JobName::Request(id) => match acts.push(Act::Reply(id, outcome)) {
+        JobName::Request(id) => match acts.push(reply_act(id, outcome)) {
             Ok(()) => Ok(()),
             Err(_) => Err(AllocError),
         },
@@ -338,6 +359,19 @@ fn push_reply<P: Drop>(
             drop((slot, outcome));
             Ok(())
         }
+    }
+}
+
+/// The reply to this request.
+fn reply_act<P: Drop + PartialEq>(
+    id: RequestId,
+    outcome: Result<ResultText, ResponseError>,
+) -> Act<P>
+    ensures { act_view P.eq result ≡ replies id (outcome_view outcome) }
+{
+    match outcome {
+        Ok(text) => Act::ReplyText(id, text),
+        Err(error) => Act::Reply(id, Err(error)),
     }
 }
 
@@ -375,12 +409,13 @@ fn canceled_error(alloc: Global) -> Result<ResponseError, AllocError>
 }
 
 /// Acts of the server, which keeps its own for the replies.
-fn acts_by_server<P: Drop>(
+fn acts_by_server<P: Drop + PartialEq>(
     alloc: Global,
     acts: Vec<Act<P>>,
 ) -> Result<Vec<Act<Asked<P>>>, AllocError>
     ensures { IfOk result (λ all.
-        map act_view all.items ≡ map by_server (map act_view acts.items)) }
+        map (act_view (same_asked P.eq)) all.items
+        ≡ map by_server (map (act_view P.eq) acts.items)) }
 {
     let mut all = Vec::with_capacity(alloc, acts.len())?;
     for act in acts {
@@ -390,9 +425,12 @@ fn acts_by_server<P: Drop>(
 }
 
 /// Adds an act of the server.
-fn push_by_server<P: Drop>(all: &mut Vec<Act<Asked<P>>>, act: Act<P>) -> Result<(), AllocError>
-    ensures { IfOk result (λ _. map act_view all.new.items
-        ≡ map act_view all.old.items ++ by_server (act_view «act») ∷ []) }
+fn push_by_server<P: Drop + PartialEq>(
+    all: &mut Vec<Act<Asked<P>>>,
+    act: Act<P>,
+) -> Result<(), AllocError>
+    ensures { IfOk result (λ _. map (act_view (same_asked P.eq)) all.new.items
+        ≡ map (act_view (same_asked P.eq)) all.old.items ++ by_server (act_view P.eq «act») ∷ []) }
 {
     match all.push(act_by_server(act)) {
         Ok(()) => Ok(()),
@@ -401,20 +439,21 @@ fn push_by_server<P: Drop>(all: &mut Vec<Act<Asked<P>>>, act: Act<P>) -> Result<
 }
 
 /// An act of the server.
-fn act_by_server<P: Drop>(act: Act<P>) -> Act<Asked<P>>
-    ensures { act_view result ≡ by_server (act_view «act») }
+fn act_by_server<P: Drop + PartialEq>(act: Act<P>) -> Act<Asked<P>>
+    ensures { act_view (same_asked P.eq) result ≡ by_server (act_view P.eq «act») }
 {
     match act {
         Act::Tell(notification) => Act::Tell(notification),
         Act::Ask(method, params, payload) => Act::Ask(method, params, Asked::ByServer(payload)),
         Act::Reply(id, outcome) => Act::Reply(id, outcome),
-        Act::Cancel(id) => Act::Cancel(id),
+        Act::ReplyText(id, text) => Act::ReplyText(id, text),
+        Act::Cancel(payload) => Act::Cancel(Asked::ByServer(payload)),
     }
 }
 
 /// The one act.
-fn one_act<P: Drop>(alloc: Global, act: Act<P>) -> Result<Vec<Act<P>>, AllocError>
-    ensures { IfOk result (λ acts. map act_view acts.items ≡ act_view act ∷ []) }
+fn one_act<P: Drop + PartialEq>(alloc: Global, act: Act<P>) -> Result<Vec<Act<P>>, AllocError>
+    ensures { IfOk result (λ acts. map (act_view P.eq) acts.items ≡ act_view P.eq act ∷ []) }
 {
     let mut acts = Vec::new(alloc);
     match acts.push(act) {
@@ -520,6 +559,9 @@ where
     ghost wakes = { (seen_with_jobs T S.Server (stated_jobs S.JobServer.own ⟦<S::Slots as Slots<S, J>>⟧ J.Job)).wakes };
 
     fn woken(&mut self, alloc: Global) -> Result<Vec<Act<Asked<S::Payload>>>, AllocError> {
+        if let Some(number) = self.pool.take_unneeded() {
+            return one_act(alloc, Act::Cancel(Asked::ByJob(number)));
+        }
         let Some(said) = self.pool.take_message() else {
             return Ok(Vec::new(alloc));
         };

@@ -1,9 +1,9 @@
 -- A message, from the content part of its frame.
-use Rattle.std.proofs.Common.{◌≡◌, ℕ, ◌≤◌, Bool, true, false, cond, List, [], Option, Some, None, IfSome, inl, inr}
+use Rattle.std.proofs.Common.{◌≡◌, ℕ, ◌≤◌, Bool, true, false, cond, List, [], Option, Some, None, IfSome, inr}
 use Rattle.std.proofs.Common.{Result, Ok, Err, refl, sym, ap, ◌∙◌, nat_lt, length, take, drop}
 use Rattle.std.specs.Result.{result_map_both}
 use Rattle.std.proofs.lemmas.Bool.{ltb-false}
-use Rattle.lsp_message.specs.Frame.{body_means, RunsOut, RunsOutBefore, body_of, content_of, frame_of, content_within}
+use Rattle.lsp_message.specs.Frame.{body_means, RunsOut, body_of, content_of, frame_of, content_within}
 use Rattle.lsp_message.specs.Frame.{header_under}
 use Rattle.lsp_message.specs.Reading.{Reading, Answers}
 use Rattle.lsp_message.specs.ReadingSteps.{Decodes}
@@ -126,13 +126,6 @@ module _ {M : Type 0} (means : List ℕ → Result M ReadFault) (limit : Limits)
     not_read (Some text) b fault read = (fault_outcome text fault read.0, read.1 ∙ ap Some (sym (same_rest text)))
 
 module _ (limit : Limits) where
-  -- memory ran out before the content part
-  pub ran_out_before : (a b : Option (List ℕ)) → IfSome a (λ text. RunsOutBefore limit text b)
-      → IfSome a (λ text. RunsOut limit text b)
-  ran_out_before None b out = tt
-  ran_out_before (Some text) b (inl header) = inl header
-  ran_out_before (Some text) b (inr (n, header, within, left)) = inr (n, header, within, inl left)
-
   header_came : (o : Result (Option ℕ) ReadFault) (rest items : List ℕ) → (content_of Ok limit.content o rest).outcome
       ≡ Ok (Some items) → (n : ℕ) × (o ≡ Ok (Some n)) × (n ≤ limit.content)
   header_came (Err fault) rest items is = absurd (cc (is))

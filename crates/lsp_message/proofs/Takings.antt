@@ -1,6 +1,6 @@
 -- Takings from a reader, one after another.
-use Rattle.std.proofs.Common.{ℕ, List, [], ◌++◌, Option, Some, None, OnSome, Result, Ok, Err, OnErr, refl, sym, ap, ◌∙◌}
-use Rattle.std.specs.Io.BufRead.{take_through, drop_through}
+use Rattle.std.proofs.Common.{ℕ, List, [], Option, Some, None, OnSome, Result, Ok, Err, OnErr, refl, sym, ap, ◌∙◌}
+use Rattle.std.specs.Io.BufRead.{drop_through}
 use Rattle.std.specs.Io.KnownBytes.{Keeps}
 use Rattle.std.proofs.KnownBytes.{Consumes-trans}
 use Rattle.lsp_message.specs.Gathering.{TakesFront, KeepsLine, EndsLine, StaysInLine}
@@ -27,12 +27,6 @@ pub KeepsLine-known : (P : Type 0) (x : List ℕ) (a : Option (List ℕ)) (y : L
 KeepsLine-known P x None y b kept holds = tt
 KeepsLine-known P x (Some xs) y None kept holds = absurd kept
 KeepsLine-known P x (Some xs) y (Some ys) kept holds = holds
-
--- bytes that stay keep the line
-pub KeepsLine-kept : (x : List ℕ) (a b : Option (List ℕ)) → Keeps a b → KeepsLine x a x b
-KeepsLine-kept x None b kept = tt
-KeepsLine-kept x (Some xs) None kept = absurd kept
-KeepsLine-kept x (Some xs) (Some ys) kept = (ap (λ l. x ++ take_through 10 l) kept, ap (drop_through 10) kept)
 
 pub StaysInLine-kept : (a b : Option (List ℕ)) → Keeps a b → StaysInLine a b
 StaysInLine-kept None b kept = tt

@@ -1,24 +1,12 @@
 -- Parts that were given to a writer, one after another.
-use Rattle.std.proofs.Common.{◌≡◌, ℕ, ◌-◌, List, [], ◌∷◌, ◌++◌, length, take, drop, Option, Some, None, Ok, sym, ap}
-use Rattle.std.proofs.Common.{subst, ◌∙◌, arith, append_assoc, append-nil, take_all, take-append-drop, length-drop}
+use Rattle.std.proofs.Common.{◌≡◌, ℕ, ◌-◌, List, [], ◌∷◌, ◌++◌, length, take, drop, Option, sym, ap}
+use Rattle.std.proofs.Common.{subst, ◌∙◌, arith, append_assoc, take_all, take-append-drop, length-drop}
 use Rattle.std.specs.List.{concat}
-use Rattle.std.specs.Io.KnownBytes.{Appends, Keeps}
-use Rattle.std.proofs.KnownBytes.{Appends-trans, Appends-nil}
+use Rattle.std.specs.Io.KnownBytes.{Appends}
+use Rattle.std.proofs.KnownBytes.{Appends-trans}
 use Rattle.std.proofs.lemmas.List.Folds.{concat-append}
-use Rattle.lsp_message.specs.Told.{Parts, Gives, Given, WritesText}
+use Rattle.lsp_message.specs.Told.{Parts, Gives, Given}
 use Rattle.lsp_message.proofs.Told.{concat-one}
-
-Appends-kept : (a b : Option (List ℕ)) → Keeps a b → Appends a b []
-Appends-kept None b kept = tt
-Appends-kept (Some x) None kept = absurd kept
-Appends-kept (Some x) (Some y) kept = kept ∙ sym (append-nil x)
-
--- nothing was given
-pub Gives-none : (before : Parts) (a b : Option (List ℕ)) → Keeps a b → Gives [] before before a b
-Gives-none before a b kept = record { added = sym (append-nil before); appended = Appends-kept a b kept }
-
-pub Gives-same : (before : Parts) (a : Option (List ℕ)) → Gives [] before before a a
-Gives-same before a = record { added = sym (append-nil before); appended = Appends-nil a }
 
 pub Gives-one : (before after : Parts) (part : List ℕ) (a b : Option (List ℕ)) → after ≡ before ++ part ∷ []
     → Appends a b part → Gives (part ∷ []) before after a b
@@ -39,10 +27,6 @@ module _ (all : List ℕ) (t u : Parts) (a b : Option (List ℕ)) where
   -- what was given of a text, of which the rest is left
   abbrev Left : List ℕ → Type 0
   Left rest = Given (λ parts. all ≡ concat parts ++ rest) t u a b
-
-  pub given_all : (rest : List ℕ) → length rest ≡ 0 → Left rest → Given (WritesText all (Ok tt)) t u a b
-  given_all [] none left = (left.0, left.1, left.2 ∙ append-nil (concat left.0))
-  given_all (x ∷ rest) none left = absurd (omega (arith, none))
 
 pub given_more : (all rest : List ℕ) (t u v : Parts) (a b c : Option (List ℕ)) (n : ℕ) → v ≡ u ++ take n rest ∷ []
     → Given (λ parts. all ≡ concat parts ++ rest) t u a b → Appends b c (take n rest)

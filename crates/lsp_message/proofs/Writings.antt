@@ -1,27 +1,12 @@
 -- Writes to a writer, one after another.
-use Rattle.std.proofs.Common.{◌≡◌, ℕ, ◌-◌, List, ◌++◌, length, take, drop, OnOk, Option, Some, None, Result, Ok, Err}
-use Rattle.std.proofs.Common.{refl, sym, ap, ◌∙◌, arith, append_assoc, take_all, take-append-drop, length-drop}
+use Rattle.std.proofs.Common.{◌≡◌, ℕ, ◌-◌, List, OnOk, Option, Some, None, Result, Ok, Err}
+use Rattle.std.proofs.Common.{refl}
 use Rattle.std.specs.Io.KnownBytes.{Appends, Keeps}
-use Rattle.std.proofs.KnownBytes.{Appends-trans}
 use Rattle.lsp_message.specs.Message.{Message}
 use Rattle.lsp_message.specs.Text.{IsBodyOf}
 use Rattle.lsp_message.specs.Written.{frame_text, AppendsBeginning, MeansAgain, Writes}
 use Rattle.lsp_message.specs.declared.frame.WriteFault.{WriteFault}
 use Rattle.lsp_message.specs.declared.frame.WriteFault.TheVariants.{Output, Memory}
-
-pub written_more : (a b c : Option (List ℕ)) (all part rest : List ℕ) (n : ℕ) → all ≡ part ++ rest → Appends a b part
-    → Appends b c (take n rest)
-    → (more : List ℕ) × (all ≡ more ++ take (length rest - n) (drop n rest)) × Appends a c more
-written_more a b c all part rest n whole first second =
-    let left : take (length rest - n) (drop n rest) ≡ drop n rest = take_all _ _ (omega (
-      arith,
-      length-drop n rest,
-    )) in (
-      part ++ take n rest,
-      whole ∙ ap (λ l. part ++ l) (sym (take-append-drop n rest)) ∙ sym (append_assoc part (take n rest) (drop n rest))
-          ∙ ap (λ l. (part ++ take n rest) ++ l) (sym left),
-      Appends-trans a b c part (take n rest) first second,
-    )
 
 pub Keeps-same : (a b : Option (List ℕ)) → b ≡ a → Keeps a b
 Keeps-same None b same = tt

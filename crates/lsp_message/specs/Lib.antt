@@ -22,6 +22,7 @@ pub mod Readable
 pub mod Reading
 pub mod ReadingSteps
 pub mod RequestId
+pub mod ResultText
 pub mod Text
 pub mod Told
 pub mod ToldSteps

@@ -15,6 +15,6 @@ pub use frame::scan::front;
 pub use frame::write::{write_frames, write_frames_telling};
 pub use frame::{Front, ReadFault, WriteFault};
 pub use msg::{
-    ErrorCode, Message, Notification, Request, RequestId, Response, ResponseError, read_as,
-    write_as,
+    ErrorCode, Message, Notification, Request, RequestId, Response, ResponseError, ResultText,
+    nests_within, read_as, write_as,
 };

@@ -4,7 +4,9 @@ use serde_json::Value;
 mod code;
 mod convert;
 mod id;
+mod nesting;
 mod read;
+mod result_text;
 mod text;
 mod tree;
 mod value;
@@ -12,6 +14,8 @@ mod value;
 pub use code::ErrorCode;
 pub use convert::{read_as, write_as};
 pub use id::RequestId;
+pub use nesting::nests_within;
+pub use result_text::ResultText;
 
 /// A message of JSON-RPC 2.0.
 #[derive(Clone, Debug, Drop)]

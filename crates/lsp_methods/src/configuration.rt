@@ -57,7 +57,7 @@ impl<T: DeserializeOwned + Drop> Configuration<T> {
     /// Asks for it, if the client can be asked. `payload` comes back with the reply.
     ///
     /// `Err` means that an allocation failed.
-    pub fn ask<P: Drop>(&self, alloc: Global, payload: P) -> Result<Option<Act<P>>, AllocError>
+    pub fn ask<P: Drop + PartialEq>(&self, alloc: Global, payload: P) -> Result<Option<Act<P>>, AllocError>
         ensures none { self.now.is_asked ≡ false → IfOk result (λ asked. asked ≡ None) }
         ensures act { IfOk result (λ asked. IfSome asked (λ act. (tree : Data)
             × (act_view act ≡ asks (codes "workspace/configuration") tree «payload»))) }

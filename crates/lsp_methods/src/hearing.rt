@@ -25,7 +25,7 @@ pub fn answer<M, P, F>(
 ) -> Result<Vec<Act<P>>, AllocError>
 where
     M: RequestToServer,
-    P: Drop,
+    P: Drop + PartialEq,
     F: FnOnce(M::Params) -> Result<M::Result, AllocError>,
     requires method { string_bytes request.method ≡ M.method }
     requires answers { (params : M.Params) → F.pre answer params }
@@ -45,7 +45,7 @@ pub fn try_answer<M, P, F>(
 ) -> Result<Vec<Act<P>>, AllocError>
 where
     M: RequestToServer,
-    P: Drop,
+    P: Drop + PartialEq,
     F: FnOnce(M::Params) -> Result<Result<M::Result, ResponseError>, AllocError>,
     requires method { string_bytes request.method ≡ M.method }
     requires answers { (params : M.Params) → F.pre answer params }
@@ -69,7 +69,7 @@ pub fn on_request<M, P, F>(
 ) -> Result<Vec<Act<P>>, AllocError>
 where
     M: RequestToServer,
-    P: Drop,
+    P: Drop + PartialEq,
     F: FnOnce(RequestId, M::Params) -> Result<Vec<Act<P>>, AllocError>,
     requires method { string_bytes request.method ≡ M.method }
     requires acts { (params : M.Params) → F.pre act request.id params }
@@ -91,7 +91,7 @@ pub fn on_notification<M, P, F>(
 ) -> Result<Vec<Act<P>>, AllocError>
 where
     M: NotificationToServer,
-    P: Drop,
+    P: Drop + PartialEq,
     F: FnOnce(M::Params) -> Result<Vec<Act<P>>, AllocError>,
     requires method { string_bytes notification.method ≡ M.method }
     requires acts { (params : M.Params) → F.pre act params }

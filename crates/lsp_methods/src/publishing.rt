@@ -20,7 +20,7 @@ use std::alloc::{AllocError, Global};
 /// what was shown. The contract has each member, so a server can promise what it shows, and of which document.
 ///
 /// `Err` means that an allocation failed.
-pub fn publish<P: Drop>(
+pub fn publish<P: Drop + PartialEq>(
     alloc: Global,
     uri: &str,
     version: Option<i32>,
@@ -47,7 +47,7 @@ pub fn publish<P: Drop>(
     }
 }
 
-fn told<P: Drop>(alloc: Global, params: &PublishDiagnosticsParams) -> Result<Act<P>, AllocError>
+fn told<P: Drop + PartialEq>(alloc: Global, params: &PublishDiagnosticsParams) -> Result<Act<P>, AllocError>
     ensures { IfOk result (λ act. act_view act ≡ publishes (string_bytes params.now.uri) params.now.version
         (⟦<Vec<Diagnostic> as ToJson>⟧.stands params.now.diagnostics)) }
 {

@@ -21,7 +21,7 @@ use std::alloc::{AllocError, Global};
 pub fn tell<M, P>(alloc: Global, params: &M::Params) -> Result<Act<P>, AllocError>
 where
     M: NotificationToClient,
-    P: Drop,
+    P: Drop + PartialEq,
     ensures { IfOk result (λ act.
         Notifies (M.Params.writes params.now) M.method (act_view act)) }
 {
@@ -39,7 +39,7 @@ pub fn ask<M, P>(
 ) -> Result<Result<Act<P>, ResponseError>, AllocError>
 where
     M: RequestToClient,
-    P: Drop,
+    P: Drop + PartialEq,
     ensures { IfOk result (λ asked. Carries (M.Params.writes params.now)
         (λ tree. asks M.method tree «payload») asked) }
 {

@@ -4,10 +4,13 @@ use Rattle.std.proofs.Common.{is_some, length, List, [], ◌∷◌, Option, Some
 use Rattle.std.proofs.lemmas.Bool.Decides.{nat_tests}
 use Rattle.std.specs.BTreeMap.{is_at}
 use Rattle.std.specs.Cmp.{IsTotalOrder, eq_by_cmp_equiv}
-use Rattle.std.specs.FinMap.{FinMap, IsAntisymmetric, find, get, insert, remove, contains_key, len, from_entries}
-use Rattle.std.specs.FinMap.{get-from_entries, get-insert, get-remove, get-empty, len-insert, len-empty, empty_of_len}
-use Rattle.std.specs.FinMap.{same_map}
-use Rattle.std.specs.Map.{lookup}
+use Rattle.std.specs.FinMap.{FinMap, IsAntisymmetric, empty, entries, find, get, insert, remove, contains_key, len}
+use Rattle.std.specs.FinMap.{from_entries, entries-insert, get-from_entries, get-insert, get-remove, get-empty}
+use Rattle.std.specs.FinMap.{len-entries, len-insert, len-empty, empty_of_len, same_map}
+use Rattle.std.specs.FinMap.Entries.{put}
+use Rattle.std.specs.List.{AllByRecursion}
+use Rattle.std.specs.List.Sorted.{IsStrictlySortedBy}
+use Rattle.std.specs.Map.{lookup, keys_of}
 use Rattle.std.specs.Ordering.{eq_by_cmp, is_eq}
 use Rattle.std.specs.declared.cmp.Ordering.{Ordering}
 use Rattle.std.specs.declared.cmp.Ordering.TheVariants.{Less, Equal, Greater}
@@ -21,6 +24,11 @@ equal_of Greater e = cc
 -- a number above 0 is not 0
 not_zero : (n : ℕ) → 0 < n → (n == 0) ≡ false
 not_zero n h = grind (arith, nat_tests)
+
+-- a list of no entries
+no_entries : {A : Type 0} (es : List A) → length es ≡ 0 → es ≡ []
+no_entries [] e = refl
+no_entries (x ∷ es) e = absurd (omega (arith, e))
 
 -- an option that is no value
 pub is_none_of : {A : Type 0} (o : Option A) → true ≡ not (is_some o) → o ≡ None
@@ -73,3 +81,18 @@ module _ {K X : Type 0} {R : K → K → Ordering} (o : IsTotalOrder R) (same : 
   none_pending [] = rw (len-empty R X) refl
   none_pending (e ∷ es) = not_zero (length (e ∷ es)) (omega arith) ∙ sym (rw (len-insert o (from_entries es) e.0 e.1)
       (one_more (from_entries es) e.0 (contains_key (from_entries es) e.0) refl))
+
+  -- to put an entry below all others is to put it first
+  put_first : (k : K) (x : X) (es : List (K × X)) → AllByRecursion (λ y. R k y ≡ Less) (keys_of es) → put R k x es
+      ≡ (k, x) ∷ es
+  put_first k x [] below = refl
+  put_first k x (e ∷ es) below = rw (below.0) refl
+
+  -- the entries of the map are those of the list, if that ascends
+  pub entries_ascending : (es : List (K × X)) → IsStrictlySortedBy R (keys_of es) → entries (from_entries {R = R} es)
+      ≡ es
+  unfolding IsStrictlySortedBy
+  entries_ascending [] ascends = no_entries (entries empty) (sym (len-entries empty) ∙ len-empty R X)
+  entries_ascending (e ∷ es) ascends =
+      entries-insert o (from_entries es) e.0 e.1 ∙ ap (put R e.0 e.1) (entries_ascending es ascends.1)
+      ∙ put_first e.0 e.1 es ascends.0

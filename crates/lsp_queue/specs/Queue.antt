@@ -1,8 +1,10 @@
 -- The queues of requests that have no reply yet (JSON-RPC 2.0, section 5): two finite maps from ids, and a count.
 use Rattle.serde_json.specs.Data.{Data}
 use Rattle.serde_json.specs.Find.{get}
-use Rattle.std.specs.FinMap.{FinMap}
-use Rattle.std.specs.Prelude.{ℕ, ◌^◌, Option, option_and_then, Err, None, codes}
+use Rattle.std.specs.FinMap.{FinMap, entries}
+use Rattle.std.specs.List.{filter}
+use Rattle.std.specs.Map.{keys_of}
+use Rattle.std.specs.Prelude.{ℕ, ◌^◌, Bool, List, Option, option_and_then, Err, None, codes}
 use Rattle.lsp_message.specs.ErrorCode.{number_of}
 use Rattle.lsp_message.specs.Id.{Id, id_cmp}
 use Rattle.lsp_message.specs.Meaning.{as_id}
@@ -22,6 +24,10 @@ pending_of q = q.0
 
 abbrev pub count_of : {D : Type 0} → Asked D → ℕ
 count_of q = q.1
+
+-- the ids of the requests whose data is such, in ascending order
+abbrev pub ids_where : {D : Type 0} → (D → Bool) → Pending D → List Id
+ids_where such pending = keys_of (filter (λ e. such e.1) (entries pending))
 
 -- how many ids there are, from 0 to 2147483647
 abbrev pub all_ids : ℕ

@@ -8,7 +8,7 @@ ghost use Rattle.serde_json.specs.View.{view};
 ghost use Rattle.lsp_message.specs.Converted.{IsTreeOf};
 ghost use Rattle.lsp_message.specs.Id.{Id, number, id_cmp, same_id};
 ghost use Rattle.lsp_message.specs.View.{response_view};
-ghost use Rattle.lsp_queue.specs.Queue.{pending_of, count_of, all_ids, cancelled};
+ghost use Rattle.lsp_queue.specs.Queue.{pending_of, count_of, all_ids, cancelled, ids_where};
 ghost use Rattle.lsp_queue.specs.Registering.{IsFaultOf};
 
 use crate::error::RegisterFault;
@@ -223,6 +223,23 @@ impl<O> Outgoing<O> {
         ensures { option_copied result ≡ map.get (pending_of self.now) id.now }
     {
         self.pending.get(id)
+    }
+}
+
+impl<O: PartialEq> Outgoing<O> {
+    /// The ids of the pending requests whose data equals `wanted`, in ascending order. An `Err` is a failed allocation.
+    pub fn ids_of(&self, wanted: &O) -> Result<Vec<RequestId>, AllocError>
+        ensures { IfOk result (λ ids.
+            ids.items ≡ ids_where (λ kept. O.eq kept wanted.now) (pending_of self.now)) }
+    {
+        let mut ids = Vec::new(self.alloc);
+        for (id, kept) in self.pending.iter() {
+            if *kept == *wanted {
+                let id = id.clone()?;
+                ids.push(id)?;
+            }
+        }
+        Ok(ids)
     }
 }
 

@@ -4,9 +4,9 @@ use Rattle.lsp_message.specs.IdKeys.{id_antisymmetric}
 use Rattle.lsp_message.specs.IdLaws.{id_total, id_decides}
 use Rattle.lsp_message.specs.Message.{Message, request, notification, response, ErrorObject}
 use Rattle.lsp_queue.specs.Queue.{pending_of, count_of, Asked}
-use Rattle.lsp_service.specs.Acts.{Act, tells, replies, answers_cancelled, cancelled_by, ended_by_shutdown, ends_all}
-use Rattle.lsp_service.specs.Acts.{Queues, does, does_all, unsent, given, released, cleared, TakesBack, Acts, ids_after}
-use Rattle.lsp_service.specs.Acts.{unsent_by}
+use Rattle.lsp_service.specs.Acts.{Act, tells, replies, cancels, answers_cancelled, cancelled_by, ended_by_shutdown}
+use Rattle.lsp_service.specs.Acts.{ends_all, Queues, does, does_all, unsent, given, released, cleared, TakesBack, Acts}
+use Rattle.lsp_service.specs.Acts.{ids_after, unsent_by, with_message, cancel_all, cancel_method, cancel_params}
 use Rattle.lsp_service.specs.Law.{Handed}
 use Rattle.lsp_service.specs.QueuedServer.{WorksSending, Works, PartsSending}
 use Rattle.lsp_service.specs.SentByActs.{brought_by, sends_by, all_sends, queues_at, cancelled_answer, acts_done_at}
@@ -15,6 +15,7 @@ use Rattle.lsp_service.specs.Stated.{Stated}
 use Rattle.serde_json.specs.Data.{Data}
 use Rattle.std.proofs.Common.{◌≡◌, refl, sym, ◌∙◌, ap, List, [], ◌∷◌, ◌++◌, length, append_assoc, append-nil, arith}
 use Rattle.std.proofs.Common.{Option, Some, None, Bool, true, false, cond}
+use Rattle.std.proofs.lemmas.List.{map-append}
 use Rattle.std.specs.FinMap as map
 use Rattle.std.specs.FinMap.{FinMap, get-empty, get-remove, same_map}
 use Rattle.std.specs.List.{list_any}
@@ -24,6 +25,7 @@ use Rattle.std.specs.Prelude.{MatchOption, Result, Err, is_some, ◌||◌}
 module _ {P : Type 0} where
   sent_one : (d : Queues P) (act : Act P) → (does d act).sent ≡ d.sent ++ sends_by d act
   sent_one d (tells method params) = refl
+  sent_one d (cancels such) = refl
   sent_one d act = grind (arith, append-nil)
 
   pub sent_all : (d : Queues P) (acts : List (Act P)) → (does_all d acts).sent ≡ d.sent ++ all_sends d acts
@@ -236,6 +238,23 @@ module _ {P : Type 0} where
       ++ replies id (Err ended_by_shutdown) ∷ [])
   ends_push [] id = refl
   ends_push (i ∷ ids) id = ap (λ (l : List (Act P)). replies i (Err ended_by_shutdown) ∷ l) (ends_push ids id)
+
+module _ {P : Type 0} where
+  -- these requests of the server's own are cancelled
+  abbrev pub cancelling : Queues P → List Id → Queues P
+  cancelling d ids = record { held = d.held; asked = d.asked; sent = d.sent ++ cancel_all ids }
+
+  -- one more
+  pub cancelling_push : (d : Queues P) (ids : List Id) (id : Id) (mid : Queues P) → mid ≡ cancelling d ids
+      → with_message mid (notification cancel_method (cancel_params id)) ≡ cancelling d (ids ++ id ∷ [])
+  cancelling_push d ids id mid is =
+      ap (λ (x : Queues P). with_message x (notification cancel_method (cancel_params id))) is
+      ∙ ap (λ (l : List Message). with_sent l) (append_assoc d.sent (cancel_all ids) (cancel_all (id ∷ []))
+      ∙ ap (λ (l : List Message). d.sent ++ l) (sym (map-append (λ (i : Id). notification cancel_method
+      (cancel_params i)) ids (id ∷ []))))
+    where
+      with_sent : List Message → Queues P
+      with_sent l = record { held = d.held; asked = d.asked; sent = l }
 
 module _ {S P : Type 0} (may : Stated S P) where
   -- a reply under an id that no request of the server's has

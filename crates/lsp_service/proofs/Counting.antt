@@ -3,10 +3,10 @@ use Rattle.lsp_message.specs.Id.{Id, id_cmp}
 use Rattle.lsp_message.specs.IdLaws.{id_total, id_decides}
 use Rattle.lsp_message.specs.Message.{Message, ErrorObject, request, notification, response}
 use Rattle.lsp_message.specs.Methods.{is_exit}
-use Rattle.lsp_queue.specs.Queue.{Pending}
+use Rattle.lsp_queue.specs.Queue.{Pending, pending_of, ids_where}
 use Rattle.lsp_service.proofs.Acting.{acts_at, acts_at_shutdown, does_push, sent_so, sent_at_shutdown}
 use Rattle.lsp_service.specs.Acts.{Queues, Act, replies, does, does_all, empty_queues, canceled, ends_all, released}
-use Rattle.lsp_service.specs.Acts.{cancelled_by}
+use Rattle.lsp_service.specs.Acts.{cancelled_by, cancels as cancels_such, cancel_all}
 use Rattle.lsp_service.specs.Law.{one_if, came_with, is_request_under, is_reply_under, how_many, held_under}
 use Rattle.lsp_service.specs.Law.{AnswersCancelled, AnswersLast, AnswersLastInFull, Cancels, IsGone, IsOwedWhatIsHeld}
 use Rattle.lsp_service.specs.Law.{IsWhole, NeverMore, OnceOrEnded, WasToSend}
@@ -41,6 +41,11 @@ pub how_many-append : (p : Message → Bool) (xs ys : List Message) → how_many
 how_many-append p [] ys = omega arith
 how_many-append p (x ∷ xs) ys = let more = how_many-append p xs ys in omega (arith, more)
 
+-- a cancellation is no reply
+pub none_cancelled : (id : Id) (ids : List Id) → how_many (is_reply_under id) (cancel_all ids) ≡ 0
+none_cancelled id [] = refl
+none_cancelled id (i ∷ ids) = let more = none_cancelled id ids in omega (arith, more)
+
 -- how many replies under the id were given, together with the request that is still held
 abbrev pub due : {P : Type 0} → Id → Queues P → ℕ
 due id d = how_many (is_reply_under id) d.sent + held_under id d.held
@@ -64,6 +69,11 @@ module _ (id : Id) where
 module _ {P : Type 0} (id : Id) where
   -- an act neither adds nor loses what is due
   due_act : (d : Queues P) (act : Act P) → due id (does d act) ≡ due id d
+  due_act d (cancels_such such) =
+      let ids = ids_where such (pending_of d.asked) in
+      let both = how_many-append (is_reply_under id) d.sent (cancel_all ids) in
+      let none = none_cancelled id ids in
+      omega (arith, both, none)
   due_act d (replies i outcome) = grind (arith, how_many-append, held_remove, answered)
   due_act d act = grind (arith, how_many-append)
 

@@ -10,10 +10,10 @@ use Rattle.serde_json.specs.Data.{Data}
 use Rattle.lsp_message.specs.Id.{Id, id_cmp, number}
 use Rattle.lsp_message.specs.IdLaws.{id_total, id_decides}
 use Rattle.lsp_message.specs.Message.{Message, ErrorObject, request, notification, response}
-use Rattle.lsp_queue.specs.Queue.{Asked, pending_of, count_of}
+use Rattle.lsp_queue.specs.Queue.{Asked, pending_of, count_of, ids_where}
 use Rattle.lsp_session.specs.Session.{Exchange, came_of, sends_of}
-use Rattle.lsp_service.specs.Acts.{Act, tells, asks, cancelled_by, ends_all, Queues, is_spent, sends_request, does}
-use Rattle.lsp_service.specs.Acts.{does_all, ids_after}
+use Rattle.lsp_service.specs.Acts.{Act, tells, asks, cancels, cancelled_by, ends_all, Queues, is_spent, sends_request}
+use Rattle.lsp_service.specs.Acts.{does, does_all, ids_after, cancel_all}
 use Rattle.lsp_service.specs.Law.{came_with, is_reply_under, Sent, Call, requests_in, request_of, ids_after_all}
 use Rattle.lsp_service.specs.Law.{sent_by, all_sent, kept_under, acts_of, was_given, brings, GivesOwnPayloads}
 use Rattle.lsp_service.specs.Law.{SendsActs, TakesCalls}
@@ -28,6 +28,11 @@ pub requests-append : (xs ys : List Message) → requests_in (xs ++ ys) ≡ requ
 requests-append [] ys = refl
 requests-append (request id method params ∷ xs) ys = ap (λ l. request id method params ∷ l) (requests-append xs ys)
 requests-append (x ∷ xs) ys = requests-append xs ys
+
+-- a cancellation is no request
+none_cancelled : (ids : List Id) → requests_in (cancel_all ids) ≡ []
+none_cancelled [] = refl
+none_cancelled (id ∷ ids) = none_cancelled ids
 
 -- the second of two, where the first is nothing
 abbrev or_kept : {P : Type 0} → Option P → Option P → Option P
@@ -66,6 +71,9 @@ module _ {P : Type 0} where
   sent_one : (d : Queues P) (act : Act P) → requests_in (does d act).sent ≡ requests_in d.sent ++ map_list request_of
       (sent_by (count_of d.asked) act)
   sent_one d (tells method params) = requests-append d.sent (notification method params ∷ [])
+  sent_one d (cancels such) =
+      let ids = ids_where such (pending_of d.asked) in
+      requests-append d.sent (cancel_all ids) ∙ ap (λ l. requests_in d.sent ++ l) (none_cancelled ids)
   sent_one d act = grind (arith, append-nil, requests-append)
 
   pub sent_all : (d : Queues P) (acts : List (Act P)) → requests_in (does_all d acts).sent ≡ requests_in d.sent

@@ -1,17 +1,16 @@
 -- What a server does at a message, and what its queues make of that: the messages to send, and the two queues of
 -- requests that have no reply yet (JSON-RPC 2.0, sections 4 and 5).
 use Rattle.serde_json.specs.Data.{Data, object, member, no_members}
-use Rattle.serde_json.specs.Data as tree
-use Rattle.serde_json.specs.Find.{of_integer}
 use Rattle.std.specs.FinMap as map
-use Rattle.std.specs.Prelude.{◌≡◌, ◌+◌, ◌==◌, ℕ, ℤ, pos, Bool, List, [], ◌∷◌, ◌++◌, map as map_list, fold, Option, Some}
+use Rattle.std.specs.Prelude.{◌≡◌, ◌+◌, ◌==◌, ℕ, pos, Bool, List, [], ◌∷◌, ◌++◌, map as map_list, fold, Option, Some}
 use Rattle.std.specs.Prelude.{None, Result, Err, if◌then◌else◌, codes}
 use Rattle.std.specs.Str.{bytes_eq}
 use Rattle.lsp_message.specs.ErrorCode.{number_of}
 use Rattle.lsp_message.specs.Id.{Id, number}
 use Rattle.lsp_message.specs.Message.{Message, ErrorObject, request, notification, response}
+use Rattle.lsp_message.specs.Tree.{id_tree}
 use Rattle.lsp_message.specs.declared.msg.code.ErrorCode.TheVariants.{RequestCanceled}
-use Rattle.lsp_queue.specs.Queue.{Pending, Asked, pending_of, count_of, all_ids, cancelled_id}
+use Rattle.lsp_queue.specs.Queue.{Pending, Asked, pending_of, count_of, all_ids, cancelled_id, ids_where}
 
 -- what a server does
 pub data Act (P : Type 0) : Type 0 where
@@ -21,8 +20,8 @@ pub data Act (P : Type 0) : Type 0 where
   asks : List ℕ → Data → P → Act P
   -- it answers the client's request with this id
   replies : Id → Result Data ErrorObject → Act P
-  -- it cancels its own request with this id
-  cancels : ℤ → Act P
+  -- it cancels each request of its own that keeps such a payload, if it has no reply yet
+  cancels : (P → Bool) → Act P
 
 -- the client's requests that are held, the server's own requests, and what is to be sent
 pub record Queues (P : Type 0) : Type 0 where
@@ -34,8 +33,12 @@ pub record Queues (P : Type 0) : Type 0 where
 abbrev pub cancel_method : List ℕ
 cancel_method = codes "$/cancelRequest"
 
-abbrev pub cancel_params : ℤ → Data
-cancel_params z = object (member (codes "id") (tree.number (of_integer z)) no_members)
+abbrev pub cancel_params : Id → Data
+cancel_params id = object (member (codes "id") (id_tree id) no_members)
+
+-- the messages that cancel the requests with these ids
+abbrev pub cancel_all : List Id → List Message
+cancel_all ids = map_list (λ (id : Id). notification cancel_method (cancel_params id)) ids
 
 -- the request that a notification cancels: its params are an object whose `id` is a good one
 abbrev pub cancelled_by : List ℕ → Data → Option Id
@@ -80,8 +83,8 @@ module _ {P : Type 0} where
   }
 
   -- What an act makes of the queues. A request of the server's own is sent only if an id is left for it. An answer is
-  -- sent only if the request is held, and it is held no more. A request of the server's own is cancelled only if it has
-  -- no reply yet, and its reply is still awaited.
+  -- sent only if the request is held, and it is held no more. Requests of the server's own are cancelled that have no
+  -- reply yet, in the order of their ids, and their replies are still awaited.
   abbrev pub does : Queues P → Act P → Queues P
   does d (tells method params) = with_message d (notification method params)
   does d (asks method params payload) = if is_spent (count_of d.asked) then d
@@ -93,9 +96,11 @@ module _ {P : Type 0} where
             d.asked;
         sent = d.sent ++ response id outcome ∷ [];
       } else d
-  does d (cancels z) =
-      if map.contains_key (pending_of d.asked) (number z)
-      then with_message d (notification cancel_method (cancel_params z)) else d
+  does d (cancels such) = record {
+    held = d.held;
+    asked = d.asked;
+    sent = d.sent ++ cancel_all (ids_where such (pending_of d.asked));
+  }
 
   -- acts, in order
   abbrev pub does_all : Queues P → List (Act P) → Queues P

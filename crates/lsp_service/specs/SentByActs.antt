@@ -1,25 +1,24 @@
--- What a server's acts at a message or a wake send, in order: at most one message each.
+-- What a server's acts at a message or a wake send, in order.
 use Rattle.std.specs.FinMap as map
 use Rattle.std.specs.Prelude.{◌≡◌, pos, List, [], ◌∷◌, ◌++◌, Option, Some, None, Err, if◌then◌else◌}
 use Rattle.lsp_message.specs.Id.{Id, number}
 use Rattle.lsp_message.specs.Message.{Message, request, notification, response}
-use Rattle.lsp_queue.specs.Queue.{pending_of, count_of}
+use Rattle.lsp_queue.specs.Queue.{pending_of, count_of, ids_where}
 use Rattle.lsp_service.specs.Acts.{Act, tells, asks, replies, cancels, Queues, is_spent, does, does_all, unsent, holds}
-use Rattle.lsp_service.specs.Acts.{given, released, canceled, ends_all, cancelled_by, cancel_method, cancel_params}
-use Rattle.lsp_service.specs.Acts.{cleared, TakesBack}
+use Rattle.lsp_service.specs.Acts.{given, released, canceled, ends_all, cancelled_by, cancel_all, cleared, TakesBack}
 use Rattle.lsp_service.specs.Stated.{Stated}
 
 module _ {P : Type 0} where
   -- What an act sends: a notification; a request, if an id is left, under the next id; the answer of a request that is
-  -- held; the cancellation of a request of the server's own that has no reply yet.
+  -- held; the cancellations of the server's own requests that keep such a payload and have no reply yet, in the order
+  -- of their ids.
   abbrev pub sends_by : Queues P → Act P → List Message
   sends_by d (tells method params) = notification method params ∷ []
   sends_by d (asks method params payload) = if is_spent (count_of d.asked) then []
       else request (number (pos (count_of d.asked))) method params ∷ []
   sends_by d (replies id outcome) = if map.contains_key d.held id then response id outcome ∷ []
       else []
-  sends_by d (cancels z) = if map.contains_key (pending_of d.asked) (number z)
-      then notification cancel_method (cancel_params z) ∷ [] else []
+  sends_by d (cancels such) = cancel_all (ids_where such (pending_of d.asked))
 
   -- what acts send, one after another
   abbrev pub all_sends : Queues P → List (Act P) → List Message

@@ -1,5 +1,5 @@
 -- What an act over a value of one's own carries.
-use Rattle.std.specs.Prelude.{◌≡◌, List, Option, Result, Ok, Err}
+use Rattle.std.specs.Prelude.{◌≡◌, Bool, List, Option, Result, Ok, Err}
 use Rattle.serde.specs.Event.{Event}
 use Rattle.serde_json.specs.Data.{Data}
 use Rattle.lsp_message.specs.Converted.{IsOutcomeOf}
@@ -9,10 +9,10 @@ use Rattle.lsp_service.specs.Acts.{Act}
 use Rattle.lsp_service.specs.View.{act_view}
 use Rattle.lsp_service.specs.declared.server.Act as rust
 
--- the act with a tree that the value is written as, or the error -32603 and no act
-abbrev pub Carries : {P : Type 0} → (Option (List Event) → Option (List Event) → Type 0)
+-- the act, of payloads that are equal so, with a tree that the value is written as, or the error -32603 and no act
+abbrev pub Carries : {P : Type 0} → (P → P → Bool) → (Option (List Event) → Option (List Event) → Type 0)
     → (Data → Act P)
     → Result (rust.Act P) ResponseError → Type 0
-Carries writes carrying (Ok act) = (tree : Data) × IsOutcomeOf writes (Ok tree)
-    × (act_view act ≡ carrying tree)
-Carries writes carrying (Err e) = IsOutcomeOf writes (Err (error_view e))
+Carries same writes carrying (Ok act) = (tree : Data) × IsOutcomeOf writes (Ok tree)
+    × (act_view same act ≡ carrying tree)
+Carries same writes carrying (Err e) = IsOutcomeOf writes (Err (error_view e))

@@ -11,7 +11,7 @@ use lsp_message::{Notification, Request, RequestId, ResponseError, read_as};
 use serde::{DeserializeOwned, Serialize};
 use std::alloc::{AllocError, Global};
 
-impl<P: Drop> Act<P> {
+impl<P: Drop + PartialEq> Act<P> {
     /// A list of this act alone.
     ///
     /// `Err` means that an allocation failed.
@@ -41,7 +41,7 @@ impl<P: Drop> Act<P> {
         ensures { IfOk result (λ acts. (read : Result T ReadError) × IsRead read
             × ActsFor (λ params given. (found : R) × F.post answer params (Ok found)
             × AnswersWith (R.writes found) request.id given)
-            request.id read (map act_view acts.items)) }
+            request.id read (map (act_view P.eq) acts.items)) }
     {
         let (id, read) = request.params_as(alloc)?;
         match read {
@@ -68,7 +68,7 @@ impl<P: Drop> Act<P> {
             × ActsFor (λ params given. (found : Result R ReadError)
             × F.post answer params (Ok found)
             × AnswersEither R.writes request.id found given)
-            request.id read (map act_view acts.items)) }
+            request.id read (map (act_view P.eq) acts.items)) }
     {
         let (id, read) = request.params_as(alloc)?;
         match read {
@@ -93,7 +93,7 @@ impl<P: Drop> Act<P> {
         requires { (params : T) → F.pre act request.id params }
         ensures { IfOk result (λ acts. (read : Result T ReadError) × IsRead read
             × MatchResult read (λ params. F.post act request.id params (Ok acts))
-            (λ e. Refuses request.id e (map act_view acts.items))) }
+            (λ e. Refuses request.id e (map (act_view P.eq) acts.items))) }
     {
         let (id, read) = request.params_as(alloc)?;
         match read {
@@ -118,7 +118,7 @@ impl<P: Drop> Act<P> {
         requires { (params : T) → F.pre act params }
         ensures { IfOk result (λ acts. (read : Result T ReadError) × IsRead read
             × MatchResult read (λ params. F.post act params (Ok acts))
-            (λ e. map act_view acts.items ≡ logs_error
+            (λ e. map (act_view P.eq) acts.items ≡ logs_error
             (string_bytes notification.method ++ codes ": " ++ string_bytes e.message) ∷ [])) }
     {
         let Notification { method, params } = notification;
@@ -133,12 +133,12 @@ impl<P: Drop> Act<P> {
 }
 
 /// The answer to the request with this id: what was found, or an error.
-fn answered<P: Drop, R: Serialize + Drop>(
+fn answered<P: Drop + PartialEq, R: Serialize + Drop>(
     alloc: Global,
     id: RequestId,
     found: Result<R, ResponseError>,
 ) -> Result<Vec<Act<P>>, AllocError>
-    ensures { IfOk result (λ acts. AnswersEither R.writes id found (map act_view acts.items)) }
+    ensures { IfOk result (λ acts. AnswersEither R.writes id found (map (act_view P.eq) acts.items)) }
 {
     match found {
         Ok(found) => Act::one(alloc, Act::reply(alloc, id, &found)?),

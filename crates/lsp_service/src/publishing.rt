@@ -12,10 +12,11 @@ use serde::Serialize;
 use serde_json::{Map, Value, put};
 use std::alloc::{AllocError, Global};
 
-impl<P: Drop> Act<P> {
+impl<P: Drop + PartialEq> Act<P> {
     /// Has the client show what is wrong with a document, in place of what it showed of it before: `textDocument/publishDiagnostics`
     /// (LSP 3.17, "PublishDiagnostics Notification"). `version` is that of the text that was looked at, if it is known. No diagnostics
-    /// take away what was shown. They are of any type, as `Diagnostic` of `lsp_types`.
+    /// take away what was shown. They are of any type that `serde` writes; `publish` of
+    /// `lsp_methods` takes those of `lsp_types`.
     ///
     /// Where one nests more than 127 levels, or its type refuses to be written, the act writes an error into the client's log in
     /// its place, as of `tell`. `Err` means that an allocation failed.
@@ -26,7 +27,7 @@ impl<P: Drop> Act<P> {
         diagnostics: &[T],
     ) -> Result<Act<P>, AllocError>
         ensures { IfOk result (λ act.
-            Publishes T.writes uri.now version diagnostics.now (act_view act)) }
+            Publishes T.writes uri.now version diagnostics.now (act_view P.eq act)) }
     {
         let method = "textDocument/publishDiagnostics";
         match written(alloc, diagnostics)? {

@@ -1,20 +1,25 @@
 // A server beside its queues: what it does at a message, and the queues of requests that have no reply yet.
+ghost use Rattle.serde_json.specs.Find.{get};
 ghost use Rattle.serde_json.specs.View.{view};
-ghost use Rattle.std.specs.Prelude.{◌≡◌, map, List, [], string_bytes, true, IfOk, IsOk, Err, Some, None};
+ghost use Rattle.std.specs.Prelude.{◌≡◌, map, List, [], string_bytes, true, codes, IfOk, IsOk, IsSome, Ok, Err, Some, None};
 ghost use Rattle.lsp_message.specs.ErrorCode.{number_of};
 ghost use Rattle.lsp_message.specs.Message.{notification};
+ghost use Rattle.lsp_message.specs.Tree.{id_tree};
 ghost use Rattle.lsp_message.specs.View.{message_view, request_view, notification_view, response_view, outcome_view};
 ghost use Rattle.lsp_message.specs.declared.msg.code.ErrorCode.TheVariants.{RequestCanceled};
 ghost use Rattle.lsp_queue.specs.Queue.{count_of};
+ghost use Rattle.lsp_session.specs.OutputView.{sent_view, to_send_view};
 ghost use Rattle.lsp_service.specs.Acts.{tells, asks, replies, cancels, does, does_all, empty_queues, is_spent, unsent, unsent_by, TakesBack, holds, given, with_message, answers_cancelled, cancel_method, cleared, cancelled_by, cancel_params as cancel_params_spec, Acts, AnswersHeld};
 ghost use Rattle.lsp_service.specs.QueuedServer.{with_queues, woken_with_queues, Works, Parts};
 ghost use Rattle.lsp_service.specs.Stated.{unwoken, with_wakes};
 ghost use Rattle.lsp_service.specs.View.{act_view, queues_of, listed, seen};
 
 use crate::server::{Act, Server, WokenServer};
-use lsp_message::{ErrorCode, Message, Notification, Request, RequestId, Response, ResponseError};
+use lsp_message::{
+    ErrorCode, Message, Notification, Request, RequestId, Response, ResponseError, ResultText,
+};
 use lsp_queue::{RegisterFault, ReqQueue, id_to_cancel};
-use lsp_session::{Output, Service};
+use lsp_session::{Output, Service, ToSend};
 use serde_json::{Map, Value, put};
 use std::alloc::{AllocError, Global};
 use std::mem;
@@ -24,10 +29,10 @@ use std::mem;
 pub(crate) struct Queues<P> {
     alloc: Global,
     requests: ReqQueue<(), P>,
-    sent: Vec<Message>,
+    sent: Vec<ToSend>,
 }
 
-impl<P: Drop> Queues<P> {
+impl<P: Drop + PartialEq> Queues<P> {
     /// Nothing is held, asked or to be sent. It takes no memory.
     pub(crate) fn new(alloc: Global) -> Queues<P>
         ensures { queues_of result ≡ empty_queues }
@@ -91,15 +96,30 @@ impl<P: Drop> Queues<P> {
         }))
     }
 
-    /// Cancels a request of the server's own. If it has no request under the id, nothing is sent.
-    fn cancel(&mut self, id: i32) -> Result<(), AllocError>
-        ensures { IfOk result (λ _. queues_of self.new ≡ does (queues_of self.old) (cancels id)) }
+    /// The same with a result that waits as text.
+    fn reply_text(&mut self, id: RequestId, text: ResultText) -> Result<(), AllocError>
+        ensures { IfOk result (λ _.
+            queues_of self.new ≡ does (queues_of self.old) (replies id (Ok (view text)))) }
     {
-        if self.requests.outgoing.is_completed(&RequestId::from(id)) {
+        if self.requests.incoming.is_completed(&id) {
             return Ok(());
         }
-        let notification = cancellation(self.alloc, id)?;
-        self.send(Message::Notification(notification))
+        self.requests.incoming.complete(&id);
+        self.push(ToSend::Text(id, text))
+    }
+
+    /// Cancels each request of the server's own that keeps such a payload.
+    fn cancel(&mut self, payload: P) -> Result<(), AllocError>
+        ensures { IfOk result (λ _. queues_of self.new
+            ≡ does (queues_of self.old) (cancels (λ kept. P.eq kept «payload»))) }
+    {
+        let ids = self.requests.outgoing.ids_of(&payload)?;
+        drop(payload);
+        for id in ids {
+            let notification = cancellation(self.alloc, id)?;
+            self.send(Message::Notification(notification))?;
+        }
+        Ok(())
     }
 
     /// Answers a request that its client cancelled, if it is still held.
@@ -130,6 +150,13 @@ impl<P: Drop> Queues<P> {
         ensures { IfOk result (λ _.
             queues_of self.new ≡ with_message (queues_of self.old) (message_view message)) }
     {
+        self.push(ToSend::Message(message))
+    }
+
+    fn push(&mut self, message: ToSend) -> Result<(), AllocError>
+        ensures { IfOk result (λ _.
+            queues_of self.new ≡ with_message (queues_of self.old) (to_send_view message)) }
+    {
         match self.sent.push(message) {
             Ok(()) => Ok(()),
             Err(_) => Err(AllocError),
@@ -149,21 +176,22 @@ impl<P: Drop> Queues<P> {
     /// Does an act. What it was to keep for a request that found no id comes back.
     fn perform(&mut self, act: Act<P>) -> Result<Option<P>, AllocError>
         ensures queues { IfOk result (λ _.
-            queues_of self.new ≡ does (queues_of self.old) (act_view act)) }
+            queues_of self.new ≡ does (queues_of self.old) (act_view P.eq act)) }
         ensures back { IfOk result (λ back.
-            listed back ≡ unsent_by (count_of (queues_of self.old).asked) (act_view act)) }
+            listed back ≡ unsent_by (count_of (queues_of self.old).asked) (act_view P.eq act)) }
     {
         match act {
             Act::Tell(notification) => self.notify(notification.method, notification.params)?,
             Act::Ask(method, params, payload) => return self.ask(method, params, payload),
             Act::Reply(id, outcome) => self.reply(id, outcome)?,
-            Act::Cancel(id) => self.cancel(id)?,
+            Act::ReplyText(id, text) => self.reply_text(id, text)?,
+            Act::Cancel(payload) => self.cancel(payload)?,
         }
         Ok(None)
     }
 
-    fn take_sent(&mut self) -> Vec<Message>
-        ensures sent { map message_view result.items ≡ (queues_of self.old).sent }
+    fn take_sent(&mut self) -> Vec<ToSend>
+        ensures sent { sent_view result.items ≡ (queues_of self.old).sent }
         ensures rest { queues_of self.new ≡ cleared (queues_of self.old) }
     {
         mem::replace(&mut self.sent, Vec::new(self.alloc))
@@ -171,7 +199,7 @@ impl<P: Drop> Queues<P> {
 }
 
 /// The notification that cancels a request (LSP 3.17, "Cancellation Support").
-fn cancellation(alloc: Global, id: i32) -> Result<Notification, AllocError>
+fn cancellation(alloc: Global, id: RequestId) -> Result<Notification, AllocError>
     ensures { IfOk result (λ n.
         notification_view n ≡ notification cancel_method (cancel_params_spec id)) }
 {
@@ -192,12 +220,37 @@ fn canceled_outcome(
     Ok(Err(error))
 }
 
-fn cancel_params(alloc: Global, id: i32) -> Result<Value, AllocError>
+fn cancel_params(alloc: Global, id: RequestId) -> Result<Value, AllocError>
     ensures { IfOk result (λ params. view params ≡ cancel_params_spec id) }
 {
+    let id = id_value(alloc, id)?;
     let mut members = Map::new(alloc);
-    put(&mut members, alloc, "id", Value::from(id))?;
+    put(&mut members, alloc, "id", id)?;
     Ok(Value::Object(members))
+}
+
+/// The id as a message has it.
+fn id_value(alloc: Global, id: RequestId) -> Result<Value, AllocError>
+    ensures { IfOk result (λ value. view value ≡ id_tree id) }
+{
+    let reply = Message::Response(Response {
+        id,
+        response_result: Ok(Value::Null),
+    });
+    let tree = reply.to_value(alloc)?;
+    drop(reply);
+    copy_of_id(&tree)
+}
+
+/// The member `id`.
+fn copy_of_id(tree: &Value) -> Result<Value, AllocError>
+    requires { IsSome (get (codes "id") (view tree.now)) }
+    ensures { IfOk result (λ id. get (codes "id") (view tree.now) ≡ Some (view id)) }
+{
+    match tree.get("id") {
+        Some(id) => Ok(id.clone()?),
+        None => Ok(Value::Null),
+    }
 }
 
 /// The request that a notification cancels (LSP 3.17, "Cancellation Support").
@@ -250,10 +303,11 @@ impl<S: Server> QueuedServer<S, S::Payload> {
     fn perform_all(&mut self, acts: Vec<Act<S::Payload>>) -> Result<(), AllocError>
         ensures queues { IfOk result (λ _.
             queues_of self.new.queues
-            ≡ does_all (queues_of self.old.queues) (map act_view acts.items)) }
+            ≡ does_all (queues_of self.old.queues) (map (act_view S.Payload.eq) acts.items)) }
         ensures back { IfOk result (λ _. TakesBack S.takes_back
             self.old.server
-            (unsent (count_of (queues_of self.old.queues).asked) (map act_view acts.items))
+            (unsent (count_of (queues_of self.old.queues).asked)
+            (map (act_view S.Payload.eq) acts.items))
             self.new.server) }
     {
         for act in acts {
@@ -265,9 +319,11 @@ impl<S: Server> QueuedServer<S, S::Payload> {
     /// Does an act. What it was to keep for a request that found no id goes back to the server.
     fn perform(&mut self, act: Act<S::Payload>) -> Result<(), AllocError>
         ensures queues { IfOk result (λ _.
-            queues_of self.new.queues ≡ does (queues_of self.old.queues) (act_view act)) }
+            queues_of self.new.queues
+            ≡ does (queues_of self.old.queues) (act_view S.Payload.eq act)) }
         ensures back { IfOk result (λ _. TakesBack S.takes_back
-            self.old.server (unsent_by (count_of (queues_of self.old.queues).asked) (act_view act))
+            self.old.server
+            (unsent_by (count_of (queues_of self.old.queues).asked) (act_view S.Payload.eq act))
             self.new.server) }
     {
         match self.queues.perform(act)? {

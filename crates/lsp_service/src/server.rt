@@ -5,7 +5,7 @@ ghost use Rattle.lsp_message.specs.View.{outcome_view};
 ghost use Rattle.lsp_service.specs.Acts.{Act as PlainAct};
 ghost use Rattle.lsp_service.specs.View.{act_view};
 
-use lsp_message::{Notification, Request, RequestId, ResponseError};
+use lsp_message::{Notification, Request, RequestId, ResponseError, ResultText};
 use serde_json::Value;
 use std::alloc::{AllocError, Global};
 
@@ -19,9 +19,11 @@ pub enum Act<P> {
     Ask(String, Value, P),
     /// It answers the client's request with this id, now or later. If no request is held under it, nothing is sent.
     Reply(RequestId, Result<Value, ResponseError>),
-    /// It cancels its own request with this id: the first `Ask` of a session has the id 0, the next 1, and so on. If the
-    /// reply came, nothing is sent. Else the reply still comes, with what was kept for it (LSP 3.17, "Cancellation Support").
-    Cancel(i32),
+    /// The same with a result that waits as text: a large one takes less memory so until it is sent.
+    ReplyText(RequestId, ResultText),
+    /// It cancels each request of its own that keeps what equals this, if the reply did not come: the oldest first. The
+    /// replies still come, with what was kept for them (LSP 3.17, "Cancellation Support").
+    Cancel(P),
 }
 
 /// A server that speaks. What each method gives are acts, which are done in order when it returns. An `Err` is a failed
@@ -34,8 +36,8 @@ pub trait Server {
     ghost use Rattle.lsp_message.specs.Id.{Id};
     ghost use Rattle.lsp_message.specs.Message.{ErrorObject};
 
-    /// What the server keeps for the reply to a request of its own.
-    type Payload: Drop;
+    /// What the server keeps for the reply to a request of its own. `Act::Cancel` finds requests by it.
+    type Payload: Drop + PartialEq;
 
     /// For these params of `initialize` it may give this outcome, and change so.
     ghost initializes: { Self → Data → Result Data ErrorObject → Self → Type 0 } = { λ _ _ _ _. ⊤ };
@@ -68,14 +70,14 @@ pub trait Server {
     /// What it does first: `initialized` came, and from now on it may send.
     fn initialized(&mut self) -> Result<Vec<Act<Self::Payload>>, AllocError>
         ensures { IfOk result (λ acts.
-            at_initialized self.old (map act_view acts.items) self.new) };
+            at_initialized self.old (map (act_view Self.Payload.eq) acts.items) self.new) };
 
     /// Is given a request to keep, which is held until `Act::Reply` answers it, now or later. A client that uses an id again
     /// while it is held gets one reply under it.
     fn request(&mut self, request: Request) -> Result<Vec<Act<Self::Payload>>, AllocError>
         ensures { IfOk result (λ acts.
             requested self.old request.id (string_bytes request.method) (view request.params)
-            (map act_view acts.items) self.new) };
+            (map (act_view Self.Payload.eq) acts.items) self.new) };
 
     /// Takes notice of a notification. At `$/cancelRequest` it may answer the request that is cancelled; where it leaves it,
     /// the reply is the error -32800, `canceled by client` (LSP 3.17, "Cancellation Support").
@@ -85,7 +87,7 @@ pub trait Server {
     ) -> Result<Vec<Act<Self::Payload>>, AllocError>
         ensures { IfOk result (λ acts.
             notified self.old (string_bytes notification.method) (view notification.params)
-            (map act_view acts.items) self.new) };
+            (map (act_view Self.Payload.eq) acts.items) self.new) };
 
     /// Takes the reply to a request of its own, with what it kept for it. One that comes after `shutdown` is passed over, and comes to nobody.
     fn response(
@@ -94,14 +96,14 @@ pub trait Server {
         outcome: Result<Value, ResponseError>,
     ) -> Result<Vec<Act<Self::Payload>>, AllocError>
         ensures { IfOk result (λ acts.
-            replied self.old «payload» (outcome_view outcome) (map act_view acts.items) self.new) };
+            replied self.old «payload» (outcome_view outcome) (map (act_view Self.Payload.eq) acts.items) self.new) };
 
     /// What it does last: `shutdown` came (LSP 3.17, "Shutdown Request"). After these acts each request that it still holds gets the error
     /// -32800, `canceled by shutdown`, and then `shutdown` its null. Nothing comes to it after that, so a request that it sends now gets no
     /// reply. A server with nothing to do gives an empty vector.
     fn shutdown(&mut self, alloc: Global) -> Result<Vec<Act<Self::Payload>>, AllocError>
         ensures { IfOk result (λ acts.
-            at_shutdown self.old (map act_view acts.items) self.new) };
+            at_shutdown self.old (map (act_view Self.Payload.eq) acts.items) self.new) };
 
     /// Takes back what an `Act::Ask` was to keep, since no id was left for the request, and it was not sent. It comes only after
     /// 2147483648 requests of the session; all else goes on.
@@ -121,5 +123,5 @@ pub trait WokenServer: Server {
     /// Something that it waits for is ready, and the inbox told so (`WakingInbox::receive_or_woken`). It comes after `initialized` and before
     /// `shutdown`, and nowhere else. What it gives are acts, as at a message.
     fn woken(&mut self, alloc: Global) -> Result<Vec<Act<Self::Payload>>, AllocError>
-        ensures { IfOk result (λ acts. wakes self.old (map act_view acts.items) self.new) };
+        ensures { IfOk result (λ acts. wakes self.old (map (act_view Self.Payload.eq) acts.items) self.new) };
 }

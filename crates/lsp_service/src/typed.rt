@@ -14,13 +14,13 @@ use lsp_message::{ErrorCode, Notification, RequestId, ResponseError, write_as};
 use serde::Serialize;
 use std::alloc::{AllocError, Global};
 
-impl<P: Drop> Act<P> {
+impl<P: Drop + PartialEq> Act<P> {
     /// A notification with params of a type of your own. Where they nest more than 127 levels, or their type refuses to be written,
     /// the act writes an error into the client's log in its place (`window/logMessage`): the method, and why it was not sent.
     ///
     /// `Err` means that an allocation failed. Which values can't be written, no contract says.
     pub fn tell<T: Serialize>(alloc: Global, method: &str, params: &T) -> Result<Act<P>, AllocError>
-        ensures { IfOk result (λ act. Notifies (T.writes params.now) method.now (act_view act)) }
+        ensures { IfOk result (λ act. Notifies (T.writes params.now) method.now (act_view P.eq act)) }
     {
         match write_as(alloc, params)? {
             Ok(params) => {
@@ -42,7 +42,7 @@ impl<P: Drop> Act<P> {
         payload: P,
     ) -> Result<Result<Act<P>, ResponseError>, AllocError>
         ensures { IfOk result (λ asked.
-            Carries (T.writes params.now) (λ tree. asks method.now tree «payload») asked) }
+            Carries P.eq (T.writes params.now) (λ tree. asks method.now tree «payload») asked) }
     {
         match write_as(alloc, params)? {
             Ok(params) => {
@@ -63,7 +63,7 @@ impl<P: Drop> Act<P> {
         found: &T,
     ) -> Result<Act<P>, AllocError>
         ensures { IfOk result (λ act. (outcome : Result Data ErrorObject)
-            × IsOutcomeOf (T.writes found.now) outcome × (act_view act ≡ replies id outcome)) }
+            × IsOutcomeOf (T.writes found.now) outcome × (act_view P.eq act ≡ replies id outcome)) }
     {
         let outcome = write_as(alloc, found)?;
         Ok(Act::Reply(id, outcome))
@@ -79,7 +79,7 @@ impl<P: Drop> Act<P> {
         code: ErrorCode,
         message: &str,
     ) -> Result<Act<P>, AllocError>
-        ensures { IfOk result (λ act. act_view act
+        ensures { IfOk result (λ act. act_view P.eq act
             ≡ replies id (Err
             (record { code = number_of code; message = message.now; details = None }))) }
     {
@@ -92,7 +92,7 @@ impl<P: Drop> Act<P> {
     ///
     /// `Err` means that an allocation failed.
     pub fn method_not_found(alloc: Global, id: RequestId) -> Result<Act<P>, AllocError>
-        ensures { IfOk result (λ act. act_view act ≡ replies id (Err method_not_found)) }
+        ensures { IfOk result (λ act. act_view P.eq act ≡ replies id (Err method_not_found)) }
     {
         let error = ResponseError::method_not_found(alloc)?;
         Ok(Act::Reply(id, Err(error)))

@@ -11,14 +11,14 @@ use lsp_message::Notification;
 use serde_json::{Map, Value, put};
 use std::alloc::{AllocError, Global};
 
-impl<P: Drop> Act<P> {
+impl<P: Drop + PartialEq> Act<P> {
     /// Has the client write a line into its log: `window/logMessage` (LSP 3.17, "LogMessage Notification"). `kind` says how important
     /// it is: 1 is an error, 2 a warning, 3 something to know, 4 a line of a log, as `MessageType` of `lsp_types` has them.
     ///
     /// `Err` means that an allocation failed.
     pub fn log<K: Into<u32>>(alloc: Global, kind: K, message: &str) -> Result<Act<P>, AllocError>
         ensures { IfOk result (λ act. (number : ℕ) × K.converts kind number
-            × (act_view act ≡ tells log_method (message_params_spec number message.now))) }
+            × (act_view P.eq act ≡ tells log_method (message_params_spec number message.now))) }
     {
         told(alloc, "window/logMessage", kind.into(), message)
     }
@@ -28,7 +28,7 @@ impl<P: Drop> Act<P> {
     /// `Err` means that an allocation failed.
     pub fn show<K: Into<u32>>(alloc: Global, kind: K, message: &str) -> Result<Act<P>, AllocError>
         ensures { IfOk result (λ act. (number : ℕ) × K.converts kind number
-            × (act_view act ≡ tells show_method (message_params_spec number message.now))) }
+            × (act_view P.eq act ≡ tells show_method (message_params_spec number message.now))) }
     {
         told(alloc, "window/showMessage", kind.into(), message)
     }
@@ -41,7 +41,7 @@ impl<P: Drop> Act<P> {
         why: &str,
     ) -> Result<Act<P>, AllocError>
         ensures { IfOk result (λ act.
-            act_view act ≡ logs_error (method.now ++ what.now ++ why.now)) }
+            act_view P.eq act ≡ logs_error (method.now ++ what.now ++ why.now)) }
     {
         let mut message = String::from_str(alloc, method)?;
         message.push_str(what)?;
@@ -51,14 +51,14 @@ impl<P: Drop> Act<P> {
 }
 
 /// A notification with a text for the user.
-fn told<P: Drop>(
+fn told<P: Drop + PartialEq>(
     alloc: Global,
     method: &str,
     kind: u32,
     message: &str,
 ) -> Result<Act<P>, AllocError>
     ensures { IfOk result (λ act.
-        act_view act ≡ tells method.now (message_params_spec kind message.now)) }
+        act_view P.eq act ≡ tells method.now (message_params_spec kind message.now)) }
 {
     let method = String::from_str(alloc, method)?;
     let params = message_params(alloc, kind, message)?;

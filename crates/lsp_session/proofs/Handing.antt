@@ -1,6 +1,6 @@
 -- Messages handed on from a reader, and written to a writer, one after another.
 use Rattle.std.proofs.Common.{◌≡◌, ℕ, true, false, List, [], ◌∷◌, ◌++◌, Option, Some, None, IfSome, IsSomeAnd, Ok, Err}
-use Rattle.std.proofs.Common.{refl, ap, MatchOption, Result, sym, subst, ◌∙◌, is_some, true≢false, ◌+◌, length, map}
+use Rattle.std.proofs.Common.{refl, ap, MatchOption, Result, sym, subst, ◌∙◌, ◌+◌, length, map}
 use Rattle.std.proofs.Common.{inl, append_assoc, append-nil}
 use Rattle.std.proofs.lemmas.Fn.{FoldsTo-push}
 use Rattle.std.specs.List.{FoldsTo}
@@ -212,13 +212,6 @@ module _ {W : Type 0} (contents : W → Option (List ℕ)) where
       → new.writer.ghost_name ≡ old.writer.ghost_name
   taken_keeps old [] new taken = ap (λ o. o.writer.ghost_name) (sym taken)
   taken_keeps old (m ∷ ms) new taken = taken_keeps taken.0 ms new taken.2 ∙ taken.1.1
-
-pub sent_while_open : (m : Message) (a b : Option (List ℕ)) (fault : Option WriteFault) → is_some fault ≡ false
-    → Writes m a (Ok tt) b
-    → MatchOption fault (Writes m a (kept_write fault) b × Told (Ok tt) fault) (λ kept. IsClosed (Ok tt)
-    × (fault ≡ Some kept) × Keeps a b)
-sent_while_open m a b None unfailed written = (written, tt)
-sent_while_open m a b (Some kept) unfailed written = absurd (true≢false unfailed)
 
 -- frames, and one more
 pub AreFramesOf-push : (ms : List Message) (text : List ℕ) (m : Message) (frame : List ℕ) → AreFramesOf ms text

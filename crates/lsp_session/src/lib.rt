@@ -12,11 +12,12 @@ pub use error::ProtocolError;
 pub use lifecycle::{
     Arrival, CallGate, Event, Gate, Inbox, ListGate, ListInbox, ListOutbox, OpenGate, Outbox,
     SendFault, WakingInbox, finish, finish_within, is_exit, shutdown, start_within, wait_within,
+    without_result,
 };
 pub use loops::{
     ClientStreams, EndSession, FaultCounts, FrameOutbox, Handler, HandlerService, Ignore, Listener,
     Output, PassedOver, ReadEnd, Served, Service, SessionEnd, SessionFault, StopReason,
-    StreamInbox, StreamTransport, TolerantInbox, Transcript, WriteEnd, initialize_result,
+    StreamInbox, StreamTransport, ToSend, TolerantInbox, Transcript, WriteEnd, initialize_result,
     is_of_body, read_loop, read_loop_within, serve, serve_service, serve_transport, session,
     session_answer, session_of_service, session_transcribed, session_within, write_loop,
 };

@@ -16,12 +16,16 @@
 //!
 //! A closed outbox ends the handshake with `disconnected channel`, and a failed allocation with `out of memory`. If the reply to
 //! `shutdown` can't be sent, it waits for `exit` all the same.
-ghost use Rattle.std.specs.Prelude.{◌≡◌, ◌≢◌, IfErr};
+ghost use Rattle.std.specs.Prelude.{◌≡◌, ◌≢◌, Ok, IfErr};
+ghost use Rattle.serde_json.specs.Data.{null};
+ghost use Rattle.serde_json.specs.View.{view};
+ghost use Rattle.lsp_message.specs.Message.{response};
 ghost use Rattle.lsp_message.specs.View.{message_view};
 ghost use Rattle.lsp_session.specs.Boxes.{handed_back, WaitsFor};
 ghost use Rattle.lsp_session.specs.Event.{arrival_view, event_view, timeout};
 
-use lsp_message::Message;
+use lsp_message::{Message, RequestId, Response, ResultText};
+use serde_json::Value;
 
 mod exit;
 mod gates;
@@ -132,6 +136,22 @@ pub trait Outbox {
     fn send(&mut self, message: Message) -> Result<(), SendFault>
         ensures sends { sends self.old (message_view message) result self.new }
         ensures handed_back { IfErr result (λ fault. handed_back fault ≡ message) };
+
+    /// Sends the response with this id, whose result waits as text, as `send` sends it. The message that a fault gives back has null as its
+    /// result.
+    fn send_text(&mut self, id: RequestId, text: ResultText) -> Result<(), SendFault>
+        ensures sends { sends self.old (response id (Ok (view text))) result self.new }
+        ensures handed_back { IfErr result (λ fault. message_view (handed_back fault) ≡ response id (Ok null)) };
+}
+
+/// The response with this id and null as its result: what a fault of `Outbox::send_text` gives back.
+pub fn without_result(id: RequestId) -> Message
+    ensures { message_view result ≡ response id (Ok null) }
+{
+    Message::Response(Response {
+        id,
+        response_result: Ok(Value::Null),
+    })
 }
 
 /// Says whether a handshake should go on.

@@ -37,7 +37,7 @@ pub use handler_service::HandlerService;
 pub use listener::{EndSession, FaultCounts, Ignore, Listener};
 pub use passed_over::PassedOver;
 pub use served::{Served, StopReason};
-pub use service::{Output, Service};
+pub use service::{Output, Service, ToSend};
 pub use stream_inbox::StreamInbox;
 pub use stream_session::{
     SessionFault, session, session_answer, session_of_service, session_transcribed, session_within,

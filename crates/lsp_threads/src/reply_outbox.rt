@@ -1,5 +1,8 @@
 //! The outbox of a session whose writer has a thread of its own: it makes frames, gathers them, and hands them over as texts.
-ghost use Rattle.std.specs.Prelude.{◌≡◌, ◌++◌, [], false, IfErr, IfOk, string_bytes};
+ghost use Rattle.std.specs.Prelude.{◌≡◌, ◌++◌, [], false, Ok, IfErr, IfOk, string_bytes};
+ghost use Rattle.serde_json.specs.Data.{null};
+ghost use Rattle.serde_json.specs.View.{view};
+ghost use Rattle.lsp_message.specs.Message.{response};
 ghost use Rattle.lsp_message.specs.View.{message_view};
 ghost use Rattle.lsp_message.specs.Written.{IsFrameOf};
 ghost use Rattle.lsp_session.specs.Boxes.{handed_back};
@@ -10,9 +13,9 @@ use crate::backlog::Backlog;
 use crate::relay_boxes::deliver;
 use crate::relay_texts::{deliver_text, joins};
 use crate::watched_writer::WriteFaults;
-use lsp_message::{Message, WriteFault};
+use lsp_message::{Message, RequestId, ResultText, WriteFault};
 use lsp_relay::{Parcel, RelayTx};
-use lsp_session::SendFault;
+use lsp_session::{SendFault, without_result};
 use std::alloc::Global;
 use std::marker::Model;
 use std::mem;
@@ -104,6 +107,29 @@ impl<R: Wait + Drop> ReplyOutbox<R> {
             Err(message) => {
                 self.failed = true;
                 Err(SendFault::Memory(message))
+            }
+        }
+    }
+
+    /// Sends a response whose result waits as text: its frame is made of the text. The fault means that it was refused.
+    pub fn send_text(&mut self, id: RequestId, text: ResultText) -> Result<(), SendFault>
+        ensures sends { RepliesSend self.old.replies (response id (Ok (view text))) result self.new.replies }
+        ensures handed_back { IfErr result (λ fault. message_view (handed_back fault) ≡ response id (Ok null)) }
+    {
+        if self.failed || self.faults.any() {
+            self.failed = true;
+            drop(text);
+            return Err(SendFault::Memory(without_result(id)));
+        }
+        match text.into_frame(self.alloc, &id) {
+            Ok(frame) => {
+                self.gather(frame);
+                drop(id);
+                Ok(())
+            }
+            Err(_) => {
+                self.failed = true;
+                Err(SendFault::Memory(without_result(id)))
             }
         }
     }

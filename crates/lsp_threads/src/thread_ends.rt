@@ -11,7 +11,7 @@ ghost use Rattle.lsp_threads.specs.ThreadEnds.{EndsListen, GivesNext, IsReadyToW
 
 use crate::content_parts::{ContentParts, Next};
 use crate::reply_outbox::ReplyOutbox;
-use lsp_message::{Message, ReadFault};
+use lsp_message::{Message, ReadFault, RequestId, ResultText};
 use lsp_session::{
     Arrival, Event, Inbox, Listener, Outbox, ReadEnd, SendFault, Served, Service, WakingInbox,
     is_exit, is_of_body, serve_transport,
@@ -178,6 +178,10 @@ impl<'a, R: Wait + Copy + Drop, L: Listener> Outbox for ThreadEnds<'a, R, L> {
 
     fn send(&mut self, message: Message) -> Result<(), SendFault> {
         self.outbox.send(message)
+    }
+
+    fn send_text(&mut self, id: RequestId, text: ResultText) -> Result<(), SendFault> {
+        self.outbox.send_text(id, text)
     }
 }
 

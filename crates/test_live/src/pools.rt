@@ -11,6 +11,7 @@
 // - `rounds N M`: N times, submits M jobs at once, and takes the outcomes of those that were taken. `R refused`.
 // - `reply N`, `give_up N`: the request number N of a job gets the reply `true`, or none; nothing is told.
 // - `cancel TOKEN`: the client cancels the progress with this token. Nothing is told.
+// - `unneeded`: the request of a job that is to be cancelled at the client: `unneeded NUMBER`, or `all needed`.
 // - `waits ID`: `waits` or `free`. `forget ID`: nothing is told.
 //
 // The client of such a job gave the tokens `w` and 7. At the end the pool is ended, nothing more may be heard then, and it is told how many jobs began and how many saw their cancellation.
@@ -19,7 +20,7 @@ use crate::jobs::{Found, Means, Scripted, list_of};
 use crate::signals::{Signal, Signals};
 use crate::table::pool_of;
 use crossbeam_channel::Receiver;
-use lsp_jobs::{Interrupted, JobMessage, JobName, JobPool, JobResult, Slot, SubmitFault};
+use lsp_jobs::{DoneJob, Interrupted, JobMessage, JobName, JobPool, Slot, SubmitFault};
 use lsp_message::RequestId;
 use serde_json::Value;
 use std::alloc::{AllocError, Global};
@@ -133,9 +134,8 @@ impl<R: Wait + Drop> Bench<R> {
                 self.go_silently(name, rest);
                 Ok(())
             }
-            "submit" | "hear" | "listen" | "message" | "rounds" | "waits" | "cancel" => {
-                Ok(self.tell(name, rest)?)
-            }
+            "submit" | "hear" | "listen" | "message" | "rounds" | "waits" | "cancel" | "unneeded" =>
+                Ok(self.tell(name, rest)?),
             _ => Err(Stop::Table),
         }
     }
@@ -164,10 +164,18 @@ impl<R: Wait + Drop> Bench<R> {
             "rounds" => self.run_rounds(rest),
             "cancel" => self.cancel(rest),
             "waits" => self.tell_waiting(name_of(rest)),
+            "unneeded" => self.tell_unneeded(),
             _ => match self.take_message(true) {
                 Ok(_) => Ok(()),
                 Err(error) => Err(error),
             },
+        }
+    }
+
+    fn tell_unneeded(&mut self) -> Result<(), AllocError> {
+        match self.pool.take_unneeded() {
+            Some(number) => write!(self.told, "unneeded {number}, "),
+            None => self.told.push_str("all needed, "),
         }
     }
 
@@ -286,9 +294,9 @@ impl<R: Wait + Drop> Bench<R> {
     }
 
     /// What a job came to.
-    fn tell_result(&mut self, done: &JobResult<Found>) -> Result<(), AllocError> {
+    fn tell_result(&mut self, done: &DoneJob<Found>) -> Result<(), AllocError> {
         match &done.reply {
-            Some(Ok(value)) => return write!(self.told, " outcome {value}, "),
+            Some(Ok(text)) => return write!(self.told, " outcome {text:?}, "),
             Some(Err(error)) => return write!(self.told, " error {}, ", error.code),
             None => {}
         }

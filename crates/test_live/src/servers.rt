@@ -45,7 +45,7 @@ impl Handler for Echo {
 }
 
 /// Why the server asked its client.
-#[derive(Drop)]
+#[derive(Drop, PartialEq)]
 pub enum Asked {
     /// To answer this request with the reply.
     For(RequestId),
@@ -62,7 +62,8 @@ pub enum Asked {
 ///   notification `start`, and whose result it gives as the reply. Jobs have numbers, from 1.
 /// - `long known` is answered at once with its params, where a job might run. For the job of `long unmade` memory is missing.
 /// - The notification `job SCRIPT` starts a job in a slot of its own, whose result it publishes; `stop` stops it. At `answer` it answers the
-///   request whose id is the first of the params itself. At one whose method begins with `$/` or `window/` it does nothing.
+///   request whose id is the first of the params itself, and at `withdraw` it cancels what it asked for that request. At one whose method
+///   begins with `$/` or `window/` it does nothing.
 /// - At another notification it pushes its params, asks for the configuration and answers what it keeps.
 /// - At a reply with the configuration it pushes the number of the question.
 /// - Of a job in a slot that found no room it pushes the slot's name.
@@ -79,6 +80,14 @@ pub struct Talker {
     kept: Vec<(RequestId, u64)>,
     /// The names of the jobs whose end it saw, each behind a space, with the number that the job found or how it ended.
     pub finished: String,
+}
+
+/// The id that stands first in these params.
+fn first_of(params: &Value) -> Result<Option<RequestId>, AllocError> {
+    match params.get(0) {
+        Some(value) => RequestId::from_value(value),
+        None => Ok(None),
+    }
 }
 
 type Acts = Vec<Act<Asked>>;
@@ -198,12 +207,17 @@ impl Talker {
         self.push(params)
     }
 
+    /// Cancels what it asked for the request whose id stands first in these params.
+    fn withdraw_first(&self, params: &Value) -> Result<Acts, AllocError> {
+        match first_of(params)? {
+            Some(id) => self.one(Act::Cancel(Asked::For(id))),
+            None => Ok(Vec::new(self.alloc)),
+        }
+    }
+
     /// Answers the request whose id stands first in these params.
     fn answer_first(&self, params: &Value) -> Result<Acts, AllocError> {
-        let Some(value) = params.get(0) else {
-            return Ok(Vec::new(self.alloc));
-        };
-        match RequestId::from_value(value)? {
+        match first_of(params)? {
             Some(id) => {
                 let text = String::from_str(self.alloc, "by the server")?;
                 self.one(Act::Reply(id, Ok(Value::String(text))))
@@ -288,6 +302,11 @@ impl Server for Talker {
             }
             "answer" => {
                 let acts = self.answer_first(&params);
+                drop(params);
+                acts
+            }
+            "withdraw" => {
+                let acts = self.withdraw_first(&params);
                 drop(params);
                 acts
             }

@@ -2,7 +2,7 @@
 ghost use Rattle.std.specs.Prelude.{◌≢◌};
 ghost use Rattle.lsp_session.specs.Event.{event_view, timeout};
 
-use lsp_message::Message;
+use lsp_message::{Message, RequestId, ResultText};
 use lsp_session::{Arrival, Event, Inbox, ListInbox, ListOutbox, Outbox, SendFault, WakingInbox};
 use std::cell::Cell;
 
@@ -86,6 +86,14 @@ impl Outbox for Sent<'_> {
 
     fn send(&mut self, message: Message) -> Result<(), SendFault> {
         let sent = self.list.send(message);
+        if sent.is_ok() {
+            self.is_some.set(true);
+        }
+        sent
+    }
+
+    fn send_text(&mut self, id: RequestId, text: ResultText) -> Result<(), SendFault> {
+        let sent = self.list.send_text(id, text);
         if sent.is_ok() {
             self.is_some.set(true);
         }

@@ -54,7 +54,7 @@ fn found<T: Drop, E: Drop>(made: Result<T, AllocError>) -> Result<Result<T, E>, 
 }
 
 /// Why the server asked its client.
-#[derive(Drop)]
+#[derive(Drop, PartialEq)]
 pub enum Asked {
     /// To answer this request with the reply.
     For(RequestId),

@@ -1,7 +1,7 @@
 // From a message to text, in the order in which JSON-RPC 2.0 shows the members.
 ghost use Rattle.std.specs.Prelude.{◌≡◌, ◌≤◌, ◌++◌, ℕ, List, true, Some, Ok, IfOk, OnOk, option_map, string_bytes, codes};
 ghost use Rattle.std.specs.List.{list_all};
-ghost use Rattle.serde_json.specs.Data.{string, number as json_number};
+ghost use Rattle.serde_json.specs.Data.{Data, string, number as json_number};
 ghost use Rattle.serde_json.specs.Find.{of_integer};
 ghost use Rattle.serde_json.specs.Read.{max_depth};
 ghost use Rattle.serde_json.specs.View.{view};
@@ -13,12 +13,14 @@ ghost use Rattle.lsp_message.specs.Message.{response};
 ghost use Rattle.lsp_message.specs.Ranges.{IsIdInRange, IsInRange, nesting};
 ghost use Rattle.lsp_message.specs.Tree.{id_tree, without_null_details};
 ghost use Rattle.lsp_message.specs.Text.{IsValueText, named, IsLaterMember, IsErrorText, IsTextFrom, IsMemberText, IsBodyOf};
+ghost use Rattle.lsp_message.specs.Written.{MeansAgain};
 ghost use Rattle.lsp_message.specs.View.{error_view, request_view, notification_view, response_view, message_view};
 
 use crate::msg::{Message, Notification, Request, RequestId, Response, ResponseError};
 use serde_json::Value;
 use std::alloc::{AllocError, Global};
 use std::fmt::Write as _;
+use std::snapshot::Snapshot;
 
 // Room for the text of a message with few params, which then grows in no step.
 const USUAL_LENGTH: usize = 256;
@@ -198,10 +200,45 @@ fn push_result(
     ensures range { OnOk result (IsIdInRange id.now) }
 {
     let text = value_text(alloc, value)?;
+    push_result_text(out, alloc, before, id, text.as_str())
+}
+
+// Adds a response whose result has this text.
+fn push_result_text(
+    out: &mut String,
+    alloc: Global,
+    before: &str,
+    id: &RequestId,
+    text: &str,
+) -> Result<(), AllocError>
+    ensures text { OnOk result ((tree : Data) → IsValueText tree text.now
+        → Adds (IsTextFrom before.now (response id.now (Ok tree)))
+        (string_bytes out.old) (string_bytes out.new)) }
+    ensures range { OnOk result (IsIdInRange id.now) }
+{
     push_id(out, alloc, before, id)?;
-    push_named(out, ",", "result", text.as_str())?;
+    push_named(out, ",", "result", text)?;
     out.push_str("}")?;
     Ok(())
+}
+
+// The content part of a response whose result has this text. Clauses alone see its tree. There is room for the header part.
+pub(super) fn result_body(
+    alloc: Global,
+    id: &RequestId,
+    text: &str,
+    tree: Snapshot<Value>,
+) -> Result<String, AllocError>
+    requires { IsValueText (view tree.value) text.now }
+    ensures text { IfOk result (λ s.
+        IsBodyOf (response id.now (Ok (view tree.value))) (string_bytes s)) }
+    ensures reads_back { IfOk result (λ s. MeansAgain (response id.now (Ok (view tree.value))) (string_bytes s)) }
+{
+    let room = text.len().saturating_add(USUAL_LENGTH);
+    let _tree = tree;
+    let mut out = String::with_capacity(alloc, room)?;
+    push_result_text(&mut out, alloc, "{\"jsonrpc\":\"2.0\",", id, text)?;
+    Ok(out)
 }
 
 fn push_failure(

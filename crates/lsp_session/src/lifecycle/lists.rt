@@ -1,7 +1,12 @@
 // Boxes whose contents are lists.
-use crate::lifecycle::{Event, Gate, Inbox, Outbox, SendFault};
-use lsp_message::Message;
-use std::alloc::Global;
+ghost use Rattle.std.specs.Prelude.{◌≡◌, ◌∷◌, ◌++◌, [], map, Ok, OnErr, OnOk};
+ghost use Rattle.serde_json.specs.View.{view};
+ghost use Rattle.lsp_message.specs.Message.{response};
+ghost use Rattle.lsp_message.specs.View.{message_view};
+
+use crate::lifecycle::{Event, Gate, Inbox, Outbox, SendFault, without_result};
+use lsp_message::{Message, RequestId, ResultText};
+use std::alloc::{AllocError, Global};
 use std::collections::VecDeque;
 
 /// An inbox that gives the events of a list in order, and is closed once none is left. Use it for tests.
@@ -93,6 +98,31 @@ impl Outbox for ListOutbox {
             Ok(()) => Ok(()),
             Err(refused) => Err(SendFault::Memory(refused.value)),
         }
+    }
+
+    fn send_text(&mut self, id: RequestId, text: ResultText) -> Result<(), SendFault> {
+        if self.sent.len() >= self.room {
+            drop(text);
+            return Err(SendFault::Closed(without_result(id)));
+        }
+        match push_text(&mut self.sent, &id, text) {
+            Ok(()) => Ok(()),
+            Err(_) => Err(SendFault::Memory(without_result(id))),
+        }
+    }
+}
+
+/// Adds a response, whose result is read from its text.
+fn push_text(sent: &mut Vec<Message>, id: &RequestId, text: ResultText) -> Result<(), AllocError>
+    ensures ok { OnOk result (map message_view sent.new.items
+        ≡ map message_view sent.old.items ++ response id.now (Ok (view text)) ∷ []) }
+    ensures err { OnErr result (sent.new.items ≡ sent.old.items) }
+{
+    let alloc = *sent.allocator();
+    let reply = text.into_message(alloc, id)?;
+    match sent.push(reply) {
+        Ok(()) => Ok(()),
+        Err(_) => Err(AllocError),
     }
 }
 

@@ -10,7 +10,7 @@ use crate::lifecycle::{Arrival, Event, Inbox, Outbox, SendFault, WakingInbox};
 use crate::loops::served::Served;
 use crate::loops::service::Service;
 use crate::loops::transport::serve_transport;
-use lsp_message::Message;
+use lsp_message::{Message, RequestId, ResultText};
 use std::alloc::Global;
 
 /// An inbox and an outbox as one value with both ends.
@@ -51,6 +51,10 @@ impl<'a, I: Inbox, O: Outbox> Outbox for BothEnds<'a, I, O> {
 
     fn send(&mut self, message: Message) -> Result<(), SendFault> {
         self.outbox.send(message)
+    }
+
+    fn send_text(&mut self, id: RequestId, text: ResultText) -> Result<(), SendFault> {
+        self.outbox.send_text(id, text)
     }
 }
 

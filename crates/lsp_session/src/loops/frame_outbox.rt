@@ -1,6 +1,6 @@
 // An outbox that writes frames.
-use crate::lifecycle::{Outbox, SendFault};
-use lsp_message::{Message, Passed, WriteFault};
+use crate::lifecycle::{Outbox, SendFault, without_result};
+use lsp_message::{Message, Passed, RequestId, ResultText, WriteFault};
 use std::alloc::Global;
 use std::io::Write;
 
@@ -85,6 +85,50 @@ impl<'a, W: Write> FrameOutbox<'a, W> {
     }
 }
 
+impl<'a, W: Write> FrameOutbox<'a, W> {
+    ghost use Rattle.std.specs.Prelude.{◌≡◌, Ok, IfErr};
+    ghost use Rattle.serde_json.specs.Data.{null};
+    ghost use Rattle.serde_json.specs.View.{view};
+    ghost use Rattle.lsp_message.specs.Message.{response};
+    ghost use Rattle.lsp_message.specs.Told.{Given};
+    ghost use Rattle.lsp_message.specs.View.{message_view};
+    ghost use Rattle.lsp_session.specs.Account.{sending};
+    ghost use Rattle.lsp_session.specs.ActBytes.{SentParts};
+    ghost use Rattle.lsp_session.specs.Boxes.{handed_back};
+    ghost use Rattle.lsp_session.specs.FrameBoxes.{FrameOutboxSends};
+
+    /// Sends a response whose result waits as text, as `send_text` does, and adds the bytes that the writer takes to the account.
+    pub(crate) fn send_text_telling(
+        &mut self,
+        id: RequestId,
+        text: ResultText,
+        given: &mut Passed,
+    ) -> Result<(), SendFault>
+        ensures sends { FrameOutboxSends W.contents self.old (response id (Ok (view text))) result self.new }
+        ensures back { IfErr result (λ fault. message_view (handed_back fault) ≡ response id (Ok null)) }
+        ensures told { Given (SentParts self.old.fault (sending (response id (Ok (view text))) result) self.new.fault) given.old.parts
+            given.new.parts (W.contents self.old.writer.now) (W.contents self.new.writer.now) }
+    {
+        if self.fault.is_some() {
+            drop(text);
+            return Err(SendFault::Closed(without_result(id)));
+        }
+        match text.write_telling(self.alloc, self.writer, &id, given) {
+            Ok(()) => {
+                drop(id);
+                Ok(())
+            }
+            Err(fault) => {
+                self.fault = Some(fault);
+                match fault {
+                    WriteFault::Output(_) => Err(SendFault::Closed(without_result(id))),
+                    WriteFault::Memory => Err(SendFault::Memory(without_result(id))),
+                }
+            }
+        }
+    }
+}
+
 impl<'a, W: Write> Outbox for FrameOutbox<'a, W> {
     ghost use Rattle.lsp_session.specs.FrameBoxes.{FrameOutboxSends};
 
@@ -92,5 +136,9 @@ impl<'a, W: Write> Outbox for FrameOutbox<'a, W> {
 
     fn send(&mut self, message: Message) -> Result<(), SendFault> {
         self.send_telling(message, &mut Passed::new())
+    }
+
+    fn send_text(&mut self, id: RequestId, text: ResultText) -> Result<(), SendFault> {
+        self.send_text_telling(id, text, &mut Passed::new())
     }
 }

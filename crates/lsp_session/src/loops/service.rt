@@ -4,7 +4,7 @@ ghost use Rattle.std.specs.Prelude.{◌≡◌, IfOk, OnErr};
 ghost use Rattle.lsp_message.specs.View.{request_view, notification_view, response_view, outcome_view};
 ghost use Rattle.lsp_session.specs.OutputView.{output_view};
 
-use lsp_message::{Message, Notification, Request, RequestId, Response, ResponseError};
+use lsp_message::{Message, Notification, Request, RequestId, Response, ResponseError, ResultText};
 use serde_json::Value;
 use std::alloc::AllocError;
 
@@ -16,7 +16,16 @@ pub enum Output {
     /// One message. It takes no memory.
     One(Message),
     /// As many as there are.
-    Several(Vec<Message>),
+    Several(Vec<ToSend>),
+}
+
+/// What a session is to send.
+#[derive(Debug, Drop)]
+pub enum ToSend {
+    /// A message.
+    Message(Message),
+    /// The response with this id, whose result waits as text.
+    Text(RequestId, ResultText),
 }
 
 /// What a session runs: it answers `initialize`, speaks first after `initialized`, and gives messages to send for each message

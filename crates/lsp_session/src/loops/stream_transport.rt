@@ -14,7 +14,7 @@ use crate::loops::{
     FrameOutbox, Handler, HandlerService, Listener, ReadEnd, Served, Service, SessionEnd,
     SessionFault, TolerantInbox, serve_transport, session_answer,
 };
-use lsp_message::{Limits, Message, Passed, WriteFault};
+use lsp_message::{Limits, Message, Passed, RequestId, ResultText, WriteFault};
 use serde_json::Value;
 use std::alloc::Global;
 use std::io::{BufRead, Write};
@@ -204,6 +204,18 @@ impl<'a, R: BufRead, W: Write, L: Listener> Outbox for StreamTransport<'a, R, W,
         let outcome = outbox.send_telling(message, &mut given);
         self.fault = outbox.fault();
         self.transcript.add(Noted::of_send(sent, &outcome, given));
+        outcome
+    }
+
+    fn send_text(&mut self, id: RequestId, text: ResultText) -> Result<(), SendFault> {
+        let reply = Snapshot::of(&id);
+        let sent = Snapshot::of(&text);
+        let mut given = Passed::new();
+        let mut outbox = FrameOutbox::resumed(self.alloc, &mut *self.writer, self.fault);
+        let outcome = outbox.send_text_telling(id, text, &mut given);
+        self.fault = outbox.fault();
+        self.transcript
+            .add(Noted::of_text(reply, sent, &outcome, given));
         outcome
     }
 }

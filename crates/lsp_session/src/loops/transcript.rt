@@ -1,12 +1,14 @@
 // What a transport did, as clauses see it.
-ghost use Rattle.std.specs.Prelude.{◌≡◌, [], ◌∷◌, ◌++◌};
+ghost use Rattle.std.specs.Prelude.{◌≡◌, [], ◌∷◌, ◌++◌, Ok};
+ghost use Rattle.serde_json.specs.View.{view};
+ghost use Rattle.lsp_message.specs.Message.{response};
 ghost use Rattle.lsp_message.specs.View.{message_view};
 ghost use Rattle.lsp_session.specs.Account.{sending};
 ghost use Rattle.lsp_session.specs.Transcripts.{note_view, notes_of};
 
 use crate::lifecycle::{Arrival, Event, SendFault};
 use crate::loops::account::Account;
-use lsp_message::{Message, Passed};
+use lsp_message::{Message, Passed, RequestId, ResultText};
 use std::snapshot::Snapshot;
 
 /// An act of a transport, with the bytes that passed in it.
@@ -20,6 +22,10 @@ pub(crate) enum Noted {
     Took(Snapshot<Message>, Passed),
     /// It refused this message.
     Lost(Snapshot<Message>, Passed),
+    /// It took the response with this id, whose result waited as this text.
+    TookText(Snapshot<RequestId>, Snapshot<ResultText>, Passed),
+    /// It refused this response.
+    LostText(Snapshot<RequestId>, Snapshot<ResultText>, Passed),
 }
 
 impl Noted {
@@ -34,6 +40,21 @@ impl Noted {
         match outcome {
             Ok(()) => Noted::Took(sent, given),
             Err(_) => Noted::Lost(sent, given),
+        }
+    }
+
+    /// The act of a send of the response with this id and this result, with this outcome.
+    pub(crate) fn of_text(
+        id: Snapshot<RequestId>,
+        text: Snapshot<ResultText>,
+        outcome: &Result<(), SendFault>,
+        given: Passed,
+    ) -> Noted
+        ensures { note_view result ≡ (sending (response id.value (Ok (view text.value))) outcome.now, given.parts) }
+    {
+        match outcome {
+            Ok(()) => Noted::TookText(id, text, given),
+            Err(_) => Noted::LostText(id, text, given),
         }
     }
 }

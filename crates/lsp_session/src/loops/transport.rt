@@ -1,11 +1,11 @@
 // A session of a server (LSP 3.17, "Server lifecycle"), over one value that gives messages and takes them.
 ghost use Rattle.serde_json.specs.View.{view};
-ghost use Rattle.std.specs.Prelude.{◌≡◌, ◌&&◌, map, Err, IfOk};
+ghost use Rattle.std.specs.Prelude.{◌≡◌, ◌&&◌, Err, IfOk};
 ghost use Rattle.lsp_message.specs.Message.{response};
 ghost use Rattle.lsp_message.specs.View.{message_view, error_view};
 ghost use Rattle.lsp_session.specs.Event.{arrival_view, event_view};
 ghost use Rattle.lsp_session.specs.TransportParts.{FinishesOn, PartsOn, ShutsDownOn, WaitsForExit, is_late};
-ghost use Rattle.lsp_session.specs.OutputView.{output_view};
+ghost use Rattle.lsp_session.specs.OutputView.{output_view, sent_view, to_send_view};
 ghost use Rattle.lsp_session.specs.Outputs.{SendsAll};
 ghost use Rattle.lsp_session.specs.Prompt.{Talks, WaitsIn};
 ghost use Rattle.lsp_session.specs.Replies.{ok_reply as ok_reply_spec};
@@ -15,11 +15,11 @@ ghost use Rattle.lsp_session.specs.SessionLaws.{Both};
 
 use crate::error::ProtocolError;
 use crate::lifecycle::{
-    Arrival, EXIT_SECONDS, Event, Inbox, Outbox, WakingInbox, finish_on, is_exit, offer, ok_reply,
-    shutdown_on, start_on,
+    Arrival, EXIT_SECONDS, Event, Inbox, Outbox, SendFault, WakingInbox, finish_on, is_exit, offer,
+    ok_reply, shutdown_on, start_on,
 };
 use crate::loops::served::{Served, StopReason};
-use crate::loops::service::{Output, Service};
+use crate::loops::service::{Output, Service, ToSend};
 use lsp_message::{Message, RequestId, Response, ResponseError};
 use serde_json::Value;
 use std::alloc::{AllocError, Global};
@@ -265,11 +265,21 @@ fn send_output<O: Outbox>(outbox: &mut O, output: Output) -> Result<(), Protocol
 }
 
 /// The same of a list.
-fn send_all<O: Outbox>(outbox: &mut O, messages: Vec<Message>) -> Result<(), ProtocolError>
-    ensures { SendsAll O.sends outbox.old (map message_view messages.items) result outbox.new }
+fn send_all<O: Outbox>(outbox: &mut O, messages: Vec<ToSend>) -> Result<(), ProtocolError>
+    ensures { SendsAll O.sends outbox.old (sent_view messages.items) result outbox.new }
 {
     for message in messages {
-        outbox.send(message)?;
+        send_one(outbox, message)?;
     }
     Ok(())
+}
+
+/// Sends a message, or a response whose result waits as text.
+fn send_one<O: Outbox>(outbox: &mut O, message: ToSend) -> Result<(), SendFault>
+    ensures { O.sends outbox.old (to_send_view message) result outbox.new }
+{
+    match message {
+        ToSend::Message(message) => outbox.send(message),
+        ToSend::Text(id, text) => outbox.send_text(id, text),
+    }
 }

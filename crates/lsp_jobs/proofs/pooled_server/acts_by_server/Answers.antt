@@ -11,7 +11,7 @@ use Rattle.lsp_jobs.proofs.pooled_server.acts_by_server.Goals as goal
 
 pub loop-act-preserved : goal.loop-act-preserved
 loop-act-preserved g c =
-    let seen = act_view {P = g.row.P.Denot} in
+    let seen = act_view g.P.PartialEq.eq in
     let before = c.loop-act.invariant in
     let done = c.loop-act.yielded in
     let rest : List (Act _) = into_iter_items c.next.new.self in
@@ -32,4 +32,4 @@ returns g c =
     let none = sym c.loop-act.act-iterator.rest.ok.0 ∙ c.in-None.ensures.steps.0 in
     let all = all_taken c.loop-act.yielded (into_iter_items c.loop-act.act-iterator) c.args.acts.items
     c.loop-act.invariant.2 none in
-    c.loop-act.invariant.3 ∙ ap (λ (l : List (Act _)). map by_server (map (act_view {P = g.row.P.Denot}) l)) all
+    c.loop-act.invariant.3 ∙ ap (λ (l : List (Act _)). map by_server (map (act_view g.P.PartialEq.eq) l)) all

@@ -33,11 +33,11 @@ returns g c =
     subst (λ (l : List (SlotChange _)). FoldsTo (Changes jobs) (
       c.args.self.now.server,
       pending_jobs c.args.self.now.pool,
-      map (act_view {P = g.row.S-Payload.Denot})
+      map (act_view g.S.Payload.PartialEq.eq)
           c.args.acts.items,
     ) l (
       c.loop-change.self.server,
       pending_jobs c.loop-change.self.pool,
-      map (act_view {P = g.row.S-Payload.Denot})
+      map (act_view g.S.Payload.PartialEq.eq)
           c.loop-change.acts.items,
     )) all c.loop-change.invariant.3

@@ -15,12 +15,13 @@ returns g c =
     let forgot = c.in_ok-forget_answered.ensures in
     let server = ap (λ (x : _ × PendingJobs _). x.0) forgot in
     let mid = c.take_changes.new.server in
+    let view = act_view g.S.Payload.PartialEq.eq in
     IfOk-weaker c.change_all.result _ _ (λ all done. record {
       changes = changes;
       mid = mid;
       gives = subst (λ s. may.changes s changes mid) server c.in_ok-changes.ensures;
-      made = subst (λ t. FoldsTo (Changes may) (mid, t, map act_view c.args.acts.items) changes
-          (c.change_all.new.self.server, pending_jobs c.change_all.new.self.pool, map act_view all.items))
-          (ap (λ (x : _ × PendingJobs _). x.1) forgot ∙ ap (λ l. unanswered (map act_view l)
+      made = subst (λ t. FoldsTo (Changes may) (mid, t, map view c.args.acts.items) changes
+          (c.change_all.new.self.server, pending_jobs c.change_all.new.self.pool, map view all.items))
+          (ap (λ (x : _ × PendingJobs _). x.1) forgot ∙ ap (λ l. unanswered (map view l)
           (pending_jobs c.args.self.now.pool)) c.deref.ensures.value) done;
     }) c.change_all.ensures

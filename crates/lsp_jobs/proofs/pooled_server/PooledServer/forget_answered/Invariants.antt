@@ -9,5 +9,5 @@ use Rattle.lsp_jobs.proofs.pooled_server.PooledServer.forget_answered.Given as g
 abbrev pub invariant-loop-act : goal.invariant-loop-act
 invariant-loop-act g l =
     (l.self.server ≡ l.initial.self.server)
-    × (unanswered (map act_view (drop l.act-index l.acts)) (pending_jobs l.self.pool) ≡ unanswered (map act_view l.acts)
-    (pending_jobs l.initial.self.pool))
+    × (unanswered (map (act_view g.P.PartialEq.eq) (drop l.act-index l.acts)) (pending_jobs l.self.pool)
+    ≡ unanswered (map (act_view g.P.PartialEq.eq) l.acts) (pending_jobs l.initial.self.pool))

@@ -10,5 +10,5 @@ pub returns : goal.returns
 returns g c =
     was_free (stated_jobs g.S.JobServer g.S.Slots.Slots g.J.Job) c.args.name.now (ended c.args.end)
     c.args.self.now.server (pending_jobs c.args.self.now.pool) _
-    (map (act_view {P = g.row.S-Payload.Denot}) c.args.acts.now.items)
+    (map (act_view g.S.Payload.PartialEq.eq) c.args.acts.now.items)
     (sym c.forget.ensures.was ∙ c.if-forget.false) c.forget.ensures.pending

@@ -18,9 +18,9 @@ returns-in-Err-Full g c =
     EndsThen (stated_jobs g.S.JobServer g.S.Slots.Slots g.J.Job) c.args.name (ended Refused) (
       c.args.self.now.server,
       p,
-      map (act_view {P = g.row.S-Payload.Denot}) c.args.acts.now.items,
+      map (act_view g.S.Payload.PartialEq.eq) c.args.acts.now.items,
     ) (
       c.end_then.new.self.server,
       pending_jobs c.end_then.new.self.pool,
-      map (act_view {P = g.row.S-Payload.Denot}) c.end_then.new.acts.items,
+      map (act_view g.S.Payload.PartialEq.eq) c.end_then.new.acts.items,
     )) pending ends)) c.end_then.ensures

@@ -19,7 +19,7 @@ returns g c =
       subst (λ (x : g.row.S.Denot × PendingJobs g.row.J.Denot).
           Does jobs (g.S.Server.notified x.0 method params) x.1 others.0 (seen c.acts_with_changes.new.self))
           c.in_ok-forget_cancelled.ensures (
-            map (act_view {P = g.row.S-Payload.Denot}) c.in_ok-acts.acts.items,
+            map (act_view g.S.Payload.PartialEq.eq) c.in_ok-acts.acts.items,
             c.notification.new.self,
             c.in_ok-acts.ensures,
             others.2,

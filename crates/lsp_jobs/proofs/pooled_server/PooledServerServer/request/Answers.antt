@@ -4,6 +4,7 @@ use Rattle.std.proofs.lemmas.Result.{IfOk-weaker}
 use Rattle.lsp_message.specs.Id.{Id}
 use Rattle.lsp_service.specs.View.{act_view}
 use Rattle.lsp_jobs.proofs.PendingLemmas.{given_up, long_again}
+use Rattle.lsp_jobs.specs.Asking.{same_asked}
 use Rattle.lsp_jobs.specs.PendingJobs.{PendingJobs, without}
 use Rattle.lsp_jobs.specs.PoolView.{pending_jobs}
 use Rattle.lsp_jobs.specs.Pooled.{ChangesSlots, TakesLong}
@@ -28,19 +29,20 @@ returns-then-is_long g c =
     let method = string_bytes c.args.request.method in
     let params = view c.args.request.params in
     let did = seen c.take_long.new.self in
+    let view_all = act_view (same_asked g.S.Payload.PartialEq.eq) in
     let left = c.forget.ensures.pending
     ∙ ap (λ (id : Id). without (Request id) before) c.in_ok-clone.ensures in
     IfOk-weaker c.take_long.result _ _ (λ all long. inl (
       c.if-is_long.ensures,
-      long_again jobs server before id method params (map act_view all.items) did
-          (subst (λ p. TakesLong jobs (server, p) id method params (map act_view all.items) did)
+      long_again jobs server before id method params (map view_all all.items) did
+          (subst (λ p. TakesLong jobs (server, p) id method params (map view_all all.items) did)
           left long),
     )) c.take_long.ensures
 
 pub returns : goal.returns
 returns g c =
     let jobs = stated_jobs g.S.JobServer g.S.Slots.Slots g.J.Job in
-    let acts = map (act_view {P = g.row.S-Payload.Denot}) c.in_ok-acts.acts.items in
+    let acts = map (act_view g.S.Payload.PartialEq.eq) c.in_ok-acts.acts.items in
     let did = c.request-2.new.self in
     let before = pending_jobs c.args.self.now.pool in
     let left = c.forget.ensures.pending

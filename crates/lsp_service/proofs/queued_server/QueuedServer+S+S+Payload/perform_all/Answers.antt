@@ -14,9 +14,10 @@ loop-act-preserved g c =
     let rest : List (rust.Act _) = into_iter_items c.next.new.self in
     let turn : into_iter_items c.loop-act.act-iterator ≡ c.in-Some.act ∷ rest = c.in-Some.ensures.steps.0 in
     let start : Queues _ = queues_of c.args.self.now.queues in
-    let acts = map act_view c.loop-act.yielded in
-    let act = act_view c.in-Some.act in
-    let joined : map act_view (c.loop-act.yielded ++ c.in-Some.act ∷ []) ≡ acts ++ act ∷ [] = map-append act_view
+    let view = act_view g.S.Payload.PartialEq.eq in
+    let acts = map view c.loop-act.yielded in
+    let act = view c.in-Some.act in
+    let joined : map view (c.loop-act.yielded ++ c.in-Some.act ∷ []) ≡ acts ++ act ∷ [] = map-append view
     c.loop-act.yielded (c.in-Some.act ∷ []) in (
       tt,
       tt,

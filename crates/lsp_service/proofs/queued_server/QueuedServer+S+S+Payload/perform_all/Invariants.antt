@@ -12,6 +12,7 @@ invariant-loop-act g l =
     (goal.iterator-loop-act g).can_next l.act-iterator
     × (goal.iterator-loop-act g).is_finite l.act-iterator
     × (l.yielded ++ into_iter_items l.act-iterator ≡ l.fn.acts.items)
-    × (queues_of l.self.queues ≡ does_all (queues_of l.initial.self.queues) (map act_view l.yielded))
+    × (queues_of l.self.queues ≡ does_all (queues_of l.initial.self.queues) (map (act_view g.S.Payload.PartialEq.eq)
+    l.yielded))
     × TakesBack g.S.Server.takes_back l.initial.self.server (unsent (count_of (queues_of l.initial.self.queues).asked)
-    (map act_view l.yielded)) l.self.server
+    (map (act_view g.S.Payload.PartialEq.eq) l.yielded)) l.self.server

@@ -1,4 +1,4 @@
-use Rattle.std.proofs.Common.{◌≡◌, sym, ◌∙◌, ap, List, [], ◌∷◌, ◌++◌, append_assoc, append-nil}
+use Rattle.std.proofs.Common.{◌≡◌, sym, ◌∙◌, ap, List, [], ◌∷◌, ◌++◌, append_assoc}
 use Rattle.std.specs.List.{list_any}
 use Rattle.std.specs.Prelude.{Err}
 use Rattle.std.specs.Vec.Iter.{into_iter_items}

@@ -3,18 +3,18 @@ use Rattle.serde_json.specs.Written.{compact_text}
 use Rattle.lsp_message.specs.Text.{named}
 use Rattle.lsp_message.specs.Tree.{id_tree}
 use Rattle.lsp_message.proofs.Joined.{joined_three}
-use Rattle.lsp_message.proofs.msg.text.push_result.Goals as goal
+use Rattle.lsp_message.proofs.msg.text.push_result_text.Goals as goal
 
 pub returns-clause-text : goal.returns-clause-text
-returns-clause-text c =
+returns-clause-text c = λ tree is.
     let old = string_bytes c.args.out.now in
-    let text = string_bytes c.in_ok-text.text in
+    let text = c.args.text.now in
     let id = named c.args.before.now (codes "id") (compact_text (id_tree c.args.id.now)) in
     let result = named (codes ",") (codes "result") text in
     let second : string_bytes c.push_named.new.out ≡ string_bytes c.push_id.new.out
-    ++ result = rw (← c.as_str.ensures.value) c.in_ok-push_named.ensures in (
+    ++ result = c.in_ok-push_named.ensures in (
       id ++ result ++ codes "}",
-      (text, c.in_ok-text.ensures, refl),
+      (text, is, refl),
       joined_three old id result (codes "}") _ _ _ c.in_ok-push_id.ensures.text second c.in_ok-push_str.ensures.bytes,
     )
 

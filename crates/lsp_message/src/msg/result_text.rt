@@ -1,0 +1,185 @@
+// The result of a request while it waits: its text, which takes less memory than its tree.
+ghost use Rattle.std.specs.Prelude.{◌≡◌, ◌≤◌, Ok, Err, IfOk, OnOk, string_bytes};
+ghost use Rattle.serde_json.specs.Data.{depth};
+ghost use Rattle.serde_json.specs.Read.{max_depth};
+ghost use Rattle.serde_json.specs.View.{view};
+ghost use Rattle.lsp_message.specs.Message.{response};
+ghost use Rattle.lsp_message.specs.Readable.{WritesReadably};
+ghost use Rattle.lsp_message.specs.Text.{IsBodyOf, IsValueText};
+ghost use Rattle.lsp_message.specs.Told.{Given, WritesParts};
+ghost use Rattle.lsp_message.specs.View.{message_view};
+ghost use Rattle.lsp_message.specs.Written.{IsFrameOf, MeansAgain, Writes};
+
+use crate::frame::WriteFault;
+use crate::frame::passed::Passed;
+use crate::frame::write::{with_header, write_body};
+use crate::msg::nesting::nests_within;
+use crate::msg::text::result_body;
+use crate::msg::{Message, RequestId, Response};
+use serde_json::Value;
+use std::alloc::{AllocError, Global};
+use std::fmt;
+use std::io::Write;
+use std::marker::Model;
+use std::snapshot::Snapshot;
+
+/// `serde_json` reads no text that nests more.
+const MAX_LEVELS: u32 = 127;
+
+/// The result of a request while it waits to be sent (JSON-RPC 2.0, section 5): its JSON text. A tree takes some twenty times the memory of
+/// its text. One that nests more than 127 levels waits as the tree, since `serde_json` would not read its text.
+///
+/// Contracts see the tree.
+#[derive(Drop)]
+pub struct ResultText {
+    kept: Kept,
+}
+
+/// What is kept of a result.
+#[derive(Drop)]
+pub(crate) enum Kept {
+    /// Its text. Clauses alone see the tree.
+    Text(String, Snapshot<Value>),
+    /// Itself.
+    Tree(Value),
+}
+
+impl Model for ResultText {
+    ghost use Rattle.serde_json.specs.contracts.value.Value as row;
+    ghost use Rattle.serde_json.specs.declared.value.Value as tree;
+    ghost use Rattle.std.specs.Coded.{codes};
+
+    ghost Value = { tree.Value };
+
+    ghost coded = { Prim.hlevel (codes, row.the_row.coded) };
+
+    ghost use Rattle.lsp_message.specs.ResultText.{IsKept, kept_tree};
+
+    ghost view = { λ r. kept_tree r.kept };
+
+    ghost invariant = { λ r. IsKept r.kept };
+}
+
+impl fmt::Debug for ResultText {
+    fn fmt<W: fmt::Write>(&self, f: &mut fmt::Formatter<W>) -> fmt::Result {
+        match &self.kept {
+            Kept::Text(text, _) => f.write_str(text.as_str()),
+            Kept::Tree(tree) => write!(f, "{tree:?}"),
+        }
+    }
+}
+
+impl ResultText {
+    /// Writes the text of a result, and drops the tree. The error means that an allocation failed.
+    pub fn of(alloc: Global, tree: Value) -> Result<ResultText, AllocError>
+        ensures { IfOk result (λ kept. kept ≡ tree) }
+    {
+        if !nests_within(&tree, MAX_LEVELS) {
+            return Ok(ResultText {
+                kept: Kept::Tree(tree),
+            });
+        }
+        let mut text = tree.to_string(alloc)?;
+        text.shrink_to_fit();
+        let seen = Snapshot::of(&tree);
+        drop(tree);
+        Ok(ResultText {
+            kept: Kept::Text(text, seen),
+        })
+    }
+
+    /// The result as a tree again, read from its text. The error means that an allocation failed.
+    pub fn into_value(self, alloc: Global) -> Result<Value, AllocError>
+        ensures { IfOk result (λ tree. view tree ≡ view self) }
+    {
+        match self.kept {
+            Kept::Text(text, seen) => read_back(alloc, text.as_str(), seen),
+            Kept::Tree(tree) => Ok(tree),
+        }
+    }
+
+    /// The response with this id and this result as a message, read from the text. The error means that an allocation failed.
+    pub fn into_message(self, alloc: Global, id: &RequestId) -> Result<Message, AllocError>
+        ensures { IfOk result (λ message. message_view message ≡ response id.now (Ok (view self))) }
+    {
+        let id = id.clone()?;
+        let value = self.into_value(alloc)?;
+        Ok(Message::Response(Response {
+            id,
+            response_result: Ok(value),
+        }))
+    }
+
+    /// The frame of the response with this id and this result: the bytes that `Message::to_frame` gives for it (LSP 3.17, "Base
+    /// Protocol"). The text is copied, and not read. The error means that an allocation failed.
+    pub fn into_frame(self, alloc: Global, id: &RequestId) -> Result<String, AllocError>
+        ensures { IfOk result (λ frame. IsFrameOf (response id.now (Ok (view self))) (string_bytes frame)) }
+    {
+        let body = self.into_body(alloc, id)?;
+        with_header(alloc, body)
+    }
+
+    /// Writes the response with this id and this result, as `Message::write_telling` does, and adds the bytes that the writer takes to the
+    /// account.
+    pub fn write_telling<W: Write>(
+        self,
+        alloc: Global,
+        writer: &mut W,
+        id: &RequestId,
+        given: &mut Passed,
+    ) -> Result<(), WriteFault>
+        ensures frame { Writes (response id.now (Ok (view self))) (W.contents writer.old) result
+            (W.contents writer.new) }
+        ensures memory { result ≡ Err WriteFault.Memory → writer.new ≡ writer.old }
+        ensures reads_back { OnOk result (
+            WritesReadably (response id.now (Ok (view self))) (W.contents writer.old)
+            (W.contents writer.new)) }
+        ensures told { Given (WritesParts (response id.now (Ok (view self))) result) given.old.parts
+            given.new.parts (W.contents writer.old) (W.contents writer.new) }
+    {
+        let body = self.into_body(alloc, id)?;
+        write_body(alloc, writer, body, given)
+    }
+
+    /// The content part of the response with this id and this result.
+    fn into_body(self, alloc: Global, id: &RequestId) -> Result<String, AllocError>
+        ensures text { IfOk result (λ body.
+            IsBodyOf (response id.now (Ok (view self))) (string_bytes body)) }
+        ensures reads_back { IfOk result (λ body.
+            MeansAgain (response id.now (Ok (view self))) (string_bytes body)) }
+    {
+        match self.kept {
+            Kept::Text(text, seen) => result_body(alloc, id, text.as_str(), seen),
+            Kept::Tree(tree) => body_of_tree(alloc, id, tree),
+        }
+    }
+}
+
+/// The tree that this text is read as.
+fn read_back(alloc: Global, text: &str, seen: Snapshot<Value>) -> Result<Value, AllocError>
+    requires text { IsValueText (view seen.value) text.now }
+    requires nests { depth (view seen.value) ≤ max_depth }
+    ensures { IfOk result (λ tree. view tree ≡ view seen.value) }
+{
+    let _seen = seen;
+    match Value::from_str(alloc, text) {
+        Ok(tree) => Ok(tree),
+        Err(error) => {
+            drop(error);
+            Err(AllocError)
+        }
+    }
+}
+
+/// The content part of the response with this tree as its result.
+fn body_of_tree(alloc: Global, id: &RequestId, tree: Value) -> Result<String, AllocError>
+    ensures text { IfOk result (λ body.
+        IsBodyOf (response id.now (Ok (view tree))) (string_bytes body)) }
+    ensures reads_back { IfOk result (λ body.
+        MeansAgain (response id.now (Ok (view tree))) (string_bytes body)) }
+{
+    let text = tree.to_string(alloc)?;
+    let seen = Snapshot::of(&tree);
+    drop(tree);
+    result_body(alloc, id, text.as_str(), seen)
+}
