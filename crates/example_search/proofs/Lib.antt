@@ -1,2 +1,6 @@
-pub mod Known
-pub mod Symbols
+mod Known
+mod Lists
+mod Order
+mod Replies
+mod Searches
+mod Symbols

@@ -92,8 +92,9 @@ pub finds_symbols : (texts : List (List ℕ × LinedText)) (word : List ℕ) (fo
 finds_symbols texts word found are = (map view found.items, view-Array found, are)
 
 -- what a search comes to is the answer
-pub answered : {A : Type 0} (texts : List (List ℕ × LinedText)) (word : List ℕ) (params : Data) (job : A)
-    (came : Came Unit) → word_in params ≡ Some word → ComesTo (λ _ reply _. RepliesSymbols texts word reply) job came
+pub answered : {A F : Type 0} (texts : List (List ℕ × LinedText)) (word : List ℕ) (params : Data) (job : A)
+    (came : Came F) → word_in params ≡ Some word
+    → ComesTo (λ (j : A) reply (it : Option F). RepliesSymbols texts word reply) job came
     → Answers texts params (reply_of came)
 answered texts word params job (gave reply found) asked comes =
     inl (word, comes.0, asked, ap (λ (r : Option Outcome). reply_of (gave r found)) comes.1, comes.2)

@@ -1,3 +1,4 @@
 pub mod Found
+pub mod Open
 pub mod Promise
 pub mod Sources

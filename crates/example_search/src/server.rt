@@ -1,9 +1,12 @@
 // The server: the texts that are open, what the client is told, and what it asks.
 ghost use Rattle.serde_json.specs.View.{view};
-ghost use Rattle.std.specs.Prelude.{◌≡◌, None, Some, IfOk, IfSome, MatchOption, option_map, string_bytes};
-ghost use Rattle.lsp_documents.specs.Held.{texts_of};
+ghost use Rattle.std.specs.Prelude.{◌≡◌, ◌⊎◌, None, Some, IfOk, IfSome, MatchOption, OnOk, option_map, string_bytes};
+ghost use Rattle.lsp_documents.specs.Held.{documents_of, texts_of};
 ghost use Rattle.lsp_documents.specs.Known.{copied};
+ghost use Rattle.lsp_documents.specs.Notices.{MissesAll};
+ghost use Rattle.lsp_message.specs.Message.{notification as told};
 ghost use Rattle.lsp_message.specs.View.{error_view};
+ghost use Rattle.example_search.specs.Open.{HasNone, Makes};
 ghost use Rattle.example_search.specs.Sources.{FindsSymbols, which_word, word_in};
 
 use crate::search::{Search, Silence};
@@ -48,6 +51,25 @@ pub struct Sums {
 type Acts = Vec<Act<()>>;
 
 impl Server for Sums {
+    ghost use Rattle.std.specs.Prelude.{◌≡◌, Some};
+    ghost use Rattle.lsp_message.specs.Message.{notification, request};
+    ghost use Rattle.example_search.specs.Open.{HasNone, Hears};
+
+    // No document is open at first, and each message makes of the documents what it says.
+    ghost initializes = { λ _ _ _ new. HasNone new.documents };
+
+    ghost at_initialized = { λ old _ new. new.documents ≡ old.documents };
+
+    ghost requested = { λ old id method params _ new.
+        Hears old.documents (Some (request id method params)) new.documents };
+
+    ghost notified = { λ old method params _ new.
+        Hears old.documents (Some (notification method params)) new.documents };
+
+    ghost replied = { λ old _ _ _ new. new.documents ≡ old.documents };
+
+    ghost takes_back = { λ old _ new. new.documents ≡ old.documents };
+
     // The configuration is all that the server asks for.
     type Payload = ();
 
@@ -129,7 +151,9 @@ impl JobServer<Search> for Sums {
 
 impl Sums {
     /// A server before its session.
-    pub fn new(alloc: Global, passed_over: PassedOver) -> Sums {
+    pub fn new(alloc: Global, passed_over: PassedOver) -> Sums
+        ensures { HasNone result.documents }
+    {
         Sums {
             alloc,
             largest: i64::MAX,
@@ -142,7 +166,9 @@ impl Sums {
     }
 
     /// Agrees with the client on how its texts are told, and gives the result of `initialize`, which announces it.
-    fn agree(&mut self, params: &Value) -> Result<Value, AllocError> {
+    fn agree(&mut self, params: &Value) -> Result<Value, AllocError>
+        ensures { OnOk result (HasNone self.new.documents) }
+    {
         let mut can = tree(Value::from_str(self.alloc, CAPABILITIES))?;
         let agreed = Agreed::announced(self.alloc, params, true, &mut can)?;
         self.documents = TextDocuments::new(self.alloc, agreed);
@@ -150,7 +176,9 @@ impl Sums {
     }
 
     /// What is done at a request.
-    fn reply_to(&mut self, request: Request) -> Result<Acts, AllocError> {
+    fn reply_to(&mut self, request: Request) -> Result<Acts, AllocError>
+        ensures { self.new.documents ≡ self.old.documents }
+    {
         match request.method.as_str() {
             "textDocument/hover" => self.reply(request.id, self.hover(&request.params)?),
             "sums/text" => self.reply(request.id, self.text(&request.params)?),
@@ -161,7 +189,10 @@ impl Sums {
     }
 
     /// If a body was passed over since the last message, no text is sure: each is lost, and its marks go, until its client sends it whole.
-    fn lose_texts(&mut self) -> Result<Acts, AllocError> {
+    fn lose_texts(&mut self) -> Result<Acts, AllocError>
+        ensures { (self.new.documents ≡ self.old.documents)
+            ⊎ MissesAll (documents_of self.old.documents) (documents_of self.new.documents) }
+    {
         let mut acts = Vec::new(self.alloc);
         if self.passed_over.take() {
             self.documents.lose_all();
@@ -184,7 +215,9 @@ impl Sums {
     }
 
     /// Keeps a request until nothing is wrong with its text.
-    fn wait(&mut self, request: Request) -> Result<Acts, AllocError> {
+    fn wait(&mut self, request: Request) -> Result<Acts, AllocError>
+        ensures { self.new.documents ≡ self.old.documents }
+    {
         if uri_in(&request.params).is_none() {
             return self.refuse(request.id, "which text?");
         }
@@ -193,7 +226,7 @@ impl Sums {
     }
 
     /// Finds the headings of all texts that contain a word, at once (LSP 3.17, "Workspace Symbols Request").
-    fn search(&mut self, request: Request) -> Result<Acts, AllocError> {
+    fn search(&self, request: Request) -> Result<Acts, AllocError> {
         match self.search_in(&request.params)? {
             Some(search) => {
                 let found = found_by(search)?;
@@ -242,7 +275,10 @@ impl Sums {
     }
 
     /// What the client is told after a notification.
-    fn note(&mut self, notification: &Notification, acts: &mut Acts) -> Result<(), AllocError> {
+    fn note(&mut self, notification: &Notification, acts: &mut Acts) -> Result<(), AllocError>
+        ensures { Makes self.old.documents (Some (told (string_bytes notification.now.method)
+            (view notification.now.params))) self.new.documents }
+    {
         match self.documents.hear(notification) {
             Some(Ok(made)) => self.hear(made, acts),
             Some(Err(missed)) => self.complain(missed.unless_memory()?, acts),
@@ -254,7 +290,9 @@ impl Sums {
     }
 
     /// What the client is told after a notification that was made: what there is to say of it, and what is wrong with the text.
-    fn hear(&mut self, made: Made<'_>, acts: &mut Acts) -> Result<(), AllocError> {
+    fn hear(&mut self, made: Made<'_>, acts: &mut Acts) -> Result<(), AllocError>
+        ensures { self.new.documents ≡ self.old.documents }
+    {
         if made.remark.is_some() {
             self.log(2, &made, acts)?;
         }
@@ -263,7 +301,9 @@ impl Sums {
 
     /// What the client is told after a notification that was not made: why, but not at each keystroke anew, and no marks of a text that
     /// was lost by it. Each may be, if no URI is named.
-    fn complain(&mut self, missed: NotMade<'_>, acts: &mut Acts) -> Result<(), AllocError> {
+    fn complain(&mut self, missed: NotMade<'_>, acts: &mut Acts) -> Result<(), AllocError>
+        ensures { self.new.documents ≡ self.old.documents }
+    {
         let line = format!(in self.alloc; "{missed}")?;
         if missed.lost || line.as_str() != self.complaint.as_str() {
             self.log(1, &line, acts)?;
@@ -285,16 +325,12 @@ impl Sums {
 
     /// What the client is told of a text that is open, or was: what is wrong with it, and the replies that waited for it to be
     /// right.
-    fn check(&mut self, uri: &str, acts: &mut Acts) -> Result<(), AllocError> {
-        if !self.mark(uri, self.documents.get(uri), acts)? {
-            return Ok(());
-        }
-        for request in mem::replace(&mut self.waiting, Vec::new(self.alloc)) {
-            if uri_in(&request.params) == Some(uri) {
-                acts.push(Act::Reply(request.id, Ok(Value::Bool(true))))?;
-            } else {
-                self.waiting.push(request)?;
-            }
+    fn check(&mut self, uri: &str, acts: &mut Acts) -> Result<(), AllocError>
+        ensures { self.new.documents ≡ self.old.documents }
+    {
+        if self.mark(uri, self.documents.get(uri), acts)? {
+            let waiting = mem::replace(&mut self.waiting, Vec::new(self.alloc));
+            self.waiting = still_waiting(self.alloc, waiting, uri, acts)?;
         }
         Ok(())
     }
@@ -393,6 +429,24 @@ impl Sums {
         let range = self.documents.range_of(text, word.start..word.end());
         tree(to_value(self.alloc, &range))
     }
+}
+
+/// Replies to the requests that waited for a text to be right, and gives those that wait for others.
+fn still_waiting(
+    alloc: Global,
+    waiting: Vec<Request>,
+    uri: &str,
+    acts: &mut Acts,
+) -> Result<Vec<Request>, AllocError> {
+    let mut others = Vec::new(alloc);
+    for request in waiting {
+        if uri_in(&request.params) == Some(uri) {
+            acts.push(Act::Reply(request.id, Ok(Value::Bool(true))))?;
+        } else {
+            others.push(request)?;
+        }
+    }
+    Ok(others)
 }
 
 /// A tree that only lack of memory can keep from being made.

@@ -1,24 +1,18 @@
 // A session of the server: on one thread, with a thread that reads and one that writes, and with threads that search.
-ghost use Rattle.serde_json.specs.Data.{Data};
-ghost use Rattle.std.specs.Prelude.{◌≡◌, ℕ, true, List, [], Some, IfOk, IfSome, codes};
+ghost use Rattle.std.specs.Prelude.{true, List, Option, [], Some, IfOk};
+ghost use Rattle.lsp_message.specs.Message.{Message};
+ghost use Rattle.lsp_session.specs.Session.{Exchange, SessionAnswer, Stop};
 ghost use Rattle.lsp_session.specs.StreamTransports.{IsUnused, Serves};
 ghost use Rattle.lsp_threads.specs.Passing.{GivenTo, OfTaken, TakenFrom, noted};
 ghost use Rattle.lsp_threads.specs.Threads.{ThreadsTell, ThreadsTellOver};
-ghost use Rattle.lsp_documents.specs.Held.{texts_of};
-ghost use Rattle.lsp_jobs.specs.Ends.{Came, ComesTo, reply_of};
 ghost use Rattle.lsp_jobs.specs.JobLaw.{LawfulJobSession};
-ghost use Rattle.lsp_jobs.specs.PendingJobs.{PendingJobs};
-ghost use Rattle.lsp_jobs.specs.Pooled.{StartsJob};
-ghost use Rattle.lsp_jobs.specs.declared.asking.Asked.{Asked};
-ghost use Rattle.lsp_message.specs.Id.{Id};
-ghost use Rattle.lsp_service.specs.Acts.{Act as PlainAct};
 ghost use Rattle.lsp_service.specs.Stated.{unwoken};
-ghost use Rattle.example_search.specs.Promise.{AnswersOnce};
-ghost use Rattle.example_search.specs.Sources.{Answers};
+ghost use Rattle.example_search.specs.Open.{HasNone, SearchesOpenTexts};
+ghost use Rattle.example_search.specs.Promise.{AnswersOnce, SearchSession};
 
 use crate::search::Search;
 use crate::server::Sums;
-use lsp_jobs::laws::session_with_jobs_keeps_laws;
+use lsp_jobs::laws::{session_with_jobs_keeps_laws, slots_hear_their_last_jobs};
 use lsp_jobs::{Job, JobServer, NoSlots, PoolSize, Slots, run_jobs};
 use lsp_server::laws::server_keeps_laws;
 use lsp_server::{
@@ -84,7 +78,7 @@ const SIZE: PoolSize = PoolSize {
 };
 
 /// `serve_in_threads` with a pool whose threads search. The session keeps the laws of a session without jobs, whatever the searches come to
-/// and when.
+/// and when. What they find is of the texts that were open when their requests came: see `symbols_are_of_open_texts`.
 pub fn serve_with_jobs<T, R, W>(
     rt: &T,
     alloc: Global,
@@ -96,8 +90,9 @@ where
     T: Threads + Wait + Copy + Drop + Send + 'static,
     R: BufRead + Drop + Send + 'static,
     W: Write + Drop + Send + 'static,
+    requires { HasNone sums.documents }
     ensures told { IfOk result.1 (λ done. OfTaken done.taken.parts (λ text.
-        ThreadsTellOver true ⟦<PassedOver as Listener>⟧.hears client.limits (LawfulJobSession T ⟦<Sums as Server>⟧
+        ThreadsTellOver true ⟦<PassedOver as Listener>⟧.hears client.limits (SearchSession T ⟦<Sums as Server>⟧
         (record {
           sorts = ⟦<Sums as JobServer<Search>>⟧.sorts;
           gives = ⟦<Sums as JobServer<Search>>⟧.gives;
@@ -115,17 +110,20 @@ where
         × GivenTo (W.contents client.writer) done.given.parts (W.contents done.writer)) }
 {
     session_with_jobs_keeps_laws::<T, Sums, Search>();
+    symbols_are_of_open_texts::<T>();
     let mut options = ThreadOptions::new();
     options.limits = client.limits;
     let (reader, writer) = (client.reader, client.writer);
     run_jobs(rt, alloc, reader, writer, SIZE, sums, passed_over, options)
 }
 
-/// Where a search is started at a request, whatever it comes to: the reply has all headings with the request's word, of the texts that were
-/// open when the request came, and no others. Or it is the error of a failed allocation, or of a cancellation.
-fn symbols_are_of_open_texts()
-    ensures { (old new : Sums × PendingJobs Search) (id : Id) (method : List ℕ) (params : Data)
-        (all : List (PlainAct (Asked Unit))) → (starts : StartsJob
+/// Of a session with jobs, from a server that holds no documents: each reply at a wake is to the last request under its id,
+/// which is a search. It has all headings with the request's word, of the texts that were open when the request came, and no others. These are what
+/// the client's notifications before it made of no documents. Or it is the error of a failed allocation, or of a cancellation.
+fn symbols_are_of_open_texts<T: Wait + Drop>()
+    ensures { (first last : Sums) (exchanges : List Exchange) (stop : Stop) (shutdown_reply : Option Message)
+        (answer : SessionAnswer) → HasNone first.documents
+        → LawfulJobSession T ⟦<Sums as Server>⟧
         (record {
           sorts = ⟦<Sums as JobServer<Search>>⟧.sorts;
           gives = ⟦<Sums as JobServer<Search>>⟧.gives;
@@ -137,7 +135,9 @@ fn symbols_are_of_open_texts()
           comes_to = ⟦<Search as Job>⟧.comes_to;
           reports = ⟦<Search as Job>⟧.reports;
           asks = ⟦<Search as Job>⟧.asks;
-        }) old id method params all new)
-        → (came : Came Unit) → ComesTo ⟦<Search as Job>⟧.comes_to starts.job came
-        → Answers (texts_of old.0.documents) params (reply_of came) }
-{}
+        })
+        first last exchanges stop shutdown_reply answer
+        → SearchesOpenTexts exchanges }
+{
+    slots_hear_their_last_jobs::<T, Sums, Search>();
+}

@@ -1,10 +1,20 @@
-use Rattle.std.proofs.Common.{subst, string_bytes}
-use Rattle.lsp_jobs.specs.Ends.{reply_of}
-use Rattle.example_search.proofs.Symbols.{answered}
-use Rattle.example_search.specs.Sources.{Answers}
+use Rattle.std.proofs.Common.{refl}
+use Rattle.example_search.proofs.Searches.{searches}
 use Rattle.example_search.proofs.sessions.symbols_are_of_open_texts.Goals as goal
 
 pub returns : goal.returns
-returns c = λ old new id method params all starts came comes.
-    subst (λ texts. Answers texts params (reply_of came)) starts.gives
-    (answered _ (string_bytes starts.job.query) params starts.job came starts.is_for comes)
+returns g c = searches g.row.T.Denot _ _ (record {
+  initialized = λ old params outcome new h. h;
+  began = λ old acts new h. h;
+  requested = λ old id method params acts new h. h;
+  notified = λ old method params acts new h. h;
+  replied = λ old payload outcome acts new h. h;
+  took_back = λ old payload new h. h;
+  changed = λ old changes new h. h.1;
+  heard = λ old name found acts new h. h;
+  finished = λ old name end acts new h. h;
+  is_search = λ old method params h. h refl;
+  gives = λ old id method params job h. h;
+  is_for = λ job method params h. h;
+  finds = λ job reply it h. h;
+}) c.slots_hear_their_last_jobs.ensures.turns c.slots_hear_their_last_jobs.ensures.first
