@@ -13,18 +13,18 @@ ghost use Rattle.lsp_service.specs.Stated.{unwoken};
 
 use anyhow::{Result as Answer, bail};
 use lsp_documents::{Agreed, Made, NotMade, TextDocuments};
-use lsp_methods::{Configuration, answer, publish};
+use lsp_methods::{Configuration, answer, publish, reply};
 use lsp_server::clients::{ClientOptions, serve_clients};
 use lsp_server::{
     Act, EndSession, Notification, Request, ResponseError, Server, SessionEnd, SessionFault,
-    StreamTransport, read_as, session_with_over, write_as,
+    StreamTransport, read_as, session_with_over,
 };
 use lsp_text::{Text, TextDocument};
 use lsp_types::methods::{DefinitionRequest, HoverRequest};
 use lsp_types::{
     DefinitionParams, DefinitionResult, Diagnostic, DiagnosticSeverity, Hover, HoverParams,
     InitializeParams, InitializeResult, Location, MarkupKind, MessageType, Position, Range,
-    ServerCapabilities,
+    ServerCapabilities, ToJson,
 };
 use serde_json::Value;
 use std::alloc::{AllocError, Global};
@@ -47,7 +47,7 @@ struct Checker {
 }
 
 /// What a request of the server's own was for.
-#[derive(Drop)]
+#[derive(Drop, PartialEq)]
 enum Asked {
     Configuration,
 }
@@ -75,9 +75,9 @@ impl Server for Checker {
         let can = self.agree(&params);
         drop(params);
         let result = InitializeResult::new(self.alloc, can?, "lines")?;
-        let written = write_as(self.alloc, &result);
+        let written = result.to_json(self.alloc);
         drop(result);
-        written
+        Ok(Ok(written?))
     }
 
     fn initialized(&mut self) -> Result<Acts, AllocError> {
@@ -209,7 +209,11 @@ impl Checker {
     }
 
     fn answer_hover(&self, request: Request) -> Result<Acts, AllocError> {
-        Act::answer(self.alloc, request, |params| self.hover(&params))
+        let alloc = self.alloc;
+        Act::of_request(alloc, request, |id, params| {
+            let found = self.hover(&params)?;
+            Act::one(alloc, reply::<HoverRequest, _>(alloc, id, &found)?)
+        })
     }
 
     /// Tells the client which lines of a document are too long: none, if it is closed or its text is lost.

@@ -32,10 +32,9 @@ use Rattle.lsp_jobs.specs.SlotLaw.{LeavesAlone, slot_of}
 use Rattle.lsp_jobs.specs.declared.job_server.SlotChange.{SlotChange}
 use Rattle.lsp_jobs.specs.declared.job_server.SlotChange.TheVariants.{Start, Stop}
 use Rattle.lsp_message.specs.Id.{Id, text, same_id}
-use Rattle.lsp_service.specs.View.{act_view}
 use Rattle.lsp_service.specs.declared.server.Act as rust
 use Rattle.example_linter.proofs.Lists.{in_list, only, some_and}
-use Rattle.example_linter.specs.Followed.{AreChangesOf, Clears, Follow, IsChangeOf, IsCurrent}
+use Rattle.example_linter.specs.Followed.{act_seen, AreChangesOf, Clears, Follow, IsChangeOf, IsCurrent}
 use Rattle.example_linter.specs.declared.Analysis.{Analysis}
 
 -- only the document of this URI changed; or, without one, none came that was not there
@@ -222,10 +221,10 @@ follows_all r before held now old new touches same = on_ok_weaker r (λ did none
 
 pub cleared : {A E : Type 0} (r : Result A E) (held now : TextDocuments) (old new : List (rust.Act (Unit {0})))
     → old ≡ [] → now ≡ held
-    → OnOk r (All (Clears {P = Unit {0}} (documents_of held)) (map act_view old)
-    → All (Clears {P = Unit {0}} (documents_of held)) (map act_view new))
-    → OnOk r (All (Clears {P = Unit {0}} (documents_of now)) (map act_view new))
+    → OnOk r (All (Clears {P = Unit {0}} (documents_of held)) (map act_seen old)
+    → All (Clears {P = Unit {0}} (documents_of held)) (map act_seen new))
+    → OnOk r (All (Clears {P = Unit {0}} (documents_of now)) (map act_seen new))
 cleared r held now old new none same = on_ok_weaker r (λ did.
-    subst (λ (d : TextDocuments). All (Clears {P = Unit {0}} (documents_of d)) (map act_view new)) (sym same)
-    (did (subst (λ (l : List (rust.Act (Unit {0}))). All (Clears {P = Unit {0}} (documents_of held)) (map act_view l))
+    subst (λ (d : TextDocuments). All (Clears {P = Unit {0}} (documents_of d)) (map act_seen new)) (sym same)
+    (did (subst (λ (l : List (rust.Act (Unit {0}))). All (Clears {P = Unit {0}} (documents_of held)) (map act_seen l))
     (sym none) (All-nil (Clears {P = Unit {0}} (documents_of held))))))

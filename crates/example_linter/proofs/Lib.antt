@@ -1,3 +1,4 @@
+mod Crossing
 mod Heard
 mod Lists
 mod Marks

@@ -1,12 +1,12 @@
 -- Through the turns of the server, each analysis that stands in a slot is of its document as it is then.
 use Rattle.serde_json.specs.Data.{Data}
-use Rattle.serde_json.specs.View.{view}
 use Rattle.std.proofs.Common.{◌≡◌, refl, sym, ◌∙◌, ap, subst, inl, inr, ℕ, List, [], ◌∷◌, ◌++◌, append_assoc}
 use Rattle.std.proofs.Common.{append-nil, Option, Some, None, string_bytes}
 use Rattle.std.specs.Prelude.{map as map_list, ℤ, IsSomeAnd}
 use Rattle.lsp_documents.specs.Held.{documents_of}
 use Rattle.lsp_documents.specs.Notices.{Documents}
-use Rattle.lsp_jobs.specs.Asking.{by_server}
+use Rattle.lsp_documents.specs.declared.known.OpenText.{OpenText}
+use Rattle.lsp_jobs.specs.Asking.{by_server, of_job}
 use Rattle.lsp_jobs.specs.Ends.{Came, ComesTo, End, Outcome, end_of, ended, found, gave, gave_up, out_of_memory}
 use Rattle.lsp_jobs.specs.JobLaw.{Left, IsLeft, at_ends}
 use Rattle.lsp_jobs.specs.Pooled.{reply_at}
@@ -24,19 +24,18 @@ use Rattle.lsp_message.specs.Id.{Id}
 use Rattle.lsp_message.specs.Message.{Message, request, notification, response}
 use Rattle.lsp_service.specs.Acts.{Act, TakesBack, tells, asks, replies, cancels}
 use Rattle.lsp_service.specs.Law.{Call}
-use Rattle.lsp_service.specs.Publishing.{Publishes}
 use Rattle.lsp_service.specs.declared.server.Server.{Ghosts as Plain}
 use Rattle.lsp_session.specs.Session.{Exchange}
 use Rattle.lsp_text.specs.Documents.{Document}
 use Rattle.lsp_text.specs.Lines.{LinedText}
+use Rattle.lsp_types.specs.declared.diagnostics.Diagnostic.{Diagnostic}
 use Rattle.example_linter.proofs.Lists.{not_empty, only, place, some_and}
-use Rattle.example_linter.specs.Followed.{Follow, IsCurrent, IsOf, known, written}
+use Rattle.example_linter.specs.Followed.{Follow, IsCurrent, IsOf, known, shows}
 use Rattle.example_linter.specs.Marks.{AreMarksOf, FindsMarks}
 use Rattle.example_linter.specs.Shown.{Shows, ShowsHeld, ShowsHeldTexts}
 use Rattle.example_linter.specs.declared.Analysis.{Analysis}
 use Rattle.example_linter.specs.declared.Findings.{Findings}
 use Rattle.example_linter.specs.declared.Linter.{Linter}
-use Rattle.example_linter.specs.declared.Source.{Source}
 
 -- what is told is what the server told
 told : {P : Type 0} (method : List ℕ) (params : Data) (act : Act P)
@@ -51,7 +50,8 @@ none_told : {P : Type 0} {acts : List (Act (Asked P))} (first : List (Act P)) �
     → acts ≡ map_list by_server (first ++ []) → acts ≡ []
 none_told first none all = all ∙ ap (λ l. map_list by_server (l ++ [])) none
 
-module _ {P : Type 0} (plain : Plain Linter P) (may : StatedJobs Linter Analysis Findings P) where
+module _ {P : Type 0} (written : Diagnostic → Data) (plain : Plain Linter P)
+    (may : StatedJobs Linter Analysis Findings P) where
   -- what the server and its jobs state, as far as it is needed here
   pub record States : Type 0 where
     pub began : (old : Linter) (acts : List (Act P)) (new : Linter) → plain.at_initialized old acts new → new ≡ old
@@ -67,12 +67,12 @@ module _ {P : Type 0} (plain : Plain Linter P) (may : StatedJobs Linter Analysis
         → may.changes old changes new
         → (changes ≡ old.changes.items) × (new.changes.items ≡ []) × (new.documents ≡ old.documents)
     pub heard : (old : Linter) (name : JobName) (found : Findings) (acts : List (Act P)) (new : Linter)
-        → may.hears old name found acts new → Shows found acts × (new ≡ old)
+        → may.hears old name found acts new → Shows written found acts × (new ≡ old)
     pub finished : (old : Linter) (name : JobName) (end : JobEnd) (acts : List (Act P)) (new : Linter)
         → may.finishes old name end acts new → (acts ≡ []) × (new ≡ old)
     pub for_none : (job : Analysis) (method : List ℕ) (params : Data) → may.is_for job method params → ⊥
     pub finds : (job : Analysis) (reply : Option Outcome) (found : Option Findings) → may.comes_to job reply found
-        → FindsMarks job found
+        → FindsMarks written job found
     pub reported : (job : Analysis) (method : List ℕ) (params : Data) → may.reports job method params → ⊥
     pub asked : (job : Analysis) (method : List ℕ) (params : Data) → may.asks job method params → ⊥
 
@@ -226,24 +226,24 @@ module _ {P : Type 0} (plain : Plain Linter P) (may : StatedJobs Linter Analysis
       silent nothing = absurd (not_empty before after (tells method params) (sym nothing ∙ at))
 
       published : (slot : Id) (job : Analysis) (findings : Findings) (act : Act P)
-          → LastStart plain may earlier slot job → FindsMarks job (Some findings)
-          → Publishes written (string_bytes findings.source.uri) findings.source.version findings.marks.items act
-          → t.call.acts ≡ by_server act ∷ [] → Held
-      published slot job findings act stands finds publishes all =
+          → LastStart plain may earlier slot job → FindsMarks written job (Some findings)
+          → act ≡ shows (string_bytes findings.source.uri) findings.source.version
+          (map_list written findings.marks.items) → t.call.acts ≡ by_server act ∷ [] → Held
+      published slot job findings act stands finds is all =
           let current = some_and (IsOf job) (known (documents_of t.old.documents) (string_bytes job.source.uri))
           (good.right slot job stands).1 in
           let source = finds.0 in
-          let version = ap (λ (s : Source). s.version) source ∙ current.2.version in
+          let version = ap (λ (s : OpenText). s.version) source ∙ current.2.version in
           let same = told method params act (only before after (tells method params) (by_server act) (sym all ∙ at)) in
           record {
             uri = string_bytes job.source.uri;
             document = current.0;
             held = current.1;
-            marks = findings.marks.items;
-            are_its = subst (λ (x : LinedText). AreMarksOf x (map_list view findings.marks.items)) current.2.text
+            marks = map_list written findings.marks.items;
+            are_its = subst (λ (x : LinedText). AreMarksOf x (map_list written findings.marks.items)) current.2.text
                 finds.1;
-            publishes = subst (λ (x : List ℕ × Option ℤ × Act P). Publishes written x.0 x.1 findings.marks.items x.2)
-                (λ k. (string_bytes (source k).uri, version k, same k)) publishes;
+            shown = sym same ∙ is
+                ∙ (λ k. shows (string_bytes (source k).uri) (version k) (map_list written findings.marks.items));
           }
 
       says : (name : JobName) (job : Analysis) (came : Came Findings) (first : List (Act P)) (new : Linter)
@@ -251,9 +251,10 @@ module _ {P : Type 0} (plain : Plain Linter P) (may : StatedJobs Linter Analysis
           → SeesEnd may t.old name (end_of came) first new
           → t.call.acts ≡ map_list by_server (first ++ reply_at name came) → Held
       says (Slot slot) job (gave reply (Some it)) first new stands comes saw all =
-          let shows = (states.heard t.old (Slot slot) it first new saw).0 in
-          published slot job it shows.0 stands (states.finds job reply (Some it) comes) shows.1
-          (all ∙ ap (λ (acts : List (Act P)). map_list by_server (acts ++ [])) shows.2)
+          let told_of = (states.heard t.old (Slot slot) it first new saw).0 in
+          published slot job it (shows (string_bytes it.source.uri) it.source.version
+          (map_list written it.marks.items)) stands (states.finds job reply (Some it) comes) refl
+          (all ∙ ap (λ (acts : List (Act P)). map_list by_server (acts ++ [])) told_of)
       says (Slot slot) job (gave reply None) first new stands comes saw all =
           silent (none_told first (states.finished t.old (Slot slot) Done first new saw).0 all)
       says (Slot slot) job out_of_memory first new stands comes saw all =
@@ -265,7 +266,7 @@ module _ {P : Type 0} (plain : Plain Linter P) (may : StatedJobs Linter Analysis
 
       shows_held : WakeDoes plain may earlier t → Held
       shows_held (inl nothing) = silent nothing
-      shows_held (inr w) = elim w.3 [
+      shows_held (inr (inl w)) = elim w.3 [
         | inl r ↦ absurd (states.reported w.1 r.0 r.1 r.2)
         | inr more ↦ elim more [
           | inl a ↦ absurd (states.asked w.1 a.0 a.1 a.3)
@@ -275,6 +276,10 @@ module _ {P : Type 0} (plain : Plain Linter P) (may : StatedJobs Linter Analysis
               ∙ ap (map_list by_server) (append-nil (o.1 ++ reply_at w.0 o.0)))
         ]
       ]
+      shows_held (inr (inr (number, is))) =
+          let one : tells method params ≡ cancels (of_job number) = only before after (tells method params)
+          (cancels (of_job number)) (sym is ∙ at) in
+          absurd (cc (one))
 
     pub all_shown : (start : Linter) (opening : Exchange) (begun : List (Act (Asked P)))
         (calls : List (Call (Asked P))) → start.changes.items ≡ []

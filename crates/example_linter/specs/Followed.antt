@@ -1,20 +1,24 @@
 -- How the analyses of documents follow what becomes of these.
-use Rattle.serde_json.specs.Events.{SendsValue}
-use Rattle.serde_json.specs.View.{view}
-use Rattle.serde_json.specs.declared.value.Value.{Value}
+use Rattle.serde_json.specs.Data.{Data, array}
+use Rattle.serde_json.specs.View.{items_of}
 use Rattle.std.specs.Arc.{arc_value}
 use Rattle.std.specs.List.{All}
-use Rattle.std.specs.Prelude.{◌≡◌, ℕ, List, [], Option, None, option_and_then, IsSomeAnd, string_bytes}
+use Rattle.std.specs.Prelude.{◌≡◌, ℕ, ℤ, true, List, [], Option, None, option_and_then, IsSomeAnd, string_bytes}
 use Rattle.lsp_documents.specs.Notices.{Documents, shown}
 use Rattle.lsp_jobs.specs.SlotLaw.{LeavesAlone, StartsLast}
 use Rattle.lsp_jobs.specs.declared.job_server.SlotChange.{SlotChange}
 use Rattle.lsp_jobs.specs.declared.job_server.SlotChange.TheVariants.{Start, Stop}
 use Rattle.lsp_message.specs.Id.{Id, text}
+use Rattle.lsp_methods.specs.Publishing.{publishes}
 use Rattle.lsp_service.specs.Acts.{Act}
-use Rattle.lsp_service.specs.Answering.{Writing}
-use Rattle.lsp_service.specs.Publishing.{Publishes}
+use Rattle.lsp_service.specs.View.{act_view}
+use Rattle.lsp_service.specs.declared.server.Act as rust
 use Rattle.lsp_text.specs.Documents.{Document}
 use Rattle.example_linter.specs.declared.Analysis.{Analysis}
+
+-- an act of this server, which keeps nothing with its requests
+abbrev pub act_seen : rust.Act (Unit {0}) → Act (Unit {0})
+act_seen act = act_view (λ kept payload. true) act
 
 -- the document of a URI, if its text is known
 abbrev pub known : Documents → List ℕ → Option Document
@@ -22,7 +26,7 @@ known documents uri = option_and_then shown (documents.held uri)
 
 -- the analysis is of this document, and of this version
 pub record IsOf (analysis : Analysis) (document : Document) : Type 0 where
-  pub text : arc_value analysis.text ≡ document.text
+  pub text : arc_value analysis.source.text ≡ document.text
   pub version : analysis.source.version ≡ document.version
 
 -- The slot has the name of the URI, and the analysis is of the document that is held for it.
@@ -50,10 +54,10 @@ pub record AreChangesOf (documents : Documents) (changes : List (SlotChange Anal
   pub each : All (λ change. (uri : List ℕ) × IsChangeOf documents uri change) changes
   pub all : (uri : List ℕ) → LeavesAlone (text uri) changes → documents.held uri ≡ None
 
--- what a mark is written as
-abbrev pub written : Value → Writing
-written mark = SendsValue (view mark)
+-- what shows these marks of a document
+abbrev pub shows : {P : Type 0} → List ℕ → Option ℤ → List Data → Act P
+shows uri version marks = publishes uri version (array (items_of marks))
 
 -- the marks of a document whose text is not known are taken away
 abbrev pub Clears : {P : Type 0} → Documents → Act P → Type 0
-Clears documents act = (uri : List ℕ) × (known documents uri ≡ None) × Publishes written uri None [] act
+Clears documents act = (uri : List ℕ) × (known documents uri ≡ None) × (act ≡ shows uri None [])

@@ -1,12 +1,12 @@
 -- What an analysis finds: a mark at each line of a text that has a `NOTE` (LSP 3.17, "Diagnostic").
 use Rattle.serde_json.specs.Data.{Data, member, no_members, number, object, string, unsigned}
-use Rattle.serde_json.specs.View.{view}
 use Rattle.std.specs.Arc.{arc_value}
 use Rattle.std.specs.List.{All, AllPairs, Contains}
 use Rattle.std.specs.Prelude.{◌≡◌, ℕ, ◌+◌, ◌<◌, ◌^◌, List, Option, Some, None, length, map, codes}
 use Rattle.std.specs.Str.Iter.{HasSubslice}
 use Rattle.lsp_text.specs.Columns.{line_text}
 use Rattle.lsp_text.specs.Lines.{LinedText, starts_of}
+use Rattle.lsp_types.specs.declared.diagnostics.Diagnostic.{Diagnostic}
 use Rattle.example_linter.specs.declared.Analysis.{Analysis}
 use Rattle.example_linter.specs.declared.Findings.{Findings}
 
@@ -40,8 +40,8 @@ pub record AreMarksOf (text : LinedText) (marks : List Data) : Type 0 where
   pub each : All (HasNote text) lines
   pub all : (line : ℕ) → line < 2 ^ 31 → HasNote text line → Contains lines line
 
--- An analysis comes to all the marks of its text, and to nothing else.
-abbrev pub FindsMarks : Analysis → Option Findings → Type 0
-FindsMarks analysis None = ⊥
-FindsMarks analysis (Some found) =
-    (found.source ≡ analysis.source) × AreMarksOf (arc_value analysis.text) (map view found.marks.items)
+-- An analysis comes to all the marks of its text, as these diagnostics are written, and to nothing else.
+abbrev pub FindsMarks : (Diagnostic → Data) → Analysis → Option Findings → Type 0
+FindsMarks written analysis None = ⊥
+FindsMarks written analysis (Some found) = (found.source ≡ analysis.source)
+    × AreMarksOf (arc_value analysis.source.text) (map written found.marks.items)

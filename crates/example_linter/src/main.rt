@@ -5,9 +5,8 @@
 //! the place of the analysis before. So nobody waits for an analysis, and none of an older text is shown.
 #![tactic(auto)]
 
-ghost use Rattle.serde_json.specs.View.{view};
 ghost use Rattle.std.specs.List.{All};
-ghost use Rattle.std.specs.Prelude.{◌≡◌, ◌<◌, ◌∷◌, ◌++◌, [], List, ℕ, IfOk, IfSome, OnOk, Some, false, map, true};
+ghost use Rattle.std.specs.Prelude.{◌≡◌, ◌<◌, ◌∷◌, ◌++◌, [], List, ℕ, IfOk, OnOk, Some, false, map, true};
 ghost use Rattle.lsp_documents.specs.Held.{documents_of};
 ghost use Rattle.lsp_jobs.specs.JobLaw.{LawfulJobSession};
 ghost use Rattle.lsp_jobs.specs.SlotLaw.{SlotHistory};
@@ -15,31 +14,32 @@ ghost use Rattle.lsp_jobs.specs.declared.asking.Asked.{Asked};
 ghost use Rattle.lsp_jobs.specs.declared.job_server.SlotChange.{SlotChange as ChangeOfSlot};
 ghost use Rattle.lsp_service.specs.Acts.{Act as PlainAct};
 ghost use Rattle.lsp_service.specs.Law.{Call};
-ghost use Rattle.lsp_service.specs.View.{act_view};
 ghost use Rattle.lsp_session.specs.Session.{Exchange};
 ghost use Rattle.lsp_threads.specs.Passing.{GivenTo, OfTaken, TakenFrom, noted};
 ghost use Rattle.lsp_threads.specs.Threads.{ThreadsTellOver};
-ghost use Rattle.example_linter.specs.Followed.{AreChangesOf, Clears, Follow, IsChangeOf};
+ghost use Rattle.example_linter.specs.Followed.{act_seen, AreChangesOf, Clears, Follow, IsChangeOf};
 ghost use Rattle.example_linter.specs.Marks.{AreMarksOf, mark_of};
 ghost use Rattle.example_linter.specs.Shown.{ShowsHeldTexts};
 
 use anyhow::{Result as Answer, bail};
-use lsp_documents::{Agreed, TextDocuments};
+use lsp_documents::{Agreed, OpenText, TextDocuments};
 use lsp_jobs::laws::session_with_jobs_keeps_laws;
 use lsp_jobs::{
     AnsweredBy, Interrupted, Job, JobContext, JobEnd, JobName, JobResult, JobServer, PoolSize,
     Slot, SlotChange, Slots, run_jobs,
 };
+use lsp_methods::publish;
 use lsp_server::clients::{ClientOptions, serve_clients};
 use lsp_server::{
     Act, ClientStreams, EndSession, Listener, Notification, Request, ResponseError, Server,
     SessionEnd, StartFault, ThreadOptions, Threaded,
 };
 use lsp_text::Text;
+use lsp_types::{Diagnostic, DiagnosticSeverity, Position, Range, ToJson};
 use serde_json::{Value, json};
 use std::alloc::{AllocError, Global};
 use std::io::{BufRead, Write};
-use std::sync::{Arc, Wait};
+use std::sync::Wait;
 use std::thread::Threads;
 use std::time::Duration;
 use std::{env, mem};
@@ -48,22 +48,14 @@ use std::{env, mem};
 #[derive(Drop)]
 struct Analysis {
     alloc: Global,
-    source: Source,
-    text: Arc<Text>,
+    source: OpenText,
 }
 
-/// The document that an analysis is of, as it was then.
-#[derive(Drop)]
-struct Source {
-    uri: String,
-    version: Option<i32>,
-}
-
-/// What an analysis finds.
+/// What an analysis finds in a text.
 #[derive(Drop)]
 struct Findings {
-    source: Source,
-    marks: Vec<Value>,
+    source: OpenText,
+    marks: Vec<Diagnostic>,
 }
 
 /// The texts that are open, and the analyses that are to be started or stopped.
@@ -86,7 +78,7 @@ impl Job for Analysis {
     // It answers no request, says nothing while it runs, and asks nothing.
     ghost is_for = { λ _ _ _. ⊥ };
 
-    ghost comes_to = { λ analysis _ found. FindsMarks analysis found };
+    ghost comes_to = { λ analysis _ found. FindsMarks ⟦<Diagnostic as ToJson>⟧.stands analysis found };
 
     ghost reports = { λ _ _ _. ⊥ };
 
@@ -94,7 +86,7 @@ impl Job for Analysis {
 
     fn run<C: JobContext>(self, context: &mut C) -> Result<JobResult<Findings>, Interrupted> {
         context.rest(Duration::from_millis(PAUSE))?;
-        let marks = marks_in(self.alloc, &*self.text, context)?;
+        let marks = marks_in(self.alloc, &*self.source.text, context)?;
         let source = self.source;
         Ok(JobResult::found(Findings { source, marks }))
     }
@@ -108,8 +100,8 @@ fn marks_in<C: JobContext>(
     alloc: Global,
     text: &Text,
     context: &C,
-) -> Result<Vec<Value>, Interrupted>
-    ensures { IfOk result (λ marks. AreMarksOf text.now (map view marks.items)) }
+) -> Result<Vec<Diagnostic>, Interrupted>
+    ensures { IfOk result (λ marks. AreMarksOf text.now (map ⟦<Diagnostic as ToJson>⟧.stands marks.items)) }
 {
     let mut marks = Vec::new(alloc);
     for number in 0..u32::MAX {
@@ -125,18 +117,13 @@ fn marks_in<C: JobContext>(
 }
 
 /// A mark at a line, which has the line as its text (LSP 3.17, "Diagnostic").
-fn mark(alloc: Global, number: u32, line: &str) -> Result<Value, AllocError>
+fn mark(alloc: Global, number: u32, line: &str) -> Result<Diagnostic, AllocError>
     requires { number < 0xFFFF_FFFF }
-    ensures { IfOk result (λ mark. view mark ≡ mark_of number line.now) }
+    ensures { IfOk result (λ mark. ⟦<Diagnostic as ToJson>⟧.stands mark ≡ mark_of number line.now) }
 {
-    json!(in alloc; {
-        "message": line,
-        "range": {
-            "end": { "character": 0, "line": number + 1 },
-            "start": { "character": 0, "line": number }
-        },
-        "severity": 3
-    })
+    let range = Range::new(Position::new(number, 0), Position::new(number + 1, 0));
+    let message = String::from_str(alloc, line)?;
+    Ok(Diagnostic::new(range, DiagnosticSeverity::INFORMATION, message))
 }
 
 impl JobServer<Analysis> for Linter {
@@ -162,7 +149,7 @@ impl Slots<Linter, Analysis> for Linter {
     ghost changes = { λ old changes new.
         (changes ≡ old.changes.items) × (new.changes.items ≡ []) × (new.documents ≡ old.documents) };
 
-    ghost hears = { λ old _ found acts new. Shows found acts × (new ≡ old) };
+    ghost hears = { λ old _ found acts new. Shows ⟦<Diagnostic as ToJson>⟧.stands found acts × (new ≡ old) };
 
     ghost finishes = { λ old _ _ acts new. (acts ≡ []) × (new ≡ old) };
 
@@ -179,11 +166,8 @@ impl Slots<Linter, Analysis> for Linter {
         let _ = server;
         let _ = name;
         let Findings { source, marks } = found;
-        let Source { uri, version } = source;
-        Act::one(
-            alloc,
-            Act::publish(alloc, uri.as_str(), version, marks.as_slice())?,
-        )
+        let shows = publish(alloc, source.uri.as_str(), source.version, marks)?;
+        Act::one(alloc, shows)
     }
 
     // The marks of an analysis that did not end are not shown.
@@ -279,7 +263,7 @@ impl Linter {
         requires { acts.old.items ≡ [] }
         ensures follow { OnOk result (self.old.changes.items ≡ []
             → Follow (documents_of self.old.documents) self.new.changes.items (documents_of self.new.documents)) }
-        ensures clear { OnOk result (All (Clears (documents_of self.new.documents)) (map act_view acts.new.items)) }
+        ensures clear { OnOk result (All (Clears (documents_of self.new.documents)) (map act_seen acts.new.items)) }
     {
         match self.documents.hear(notification) {
             Some(Ok(made)) => self.look_at(made.uri, acts),
@@ -297,8 +281,8 @@ impl Linter {
         ensures change { OnOk result ((change : ChangeOfSlot Analysis)
             × (self.new.changes.items ≡ self.old.changes.items ++ change ∷ [])
             × IsChangeOf (documents_of self.old.documents) uri.now change) }
-        ensures clear { OnOk result (All (Clears (documents_of self.old.documents)) (map act_view acts.old.items)
-            → All (Clears (documents_of self.old.documents)) (map act_view acts.new.items)) }
+        ensures clear { OnOk result (All (Clears (documents_of self.old.documents)) (map act_seen acts.old.items)
+            → All (Clears (documents_of self.old.documents)) (map act_seen acts.new.items)) }
     {
         let change = change_of(self.alloc, &self.documents, uri, acts)?;
         self.changes.push(change)?;
@@ -310,8 +294,8 @@ impl Linter {
         ensures same { self.new.documents ≡ self.old.documents }
         ensures changes { OnOk result (self.old.changes.items ≡ []
             → AreChangesOf (documents_of self.old.documents) self.new.changes.items) }
-        ensures clear { OnOk result (All (Clears (documents_of self.old.documents)) (map act_view acts.old.items)
-            → All (Clears (documents_of self.old.documents)) (map act_view acts.new.items)) }
+        ensures clear { OnOk result (All (Clears (documents_of self.old.documents)) (map act_seen acts.old.items)
+            → All (Clears (documents_of self.old.documents)) (map act_seen acts.new.items)) }
     {
         for (uri, _) in self.documents.iter() {
             let change = change_of(self.alloc, &self.documents, uri.as_str(), acts)?;
@@ -330,27 +314,16 @@ fn change_of(
     acts: &mut Acts,
 ) -> Result<Change, AllocError>
     ensures change { IfOk result (λ change. IsChangeOf (documents_of documents.now) uri.now change) }
-    ensures clear { OnOk result (All (Clears (documents_of documents.now)) (map act_view acts.old.items)
-        → All (Clears (documents_of documents.now)) (map act_view acts.new.items)) }
+    ensures clear { OnOk result (All (Clears (documents_of documents.now)) (map act_seen acts.old.items)
+        → All (Clears (documents_of documents.now)) (map act_seen acts.new.items)) }
 {
     let slot = Slot::from(String::from_str(alloc, uri)?);
     let Some(document) = documents.get(uri) else {
-        acts.push(Act::publish::<Value>(alloc, uri, None, &[])?)?;
+        acts.push(publish(alloc, uri, None, Vec::new(alloc))?)?;
         return Ok(SlotChange::Stop(slot));
     };
-    let text = document.share_text()?;
-    let source = Source {
-        uri: String::from_str(alloc, uri)?,
-        version: document.version(),
-    };
-    Ok(SlotChange::Start(
-        slot,
-        Analysis {
-            alloc,
-            source,
-            text,
-        },
-    ))
+    let source = OpenText::new(alloc, uri, document)?;
+    Ok(SlotChange::Start(slot, Analysis { alloc, source }))
 }
 
 /// Serves a client. The session keeps the laws of a session of a server with jobs, whatever the analyses come to and when.

@@ -1,2 +1,3 @@
+pub mod Answers
 pub mod Configuring
-pub mod Json
+pub mod Publishing

@@ -57,10 +57,14 @@ impl<T: DeserializeOwned + Drop> Configuration<T> {
     /// Asks for it, if the client can be asked. `payload` comes back with the reply.
     ///
     /// `Err` means that an allocation failed.
-    pub fn ask<P: Drop + PartialEq>(&self, alloc: Global, payload: P) -> Result<Option<Act<P>>, AllocError>
+    pub fn ask<P: Drop + PartialEq>(
+        &self,
+        alloc: Global,
+        payload: P,
+    ) -> Result<Option<Act<P>>, AllocError>
         ensures none { self.now.is_asked ≡ false → IfOk result (λ asked. asked ≡ None) }
         ensures act { IfOk result (λ asked. IfSome asked (λ act. (tree : Data)
-            × (act_view act ≡ asks (codes "workspace/configuration") tree «payload»))) }
+            × (act_view P.eq act ≡ asks (codes "workspace/configuration") tree «payload»))) }
     {
         if !self.is_asked {
             drop(payload);
@@ -75,7 +79,10 @@ impl<T: DeserializeOwned + Drop> Configuration<T> {
         };
         let asked = ask::<ConfigurationRequest, P>(alloc, &params, payload);
         drop(params);
-        Ok(asked?.ok())
+        match asked {
+            Ok(act) => Ok(Some(act)),
+            Err(failed) => Err(failed),
+        }
     }
 
     /// Takes the reply, and says whether it has a value that fits. Else `value` stays: the client may reply with an error, or with null if

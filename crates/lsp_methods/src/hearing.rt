@@ -1,21 +1,23 @@
 // What a client asks and tells.
 ghost use Rattle.std.specs.Prelude.{◌≡◌, ◌∷◌, ◌++◌, [], map, codes, string_bytes};
-ghost use Rattle.std.specs.Prelude.{IfErr, IfOk, MatchResult, Result};
+ghost use Rattle.std.specs.Prelude.{IfErr, IfOk, MatchResult, Ok, Result};
 ghost use Rattle.lsp_message.specs.Converted.{IsFault};
 ghost use Rattle.lsp_message.specs.View.{error_view};
 ghost use Rattle.lsp_message.specs.declared.msg.ResponseError.{ResponseError as ReadError};
 ghost use Rattle.lsp_message.specs.declared.msg.code.ErrorCode.TheVariants.{InvalidParams};
-ghost use Rattle.lsp_service.specs.Answering.{ActsFor, AnswersEither, AnswersWith, IsRead};
-ghost use Rattle.lsp_service.specs.Answering.{Refuses, logs_error};
+ghost use Rattle.lsp_methods.specs.Answers.{outcome_of};
+ghost use Rattle.lsp_service.specs.Acts.{replies};
+ghost use Rattle.lsp_service.specs.Answering.{ActsFor, IsRead, Refuses, logs_error};
 ghost use Rattle.lsp_service.specs.View.{act_view};
 
+use crate::speaking::reply;
 use lsp_message::{Notification, Request, RequestId, ResponseError};
 use lsp_service::Act;
 use lsp_types::{NotificationToServer, RequestToServer};
 use std::alloc::{AllocError, Global};
 
-/// Answers a request of this method, as `Act::answer` does: with what `answer` gives for its params, or with the error -32602 if they do
-/// not fit (JSON-RPC 2.0, section 5.1).
+/// Answers a request of this method: with what `answer` gives for its params, or with the error -32602 if they do not fit (JSON-RPC 2.0,
+/// section 5.1). The contract has the tree of the answer.
 ///
 /// `Err` means that an allocation failed.
 pub fn answer<M, P, F>(
@@ -31,10 +33,17 @@ where
     requires answers { (params : M.Params) → F.pre answer params }
     ensures { IfOk result (λ acts. (read : Result M.Params ReadError) × IsRead read
         × ActsFor (λ params given. (found : M.Result) × F.post answer params (Ok found)
-        × AnswersWith (M.Result.writes found) request.id given)
-        request.id read (map act_view acts.items)) }
+        × (given ≡ replies request.id (Ok (M.Result.stands found)) ∷ []))
+        request.id read (map (act_view P.eq) acts.items)) }
 {
-    Act::answer(alloc, request, answer)
+    let (id, read) = request.params_as(alloc)?;
+    match read {
+        Ok(params) => {
+            let found = answer(params)?;
+            Act::one(alloc, reply::<M, P>(alloc, id, &found)?)
+        }
+        Err(error) => Act::one(alloc, Act::Reply(id, Err(error))),
+    }
 }
 
 /// Answers a request of this method as `answer` does, if `answer` may also give an error to reply with.
@@ -52,10 +61,32 @@ where
     ensures { IfOk result (λ acts. (read : Result M.Params ReadError) × IsRead read
         × ActsFor (λ params given. (found : Result M.Result ReadError)
         × F.post answer params (Ok found)
-        × AnswersEither M.Result.writes request.id found given)
-        request.id read (map act_view acts.items)) }
+        × (given ≡ replies request.id (outcome_of M.Result.stands found) ∷ []))
+        request.id read (map (act_view P.eq) acts.items)) }
 {
-    Act::try_answer(alloc, request, answer)
+    let (id, read) = request.params_as(alloc)?;
+    match read {
+        Ok(params) => answered::<M, P>(alloc, id, answer(params)?),
+        Err(error) => Act::one(alloc, Act::Reply(id, Err(error))),
+    }
+}
+
+/// The answer to the request with this id: what was found, or an error.
+fn answered<M, P>(
+    alloc: Global,
+    id: RequestId,
+    found: Result<M::Result, ResponseError>,
+) -> Result<Vec<Act<P>>, AllocError>
+where
+    M: RequestToServer,
+    P: Drop + PartialEq,
+    ensures { IfOk result (λ acts. map (act_view P.eq) acts.items
+        ≡ replies id (outcome_of M.Result.stands found) ∷ []) }
+{
+    match found {
+        Ok(found) => Act::one(alloc, reply::<M, P>(alloc, id, &found)?),
+        Err(error) => Act::one(alloc, Act::Reply(id, Err(error))),
+    }
 }
 
 /// Reads the params of a request of this method, and gives the acts that `act` gives for the id and the params, as `Act::of_request`
@@ -75,7 +106,7 @@ where
     requires acts { (params : M.Params) → F.pre act request.id params }
     ensures { IfOk result (λ acts. (read : Result M.Params ReadError) × IsRead read
         × MatchResult read (λ params. F.post act request.id params (Ok acts))
-        (λ e. Refuses request.id e (map act_view acts.items))) }
+        (λ e. Refuses request.id e (map (act_view P.eq) acts.items))) }
 {
     Act::of_request(alloc, request, act)
 }
@@ -97,7 +128,7 @@ where
     requires acts { (params : M.Params) → F.pre act params }
     ensures { IfOk result (λ acts. (read : Result M.Params ReadError) × IsRead read
         × MatchResult read (λ params. F.post act params (Ok acts))
-        (λ e. map act_view acts.items ≡ logs_error
+        (λ e. map (act_view P.eq) acts.items ≡ logs_error
         (string_bytes notification.method ++ codes ": " ++ string_bytes e.message) ∷ [])) }
 {
     Act::of_notification(alloc, notification, act)

@@ -1,49 +1,57 @@
-// What a server tells and asks.
-ghost use Rattle.std.specs.Prelude.{◌≡◌, Err, IfErr, IfOk, MatchResult};
+// What a server tells, asks and answers.
+ghost use Rattle.std.specs.Prelude.{◌≡◌, Err, IfErr, IfOk, MatchResult, Ok};
 ghost use Rattle.lsp_message.specs.Converted.{IsFault};
 ghost use Rattle.lsp_message.specs.View.{error_view};
 ghost use Rattle.lsp_message.specs.declared.msg.code.ErrorCode.TheVariants.{InvalidParams};
-ghost use Rattle.lsp_service.specs.Acts.{asks};
-ghost use Rattle.lsp_service.specs.Answering.{Notifies};
-ghost use Rattle.lsp_service.specs.Typed.{Carries};
+ghost use Rattle.lsp_service.specs.Acts.{asks, replies, tells};
 ghost use Rattle.lsp_service.specs.View.{act_view};
 
-use lsp_message::{ResponseError, read_as};
+use lsp_message::{Notification, RequestId, ResponseError, read_as};
 use lsp_service::Act;
-use lsp_types::{NotificationToClient, RequestToClient};
+use lsp_types::{NotificationToClient, RequestToClient, RequestToServer, ToJson};
 use serde::DeserializeOwned;
 use serde_json::Value;
 use std::alloc::{AllocError, Global};
 
-/// A notification of this method, as `Act::tell` makes it.
+/// A notification of this method, with what the params stand for.
 ///
 /// `Err` means that an allocation failed.
 pub fn tell<M, P>(alloc: Global, params: &M::Params) -> Result<Act<P>, AllocError>
 where
     M: NotificationToClient,
     P: Drop + PartialEq,
-    ensures { IfOk result (λ act.
-        Notifies (M.Params.writes params.now) M.method (act_view act)) }
+    ensures { IfOk result (λ act. act_view P.eq act ≡ tells M.method (M.Params.stands params.now)) }
 {
-    Act::tell(alloc, M::method(), params)
+    let params = params.to_json(alloc)?;
+    let method = String::from_str(alloc, M::method())?;
+    Ok(Act::Tell(Notification { method, params }))
 }
 
-/// A request of the server's own of this method, which keeps `payload` for the reply, as `Act::ask` makes it: params that can't be
-/// written give the error -32603 and no act.
+/// A request of the server's own of this method, with what the params stand for. It keeps `payload` for the reply.
 ///
-/// `Err(AllocError)` means that an allocation failed.
-pub fn ask<M, P>(
-    alloc: Global,
-    params: &M::Params,
-    payload: P,
-) -> Result<Result<Act<P>, ResponseError>, AllocError>
+/// `Err` means that an allocation failed.
+pub fn ask<M, P>(alloc: Global, params: &M::Params, payload: P) -> Result<Act<P>, AllocError>
 where
     M: RequestToClient,
     P: Drop + PartialEq,
-    ensures { IfOk result (λ asked. Carries (M.Params.writes params.now)
-        (λ tree. asks M.method tree «payload») asked) }
+    ensures { IfOk result (λ act. act_view P.eq act ≡ asks M.method (M.Params.stands params.now) «payload») }
 {
-    Act::ask(alloc, M::method(), params, payload)
+    let params = params.to_json(alloc)?;
+    let method = String::from_str(alloc, M::method())?;
+    Ok(Act::Ask(method, params, payload))
+}
+
+/// The answer to a request of this method, with what the result stands for: for a request that is answered later, by its id.
+///
+/// `Err` means that an allocation failed.
+pub fn reply<M, P>(alloc: Global, id: RequestId, found: &M::Result) -> Result<Act<P>, AllocError>
+where
+    M: RequestToServer,
+    P: Drop + PartialEq,
+    ensures { IfOk result (λ act. act_view P.eq act ≡ replies id (Ok (M.Result.stands found.now))) }
+{
+    let found = found.to_json(alloc)?;
+    Ok(Act::Reply(id, Ok(found)))
 }
 
 /// What the client replied to a request of this method: its result, the client's error, or the error -32602 if the result does not fit.

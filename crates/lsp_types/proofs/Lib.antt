@@ -1,2 +1,3 @@
 mod FileUriLemmas
 mod FolderLemmas
+pub mod JsonLemmas

@@ -1,20 +1,21 @@
 //! Code actions: fixes and refactorings that a user may choose.
 // `tools/types` wrote this file from `types.txt`: change that.
+ghost use Rattle.std.specs.Prelude.{◌∷◌, [], Some, codes, option_map};
+ghost use Rattle.serde_json.specs.Data.{number, unsigned};
+ghost use Rattle.lsp_types.specs.Json.{object_of};
+
 use crate::diagnostics::Diagnostic;
 use crate::documents::TextDocumentIdentifier;
 use crate::edits::WorkspaceEdit;
 use crate::json::{
-    Keyed, ReadMembers, Sink, Source, WriteMembers, if_fits, number_within, read_object,
-    those_that_fit, write_object,
+    Keyed, Object, ReadMembers, Source, ToJson, if_fits, number_within, read_object, those_that_fit,
 };
 use crate::progress::ProgressToken;
 use crate::workspace::Command;
 use lsp_text::Range;
-use serde::{
-    Described, Deserialize, DeserializeOwned, Deserializer, Format, Serialize, Serializer,
-};
+use serde::{Deserialize, DeserializeOwned, Deserializer, Format};
 use serde_json::Value;
-use std::alloc::Global;
+use std::alloc::{AllocError, Global};
 
 /// The params of `textDocument/codeAction` (LSP 3.17, "Code Action Request"). The result is a list of `CodeAction` or null.
 #[derive(Drop)]
@@ -31,7 +32,24 @@ pub struct CodeActionParams {
     pub partial_result_token: Option<ProgressToken>,
 }
 
-impl Described for CodeActionParams {}
+impl ToJson for CodeActionParams {
+    ghost stands = { λ it. object_of (
+        (codes "textDocument", Some (⟦<TextDocumentIdentifier as ToJson>⟧.stands it.text_document))
+        ∷ (codes "range", Some (⟦<Range as ToJson>⟧.stands it.range))
+        ∷ (codes "context", Some (⟦<CodeActionContext as ToJson>⟧.stands it.context))
+        ∷ (codes "workDoneToken", option_map ⟦<ProgressToken as ToJson>⟧.stands it.work_done_token)
+        ∷ (codes "partialResultToken", option_map ⟦<ProgressToken as ToJson>⟧.stands it.partial_result_token) ∷ []) };
+
+    fn to_json(&self, alloc: Global) -> Result<Value, AllocError> {
+        Object::new(alloc)
+            .member("textDocument", &self.text_document)
+            .member("range", &self.range)
+            .member("context", &self.context)
+            .some("workDoneToken", &self.work_done_token)
+            .some("partialResultToken", &self.partial_result_token)
+            .end()
+    }
+}
 
 impl Keyed for CodeActionParams {
     const KEYS: &'static [&'static str] = &[
@@ -41,22 +59,6 @@ impl Keyed for CodeActionParams {
         "workDoneToken",
         "partialResultToken",
     ];
-}
-
-impl WriteMembers for CodeActionParams {
-    fn write<O: Sink>(&self, out: O) -> O {
-        out.member(&self.text_document)
-            .member(&self.range)
-            .member(&self.context)
-            .some(&self.work_done_token)
-            .some(&self.partial_result_token)
-    }
-}
-
-impl Serialize for CodeActionParams {
-    fn serialize<S: Serializer>(&self, out: &mut S) -> Result<(), S::Error> {
-        write_object(self, out)
-    }
 }
 
 impl ReadMembers for CodeActionParams {
@@ -91,24 +93,23 @@ pub struct CodeActionContext {
     pub trigger_kind: Option<CodeActionTriggerKind>,
 }
 
-impl Described for CodeActionContext {}
+impl ToJson for CodeActionContext {
+    ghost stands = { λ it. object_of (
+        (codes "diagnostics", Some (⟦<Vec<Diagnostic> as ToJson>⟧.stands it.diagnostics))
+        ∷ (codes "only", option_map ⟦<Vec<String> as ToJson>⟧.stands it.only)
+        ∷ (codes "triggerKind", option_map ⟦<CodeActionTriggerKind as ToJson>⟧.stands it.trigger_kind) ∷ []) };
+
+    fn to_json(&self, alloc: Global) -> Result<Value, AllocError> {
+        Object::new(alloc)
+            .member("diagnostics", &self.diagnostics)
+            .some("only", &self.only)
+            .some("triggerKind", &self.trigger_kind)
+            .end()
+    }
+}
 
 impl Keyed for CodeActionContext {
     const KEYS: &'static [&'static str] = &["diagnostics", "only", "triggerKind"];
-}
-
-impl WriteMembers for CodeActionContext {
-    fn write<O: Sink>(&self, out: O) -> O {
-        out.member(&self.diagnostics)
-            .some(&self.only)
-            .some(&self.trigger_kind)
-    }
-}
-
-impl Serialize for CodeActionContext {
-    fn serialize<S: Serializer>(&self, out: &mut S) -> Result<(), S::Error> {
-        write_object(self, out)
-    }
 }
 
 impl ReadMembers for CodeActionContext {
@@ -150,11 +151,11 @@ impl CodeActionTriggerKind {
     pub const AUTOMATIC: CodeActionTriggerKind = CodeActionTriggerKind(2);
 }
 
-impl Described for CodeActionTriggerKind {}
+impl ToJson for CodeActionTriggerKind {
+    ghost stands = { λ it. number (unsigned it.0) };
 
-impl Serialize for CodeActionTriggerKind {
-    fn serialize<S: Serializer>(&self, out: &mut S) -> Result<(), S::Error> {
-        self.0.serialize(out)
+    fn to_json(&self, alloc: Global) -> Result<Value, AllocError> {
+        self.0.to_json(alloc)
     }
 }
 
@@ -186,22 +187,17 @@ pub struct CodeActionDisabled {
     pub reason: String,
 }
 
-impl Described for CodeActionDisabled {}
+impl ToJson for CodeActionDisabled {
+    ghost stands = { λ it. object_of (
+        (codes "reason", Some (⟦<String as ToJson>⟧.stands it.reason)) ∷ []) };
+
+    fn to_json(&self, alloc: Global) -> Result<Value, AllocError> {
+        Object::new(alloc).member("reason", &self.reason).end()
+    }
+}
 
 impl Keyed for CodeActionDisabled {
     const KEYS: &'static [&'static str] = &["reason"];
-}
-
-impl WriteMembers for CodeActionDisabled {
-    fn write<O: Sink>(&self, out: O) -> O {
-        out.member(&self.reason)
-    }
-}
-
-impl Serialize for CodeActionDisabled {
-    fn serialize<S: Serializer>(&self, out: &mut S) -> Result<(), S::Error> {
-        write_object(self, out)
-    }
 }
 
 impl ReadMembers for CodeActionDisabled {
@@ -271,7 +267,30 @@ impl CodeAction {
     }
 }
 
-impl Described for CodeAction {}
+impl ToJson for CodeAction {
+    ghost stands = { λ it. object_of (
+        (codes "title", Some (⟦<String as ToJson>⟧.stands it.title))
+        ∷ (codes "kind", option_map ⟦<String as ToJson>⟧.stands it.kind)
+        ∷ (codes "diagnostics", option_map ⟦<Vec<Diagnostic> as ToJson>⟧.stands it.diagnostics)
+        ∷ (codes "isPreferred", option_map ⟦<bool as ToJson>⟧.stands it.is_preferred)
+        ∷ (codes "disabled", option_map ⟦<CodeActionDisabled as ToJson>⟧.stands it.disabled)
+        ∷ (codes "edit", option_map ⟦<WorkspaceEdit as ToJson>⟧.stands it.edit)
+        ∷ (codes "command", option_map ⟦<Command as ToJson>⟧.stands it.command)
+        ∷ (codes "data", option_map ⟦<Value as ToJson>⟧.stands it.«data») ∷ []) };
+
+    fn to_json(&self, alloc: Global) -> Result<Value, AllocError> {
+        Object::new(alloc)
+            .member("title", &self.title)
+            .some("kind", &self.kind)
+            .some("diagnostics", &self.diagnostics)
+            .some("isPreferred", &self.is_preferred)
+            .some("disabled", &self.disabled)
+            .some("edit", &self.edit)
+            .some("command", &self.command)
+            .some("data", &self.data)
+            .end()
+    }
+}
 
 impl Keyed for CodeAction {
     const KEYS: &'static [&'static str] = &[
@@ -284,25 +303,6 @@ impl Keyed for CodeAction {
         "command",
         "data",
     ];
-}
-
-impl WriteMembers for CodeAction {
-    fn write<O: Sink>(&self, out: O) -> O {
-        out.member(&self.title)
-            .some(&self.kind)
-            .some(&self.diagnostics)
-            .some(&self.is_preferred)
-            .some(&self.disabled)
-            .some(&self.edit)
-            .some(&self.command)
-            .some(&self.data)
-    }
-}
-
-impl Serialize for CodeAction {
-    fn serialize<S: Serializer>(&self, out: &mut S) -> Result<(), S::Error> {
-        write_object(self, out)
-    }
 }
 
 impl ReadMembers for CodeAction {

@@ -1,8 +1,13 @@
 //! What a server can do. An options struct of which each field is `None` says as much as the standard's `true`.
 // `tools/types` wrote this file from `types.txt`: change that.
-use crate::json::{Keyed, Sink, WriteMembers, write_object};
-use serde::{Described, Serialize, Serializer};
+ghost use Rattle.std.specs.Prelude.{◌∷◌, [], Some, codes, option_map};
+ghost use Rattle.serde_json.specs.Data.{number, unsigned};
+ghost use Rattle.serde_json.specs.View.{view};
+ghost use Rattle.lsp_types.specs.Json.{object_of, object_with};
+
+use crate::json::{Object, ToJson};
 use serde_json::Value;
+use std::alloc::{AllocError, Global};
 
 /// What a server can do (LSP 3.17, "ServerCapabilities"). What the fields lack goes into `more`.
 #[derive(Drop)]
@@ -77,7 +82,7 @@ pub struct ServerCapabilities {
     pub workspace: Option<WorkspaceOptions>,
     /// What the standard lacks.
     pub experimental: Option<Value>,
-    /// An object, whose members are written beside these, as `{"codeLensProvider": {}}`. Another value can't be written. If a field
+    /// An object, whose members are written beside these, as `{"codeLensProvider": {}}`. Another value is passed over. If a field
     /// above has the same name, the member here counts: a tree keeps the last of two.
     pub more: Option<Value>,
 }
@@ -167,92 +172,98 @@ impl Default for ServerCapabilities {
     }
 }
 
-impl Described for ServerCapabilities {}
+impl ToJson for ServerCapabilities {
+    ghost stands = { λ it. object_with (
+        (codes "positionEncoding", option_map ⟦<String as ToJson>⟧.stands it.position_encoding)
+        ∷ (codes "textDocumentSync", option_map ⟦<TextDocumentSyncOptions as ToJson>⟧.stands it.text_document_sync)
+        ∷ (codes "notebookDocumentSync", option_map ⟦<Value as ToJson>⟧.stands it.notebook_document_sync)
+        ∷ (codes "completionProvider", option_map ⟦<CompletionOptions as ToJson>⟧.stands it.completion_provider)
+        ∷ (codes "hoverProvider", option_map ⟦<bool as ToJson>⟧.stands it.hover_provider)
+        ∷ (codes "signatureHelpProvider", option_map ⟦<SignatureHelpOptions as ToJson>⟧.stands it.signature_help_provider)
+        ∷ (codes "declarationProvider", option_map ⟦<bool as ToJson>⟧.stands it.declaration_provider)
+        ∷ (codes "definitionProvider", option_map ⟦<bool as ToJson>⟧.stands it.definition_provider)
+        ∷ (codes "typeDefinitionProvider", option_map ⟦<bool as ToJson>⟧.stands it.type_definition_provider)
+        ∷ (codes "implementationProvider", option_map ⟦<bool as ToJson>⟧.stands it.implementation_provider)
+        ∷ (codes "referencesProvider", option_map ⟦<bool as ToJson>⟧.stands it.references_provider)
+        ∷ (codes "documentHighlightProvider", option_map ⟦<bool as ToJson>⟧.stands it.document_highlight_provider)
+        ∷ (codes "documentSymbolProvider", option_map ⟦<bool as ToJson>⟧.stands it.document_symbol_provider)
+        ∷ (codes "codeActionProvider", option_map ⟦<CodeActionOptions as ToJson>⟧.stands it.code_action_provider)
+        ∷ (codes "codeLensProvider", option_map ⟦<CodeLensOptions as ToJson>⟧.stands it.code_lens_provider)
+        ∷ (codes "documentLinkProvider", option_map ⟦<DocumentLinkOptions as ToJson>⟧.stands it.document_link_provider)
+        ∷ (codes "colorProvider", option_map ⟦<bool as ToJson>⟧.stands it.color_provider)
+        ∷ (codes "documentFormattingProvider", option_map ⟦<bool as ToJson>⟧.stands it.document_formatting_provider)
+        ∷ (codes "documentRangeFormattingProvider", option_map ⟦<bool as ToJson>⟧.stands it.document_range_formatting_provider)
+        ∷ (codes "documentOnTypeFormattingProvider", option_map ⟦<DocumentOnTypeFormattingOptions as ToJson>⟧.stands it.document_on_type_formatting_provider)
+        ∷ (codes "renameProvider", option_map ⟦<RenameOptions as ToJson>⟧.stands it.rename_provider)
+        ∷ (codes "foldingRangeProvider", option_map ⟦<bool as ToJson>⟧.stands it.folding_range_provider)
+        ∷ (codes "selectionRangeProvider", option_map ⟦<bool as ToJson>⟧.stands it.selection_range_provider)
+        ∷ (codes "executeCommandProvider", option_map ⟦<ExecuteCommandOptions as ToJson>⟧.stands it.execute_command_provider)
+        ∷ (codes "callHierarchyProvider", option_map ⟦<bool as ToJson>⟧.stands it.call_hierarchy_provider)
+        ∷ (codes "linkedEditingRangeProvider", option_map ⟦<bool as ToJson>⟧.stands it.linked_editing_range_provider)
+        ∷ (codes "semanticTokensProvider", option_map ⟦<SemanticTokensOptions as ToJson>⟧.stands it.semantic_tokens_provider)
+        ∷ (codes "monikerProvider", option_map ⟦<bool as ToJson>⟧.stands it.moniker_provider)
+        ∷ (codes "typeHierarchyProvider", option_map ⟦<bool as ToJson>⟧.stands it.type_hierarchy_provider)
+        ∷ (codes "inlineValueProvider", option_map ⟦<bool as ToJson>⟧.stands it.inline_value_provider)
+        ∷ (codes "inlayHintProvider", option_map ⟦<bool as ToJson>⟧.stands it.inlay_hint_provider)
+        ∷ (codes "diagnosticProvider", option_map ⟦<DiagnosticOptions as ToJson>⟧.stands it.diagnostic_provider)
+        ∷ (codes "workspaceSymbolProvider", option_map ⟦<bool as ToJson>⟧.stands it.workspace_symbol_provider)
+        ∷ (codes "workspace", option_map ⟦<WorkspaceOptions as ToJson>⟧.stands it.workspace)
+        ∷ (codes "experimental", option_map ⟦<Value as ToJson>⟧.stands it.experimental) ∷ []) (option_map view it.more) };
 
-impl Keyed for ServerCapabilities {
-    const KEYS: &'static [&'static str] = &[
-        "positionEncoding",
-        "textDocumentSync",
-        "notebookDocumentSync",
-        "completionProvider",
-        "hoverProvider",
-        "signatureHelpProvider",
-        "declarationProvider",
-        "definitionProvider",
-        "typeDefinitionProvider",
-        "implementationProvider",
-        "referencesProvider",
-        "documentHighlightProvider",
-        "documentSymbolProvider",
-        "codeActionProvider",
-        "codeLensProvider",
-        "documentLinkProvider",
-        "colorProvider",
-        "documentFormattingProvider",
-        "documentRangeFormattingProvider",
-        "documentOnTypeFormattingProvider",
-        "renameProvider",
-        "foldingRangeProvider",
-        "selectionRangeProvider",
-        "executeCommandProvider",
-        "callHierarchyProvider",
-        "linkedEditingRangeProvider",
-        "semanticTokensProvider",
-        "monikerProvider",
-        "typeHierarchyProvider",
-        "inlineValueProvider",
-        "inlayHintProvider",
-        "diagnosticProvider",
-        "workspaceSymbolProvider",
-        "workspace",
-        "experimental",
-    ];
-}
-
-impl WriteMembers for ServerCapabilities {
-    fn write<O: Sink>(&self, out: O) -> O {
-        out.some(&self.position_encoding)
-            .some(&self.text_document_sync)
-            .some(&self.notebook_document_sync)
-            .some(&self.completion_provider)
-            .some(&self.hover_provider)
-            .some(&self.signature_help_provider)
-            .some(&self.declaration_provider)
-            .some(&self.definition_provider)
-            .some(&self.type_definition_provider)
-            .some(&self.implementation_provider)
-            .some(&self.references_provider)
-            .some(&self.document_highlight_provider)
-            .some(&self.document_symbol_provider)
-            .some(&self.code_action_provider)
-            .some(&self.code_lens_provider)
-            .some(&self.document_link_provider)
-            .some(&self.color_provider)
-            .some(&self.document_formatting_provider)
-            .some(&self.document_range_formatting_provider)
-            .some(&self.document_on_type_formatting_provider)
-            .some(&self.rename_provider)
-            .some(&self.folding_range_provider)
-            .some(&self.selection_range_provider)
-            .some(&self.execute_command_provider)
-            .some(&self.call_hierarchy_provider)
-            .some(&self.linked_editing_range_provider)
-            .some(&self.semantic_tokens_provider)
-            .some(&self.moniker_provider)
-            .some(&self.type_hierarchy_provider)
-            .some(&self.inline_value_provider)
-            .some(&self.inlay_hint_provider)
-            .some(&self.diagnostic_provider)
-            .some(&self.workspace_symbol_provider)
-            .some(&self.workspace)
-            .some(&self.experimental)
+    fn to_json(&self, alloc: Global) -> Result<Value, AllocError> {
+        Object::new(alloc)
+            .some("positionEncoding", &self.position_encoding)
+            .some("textDocumentSync", &self.text_document_sync)
+            .some("notebookDocumentSync", &self.notebook_document_sync)
+            .some("completionProvider", &self.completion_provider)
+            .some("hoverProvider", &self.hover_provider)
+            .some("signatureHelpProvider", &self.signature_help_provider)
+            .some("declarationProvider", &self.declaration_provider)
+            .some("definitionProvider", &self.definition_provider)
+            .some("typeDefinitionProvider", &self.type_definition_provider)
+            .some("implementationProvider", &self.implementation_provider)
+            .some("referencesProvider", &self.references_provider)
+            .some(
+                "documentHighlightProvider",
+                &self.document_highlight_provider,
+            )
+            .some("documentSymbolProvider", &self.document_symbol_provider)
+            .some("codeActionProvider", &self.code_action_provider)
+            .some("codeLensProvider", &self.code_lens_provider)
+            .some("documentLinkProvider", &self.document_link_provider)
+            .some("colorProvider", &self.color_provider)
+            .some(
+                "documentFormattingProvider",
+                &self.document_formatting_provider,
+            )
+            .some(
+                "documentRangeFormattingProvider",
+                &self.document_range_formatting_provider,
+            )
+            .some(
+                "documentOnTypeFormattingProvider",
+                &self.document_on_type_formatting_provider,
+            )
+            .some("renameProvider", &self.rename_provider)
+            .some("foldingRangeProvider", &self.folding_range_provider)
+            .some("selectionRangeProvider", &self.selection_range_provider)
+            .some("executeCommandProvider", &self.execute_command_provider)
+            .some("callHierarchyProvider", &self.call_hierarchy_provider)
+            .some(
+                "linkedEditingRangeProvider",
+                &self.linked_editing_range_provider,
+            )
+            .some("semanticTokensProvider", &self.semantic_tokens_provider)
+            .some("monikerProvider", &self.moniker_provider)
+            .some("typeHierarchyProvider", &self.type_hierarchy_provider)
+            .some("inlineValueProvider", &self.inline_value_provider)
+            .some("inlayHintProvider", &self.inlay_hint_provider)
+            .some("diagnosticProvider", &self.diagnostic_provider)
+            .some("workspaceSymbolProvider", &self.workspace_symbol_provider)
+            .some("workspace", &self.workspace)
+            .some("experimental", &self.experimental)
             .rest(&self.more)
-    }
-}
-
-impl Serialize for ServerCapabilities {
-    fn serialize<S: Serializer>(&self, out: &mut S) -> Result<(), S::Error> {
-        write_object(self, out)
+            .end()
     }
 }
 
@@ -269,11 +280,11 @@ impl TextDocumentSyncKind {
     pub const INCREMENTAL: TextDocumentSyncKind = TextDocumentSyncKind(2);
 }
 
-impl Described for TextDocumentSyncKind {}
+impl ToJson for TextDocumentSyncKind {
+    ghost stands = { λ it. number (unsigned it.0) };
 
-impl Serialize for TextDocumentSyncKind {
-    fn serialize<S: Serializer>(&self, out: &mut S) -> Result<(), S::Error> {
-        self.0.serialize(out)
+    fn to_json(&self, alloc: Global) -> Result<Value, AllocError> {
+        self.0.to_json(alloc)
     }
 }
 
@@ -338,31 +349,22 @@ impl Default for TextDocumentSyncOptions {
     }
 }
 
-impl Described for TextDocumentSyncOptions {}
+impl ToJson for TextDocumentSyncOptions {
+    ghost stands = { λ it. object_of (
+        (codes "openClose", option_map ⟦<bool as ToJson>⟧.stands it.open_close)
+        ∷ (codes "change", option_map ⟦<TextDocumentSyncKind as ToJson>⟧.stands it.change)
+        ∷ (codes "willSave", option_map ⟦<bool as ToJson>⟧.stands it.will_save)
+        ∷ (codes "willSaveWaitUntil", option_map ⟦<bool as ToJson>⟧.stands it.will_save_wait_until)
+        ∷ (codes "save", option_map ⟦<SaveOptions as ToJson>⟧.stands it.save) ∷ []) };
 
-impl Keyed for TextDocumentSyncOptions {
-    const KEYS: &'static [&'static str] = &[
-        "openClose",
-        "change",
-        "willSave",
-        "willSaveWaitUntil",
-        "save",
-    ];
-}
-
-impl WriteMembers for TextDocumentSyncOptions {
-    fn write<O: Sink>(&self, out: O) -> O {
-        out.some(&self.open_close)
-            .some(&self.change)
-            .some(&self.will_save)
-            .some(&self.will_save_wait_until)
-            .some(&self.save)
-    }
-}
-
-impl Serialize for TextDocumentSyncOptions {
-    fn serialize<S: Serializer>(&self, out: &mut S) -> Result<(), S::Error> {
-        write_object(self, out)
+    fn to_json(&self, alloc: Global) -> Result<Value, AllocError> {
+        Object::new(alloc)
+            .some("openClose", &self.open_close)
+            .some("change", &self.change)
+            .some("willSave", &self.will_save)
+            .some("willSaveWaitUntil", &self.will_save_wait_until)
+            .some("save", &self.save)
+            .end()
     }
 }
 
@@ -386,21 +388,14 @@ impl Default for SaveOptions {
     }
 }
 
-impl Described for SaveOptions {}
+impl ToJson for SaveOptions {
+    ghost stands = { λ it. object_of (
+        (codes "includeText", option_map ⟦<bool as ToJson>⟧.stands it.include_text) ∷ []) };
 
-impl Keyed for SaveOptions {
-    const KEYS: &'static [&'static str] = &["includeText"];
-}
-
-impl WriteMembers for SaveOptions {
-    fn write<O: Sink>(&self, out: O) -> O {
-        out.some(&self.include_text)
-    }
-}
-
-impl Serialize for SaveOptions {
-    fn serialize<S: Serializer>(&self, out: &mut S) -> Result<(), S::Error> {
-        write_object(self, out)
+    fn to_json(&self, alloc: Global) -> Result<Value, AllocError> {
+        Object::new(alloc)
+            .some("includeText", &self.include_text)
+            .end()
     }
 }
 
@@ -442,31 +437,22 @@ impl Default for CompletionOptions {
     }
 }
 
-impl Described for CompletionOptions {}
+impl ToJson for CompletionOptions {
+    ghost stands = { λ it. object_of (
+        (codes "triggerCharacters", option_map ⟦<Vec<String> as ToJson>⟧.stands it.trigger_characters)
+        ∷ (codes "resolveProvider", option_map ⟦<bool as ToJson>⟧.stands it.resolve_provider)
+        ∷ (codes "allCommitCharacters", option_map ⟦<Vec<String> as ToJson>⟧.stands it.all_commit_characters)
+        ∷ (codes "completionItem", option_map ⟦<CompletionItemOptions as ToJson>⟧.stands it.completion_item)
+        ∷ (codes "workDoneProgress", option_map ⟦<bool as ToJson>⟧.stands it.work_done_progress) ∷ []) };
 
-impl Keyed for CompletionOptions {
-    const KEYS: &'static [&'static str] = &[
-        "triggerCharacters",
-        "resolveProvider",
-        "allCommitCharacters",
-        "completionItem",
-        "workDoneProgress",
-    ];
-}
-
-impl WriteMembers for CompletionOptions {
-    fn write<O: Sink>(&self, out: O) -> O {
-        out.some(&self.trigger_characters)
-            .some(&self.resolve_provider)
-            .some(&self.all_commit_characters)
-            .some(&self.completion_item)
-            .some(&self.work_done_progress)
-    }
-}
-
-impl Serialize for CompletionOptions {
-    fn serialize<S: Serializer>(&self, out: &mut S) -> Result<(), S::Error> {
-        write_object(self, out)
+    fn to_json(&self, alloc: Global) -> Result<Value, AllocError> {
+        Object::new(alloc)
+            .some("triggerCharacters", &self.trigger_characters)
+            .some("resolveProvider", &self.resolve_provider)
+            .some("allCommitCharacters", &self.all_commit_characters)
+            .some("completionItem", &self.completion_item)
+            .some("workDoneProgress", &self.work_done_progress)
+            .end()
     }
 }
 
@@ -492,21 +478,14 @@ impl Default for CompletionItemOptions {
     }
 }
 
-impl Described for CompletionItemOptions {}
+impl ToJson for CompletionItemOptions {
+    ghost stands = { λ it. object_of (
+        (codes "labelDetailsSupport", option_map ⟦<bool as ToJson>⟧.stands it.label_details_support) ∷ []) };
 
-impl Keyed for CompletionItemOptions {
-    const KEYS: &'static [&'static str] = &["labelDetailsSupport"];
-}
-
-impl WriteMembers for CompletionItemOptions {
-    fn write<O: Sink>(&self, out: O) -> O {
-        out.some(&self.label_details_support)
-    }
-}
-
-impl Serialize for CompletionItemOptions {
-    fn serialize<S: Serializer>(&self, out: &mut S) -> Result<(), S::Error> {
-        write_object(self, out)
+    fn to_json(&self, alloc: Global) -> Result<Value, AllocError> {
+        Object::new(alloc)
+            .some("labelDetailsSupport", &self.label_details_support)
+            .end()
     }
 }
 
@@ -540,27 +519,18 @@ impl Default for SignatureHelpOptions {
     }
 }
 
-impl Described for SignatureHelpOptions {}
+impl ToJson for SignatureHelpOptions {
+    ghost stands = { λ it. object_of (
+        (codes "triggerCharacters", option_map ⟦<Vec<String> as ToJson>⟧.stands it.trigger_characters)
+        ∷ (codes "retriggerCharacters", option_map ⟦<Vec<String> as ToJson>⟧.stands it.retrigger_characters)
+        ∷ (codes "workDoneProgress", option_map ⟦<bool as ToJson>⟧.stands it.work_done_progress) ∷ []) };
 
-impl Keyed for SignatureHelpOptions {
-    const KEYS: &'static [&'static str] = &[
-        "triggerCharacters",
-        "retriggerCharacters",
-        "workDoneProgress",
-    ];
-}
-
-impl WriteMembers for SignatureHelpOptions {
-    fn write<O: Sink>(&self, out: O) -> O {
-        out.some(&self.trigger_characters)
-            .some(&self.retrigger_characters)
-            .some(&self.work_done_progress)
-    }
-}
-
-impl Serialize for SignatureHelpOptions {
-    fn serialize<S: Serializer>(&self, out: &mut S) -> Result<(), S::Error> {
-        write_object(self, out)
+    fn to_json(&self, alloc: Global) -> Result<Value, AllocError> {
+        Object::new(alloc)
+            .some("triggerCharacters", &self.trigger_characters)
+            .some("retriggerCharacters", &self.retrigger_characters)
+            .some("workDoneProgress", &self.work_done_progress)
+            .end()
     }
 }
 
@@ -594,27 +564,18 @@ impl Default for CodeActionOptions {
     }
 }
 
-impl Described for CodeActionOptions {}
+impl ToJson for CodeActionOptions {
+    ghost stands = { λ it. object_of (
+        (codes "codeActionKinds", option_map ⟦<Vec<String> as ToJson>⟧.stands it.code_action_kinds)
+        ∷ (codes "resolveProvider", option_map ⟦<bool as ToJson>⟧.stands it.resolve_provider)
+        ∷ (codes "workDoneProgress", option_map ⟦<bool as ToJson>⟧.stands it.work_done_progress) ∷ []) };
 
-impl Keyed for CodeActionOptions {
-    const KEYS: &'static [&'static str] = &[
-        "codeActionKinds",
-        "resolveProvider",
-        "workDoneProgress",
-    ];
-}
-
-impl WriteMembers for CodeActionOptions {
-    fn write<O: Sink>(&self, out: O) -> O {
-        out.some(&self.code_action_kinds)
-            .some(&self.resolve_provider)
-            .some(&self.work_done_progress)
-    }
-}
-
-impl Serialize for CodeActionOptions {
-    fn serialize<S: Serializer>(&self, out: &mut S) -> Result<(), S::Error> {
-        write_object(self, out)
+    fn to_json(&self, alloc: Global) -> Result<Value, AllocError> {
+        Object::new(alloc)
+            .some("codeActionKinds", &self.code_action_kinds)
+            .some("resolveProvider", &self.resolve_provider)
+            .some("workDoneProgress", &self.work_done_progress)
+            .end()
     }
 }
 
@@ -644,22 +605,16 @@ impl Default for CodeLensOptions {
     }
 }
 
-impl Described for CodeLensOptions {}
+impl ToJson for CodeLensOptions {
+    ghost stands = { λ it. object_of (
+        (codes "resolveProvider", option_map ⟦<bool as ToJson>⟧.stands it.resolve_provider)
+        ∷ (codes "workDoneProgress", option_map ⟦<bool as ToJson>⟧.stands it.work_done_progress) ∷ []) };
 
-impl Keyed for CodeLensOptions {
-    const KEYS: &'static [&'static str] = &["resolveProvider", "workDoneProgress"];
-}
-
-impl WriteMembers for CodeLensOptions {
-    fn write<O: Sink>(&self, out: O) -> O {
-        out.some(&self.resolve_provider)
-            .some(&self.work_done_progress)
-    }
-}
-
-impl Serialize for CodeLensOptions {
-    fn serialize<S: Serializer>(&self, out: &mut S) -> Result<(), S::Error> {
-        write_object(self, out)
+    fn to_json(&self, alloc: Global) -> Result<Value, AllocError> {
+        Object::new(alloc)
+            .some("resolveProvider", &self.resolve_provider)
+            .some("workDoneProgress", &self.work_done_progress)
+            .end()
     }
 }
 
@@ -689,22 +644,16 @@ impl Default for DocumentLinkOptions {
     }
 }
 
-impl Described for DocumentLinkOptions {}
+impl ToJson for DocumentLinkOptions {
+    ghost stands = { λ it. object_of (
+        (codes "resolveProvider", option_map ⟦<bool as ToJson>⟧.stands it.resolve_provider)
+        ∷ (codes "workDoneProgress", option_map ⟦<bool as ToJson>⟧.stands it.work_done_progress) ∷ []) };
 
-impl Keyed for DocumentLinkOptions {
-    const KEYS: &'static [&'static str] = &["resolveProvider", "workDoneProgress"];
-}
-
-impl WriteMembers for DocumentLinkOptions {
-    fn write<O: Sink>(&self, out: O) -> O {
-        out.some(&self.resolve_provider)
-            .some(&self.work_done_progress)
-    }
-}
-
-impl Serialize for DocumentLinkOptions {
-    fn serialize<S: Serializer>(&self, out: &mut S) -> Result<(), S::Error> {
-        write_object(self, out)
+    fn to_json(&self, alloc: Global) -> Result<Value, AllocError> {
+        Object::new(alloc)
+            .some("resolveProvider", &self.resolve_provider)
+            .some("workDoneProgress", &self.work_done_progress)
+            .end()
     }
 }
 
@@ -734,22 +683,16 @@ impl DocumentOnTypeFormattingOptions {
     }
 }
 
-impl Described for DocumentOnTypeFormattingOptions {}
+impl ToJson for DocumentOnTypeFormattingOptions {
+    ghost stands = { λ it. object_of (
+        (codes "firstTriggerCharacter", Some (⟦<String as ToJson>⟧.stands it.first_trigger_character))
+        ∷ (codes "moreTriggerCharacter", option_map ⟦<Vec<String> as ToJson>⟧.stands it.more_trigger_character) ∷ []) };
 
-impl Keyed for DocumentOnTypeFormattingOptions {
-    const KEYS: &'static [&'static str] = &["firstTriggerCharacter", "moreTriggerCharacter"];
-}
-
-impl WriteMembers for DocumentOnTypeFormattingOptions {
-    fn write<O: Sink>(&self, out: O) -> O {
-        out.member(&self.first_trigger_character)
-            .some(&self.more_trigger_character)
-    }
-}
-
-impl Serialize for DocumentOnTypeFormattingOptions {
-    fn serialize<S: Serializer>(&self, out: &mut S) -> Result<(), S::Error> {
-        write_object(self, out)
+    fn to_json(&self, alloc: Global) -> Result<Value, AllocError> {
+        Object::new(alloc)
+            .member("firstTriggerCharacter", &self.first_trigger_character)
+            .some("moreTriggerCharacter", &self.more_trigger_character)
+            .end()
     }
 }
 
@@ -779,22 +722,16 @@ impl Default for RenameOptions {
     }
 }
 
-impl Described for RenameOptions {}
+impl ToJson for RenameOptions {
+    ghost stands = { λ it. object_of (
+        (codes "prepareProvider", option_map ⟦<bool as ToJson>⟧.stands it.prepare_provider)
+        ∷ (codes "workDoneProgress", option_map ⟦<bool as ToJson>⟧.stands it.work_done_progress) ∷ []) };
 
-impl Keyed for RenameOptions {
-    const KEYS: &'static [&'static str] = &["prepareProvider", "workDoneProgress"];
-}
-
-impl WriteMembers for RenameOptions {
-    fn write<O: Sink>(&self, out: O) -> O {
-        out.some(&self.prepare_provider)
-            .some(&self.work_done_progress)
-    }
-}
-
-impl Serialize for RenameOptions {
-    fn serialize<S: Serializer>(&self, out: &mut S) -> Result<(), S::Error> {
-        write_object(self, out)
+    fn to_json(&self, alloc: Global) -> Result<Value, AllocError> {
+        Object::new(alloc)
+            .some("prepareProvider", &self.prepare_provider)
+            .some("workDoneProgress", &self.work_done_progress)
+            .end()
     }
 }
 
@@ -824,21 +761,16 @@ impl ExecuteCommandOptions {
     }
 }
 
-impl Described for ExecuteCommandOptions {}
+impl ToJson for ExecuteCommandOptions {
+    ghost stands = { λ it. object_of (
+        (codes "commands", Some (⟦<Vec<String> as ToJson>⟧.stands it.commands))
+        ∷ (codes "workDoneProgress", option_map ⟦<bool as ToJson>⟧.stands it.work_done_progress) ∷ []) };
 
-impl Keyed for ExecuteCommandOptions {
-    const KEYS: &'static [&'static str] = &["commands", "workDoneProgress"];
-}
-
-impl WriteMembers for ExecuteCommandOptions {
-    fn write<O: Sink>(&self, out: O) -> O {
-        out.member(&self.commands).some(&self.work_done_progress)
-    }
-}
-
-impl Serialize for ExecuteCommandOptions {
-    fn serialize<S: Serializer>(&self, out: &mut S) -> Result<(), S::Error> {
-        write_object(self, out)
+    fn to_json(&self, alloc: Global) -> Result<Value, AllocError> {
+        Object::new(alloc)
+            .member("commands", &self.commands)
+            .some("workDoneProgress", &self.work_done_progress)
+            .end()
     }
 }
 
@@ -876,24 +808,20 @@ impl SemanticTokensOptions {
     }
 }
 
-impl Described for SemanticTokensOptions {}
+impl ToJson for SemanticTokensOptions {
+    ghost stands = { λ it. object_of (
+        (codes "legend", Some (⟦<SemanticTokensLegend as ToJson>⟧.stands it.legend))
+        ∷ (codes "range", option_map ⟦<bool as ToJson>⟧.stands it.range)
+        ∷ (codes "full", option_map ⟦<SemanticTokensFullOptions as ToJson>⟧.stands it.full)
+        ∷ (codes "workDoneProgress", option_map ⟦<bool as ToJson>⟧.stands it.work_done_progress) ∷ []) };
 
-impl Keyed for SemanticTokensOptions {
-    const KEYS: &'static [&'static str] = &["legend", "range", "full", "workDoneProgress"];
-}
-
-impl WriteMembers for SemanticTokensOptions {
-    fn write<O: Sink>(&self, out: O) -> O {
-        out.member(&self.legend)
-            .some(&self.range)
-            .some(&self.full)
-            .some(&self.work_done_progress)
-    }
-}
-
-impl Serialize for SemanticTokensOptions {
-    fn serialize<S: Serializer>(&self, out: &mut S) -> Result<(), S::Error> {
-        write_object(self, out)
+    fn to_json(&self, alloc: Global) -> Result<Value, AllocError> {
+        Object::new(alloc)
+            .member("legend", &self.legend)
+            .some("range", &self.range)
+            .some("full", &self.full)
+            .some("workDoneProgress", &self.work_done_progress)
+            .end()
     }
 }
 
@@ -917,21 +845,12 @@ impl Default for SemanticTokensFullOptions {
     }
 }
 
-impl Described for SemanticTokensFullOptions {}
+impl ToJson for SemanticTokensFullOptions {
+    ghost stands = { λ it. object_of (
+        (codes "delta", option_map ⟦<bool as ToJson>⟧.stands it.delta) ∷ []) };
 
-impl Keyed for SemanticTokensFullOptions {
-    const KEYS: &'static [&'static str] = &["delta"];
-}
-
-impl WriteMembers for SemanticTokensFullOptions {
-    fn write<O: Sink>(&self, out: O) -> O {
-        out.some(&self.delta)
-    }
-}
-
-impl Serialize for SemanticTokensFullOptions {
-    fn serialize<S: Serializer>(&self, out: &mut S) -> Result<(), S::Error> {
-        write_object(self, out)
+    fn to_json(&self, alloc: Global) -> Result<Value, AllocError> {
+        Object::new(alloc).some("delta", &self.delta).end()
     }
 }
 
@@ -944,21 +863,16 @@ pub struct SemanticTokensLegend {
     pub token_modifiers: Vec<String>,
 }
 
-impl Described for SemanticTokensLegend {}
+impl ToJson for SemanticTokensLegend {
+    ghost stands = { λ it. object_of (
+        (codes "tokenTypes", Some (⟦<Vec<String> as ToJson>⟧.stands it.token_types))
+        ∷ (codes "tokenModifiers", Some (⟦<Vec<String> as ToJson>⟧.stands it.token_modifiers)) ∷ []) };
 
-impl Keyed for SemanticTokensLegend {
-    const KEYS: &'static [&'static str] = &["tokenTypes", "tokenModifiers"];
-}
-
-impl WriteMembers for SemanticTokensLegend {
-    fn write<O: Sink>(&self, out: O) -> O {
-        out.member(&self.token_types).member(&self.token_modifiers)
-    }
-}
-
-impl Serialize for SemanticTokensLegend {
-    fn serialize<S: Serializer>(&self, out: &mut S) -> Result<(), S::Error> {
-        write_object(self, out)
+    fn to_json(&self, alloc: Global) -> Result<Value, AllocError> {
+        Object::new(alloc)
+            .member("tokenTypes", &self.token_types)
+            .member("tokenModifiers", &self.token_modifiers)
+            .end()
     }
 }
 
@@ -996,29 +910,20 @@ impl DiagnosticOptions {
     }
 }
 
-impl Described for DiagnosticOptions {}
+impl ToJson for DiagnosticOptions {
+    ghost stands = { λ it. object_of (
+        (codes "identifier", option_map ⟦<String as ToJson>⟧.stands it.identifier)
+        ∷ (codes "interFileDependencies", Some (⟦<bool as ToJson>⟧.stands it.inter_file_dependencies))
+        ∷ (codes "workspaceDiagnostics", Some (⟦<bool as ToJson>⟧.stands it.workspace_diagnostics))
+        ∷ (codes "workDoneProgress", option_map ⟦<bool as ToJson>⟧.stands it.work_done_progress) ∷ []) };
 
-impl Keyed for DiagnosticOptions {
-    const KEYS: &'static [&'static str] = &[
-        "identifier",
-        "interFileDependencies",
-        "workspaceDiagnostics",
-        "workDoneProgress",
-    ];
-}
-
-impl WriteMembers for DiagnosticOptions {
-    fn write<O: Sink>(&self, out: O) -> O {
-        out.some(&self.identifier)
-            .member(&self.inter_file_dependencies)
-            .member(&self.workspace_diagnostics)
-            .some(&self.work_done_progress)
-    }
-}
-
-impl Serialize for DiagnosticOptions {
-    fn serialize<S: Serializer>(&self, out: &mut S) -> Result<(), S::Error> {
-        write_object(self, out)
+    fn to_json(&self, alloc: Global) -> Result<Value, AllocError> {
+        Object::new(alloc)
+            .some("identifier", &self.identifier)
+            .member("interFileDependencies", &self.inter_file_dependencies)
+            .member("workspaceDiagnostics", &self.workspace_diagnostics)
+            .some("workDoneProgress", &self.work_done_progress)
+            .end()
     }
 }
 
@@ -1048,22 +953,16 @@ impl Default for WorkspaceOptions {
     }
 }
 
-impl Described for WorkspaceOptions {}
+impl ToJson for WorkspaceOptions {
+    ghost stands = { λ it. object_of (
+        (codes "workspaceFolders", option_map ⟦<WorkspaceFoldersServerCapabilities as ToJson>⟧.stands it.workspace_folders)
+        ∷ (codes "fileOperations", option_map ⟦<Value as ToJson>⟧.stands it.file_operations) ∷ []) };
 
-impl Keyed for WorkspaceOptions {
-    const KEYS: &'static [&'static str] = &["workspaceFolders", "fileOperations"];
-}
-
-impl WriteMembers for WorkspaceOptions {
-    fn write<O: Sink>(&self, out: O) -> O {
-        out.some(&self.workspace_folders)
-            .some(&self.file_operations)
-    }
-}
-
-impl Serialize for WorkspaceOptions {
-    fn serialize<S: Serializer>(&self, out: &mut S) -> Result<(), S::Error> {
-        write_object(self, out)
+    fn to_json(&self, alloc: Global) -> Result<Value, AllocError> {
+        Object::new(alloc)
+            .some("workspaceFolders", &self.workspace_folders)
+            .some("fileOperations", &self.file_operations)
+            .end()
     }
 }
 
@@ -1093,20 +992,15 @@ impl Default for WorkspaceFoldersServerCapabilities {
     }
 }
 
-impl Described for WorkspaceFoldersServerCapabilities {}
+impl ToJson for WorkspaceFoldersServerCapabilities {
+    ghost stands = { λ it. object_of (
+        (codes "supported", option_map ⟦<bool as ToJson>⟧.stands it.supported)
+        ∷ (codes "changeNotifications", option_map ⟦<bool as ToJson>⟧.stands it.change_notifications) ∷ []) };
 
-impl Keyed for WorkspaceFoldersServerCapabilities {
-    const KEYS: &'static [&'static str] = &["supported", "changeNotifications"];
-}
-
-impl WriteMembers for WorkspaceFoldersServerCapabilities {
-    fn write<O: Sink>(&self, out: O) -> O {
-        out.some(&self.supported).some(&self.change_notifications)
-    }
-}
-
-impl Serialize for WorkspaceFoldersServerCapabilities {
-    fn serialize<S: Serializer>(&self, out: &mut S) -> Result<(), S::Error> {
-        write_object(self, out)
+    fn to_json(&self, alloc: Global) -> Result<Value, AllocError> {
+        Object::new(alloc)
+            .some("supported", &self.supported)
+            .some("changeNotifications", &self.change_notifications)
+            .end()
     }
 }

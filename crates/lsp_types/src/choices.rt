@@ -1,9 +1,12 @@
 //! Values of which there are several kinds.
-use serde::{
-    Described, Deserialize, DeserializeOwned, Deserializer, Format, Kind, Name, Serialize,
-    Serializer,
-};
-use std::alloc::Global;
+ghost use Rattle.std.specs.Prelude.{codes, string_bytes};
+ghost use Rattle.serde_json.specs.Data.{number, string};
+ghost use Rattle.serde_json.specs.Find.{of_integer};
+
+use crate::json::ToJson;
+use serde::{Deserialize, DeserializeOwned, Deserializer, Format, Kind, Name};
+use serde_json::Value;
+use std::alloc::{AllocError, Global};
 
 /// A number or a text: the code of a diagnostic, or a token of progress (LSP 3.17, "Diagnostic" and "ProgressToken").
 #[derive(Drop)]
@@ -14,13 +17,15 @@ pub enum NumberOrString {
     String(String),
 }
 
-impl Described for NumberOrString {}
+impl ToJson for NumberOrString {
+    ghost use Rattle.lsp_types.specs.declared.choices.NumberOrString.TheVariants.{Number, String};
 
-impl Serialize for NumberOrString {
-    fn serialize<S: Serializer>(&self, out: &mut S) -> Result<(), S::Error> {
+    ghost stands = { elim [ Number z ↦ number (of_integer z) | String text ↦ string (string_bytes text) ] };
+
+    fn to_json(&self, alloc: Global) -> Result<Value, AllocError> {
         match self {
-            NumberOrString::Number(number) => number.serialize(out),
-            NumberOrString::String(text) => text.serialize(out),
+            NumberOrString::Number(number) => number.to_json(alloc),
+            NumberOrString::String(text) => text.to_json(alloc),
         }
     }
 }
@@ -63,13 +68,15 @@ pub enum MarkupKind {
     Markdown,
 }
 
-impl Described for MarkupKind {}
+impl ToJson for MarkupKind {
+    ghost use Rattle.lsp_types.specs.declared.choices.MarkupKind.TheVariants.{Markdown, PlainText};
 
-impl Serialize for MarkupKind {
-    fn serialize<S: Serializer>(&self, out: &mut S) -> Result<(), S::Error> {
+    ghost stands = { elim [ PlainText ↦ string (codes "plaintext") | Markdown ↦ string (codes "markdown") ] };
+
+    fn to_json(&self, alloc: Global) -> Result<Value, AllocError> {
         match self {
-            MarkupKind::PlainText => out.str("plaintext"),
-            MarkupKind::Markdown => out.str("markdown"),
+            MarkupKind::PlainText => Value::try_from_str(alloc, "plaintext"),
+            MarkupKind::Markdown => Value::try_from_str(alloc, "markdown"),
         }
     }
 }

@@ -1,20 +1,21 @@
 //! Completions: what a client offers while a user types.
 // `tools/types` wrote this file from `types.txt`: change that.
+ghost use Rattle.std.specs.Prelude.{◌∷◌, [], Some, codes, option_map};
+ghost use Rattle.serde_json.specs.Data.{number, unsigned};
+ghost use Rattle.lsp_types.specs.Json.{object_of};
+
 use crate::documents::TextDocumentIdentifier;
 use crate::edits::TextEdit;
 use crate::hovers::MarkupContent;
 use crate::json::{
-    Blank, Keyed, ReadMembers, Sink, Source, WriteMembers, if_fits, number_within, read_object,
-    write_object,
+    Blank, Keyed, Object, ReadMembers, Source, ToJson, if_fits, number_within, read_object,
 };
 use crate::progress::ProgressToken;
 use crate::workspace::Command;
 use lsp_text::{Position, Range};
-use serde::{
-    Described, Deserialize, DeserializeOwned, Deserializer, Format, Serialize, Serializer,
-};
+use serde::{Deserialize, DeserializeOwned, Deserializer, Format};
 use serde_json::Value;
-use std::alloc::Global;
+use std::alloc::{AllocError, Global};
 
 /// What a completion inserts (LSP 3.17, "CompletionItemKind"). On reading, another number is refused.
 #[derive(Clone, Copy, Drop)]
@@ -73,11 +74,11 @@ impl CompletionItemKind {
     pub const TYPE_PARAMETER: CompletionItemKind = CompletionItemKind(25);
 }
 
-impl Described for CompletionItemKind {}
+impl ToJson for CompletionItemKind {
+    ghost stands = { λ it. number (unsigned it.0) };
 
-impl Serialize for CompletionItemKind {
-    fn serialize<S: Serializer>(&self, out: &mut S) -> Result<(), S::Error> {
-        self.0.serialize(out)
+    fn to_json(&self, alloc: Global) -> Result<Value, AllocError> {
+        self.0.to_json(alloc)
     }
 }
 
@@ -113,11 +114,11 @@ impl InsertTextFormat {
     pub const SNIPPET: InsertTextFormat = InsertTextFormat(2);
 }
 
-impl Described for InsertTextFormat {}
+impl ToJson for InsertTextFormat {
+    ghost stands = { λ it. number (unsigned it.0) };
 
-impl Serialize for InsertTextFormat {
-    fn serialize<S: Serializer>(&self, out: &mut S) -> Result<(), S::Error> {
-        self.0.serialize(out)
+    fn to_json(&self, alloc: Global) -> Result<Value, AllocError> {
+        self.0.to_json(alloc)
     }
 }
 
@@ -151,11 +152,11 @@ impl CompletionItemTag {
     pub const DEPRECATED: CompletionItemTag = CompletionItemTag(1);
 }
 
-impl Described for CompletionItemTag {}
+impl ToJson for CompletionItemTag {
+    ghost stands = { λ it. number (unsigned it.0) };
 
-impl Serialize for CompletionItemTag {
-    fn serialize<S: Serializer>(&self, out: &mut S) -> Result<(), S::Error> {
-        self.0.serialize(out)
+    fn to_json(&self, alloc: Global) -> Result<Value, AllocError> {
+        self.0.to_json(alloc)
     }
 }
 
@@ -192,11 +193,11 @@ impl InsertTextMode {
     pub const ADJUST_INDENTATION: InsertTextMode = InsertTextMode(2);
 }
 
-impl Described for InsertTextMode {}
+impl ToJson for InsertTextMode {
+    ghost stands = { λ it. number (unsigned it.0) };
 
-impl Serialize for InsertTextMode {
-    fn serialize<S: Serializer>(&self, out: &mut S) -> Result<(), S::Error> {
-        self.0.serialize(out)
+    fn to_json(&self, alloc: Global) -> Result<Value, AllocError> {
+        self.0.to_json(alloc)
     }
 }
 
@@ -247,22 +248,21 @@ impl Default for CompletionItemLabelDetails {
     }
 }
 
-impl Described for CompletionItemLabelDetails {}
+impl ToJson for CompletionItemLabelDetails {
+    ghost stands = { λ it. object_of (
+        (codes "detail", option_map ⟦<String as ToJson>⟧.stands it.detail)
+        ∷ (codes "description", option_map ⟦<String as ToJson>⟧.stands it.description) ∷ []) };
+
+    fn to_json(&self, alloc: Global) -> Result<Value, AllocError> {
+        Object::new(alloc)
+            .some("detail", &self.detail)
+            .some("description", &self.description)
+            .end()
+    }
+}
 
 impl Keyed for CompletionItemLabelDetails {
     const KEYS: &'static [&'static str] = &["detail", "description"];
-}
-
-impl WriteMembers for CompletionItemLabelDetails {
-    fn write<O: Sink>(&self, out: O) -> O {
-        out.some(&self.detail).some(&self.description)
-    }
-}
-
-impl Serialize for CompletionItemLabelDetails {
-    fn serialize<S: Serializer>(&self, out: &mut S) -> Result<(), S::Error> {
-        write_object(self, out)
-    }
 }
 
 impl ReadMembers for CompletionItemLabelDetails {
@@ -377,7 +377,52 @@ impl CompletionItem {
     }
 }
 
-impl Described for CompletionItem {}
+impl ToJson for CompletionItem {
+    ghost stands = { λ it. object_of (
+        (codes "label", Some (⟦<String as ToJson>⟧.stands it.label))
+        ∷ (codes "labelDetails", option_map ⟦<CompletionItemLabelDetails as ToJson>⟧.stands it.label_details)
+        ∷ (codes "kind", option_map ⟦<CompletionItemKind as ToJson>⟧.stands it.kind)
+        ∷ (codes "tags", option_map ⟦<Vec<CompletionItemTag> as ToJson>⟧.stands it.tags)
+        ∷ (codes "detail", option_map ⟦<String as ToJson>⟧.stands it.detail)
+        ∷ (codes "documentation", option_map ⟦<MarkupContent as ToJson>⟧.stands it.documentation)
+        ∷ (codes "deprecated", option_map ⟦<bool as ToJson>⟧.stands it.deprecated)
+        ∷ (codes "preselect", option_map ⟦<bool as ToJson>⟧.stands it.preselect)
+        ∷ (codes "sortText", option_map ⟦<String as ToJson>⟧.stands it.sort_text)
+        ∷ (codes "filterText", option_map ⟦<String as ToJson>⟧.stands it.filter_text)
+        ∷ (codes "insertText", option_map ⟦<String as ToJson>⟧.stands it.insert_text)
+        ∷ (codes "insertTextFormat", option_map ⟦<InsertTextFormat as ToJson>⟧.stands it.insert_text_format)
+        ∷ (codes "insertTextMode", option_map ⟦<InsertTextMode as ToJson>⟧.stands it.insert_text_mode)
+        ∷ (codes "textEdit", option_map ⟦<TextEdit as ToJson>⟧.stands it.text_edit)
+        ∷ (codes "textEditText", option_map ⟦<String as ToJson>⟧.stands it.text_edit_text)
+        ∷ (codes "additionalTextEdits", option_map ⟦<Vec<TextEdit> as ToJson>⟧.stands it.additional_text_edits)
+        ∷ (codes "commitCharacters", option_map ⟦<Vec<String> as ToJson>⟧.stands it.commit_characters)
+        ∷ (codes "command", option_map ⟦<Command as ToJson>⟧.stands it.command)
+        ∷ (codes "data", option_map ⟦<Value as ToJson>⟧.stands it.«data») ∷ []) };
+
+    fn to_json(&self, alloc: Global) -> Result<Value, AllocError> {
+        Object::new(alloc)
+            .member("label", &self.label)
+            .some("labelDetails", &self.label_details)
+            .some("kind", &self.kind)
+            .some("tags", &self.tags)
+            .some("detail", &self.detail)
+            .some("documentation", &self.documentation)
+            .some("deprecated", &self.deprecated)
+            .some("preselect", &self.preselect)
+            .some("sortText", &self.sort_text)
+            .some("filterText", &self.filter_text)
+            .some("insertText", &self.insert_text)
+            .some("insertTextFormat", &self.insert_text_format)
+            .some("insertTextMode", &self.insert_text_mode)
+            .some("textEdit", &self.text_edit)
+            .some("textEditText", &self.text_edit_text)
+            .some("additionalTextEdits", &self.additional_text_edits)
+            .some("commitCharacters", &self.commit_characters)
+            .some("command", &self.command)
+            .some("data", &self.data)
+            .end()
+    }
+}
 
 impl Keyed for CompletionItem {
     const KEYS: &'static [&'static str] = &[
@@ -401,36 +446,6 @@ impl Keyed for CompletionItem {
         "command",
         "data",
     ];
-}
-
-impl WriteMembers for CompletionItem {
-    fn write<O: Sink>(&self, out: O) -> O {
-        out.member(&self.label)
-            .some(&self.label_details)
-            .some(&self.kind)
-            .some(&self.tags)
-            .some(&self.detail)
-            .some(&self.documentation)
-            .some(&self.deprecated)
-            .some(&self.preselect)
-            .some(&self.sort_text)
-            .some(&self.filter_text)
-            .some(&self.insert_text)
-            .some(&self.insert_text_format)
-            .some(&self.insert_text_mode)
-            .some(&self.text_edit)
-            .some(&self.text_edit_text)
-            .some(&self.additional_text_edits)
-            .some(&self.commit_characters)
-            .some(&self.command)
-            .some(&self.data)
-    }
-}
-
-impl Serialize for CompletionItem {
-    fn serialize<S: Serializer>(&self, out: &mut S) -> Result<(), S::Error> {
-        write_object(self, out)
-    }
 }
 
 impl ReadMembers for CompletionItem {
@@ -515,7 +530,24 @@ impl Default for CompletionItemDefaults {
     }
 }
 
-impl Described for CompletionItemDefaults {}
+impl ToJson for CompletionItemDefaults {
+    ghost stands = { λ it. object_of (
+        (codes "commitCharacters", option_map ⟦<Vec<String> as ToJson>⟧.stands it.commit_characters)
+        ∷ (codes "editRange", option_map ⟦<Range as ToJson>⟧.stands it.edit_range)
+        ∷ (codes "insertTextFormat", option_map ⟦<InsertTextFormat as ToJson>⟧.stands it.insert_text_format)
+        ∷ (codes "insertTextMode", option_map ⟦<InsertTextMode as ToJson>⟧.stands it.insert_text_mode)
+        ∷ (codes "data", option_map ⟦<Value as ToJson>⟧.stands it.«data») ∷ []) };
+
+    fn to_json(&self, alloc: Global) -> Result<Value, AllocError> {
+        Object::new(alloc)
+            .some("commitCharacters", &self.commit_characters)
+            .some("editRange", &self.edit_range)
+            .some("insertTextFormat", &self.insert_text_format)
+            .some("insertTextMode", &self.insert_text_mode)
+            .some("data", &self.data)
+            .end()
+    }
+}
 
 impl Keyed for CompletionItemDefaults {
     const KEYS: &'static [&'static str] = &[
@@ -525,22 +557,6 @@ impl Keyed for CompletionItemDefaults {
         "insertTextMode",
         "data",
     ];
-}
-
-impl WriteMembers for CompletionItemDefaults {
-    fn write<O: Sink>(&self, out: O) -> O {
-        out.some(&self.commit_characters)
-            .some(&self.edit_range)
-            .some(&self.insert_text_format)
-            .some(&self.insert_text_mode)
-            .some(&self.data)
-    }
-}
-
-impl Serialize for CompletionItemDefaults {
-    fn serialize<S: Serializer>(&self, out: &mut S) -> Result<(), S::Error> {
-        write_object(self, out)
-    }
 }
 
 impl ReadMembers for CompletionItemDefaults {
@@ -577,11 +593,11 @@ impl CompletionTriggerKind {
     pub const TRIGGER_FOR_INCOMPLETE_COMPLETIONS: CompletionTriggerKind = CompletionTriggerKind(3);
 }
 
-impl Described for CompletionTriggerKind {}
+impl ToJson for CompletionTriggerKind {
+    ghost stands = { λ it. number (unsigned it.0) };
 
-impl Serialize for CompletionTriggerKind {
-    fn serialize<S: Serializer>(&self, out: &mut S) -> Result<(), S::Error> {
-        self.0.serialize(out)
+    fn to_json(&self, alloc: Global) -> Result<Value, AllocError> {
+        self.0.to_json(alloc)
     }
 }
 
@@ -621,22 +637,21 @@ pub struct CompletionContext {
     pub trigger_character: Option<String>,
 }
 
-impl Described for CompletionContext {}
+impl ToJson for CompletionContext {
+    ghost stands = { λ it. object_of (
+        (codes "triggerKind", Some (⟦<CompletionTriggerKind as ToJson>⟧.stands it.trigger_kind))
+        ∷ (codes "triggerCharacter", option_map ⟦<String as ToJson>⟧.stands it.trigger_character) ∷ []) };
+
+    fn to_json(&self, alloc: Global) -> Result<Value, AllocError> {
+        Object::new(alloc)
+            .member("triggerKind", &self.trigger_kind)
+            .some("triggerCharacter", &self.trigger_character)
+            .end()
+    }
+}
 
 impl Keyed for CompletionContext {
     const KEYS: &'static [&'static str] = &["triggerKind", "triggerCharacter"];
-}
-
-impl WriteMembers for CompletionContext {
-    fn write<O: Sink>(&self, out: O) -> O {
-        out.member(&self.trigger_kind).some(&self.trigger_character)
-    }
-}
-
-impl Serialize for CompletionContext {
-    fn serialize<S: Serializer>(&self, out: &mut S) -> Result<(), S::Error> {
-        write_object(self, out)
-    }
 }
 
 impl ReadMembers for CompletionContext {
@@ -672,7 +687,24 @@ pub struct CompletionParams {
     pub partial_result_token: Option<ProgressToken>,
 }
 
-impl Described for CompletionParams {}
+impl ToJson for CompletionParams {
+    ghost stands = { λ it. object_of (
+        (codes "textDocument", Some (⟦<TextDocumentIdentifier as ToJson>⟧.stands it.text_document))
+        ∷ (codes "position", Some (⟦<Position as ToJson>⟧.stands it.position))
+        ∷ (codes "context", option_map ⟦<CompletionContext as ToJson>⟧.stands it.context)
+        ∷ (codes "workDoneToken", option_map ⟦<ProgressToken as ToJson>⟧.stands it.work_done_token)
+        ∷ (codes "partialResultToken", option_map ⟦<ProgressToken as ToJson>⟧.stands it.partial_result_token) ∷ []) };
+
+    fn to_json(&self, alloc: Global) -> Result<Value, AllocError> {
+        Object::new(alloc)
+            .member("textDocument", &self.text_document)
+            .member("position", &self.position)
+            .some("context", &self.context)
+            .some("workDoneToken", &self.work_done_token)
+            .some("partialResultToken", &self.partial_result_token)
+            .end()
+    }
+}
 
 impl Keyed for CompletionParams {
     const KEYS: &'static [&'static str] = &[
@@ -682,22 +714,6 @@ impl Keyed for CompletionParams {
         "workDoneToken",
         "partialResultToken",
     ];
-}
-
-impl WriteMembers for CompletionParams {
-    fn write<O: Sink>(&self, out: O) -> O {
-        out.member(&self.text_document)
-            .member(&self.position)
-            .some(&self.context)
-            .some(&self.work_done_token)
-            .some(&self.partial_result_token)
-    }
-}
-
-impl Serialize for CompletionParams {
-    fn serialize<S: Serializer>(&self, out: &mut S) -> Result<(), S::Error> {
-        write_object(self, out)
-    }
 }
 
 impl ReadMembers for CompletionParams {
@@ -751,24 +767,23 @@ impl CompletionList {
     }
 }
 
-impl Described for CompletionList {}
+impl ToJson for CompletionList {
+    ghost stands = { λ it. object_of (
+        (codes "isIncomplete", Some (⟦<bool as ToJson>⟧.stands it.is_incomplete))
+        ∷ (codes "itemDefaults", option_map ⟦<CompletionItemDefaults as ToJson>⟧.stands it.item_defaults)
+        ∷ (codes "items", Some (⟦<Vec<CompletionItem> as ToJson>⟧.stands it.items)) ∷ []) };
+
+    fn to_json(&self, alloc: Global) -> Result<Value, AllocError> {
+        Object::new(alloc)
+            .member("isIncomplete", &self.is_incomplete)
+            .some("itemDefaults", &self.item_defaults)
+            .member("items", &self.items)
+            .end()
+    }
+}
 
 impl Keyed for CompletionList {
     const KEYS: &'static [&'static str] = &["isIncomplete", "itemDefaults", "items"];
-}
-
-impl WriteMembers for CompletionList {
-    fn write<O: Sink>(&self, out: O) -> O {
-        out.member(&self.is_incomplete)
-            .some(&self.item_defaults)
-            .member(&self.items)
-    }
-}
-
-impl Serialize for CompletionList {
-    fn serialize<S: Serializer>(&self, out: &mut S) -> Result<(), S::Error> {
-        write_object(self, out)
-    }
 }
 
 impl ReadMembers for CompletionList {

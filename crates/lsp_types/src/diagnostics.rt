@@ -1,16 +1,16 @@
 //! What a server finds wrong with a document.
 // `tools/types` wrote this file from `types.txt`: change that.
+ghost use Rattle.std.specs.Prelude.{◌∷◌, [], Some, codes, option_map};
+ghost use Rattle.serde_json.specs.Data.{number, unsigned};
+ghost use Rattle.lsp_types.specs.Json.{object_of};
+
 use crate::choices::NumberOrString;
 use crate::documents::Location;
-use crate::json::{
-    Keyed, ReadMembers, Sink, Source, WriteMembers, number_within, read_object, write_object,
-};
+use crate::json::{Keyed, Object, ReadMembers, Source, ToJson, number_within, read_object};
 use lsp_text::Range;
-use serde::{
-    Described, Deserialize, DeserializeOwned, Deserializer, Format, Serialize, Serializer,
-};
+use serde::{Deserialize, DeserializeOwned, Deserializer, Format};
 use serde_json::Value;
-use std::alloc::Global;
+use std::alloc::{AllocError, Global};
 
 /// How severe a diagnostic is (LSP 3.17, "DiagnosticSeverity"). On reading, another number is refused.
 #[derive(Clone, Copy, Drop)]
@@ -27,11 +27,11 @@ impl DiagnosticSeverity {
     pub const HINT: DiagnosticSeverity = DiagnosticSeverity(4);
 }
 
-impl Described for DiagnosticSeverity {}
+impl ToJson for DiagnosticSeverity {
+    ghost stands = { λ it. number (unsigned it.0) };
 
-impl Serialize for DiagnosticSeverity {
-    fn serialize<S: Serializer>(&self, out: &mut S) -> Result<(), S::Error> {
-        self.0.serialize(out)
+    fn to_json(&self, alloc: Global) -> Result<Value, AllocError> {
+        self.0.to_json(alloc)
     }
 }
 
@@ -67,11 +67,11 @@ impl DiagnosticTag {
     pub const DEPRECATED: DiagnosticTag = DiagnosticTag(2);
 }
 
-impl Described for DiagnosticTag {}
+impl ToJson for DiagnosticTag {
+    ghost stands = { λ it. number (unsigned it.0) };
 
-impl Serialize for DiagnosticTag {
-    fn serialize<S: Serializer>(&self, out: &mut S) -> Result<(), S::Error> {
-        self.0.serialize(out)
+    fn to_json(&self, alloc: Global) -> Result<Value, AllocError> {
+        self.0.to_json(alloc)
     }
 }
 
@@ -105,22 +105,21 @@ pub struct DiagnosticRelatedInformation {
     pub message: String,
 }
 
-impl Described for DiagnosticRelatedInformation {}
+impl ToJson for DiagnosticRelatedInformation {
+    ghost stands = { λ it. object_of (
+        (codes "location", Some (⟦<Location as ToJson>⟧.stands it.location))
+        ∷ (codes "message", Some (⟦<String as ToJson>⟧.stands it.message)) ∷ []) };
+
+    fn to_json(&self, alloc: Global) -> Result<Value, AllocError> {
+        Object::new(alloc)
+            .member("location", &self.location)
+            .member("message", &self.message)
+            .end()
+    }
+}
 
 impl Keyed for DiagnosticRelatedInformation {
     const KEYS: &'static [&'static str] = &["location", "message"];
-}
-
-impl WriteMembers for DiagnosticRelatedInformation {
-    fn write<O: Sink>(&self, out: O) -> O {
-        out.member(&self.location).member(&self.message)
-    }
-}
-
-impl Serialize for DiagnosticRelatedInformation {
-    fn serialize<S: Serializer>(&self, out: &mut S) -> Result<(), S::Error> {
-        write_object(self, out)
-    }
 }
 
 impl ReadMembers for DiagnosticRelatedInformation {
@@ -157,22 +156,17 @@ pub struct CodeDescription {
     pub href: String,
 }
 
-impl Described for CodeDescription {}
+impl ToJson for CodeDescription {
+    ghost stands = { λ it. object_of (
+        (codes "href", Some (⟦<String as ToJson>⟧.stands it.href)) ∷ []) };
+
+    fn to_json(&self, alloc: Global) -> Result<Value, AllocError> {
+        Object::new(alloc).member("href", &self.href).end()
+    }
+}
 
 impl Keyed for CodeDescription {
     const KEYS: &'static [&'static str] = &["href"];
-}
-
-impl WriteMembers for CodeDescription {
-    fn write<O: Sink>(&self, out: O) -> O {
-        out.member(&self.href)
-    }
-}
-
-impl Serialize for CodeDescription {
-    fn serialize<S: Serializer>(&self, out: &mut S) -> Result<(), S::Error> {
-        write_object(self, out)
-    }
 }
 
 impl ReadMembers for CodeDescription {
@@ -246,7 +240,32 @@ impl Diagnostic {
     }
 }
 
-impl Described for Diagnostic {}
+impl ToJson for Diagnostic {
+    ghost stands = { λ it. object_of (
+        (codes "range", Some (⟦<Range as ToJson>⟧.stands it.range))
+        ∷ (codes "severity", option_map ⟦<DiagnosticSeverity as ToJson>⟧.stands it.severity)
+        ∷ (codes "code", option_map ⟦<NumberOrString as ToJson>⟧.stands it.code)
+        ∷ (codes "codeDescription", option_map ⟦<CodeDescription as ToJson>⟧.stands it.code_description)
+        ∷ (codes "source", option_map ⟦<String as ToJson>⟧.stands it.source)
+        ∷ (codes "message", Some (⟦<String as ToJson>⟧.stands it.message))
+        ∷ (codes "tags", option_map ⟦<Vec<DiagnosticTag> as ToJson>⟧.stands it.tags)
+        ∷ (codes "relatedInformation", option_map ⟦<Vec<DiagnosticRelatedInformation> as ToJson>⟧.stands it.related_information)
+        ∷ (codes "data", option_map ⟦<Value as ToJson>⟧.stands it.«data») ∷ []) };
+
+    fn to_json(&self, alloc: Global) -> Result<Value, AllocError> {
+        Object::new(alloc)
+            .member("range", &self.range)
+            .some("severity", &self.severity)
+            .some("code", &self.code)
+            .some("codeDescription", &self.code_description)
+            .some("source", &self.source)
+            .member("message", &self.message)
+            .some("tags", &self.tags)
+            .some("relatedInformation", &self.related_information)
+            .some("data", &self.data)
+            .end()
+    }
+}
 
 impl Keyed for Diagnostic {
     const KEYS: &'static [&'static str] = &[
@@ -260,26 +279,6 @@ impl Keyed for Diagnostic {
         "relatedInformation",
         "data",
     ];
-}
-
-impl WriteMembers for Diagnostic {
-    fn write<O: Sink>(&self, out: O) -> O {
-        out.member(&self.range)
-            .some(&self.severity)
-            .some(&self.code)
-            .some(&self.code_description)
-            .some(&self.source)
-            .member(&self.message)
-            .some(&self.tags)
-            .some(&self.related_information)
-            .some(&self.data)
-    }
-}
-
-impl Serialize for Diagnostic {
-    fn serialize<S: Serializer>(&self, out: &mut S) -> Result<(), S::Error> {
-        write_object(self, out)
-    }
 }
 
 impl ReadMembers for Diagnostic {
@@ -346,24 +345,23 @@ impl PublishDiagnosticsParams {
     }
 }
 
-impl Described for PublishDiagnosticsParams {}
+impl ToJson for PublishDiagnosticsParams {
+    ghost stands = { λ it. object_of (
+        (codes "uri", Some (⟦<String as ToJson>⟧.stands it.uri))
+        ∷ (codes "version", option_map ⟦<i32 as ToJson>⟧.stands it.version)
+        ∷ (codes "diagnostics", Some (⟦<Vec<Diagnostic> as ToJson>⟧.stands it.diagnostics)) ∷ []) };
+
+    fn to_json(&self, alloc: Global) -> Result<Value, AllocError> {
+        Object::new(alloc)
+            .member("uri", &self.uri)
+            .some("version", &self.version)
+            .member("diagnostics", &self.diagnostics)
+            .end()
+    }
+}
 
 impl Keyed for PublishDiagnosticsParams {
     const KEYS: &'static [&'static str] = &["uri", "version", "diagnostics"];
-}
-
-impl WriteMembers for PublishDiagnosticsParams {
-    fn write<O: Sink>(&self, out: O) -> O {
-        out.member(&self.uri)
-            .some(&self.version)
-            .member(&self.diagnostics)
-    }
-}
-
-impl Serialize for PublishDiagnosticsParams {
-    fn serialize<S: Serializer>(&self, out: &mut S) -> Result<(), S::Error> {
-        write_object(self, out)
-    }
 }
 
 impl ReadMembers for PublishDiagnosticsParams {

@@ -1,7 +1,8 @@
 // Which way a method goes, and what goes with it.
 ghost use Rattle.std.specs.Prelude.{◌≡◌, List, ℕ};
 
-use serde::{DeserializeOwned, Serialize};
+use crate::json::ToJson;
+use serde::DeserializeOwned;
 
 /// A request that a client sends and a server answers (LSP 3.17, "Request Message").
 pub trait RequestToServer {
@@ -9,7 +10,7 @@ pub trait RequestToServer {
     type Params: DeserializeOwned;
 
     /// Its result.
-    type Result: Serialize + Drop;
+    type Result: ToJson + Drop;
 
     // Its method.
     ghost method: { List ℕ };
@@ -27,7 +28,7 @@ pub trait NotificationToServer {
 /// A request that a server sends and a client answers (LSP 3.17, "Request Message").
 pub trait RequestToClient {
     /// Its params.
-    type Params: Serialize;
+    type Params: ToJson;
 
     /// Its result, which is read.
     type Result;
@@ -43,7 +44,7 @@ pub trait RequestToClient {
 /// A notification that a server sends and a client hears (LSP 3.17, "Notification Message").
 pub trait NotificationToClient {
     /// Its params.
-    type Params: Serialize;
+    type Params: ToJson;
 
     // Its method.
     ghost method: { List ℕ };

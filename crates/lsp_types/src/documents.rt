@@ -1,15 +1,18 @@
 //! Places in documents, and what a client tells of its documents.
 // `tools/types` wrote this file from `types.txt`: change that.
+ghost use Rattle.std.specs.Prelude.{◌∷◌, [], Some, codes, option_map};
+ghost use Rattle.serde_json.specs.Data.{number, unsigned};
+ghost use Rattle.lsp_types.specs.Json.{object_of};
+
 use crate::json::{
-    Blank, Changes, Keyed, ReadMembers, Sink, Source, WriteMembers, if_fits, number_within,
-    read_if_fits, read_object, text_or_empty, write_object,
+    Blank, Changes, Keyed, Object, ReadMembers, Source, ToJson, if_fits, number_within,
+    read_if_fits, read_object, text_or_empty,
 };
 use crate::progress::ProgressToken;
 use lsp_text::{ContentChange, Position, Range};
-use serde::{
-    Described, Deserialize, DeserializeOwned, Deserializer, Format, Serialize, Serializer,
-};
-use std::alloc::Global;
+use serde::{Deserialize, DeserializeOwned, Deserializer, Format};
+use serde_json::Value;
+use std::alloc::{AllocError, Global};
 
 /// A part of a document (LSP 3.17, "Location").
 #[derive(Drop)]
@@ -20,22 +23,21 @@ pub struct Location {
     pub range: Range,
 }
 
-impl Described for Location {}
+impl ToJson for Location {
+    ghost stands = { λ it. object_of (
+        (codes "uri", Some (⟦<String as ToJson>⟧.stands it.uri))
+        ∷ (codes "range", Some (⟦<Range as ToJson>⟧.stands it.range)) ∷ []) };
+
+    fn to_json(&self, alloc: Global) -> Result<Value, AllocError> {
+        Object::new(alloc)
+            .member("uri", &self.uri)
+            .member("range", &self.range)
+            .end()
+    }
+}
 
 impl Keyed for Location {
     const KEYS: &'static [&'static str] = &["uri", "range"];
-}
-
-impl WriteMembers for Location {
-    fn write<O: Sink>(&self, out: O) -> O {
-        out.member(&self.uri).member(&self.range)
-    }
-}
-
-impl Serialize for Location {
-    fn serialize<S: Serializer>(&self, out: &mut S) -> Result<(), S::Error> {
-        write_object(self, out)
-    }
 }
 
 impl ReadMembers for Location {
@@ -103,7 +105,22 @@ impl LocationLink {
     }
 }
 
-impl Described for LocationLink {}
+impl ToJson for LocationLink {
+    ghost stands = { λ it. object_of (
+        (codes "originSelectionRange", option_map ⟦<Range as ToJson>⟧.stands it.origin_selection_range)
+        ∷ (codes "targetUri", Some (⟦<String as ToJson>⟧.stands it.target_uri))
+        ∷ (codes "targetRange", Some (⟦<Range as ToJson>⟧.stands it.target_range))
+        ∷ (codes "targetSelectionRange", Some (⟦<Range as ToJson>⟧.stands it.target_selection_range)) ∷ []) };
+
+    fn to_json(&self, alloc: Global) -> Result<Value, AllocError> {
+        Object::new(alloc)
+            .some("originSelectionRange", &self.origin_selection_range)
+            .member("targetUri", &self.target_uri)
+            .member("targetRange", &self.target_range)
+            .member("targetSelectionRange", &self.target_selection_range)
+            .end()
+    }
+}
 
 impl Keyed for LocationLink {
     const KEYS: &'static [&'static str] = &[
@@ -112,21 +129,6 @@ impl Keyed for LocationLink {
         "targetRange",
         "targetSelectionRange",
     ];
-}
-
-impl WriteMembers for LocationLink {
-    fn write<O: Sink>(&self, out: O) -> O {
-        out.some(&self.origin_selection_range)
-            .member(&self.target_uri)
-            .member(&self.target_range)
-            .member(&self.target_selection_range)
-    }
-}
-
-impl Serialize for LocationLink {
-    fn serialize<S: Serializer>(&self, out: &mut S) -> Result<(), S::Error> {
-        write_object(self, out)
-    }
 }
 
 impl ReadMembers for LocationLink {
@@ -161,14 +163,20 @@ pub enum DefinitionResult {
     Links(Vec<LocationLink>),
 }
 
-impl Described for DefinitionResult {}
+impl ToJson for DefinitionResult {
+    ghost use Rattle.lsp_types.specs.declared.documents.DefinitionResult.TheVariants.{One, Several, Links};
 
-impl Serialize for DefinitionResult {
-    fn serialize<S: Serializer>(&self, out: &mut S) -> Result<(), S::Error> {
+    ghost stands = { elim [
+      | One it ↦ ⟦<Location as ToJson>⟧.stands it
+      | Several it ↦ ⟦<Vec<Location> as ToJson>⟧.stands it
+      | Links it ↦ ⟦<Vec<LocationLink> as ToJson>⟧.stands it
+    ] };
+
+    fn to_json(&self, alloc: Global) -> Result<Value, AllocError> {
         match self {
-            DefinitionResult::One(it) => it.serialize(out),
-            DefinitionResult::Several(it) => it.serialize(out),
-            DefinitionResult::Links(it) => it.serialize(out),
+            DefinitionResult::One(it) => it.to_json(alloc),
+            DefinitionResult::Several(it) => it.to_json(alloc),
+            DefinitionResult::Links(it) => it.to_json(alloc),
         }
     }
 }
@@ -198,22 +206,17 @@ pub struct TextDocumentIdentifier {
     pub uri: String,
 }
 
-impl Described for TextDocumentIdentifier {}
+impl ToJson for TextDocumentIdentifier {
+    ghost stands = { λ it. object_of (
+        (codes "uri", Some (⟦<String as ToJson>⟧.stands it.uri)) ∷ []) };
+
+    fn to_json(&self, alloc: Global) -> Result<Value, AllocError> {
+        Object::new(alloc).member("uri", &self.uri).end()
+    }
+}
 
 impl Keyed for TextDocumentIdentifier {
     const KEYS: &'static [&'static str] = &["uri"];
-}
-
-impl WriteMembers for TextDocumentIdentifier {
-    fn write<O: Sink>(&self, out: O) -> O {
-        out.member(&self.uri)
-    }
-}
-
-impl Serialize for TextDocumentIdentifier {
-    fn serialize<S: Serializer>(&self, out: &mut S) -> Result<(), S::Error> {
-        write_object(self, out)
-    }
 }
 
 impl ReadMembers for TextDocumentIdentifier {
@@ -251,22 +254,21 @@ pub struct VersionedTextDocumentIdentifier {
     pub version: Option<i32>,
 }
 
-impl Described for VersionedTextDocumentIdentifier {}
+impl ToJson for VersionedTextDocumentIdentifier {
+    ghost stands = { λ it. object_of (
+        (codes "uri", Some (⟦<String as ToJson>⟧.stands it.uri))
+        ∷ (codes "version", option_map ⟦<i32 as ToJson>⟧.stands it.version) ∷ []) };
+
+    fn to_json(&self, alloc: Global) -> Result<Value, AllocError> {
+        Object::new(alloc)
+            .member("uri", &self.uri)
+            .some("version", &self.version)
+            .end()
+    }
+}
 
 impl Keyed for VersionedTextDocumentIdentifier {
     const KEYS: &'static [&'static str] = &["uri", "version"];
-}
-
-impl WriteMembers for VersionedTextDocumentIdentifier {
-    fn write<O: Sink>(&self, out: O) -> O {
-        out.member(&self.uri).some(&self.version)
-    }
-}
-
-impl Serialize for VersionedTextDocumentIdentifier {
-    fn serialize<S: Serializer>(&self, out: &mut S) -> Result<(), S::Error> {
-        write_object(self, out)
-    }
 }
 
 impl ReadMembers for VersionedTextDocumentIdentifier {
@@ -309,25 +311,25 @@ pub struct TextDocumentItem {
     pub text: String,
 }
 
-impl Described for TextDocumentItem {}
+impl ToJson for TextDocumentItem {
+    ghost stands = { λ it. object_of (
+        (codes "uri", Some (⟦<String as ToJson>⟧.stands it.uri))
+        ∷ (codes "languageId", Some (⟦<String as ToJson>⟧.stands it.language_id))
+        ∷ (codes "version", option_map ⟦<i32 as ToJson>⟧.stands it.version)
+        ∷ (codes "text", Some (⟦<String as ToJson>⟧.stands it.text)) ∷ []) };
+
+    fn to_json(&self, alloc: Global) -> Result<Value, AllocError> {
+        Object::new(alloc)
+            .member("uri", &self.uri)
+            .member("languageId", &self.language_id)
+            .some("version", &self.version)
+            .member("text", &self.text)
+            .end()
+    }
+}
 
 impl Keyed for TextDocumentItem {
     const KEYS: &'static [&'static str] = &["uri", "languageId", "version", "text"];
-}
-
-impl WriteMembers for TextDocumentItem {
-    fn write<O: Sink>(&self, out: O) -> O {
-        out.member(&self.uri)
-            .member(&self.language_id)
-            .some(&self.version)
-            .member(&self.text)
-    }
-}
-
-impl Serialize for TextDocumentItem {
-    fn serialize<S: Serializer>(&self, out: &mut S) -> Result<(), S::Error> {
-        write_object(self, out)
-    }
 }
 
 impl ReadMembers for TextDocumentItem {
@@ -366,22 +368,19 @@ pub struct DidOpenTextDocumentParams {
     pub text_document: TextDocumentItem,
 }
 
-impl Described for DidOpenTextDocumentParams {}
+impl ToJson for DidOpenTextDocumentParams {
+    ghost stands = { λ it. object_of (
+        (codes "textDocument", Some (⟦<TextDocumentItem as ToJson>⟧.stands it.text_document)) ∷ []) };
+
+    fn to_json(&self, alloc: Global) -> Result<Value, AllocError> {
+        Object::new(alloc)
+            .member("textDocument", &self.text_document)
+            .end()
+    }
+}
 
 impl Keyed for DidOpenTextDocumentParams {
     const KEYS: &'static [&'static str] = &["textDocument"];
-}
-
-impl WriteMembers for DidOpenTextDocumentParams {
-    fn write<O: Sink>(&self, out: O) -> O {
-        out.member(&self.text_document)
-    }
-}
-
-impl Serialize for DidOpenTextDocumentParams {
-    fn serialize<S: Serializer>(&self, out: &mut S) -> Result<(), S::Error> {
-        write_object(self, out)
-    }
 }
 
 impl ReadMembers for DidOpenTextDocumentParams {
@@ -410,23 +409,21 @@ pub struct DidChangeTextDocumentParams {
     pub content_changes: Vec<ContentChange>,
 }
 
-impl Described for DidChangeTextDocumentParams {}
+impl ToJson for DidChangeTextDocumentParams {
+    ghost stands = { λ it. object_of (
+        (codes "textDocument", Some (⟦<VersionedTextDocumentIdentifier as ToJson>⟧.stands it.text_document))
+        ∷ (codes "contentChanges", Some (⟦<Vec<ContentChange> as ToJson>⟧.stands it.content_changes)) ∷ []) };
+
+    fn to_json(&self, alloc: Global) -> Result<Value, AllocError> {
+        Object::new(alloc)
+            .member("textDocument", &self.text_document)
+            .member("contentChanges", &self.content_changes)
+            .end()
+    }
+}
 
 impl Keyed for DidChangeTextDocumentParams {
     const KEYS: &'static [&'static str] = &["textDocument", "contentChanges"];
-}
-
-impl WriteMembers for DidChangeTextDocumentParams {
-    fn write<O: Sink>(&self, out: O) -> O {
-        out.member(&self.text_document)
-            .member(&self.content_changes)
-    }
-}
-
-impl Serialize for DidChangeTextDocumentParams {
-    fn serialize<S: Serializer>(&self, out: &mut S) -> Result<(), S::Error> {
-        write_object(self, out)
-    }
 }
 
 impl ReadMembers for DidChangeTextDocumentParams {
@@ -456,22 +453,21 @@ pub struct DidSaveTextDocumentParams {
     pub text: Option<String>,
 }
 
-impl Described for DidSaveTextDocumentParams {}
+impl ToJson for DidSaveTextDocumentParams {
+    ghost stands = { λ it. object_of (
+        (codes "textDocument", Some (⟦<TextDocumentIdentifier as ToJson>⟧.stands it.text_document))
+        ∷ (codes "text", option_map ⟦<String as ToJson>⟧.stands it.text) ∷ []) };
+
+    fn to_json(&self, alloc: Global) -> Result<Value, AllocError> {
+        Object::new(alloc)
+            .member("textDocument", &self.text_document)
+            .some("text", &self.text)
+            .end()
+    }
+}
 
 impl Keyed for DidSaveTextDocumentParams {
     const KEYS: &'static [&'static str] = &["textDocument", "text"];
-}
-
-impl WriteMembers for DidSaveTextDocumentParams {
-    fn write<O: Sink>(&self, out: O) -> O {
-        out.member(&self.text_document).some(&self.text)
-    }
-}
-
-impl Serialize for DidSaveTextDocumentParams {
-    fn serialize<S: Serializer>(&self, out: &mut S) -> Result<(), S::Error> {
-        write_object(self, out)
-    }
 }
 
 impl ReadMembers for DidSaveTextDocumentParams {
@@ -502,22 +498,21 @@ pub struct WillSaveTextDocumentParams {
     pub reason: TextDocumentSaveReason,
 }
 
-impl Described for WillSaveTextDocumentParams {}
+impl ToJson for WillSaveTextDocumentParams {
+    ghost stands = { λ it. object_of (
+        (codes "textDocument", Some (⟦<TextDocumentIdentifier as ToJson>⟧.stands it.text_document))
+        ∷ (codes "reason", Some (⟦<TextDocumentSaveReason as ToJson>⟧.stands it.reason)) ∷ []) };
+
+    fn to_json(&self, alloc: Global) -> Result<Value, AllocError> {
+        Object::new(alloc)
+            .member("textDocument", &self.text_document)
+            .member("reason", &self.reason)
+            .end()
+    }
+}
 
 impl Keyed for WillSaveTextDocumentParams {
     const KEYS: &'static [&'static str] = &["textDocument", "reason"];
-}
-
-impl WriteMembers for WillSaveTextDocumentParams {
-    fn write<O: Sink>(&self, out: O) -> O {
-        out.member(&self.text_document).member(&self.reason)
-    }
-}
-
-impl Serialize for WillSaveTextDocumentParams {
-    fn serialize<S: Serializer>(&self, out: &mut S) -> Result<(), S::Error> {
-        write_object(self, out)
-    }
 }
 
 impl ReadMembers for WillSaveTextDocumentParams {
@@ -551,11 +546,11 @@ impl TextDocumentSaveReason {
     pub const FOCUS_OUT: TextDocumentSaveReason = TextDocumentSaveReason(3);
 }
 
-impl Described for TextDocumentSaveReason {}
+impl ToJson for TextDocumentSaveReason {
+    ghost stands = { λ it. number (unsigned it.0) };
 
-impl Serialize for TextDocumentSaveReason {
-    fn serialize<S: Serializer>(&self, out: &mut S) -> Result<(), S::Error> {
-        self.0.serialize(out)
+    fn to_json(&self, alloc: Global) -> Result<Value, AllocError> {
+        self.0.to_json(alloc)
     }
 }
 
@@ -593,22 +588,19 @@ pub struct DidCloseTextDocumentParams {
     pub text_document: TextDocumentIdentifier,
 }
 
-impl Described for DidCloseTextDocumentParams {}
+impl ToJson for DidCloseTextDocumentParams {
+    ghost stands = { λ it. object_of (
+        (codes "textDocument", Some (⟦<TextDocumentIdentifier as ToJson>⟧.stands it.text_document)) ∷ []) };
+
+    fn to_json(&self, alloc: Global) -> Result<Value, AllocError> {
+        Object::new(alloc)
+            .member("textDocument", &self.text_document)
+            .end()
+    }
+}
 
 impl Keyed for DidCloseTextDocumentParams {
     const KEYS: &'static [&'static str] = &["textDocument"];
-}
-
-impl WriteMembers for DidCloseTextDocumentParams {
-    fn write<O: Sink>(&self, out: O) -> O {
-        out.member(&self.text_document)
-    }
-}
-
-impl Serialize for DidCloseTextDocumentParams {
-    fn serialize<S: Serializer>(&self, out: &mut S) -> Result<(), S::Error> {
-        write_object(self, out)
-    }
 }
 
 impl ReadMembers for DidCloseTextDocumentParams {
@@ -639,24 +631,23 @@ pub struct DocumentSymbolParams {
     pub partial_result_token: Option<ProgressToken>,
 }
 
-impl Described for DocumentSymbolParams {}
+impl ToJson for DocumentSymbolParams {
+    ghost stands = { λ it. object_of (
+        (codes "textDocument", Some (⟦<TextDocumentIdentifier as ToJson>⟧.stands it.text_document))
+        ∷ (codes "workDoneToken", option_map ⟦<ProgressToken as ToJson>⟧.stands it.work_done_token)
+        ∷ (codes "partialResultToken", option_map ⟦<ProgressToken as ToJson>⟧.stands it.partial_result_token) ∷ []) };
+
+    fn to_json(&self, alloc: Global) -> Result<Value, AllocError> {
+        Object::new(alloc)
+            .member("textDocument", &self.text_document)
+            .some("workDoneToken", &self.work_done_token)
+            .some("partialResultToken", &self.partial_result_token)
+            .end()
+    }
+}
 
 impl Keyed for DocumentSymbolParams {
     const KEYS: &'static [&'static str] = &["textDocument", "workDoneToken", "partialResultToken"];
-}
-
-impl WriteMembers for DocumentSymbolParams {
-    fn write<O: Sink>(&self, out: O) -> O {
-        out.member(&self.text_document)
-            .some(&self.work_done_token)
-            .some(&self.partial_result_token)
-    }
-}
-
-impl Serialize for DocumentSymbolParams {
-    fn serialize<S: Serializer>(&self, out: &mut S) -> Result<(), S::Error> {
-        write_object(self, out)
-    }
 }
 
 impl ReadMembers for DocumentSymbolParams {
@@ -693,22 +684,21 @@ pub struct TextDocumentPositionParams {
     pub position: Position,
 }
 
-impl Described for TextDocumentPositionParams {}
+impl ToJson for TextDocumentPositionParams {
+    ghost stands = { λ it. object_of (
+        (codes "textDocument", Some (⟦<TextDocumentIdentifier as ToJson>⟧.stands it.text_document))
+        ∷ (codes "position", Some (⟦<Position as ToJson>⟧.stands it.position)) ∷ []) };
+
+    fn to_json(&self, alloc: Global) -> Result<Value, AllocError> {
+        Object::new(alloc)
+            .member("textDocument", &self.text_document)
+            .member("position", &self.position)
+            .end()
+    }
+}
 
 impl Keyed for TextDocumentPositionParams {
     const KEYS: &'static [&'static str] = &["textDocument", "position"];
-}
-
-impl WriteMembers for TextDocumentPositionParams {
-    fn write<O: Sink>(&self, out: O) -> O {
-        out.member(&self.text_document).member(&self.position)
-    }
-}
-
-impl Serialize for TextDocumentPositionParams {
-    fn serialize<S: Serializer>(&self, out: &mut S) -> Result<(), S::Error> {
-        write_object(self, out)
-    }
 }
 
 impl ReadMembers for TextDocumentPositionParams {
@@ -740,24 +730,23 @@ pub struct HoverParams {
     pub work_done_token: Option<ProgressToken>,
 }
 
-impl Described for HoverParams {}
+impl ToJson for HoverParams {
+    ghost stands = { λ it. object_of (
+        (codes "textDocument", Some (⟦<TextDocumentIdentifier as ToJson>⟧.stands it.text_document))
+        ∷ (codes "position", Some (⟦<Position as ToJson>⟧.stands it.position))
+        ∷ (codes "workDoneToken", option_map ⟦<ProgressToken as ToJson>⟧.stands it.work_done_token) ∷ []) };
+
+    fn to_json(&self, alloc: Global) -> Result<Value, AllocError> {
+        Object::new(alloc)
+            .member("textDocument", &self.text_document)
+            .member("position", &self.position)
+            .some("workDoneToken", &self.work_done_token)
+            .end()
+    }
+}
 
 impl Keyed for HoverParams {
     const KEYS: &'static [&'static str] = &["textDocument", "position", "workDoneToken"];
-}
-
-impl WriteMembers for HoverParams {
-    fn write<O: Sink>(&self, out: O) -> O {
-        out.member(&self.text_document)
-            .member(&self.position)
-            .some(&self.work_done_token)
-    }
-}
-
-impl Serialize for HoverParams {
-    fn serialize<S: Serializer>(&self, out: &mut S) -> Result<(), S::Error> {
-        write_object(self, out)
-    }
 }
 
 impl ReadMembers for HoverParams {
@@ -795,7 +784,22 @@ pub struct DefinitionParams {
     pub partial_result_token: Option<ProgressToken>,
 }
 
-impl Described for DefinitionParams {}
+impl ToJson for DefinitionParams {
+    ghost stands = { λ it. object_of (
+        (codes "textDocument", Some (⟦<TextDocumentIdentifier as ToJson>⟧.stands it.text_document))
+        ∷ (codes "position", Some (⟦<Position as ToJson>⟧.stands it.position))
+        ∷ (codes "workDoneToken", option_map ⟦<ProgressToken as ToJson>⟧.stands it.work_done_token)
+        ∷ (codes "partialResultToken", option_map ⟦<ProgressToken as ToJson>⟧.stands it.partial_result_token) ∷ []) };
+
+    fn to_json(&self, alloc: Global) -> Result<Value, AllocError> {
+        Object::new(alloc)
+            .member("textDocument", &self.text_document)
+            .member("position", &self.position)
+            .some("workDoneToken", &self.work_done_token)
+            .some("partialResultToken", &self.partial_result_token)
+            .end()
+    }
+}
 
 impl Keyed for DefinitionParams {
     const KEYS: &'static [&'static str] = &[
@@ -804,21 +808,6 @@ impl Keyed for DefinitionParams {
         "workDoneToken",
         "partialResultToken",
     ];
-}
-
-impl WriteMembers for DefinitionParams {
-    fn write<O: Sink>(&self, out: O) -> O {
-        out.member(&self.text_document)
-            .member(&self.position)
-            .some(&self.work_done_token)
-            .some(&self.partial_result_token)
-    }
-}
-
-impl Serialize for DefinitionParams {
-    fn serialize<S: Serializer>(&self, out: &mut S) -> Result<(), S::Error> {
-        write_object(self, out)
-    }
 }
 
 impl ReadMembers for DefinitionParams {
@@ -861,24 +850,23 @@ pub struct InlayHintParams {
     pub work_done_token: Option<ProgressToken>,
 }
 
-impl Described for InlayHintParams {}
+impl ToJson for InlayHintParams {
+    ghost stands = { λ it. object_of (
+        (codes "textDocument", Some (⟦<TextDocumentIdentifier as ToJson>⟧.stands it.text_document))
+        ∷ (codes "range", Some (⟦<Range as ToJson>⟧.stands it.range))
+        ∷ (codes "workDoneToken", option_map ⟦<ProgressToken as ToJson>⟧.stands it.work_done_token) ∷ []) };
+
+    fn to_json(&self, alloc: Global) -> Result<Value, AllocError> {
+        Object::new(alloc)
+            .member("textDocument", &self.text_document)
+            .member("range", &self.range)
+            .some("workDoneToken", &self.work_done_token)
+            .end()
+    }
+}
 
 impl Keyed for InlayHintParams {
     const KEYS: &'static [&'static str] = &["textDocument", "range", "workDoneToken"];
-}
-
-impl WriteMembers for InlayHintParams {
-    fn write<O: Sink>(&self, out: O) -> O {
-        out.member(&self.text_document)
-            .member(&self.range)
-            .some(&self.work_done_token)
-    }
-}
-
-impl Serialize for InlayHintParams {
-    fn serialize<S: Serializer>(&self, out: &mut S) -> Result<(), S::Error> {
-        write_object(self, out)
-    }
 }
 
 impl ReadMembers for InlayHintParams {
@@ -913,7 +901,22 @@ pub struct SemanticTokensRangeParams {
     pub partial_result_token: Option<ProgressToken>,
 }
 
-impl Described for SemanticTokensRangeParams {}
+impl ToJson for SemanticTokensRangeParams {
+    ghost stands = { λ it. object_of (
+        (codes "textDocument", Some (⟦<TextDocumentIdentifier as ToJson>⟧.stands it.text_document))
+        ∷ (codes "range", Some (⟦<Range as ToJson>⟧.stands it.range))
+        ∷ (codes "workDoneToken", option_map ⟦<ProgressToken as ToJson>⟧.stands it.work_done_token)
+        ∷ (codes "partialResultToken", option_map ⟦<ProgressToken as ToJson>⟧.stands it.partial_result_token) ∷ []) };
+
+    fn to_json(&self, alloc: Global) -> Result<Value, AllocError> {
+        Object::new(alloc)
+            .member("textDocument", &self.text_document)
+            .member("range", &self.range)
+            .some("workDoneToken", &self.work_done_token)
+            .some("partialResultToken", &self.partial_result_token)
+            .end()
+    }
+}
 
 impl Keyed for SemanticTokensRangeParams {
     const KEYS: &'static [&'static str] = &[
@@ -922,21 +925,6 @@ impl Keyed for SemanticTokensRangeParams {
         "workDoneToken",
         "partialResultToken",
     ];
-}
-
-impl WriteMembers for SemanticTokensRangeParams {
-    fn write<O: Sink>(&self, out: O) -> O {
-        out.member(&self.text_document)
-            .member(&self.range)
-            .some(&self.work_done_token)
-            .some(&self.partial_result_token)
-    }
-}
-
-impl Serialize for SemanticTokensRangeParams {
-    fn serialize<S: Serializer>(&self, out: &mut S) -> Result<(), S::Error> {
-        write_object(self, out)
-    }
 }
 
 impl ReadMembers for SemanticTokensRangeParams {
@@ -977,7 +965,24 @@ pub struct ReferenceParams {
     pub partial_result_token: Option<ProgressToken>,
 }
 
-impl Described for ReferenceParams {}
+impl ToJson for ReferenceParams {
+    ghost stands = { λ it. object_of (
+        (codes "textDocument", Some (⟦<TextDocumentIdentifier as ToJson>⟧.stands it.text_document))
+        ∷ (codes "position", Some (⟦<Position as ToJson>⟧.stands it.position))
+        ∷ (codes "context", Some (⟦<ReferenceContext as ToJson>⟧.stands it.context))
+        ∷ (codes "workDoneToken", option_map ⟦<ProgressToken as ToJson>⟧.stands it.work_done_token)
+        ∷ (codes "partialResultToken", option_map ⟦<ProgressToken as ToJson>⟧.stands it.partial_result_token) ∷ []) };
+
+    fn to_json(&self, alloc: Global) -> Result<Value, AllocError> {
+        Object::new(alloc)
+            .member("textDocument", &self.text_document)
+            .member("position", &self.position)
+            .member("context", &self.context)
+            .some("workDoneToken", &self.work_done_token)
+            .some("partialResultToken", &self.partial_result_token)
+            .end()
+    }
+}
 
 impl Keyed for ReferenceParams {
     const KEYS: &'static [&'static str] = &[
@@ -987,22 +992,6 @@ impl Keyed for ReferenceParams {
         "workDoneToken",
         "partialResultToken",
     ];
-}
-
-impl WriteMembers for ReferenceParams {
-    fn write<O: Sink>(&self, out: O) -> O {
-        out.member(&self.text_document)
-            .member(&self.position)
-            .member(&self.context)
-            .some(&self.work_done_token)
-            .some(&self.partial_result_token)
-    }
-}
-
-impl Serialize for ReferenceParams {
-    fn serialize<S: Serializer>(&self, out: &mut S) -> Result<(), S::Error> {
-        write_object(self, out)
-    }
 }
 
 impl ReadMembers for ReferenceParams {
@@ -1033,22 +1022,19 @@ pub struct ReferenceContext {
     pub include_declaration: bool,
 }
 
-impl Described for ReferenceContext {}
+impl ToJson for ReferenceContext {
+    ghost stands = { λ it. object_of (
+        (codes "includeDeclaration", Some (⟦<bool as ToJson>⟧.stands it.include_declaration)) ∷ []) };
+
+    fn to_json(&self, alloc: Global) -> Result<Value, AllocError> {
+        Object::new(alloc)
+            .member("includeDeclaration", &self.include_declaration)
+            .end()
+    }
+}
 
 impl Keyed for ReferenceContext {
     const KEYS: &'static [&'static str] = &["includeDeclaration"];
-}
-
-impl WriteMembers for ReferenceContext {
-    fn write<O: Sink>(&self, out: O) -> O {
-        out.member(&self.include_declaration)
-    }
-}
-
-impl Serialize for ReferenceContext {
-    fn serialize<S: Serializer>(&self, out: &mut S) -> Result<(), S::Error> {
-        write_object(self, out)
-    }
 }
 
 impl ReadMembers for ReferenceContext {

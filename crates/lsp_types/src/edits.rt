@@ -1,15 +1,15 @@
 //! Changes of texts that a server makes: edits, renames and formatting.
 // `tools/types` wrote this file from `types.txt`: change that.
+ghost use Rattle.std.specs.Prelude.{◌∷◌, [], Some, codes, option_map};
+ghost use Rattle.lsp_types.specs.Json.{object_of};
+
 use crate::documents::TextDocumentIdentifier;
-use crate::json::{
-    Keyed, ReadMembers, Sink, Source, WriteMembers, if_fits, read_object, write_object,
-};
+use crate::json::{Keyed, Object, ReadMembers, Source, ToJson, if_fits, read_object};
 use crate::progress::ProgressToken;
 use lsp_text::{Position, Range};
-use serde::{
-    Described, Deserialize, DeserializeOwned, Deserializer, Format, Serialize, Serializer,
-};
-use std::alloc::Global;
+use serde::{Deserialize, DeserializeOwned, Deserializer, Format};
+use serde_json::Value;
+use std::alloc::{AllocError, Global};
 use std::collections::BTreeMap;
 
 /// A change of a text (LSP 3.17, "TextEdit").
@@ -21,22 +21,21 @@ pub struct TextEdit {
     pub new_text: String,
 }
 
-impl Described for TextEdit {}
+impl ToJson for TextEdit {
+    ghost stands = { λ it. object_of (
+        (codes "range", Some (⟦<Range as ToJson>⟧.stands it.range))
+        ∷ (codes "newText", Some (⟦<String as ToJson>⟧.stands it.new_text)) ∷ []) };
+
+    fn to_json(&self, alloc: Global) -> Result<Value, AllocError> {
+        Object::new(alloc)
+            .member("range", &self.range)
+            .member("newText", &self.new_text)
+            .end()
+    }
+}
 
 impl Keyed for TextEdit {
     const KEYS: &'static [&'static str] = &["range", "newText"];
-}
-
-impl WriteMembers for TextEdit {
-    fn write<O: Sink>(&self, out: O) -> O {
-        out.member(&self.range).member(&self.new_text)
-    }
-}
-
-impl Serialize for TextEdit {
-    fn serialize<S: Serializer>(&self, out: &mut S) -> Result<(), S::Error> {
-        write_object(self, out)
-    }
 }
 
 impl ReadMembers for TextEdit {
@@ -75,22 +74,21 @@ pub struct OptionalVersionedTextDocumentIdentifier {
     pub version: Option<i32>,
 }
 
-impl Described for OptionalVersionedTextDocumentIdentifier {}
+impl ToJson for OptionalVersionedTextDocumentIdentifier {
+    ghost stands = { λ it. object_of (
+        (codes "uri", Some (⟦<String as ToJson>⟧.stands it.uri))
+        ∷ (codes "version", Some (⟦<Option<i32> as ToJson>⟧.stands it.version)) ∷ []) };
+
+    fn to_json(&self, alloc: Global) -> Result<Value, AllocError> {
+        Object::new(alloc)
+            .member("uri", &self.uri)
+            .member("version", &self.version)
+            .end()
+    }
+}
 
 impl Keyed for OptionalVersionedTextDocumentIdentifier {
     const KEYS: &'static [&'static str] = &["uri", "version"];
-}
-
-impl WriteMembers for OptionalVersionedTextDocumentIdentifier {
-    fn write<O: Sink>(&self, out: O) -> O {
-        out.member(&self.uri).member(&self.version)
-    }
-}
-
-impl Serialize for OptionalVersionedTextDocumentIdentifier {
-    fn serialize<S: Serializer>(&self, out: &mut S) -> Result<(), S::Error> {
-        write_object(self, out)
-    }
 }
 
 impl ReadMembers for OptionalVersionedTextDocumentIdentifier {
@@ -129,22 +127,21 @@ pub struct TextDocumentEdit {
     pub edits: Vec<TextEdit>,
 }
 
-impl Described for TextDocumentEdit {}
+impl ToJson for TextDocumentEdit {
+    ghost stands = { λ it. object_of (
+        (codes "textDocument", Some (⟦<OptionalVersionedTextDocumentIdentifier as ToJson>⟧.stands it.text_document))
+        ∷ (codes "edits", Some (⟦<Vec<TextEdit> as ToJson>⟧.stands it.edits)) ∷ []) };
+
+    fn to_json(&self, alloc: Global) -> Result<Value, AllocError> {
+        Object::new(alloc)
+            .member("textDocument", &self.text_document)
+            .member("edits", &self.edits)
+            .end()
+    }
+}
 
 impl Keyed for TextDocumentEdit {
     const KEYS: &'static [&'static str] = &["textDocument", "edits"];
-}
-
-impl WriteMembers for TextDocumentEdit {
-    fn write<O: Sink>(&self, out: O) -> O {
-        out.member(&self.text_document).member(&self.edits)
-    }
-}
-
-impl Serialize for TextDocumentEdit {
-    fn serialize<S: Serializer>(&self, out: &mut S) -> Result<(), S::Error> {
-        write_object(self, out)
-    }
 }
 
 impl ReadMembers for TextDocumentEdit {
@@ -205,24 +202,23 @@ impl Default for WorkspaceEdit {
     }
 }
 
-impl Described for WorkspaceEdit {}
+impl ToJson for WorkspaceEdit {
+    ghost stands = { λ it. object_of (
+        (codes "changes", option_map ⟦<BTreeMap<String, Vec<TextEdit>> as ToJson>⟧.stands it.changes)
+        ∷ (codes "documentChanges", option_map ⟦<Vec<TextDocumentEdit> as ToJson>⟧.stands it.document_changes)
+        ∷ (codes "changeAnnotations", option_map ⟦<BTreeMap<String, ChangeAnnotation> as ToJson>⟧.stands it.change_annotations) ∷ []) };
+
+    fn to_json(&self, alloc: Global) -> Result<Value, AllocError> {
+        Object::new(alloc)
+            .some("changes", &self.changes)
+            .some("documentChanges", &self.document_changes)
+            .some("changeAnnotations", &self.change_annotations)
+            .end()
+    }
+}
 
 impl Keyed for WorkspaceEdit {
     const KEYS: &'static [&'static str] = &["changes", "documentChanges", "changeAnnotations"];
-}
-
-impl WriteMembers for WorkspaceEdit {
-    fn write<O: Sink>(&self, out: O) -> O {
-        out.some(&self.changes)
-            .some(&self.document_changes)
-            .some(&self.change_annotations)
-    }
-}
-
-impl Serialize for WorkspaceEdit {
-    fn serialize<S: Serializer>(&self, out: &mut S) -> Result<(), S::Error> {
-        write_object(self, out)
-    }
 }
 
 impl ReadMembers for WorkspaceEdit {
@@ -283,24 +279,23 @@ impl ChangeAnnotation {
     }
 }
 
-impl Described for ChangeAnnotation {}
+impl ToJson for ChangeAnnotation {
+    ghost stands = { λ it. object_of (
+        (codes "label", Some (⟦<String as ToJson>⟧.stands it.label))
+        ∷ (codes "needsConfirmation", option_map ⟦<bool as ToJson>⟧.stands it.needs_confirmation)
+        ∷ (codes "description", option_map ⟦<String as ToJson>⟧.stands it.description) ∷ []) };
+
+    fn to_json(&self, alloc: Global) -> Result<Value, AllocError> {
+        Object::new(alloc)
+            .member("label", &self.label)
+            .some("needsConfirmation", &self.needs_confirmation)
+            .some("description", &self.description)
+            .end()
+    }
+}
 
 impl Keyed for ChangeAnnotation {
     const KEYS: &'static [&'static str] = &["label", "needsConfirmation", "description"];
-}
-
-impl WriteMembers for ChangeAnnotation {
-    fn write<O: Sink>(&self, out: O) -> O {
-        out.member(&self.label)
-            .some(&self.needs_confirmation)
-            .some(&self.description)
-    }
-}
-
-impl Serialize for ChangeAnnotation {
-    fn serialize<S: Serializer>(&self, out: &mut S) -> Result<(), S::Error> {
-        write_object(self, out)
-    }
 }
 
 impl ReadMembers for ChangeAnnotation {
@@ -335,25 +330,25 @@ pub struct RenameParams {
     pub work_done_token: Option<ProgressToken>,
 }
 
-impl Described for RenameParams {}
+impl ToJson for RenameParams {
+    ghost stands = { λ it. object_of (
+        (codes "textDocument", Some (⟦<TextDocumentIdentifier as ToJson>⟧.stands it.text_document))
+        ∷ (codes "position", Some (⟦<Position as ToJson>⟧.stands it.position))
+        ∷ (codes "newName", Some (⟦<String as ToJson>⟧.stands it.new_name))
+        ∷ (codes "workDoneToken", option_map ⟦<ProgressToken as ToJson>⟧.stands it.work_done_token) ∷ []) };
+
+    fn to_json(&self, alloc: Global) -> Result<Value, AllocError> {
+        Object::new(alloc)
+            .member("textDocument", &self.text_document)
+            .member("position", &self.position)
+            .member("newName", &self.new_name)
+            .some("workDoneToken", &self.work_done_token)
+            .end()
+    }
+}
 
 impl Keyed for RenameParams {
     const KEYS: &'static [&'static str] = &["textDocument", "position", "newName", "workDoneToken"];
-}
-
-impl WriteMembers for RenameParams {
-    fn write<O: Sink>(&self, out: O) -> O {
-        out.member(&self.text_document)
-            .member(&self.position)
-            .member(&self.new_name)
-            .some(&self.work_done_token)
-    }
-}
-
-impl Serialize for RenameParams {
-    fn serialize<S: Serializer>(&self, out: &mut S) -> Result<(), S::Error> {
-        write_object(self, out)
-    }
 }
 
 impl ReadMembers for RenameParams {
@@ -385,22 +380,21 @@ pub struct PrepareRenameResult {
     pub placeholder: String,
 }
 
-impl Described for PrepareRenameResult {}
+impl ToJson for PrepareRenameResult {
+    ghost stands = { λ it. object_of (
+        (codes "range", Some (⟦<Range as ToJson>⟧.stands it.range))
+        ∷ (codes "placeholder", Some (⟦<String as ToJson>⟧.stands it.placeholder)) ∷ []) };
+
+    fn to_json(&self, alloc: Global) -> Result<Value, AllocError> {
+        Object::new(alloc)
+            .member("range", &self.range)
+            .member("placeholder", &self.placeholder)
+            .end()
+    }
+}
 
 impl Keyed for PrepareRenameResult {
     const KEYS: &'static [&'static str] = &["range", "placeholder"];
-}
-
-impl WriteMembers for PrepareRenameResult {
-    fn write<O: Sink>(&self, out: O) -> O {
-        out.member(&self.range).member(&self.placeholder)
-    }
-}
-
-impl Serialize for PrepareRenameResult {
-    fn serialize<S: Serializer>(&self, out: &mut S) -> Result<(), S::Error> {
-        write_object(self, out)
-    }
 }
 
 impl ReadMembers for PrepareRenameResult {
@@ -436,7 +430,24 @@ pub struct FormattingOptions {
     pub trim_final_newlines: Option<bool>,
 }
 
-impl Described for FormattingOptions {}
+impl ToJson for FormattingOptions {
+    ghost stands = { λ it. object_of (
+        (codes "tabSize", Some (⟦<u32 as ToJson>⟧.stands it.tab_size))
+        ∷ (codes "insertSpaces", Some (⟦<bool as ToJson>⟧.stands it.insert_spaces))
+        ∷ (codes "trimTrailingWhitespace", option_map ⟦<bool as ToJson>⟧.stands it.trim_trailing_whitespace)
+        ∷ (codes "insertFinalNewline", option_map ⟦<bool as ToJson>⟧.stands it.insert_final_newline)
+        ∷ (codes "trimFinalNewlines", option_map ⟦<bool as ToJson>⟧.stands it.trim_final_newlines) ∷ []) };
+
+    fn to_json(&self, alloc: Global) -> Result<Value, AllocError> {
+        Object::new(alloc)
+            .member("tabSize", &self.tab_size)
+            .member("insertSpaces", &self.insert_spaces)
+            .some("trimTrailingWhitespace", &self.trim_trailing_whitespace)
+            .some("insertFinalNewline", &self.insert_final_newline)
+            .some("trimFinalNewlines", &self.trim_final_newlines)
+            .end()
+    }
+}
 
 impl Keyed for FormattingOptions {
     const KEYS: &'static [&'static str] = &[
@@ -446,22 +457,6 @@ impl Keyed for FormattingOptions {
         "insertFinalNewline",
         "trimFinalNewlines",
     ];
-}
-
-impl WriteMembers for FormattingOptions {
-    fn write<O: Sink>(&self, out: O) -> O {
-        out.member(&self.tab_size)
-            .member(&self.insert_spaces)
-            .some(&self.trim_trailing_whitespace)
-            .some(&self.insert_final_newline)
-            .some(&self.trim_final_newlines)
-    }
-}
-
-impl Serialize for FormattingOptions {
-    fn serialize<S: Serializer>(&self, out: &mut S) -> Result<(), S::Error> {
-        write_object(self, out)
-    }
 }
 
 impl ReadMembers for FormattingOptions {
@@ -505,24 +500,23 @@ pub struct DocumentFormattingParams {
     pub work_done_token: Option<ProgressToken>,
 }
 
-impl Described for DocumentFormattingParams {}
+impl ToJson for DocumentFormattingParams {
+    ghost stands = { λ it. object_of (
+        (codes "textDocument", Some (⟦<TextDocumentIdentifier as ToJson>⟧.stands it.text_document))
+        ∷ (codes "options", Some (⟦<FormattingOptions as ToJson>⟧.stands it.options))
+        ∷ (codes "workDoneToken", option_map ⟦<ProgressToken as ToJson>⟧.stands it.work_done_token) ∷ []) };
+
+    fn to_json(&self, alloc: Global) -> Result<Value, AllocError> {
+        Object::new(alloc)
+            .member("textDocument", &self.text_document)
+            .member("options", &self.options)
+            .some("workDoneToken", &self.work_done_token)
+            .end()
+    }
+}
 
 impl Keyed for DocumentFormattingParams {
     const KEYS: &'static [&'static str] = &["textDocument", "options", "workDoneToken"];
-}
-
-impl WriteMembers for DocumentFormattingParams {
-    fn write<O: Sink>(&self, out: O) -> O {
-        out.member(&self.text_document)
-            .member(&self.options)
-            .some(&self.work_done_token)
-    }
-}
-
-impl Serialize for DocumentFormattingParams {
-    fn serialize<S: Serializer>(&self, out: &mut S) -> Result<(), S::Error> {
-        write_object(self, out)
-    }
 }
 
 impl ReadMembers for DocumentFormattingParams {
@@ -558,25 +552,25 @@ pub struct DocumentRangeFormattingParams {
     pub work_done_token: Option<ProgressToken>,
 }
 
-impl Described for DocumentRangeFormattingParams {}
+impl ToJson for DocumentRangeFormattingParams {
+    ghost stands = { λ it. object_of (
+        (codes "textDocument", Some (⟦<TextDocumentIdentifier as ToJson>⟧.stands it.text_document))
+        ∷ (codes "range", Some (⟦<Range as ToJson>⟧.stands it.range))
+        ∷ (codes "options", Some (⟦<FormattingOptions as ToJson>⟧.stands it.options))
+        ∷ (codes "workDoneToken", option_map ⟦<ProgressToken as ToJson>⟧.stands it.work_done_token) ∷ []) };
+
+    fn to_json(&self, alloc: Global) -> Result<Value, AllocError> {
+        Object::new(alloc)
+            .member("textDocument", &self.text_document)
+            .member("range", &self.range)
+            .member("options", &self.options)
+            .some("workDoneToken", &self.work_done_token)
+            .end()
+    }
+}
 
 impl Keyed for DocumentRangeFormattingParams {
     const KEYS: &'static [&'static str] = &["textDocument", "range", "options", "workDoneToken"];
-}
-
-impl WriteMembers for DocumentRangeFormattingParams {
-    fn write<O: Sink>(&self, out: O) -> O {
-        out.member(&self.text_document)
-            .member(&self.range)
-            .member(&self.options)
-            .some(&self.work_done_token)
-    }
-}
-
-impl Serialize for DocumentRangeFormattingParams {
-    fn serialize<S: Serializer>(&self, out: &mut S) -> Result<(), S::Error> {
-        write_object(self, out)
-    }
 }
 
 impl ReadMembers for DocumentRangeFormattingParams {
@@ -613,25 +607,25 @@ pub struct DocumentOnTypeFormattingParams {
     pub options: FormattingOptions,
 }
 
-impl Described for DocumentOnTypeFormattingParams {}
+impl ToJson for DocumentOnTypeFormattingParams {
+    ghost stands = { λ it. object_of (
+        (codes "textDocument", Some (⟦<TextDocumentIdentifier as ToJson>⟧.stands it.text_document))
+        ∷ (codes "position", Some (⟦<Position as ToJson>⟧.stands it.position))
+        ∷ (codes "ch", Some (⟦<String as ToJson>⟧.stands it.ch))
+        ∷ (codes "options", Some (⟦<FormattingOptions as ToJson>⟧.stands it.options)) ∷ []) };
+
+    fn to_json(&self, alloc: Global) -> Result<Value, AllocError> {
+        Object::new(alloc)
+            .member("textDocument", &self.text_document)
+            .member("position", &self.position)
+            .member("ch", &self.ch)
+            .member("options", &self.options)
+            .end()
+    }
+}
 
 impl Keyed for DocumentOnTypeFormattingParams {
     const KEYS: &'static [&'static str] = &["textDocument", "position", "ch", "options"];
-}
-
-impl WriteMembers for DocumentOnTypeFormattingParams {
-    fn write<O: Sink>(&self, out: O) -> O {
-        out.member(&self.text_document)
-            .member(&self.position)
-            .member(&self.ch)
-            .member(&self.options)
-    }
-}
-
-impl Serialize for DocumentOnTypeFormattingParams {
-    fn serialize<S: Serializer>(&self, out: &mut S) -> Result<(), S::Error> {
-        write_object(self, out)
-    }
 }
 
 impl ReadMembers for DocumentOnTypeFormattingParams {

@@ -1,15 +1,15 @@
 //! Inlay hints: what a client shows between the characters of a text.
 // `tools/types` wrote this file from `types.txt`: change that.
+ghost use Rattle.std.specs.Prelude.{◌∷◌, [], Some, codes, option_map};
+ghost use Rattle.serde_json.specs.Data.{number, unsigned};
+ghost use Rattle.lsp_types.specs.Json.{object_of};
+
 use crate::edits::TextEdit;
-use crate::json::{
-    Keyed, ReadMembers, Sink, Source, WriteMembers, number_within, read_object, write_object,
-};
+use crate::json::{Keyed, Object, ReadMembers, Source, ToJson, number_within, read_object};
 use lsp_text::Position;
-use serde::{
-    Described, Deserialize, DeserializeOwned, Deserializer, Format, Serialize, Serializer,
-};
+use serde::{Deserialize, DeserializeOwned, Deserializer, Format};
 use serde_json::Value;
-use std::alloc::Global;
+use std::alloc::{AllocError, Global};
 
 /// What a hint tells (LSP 3.17, "InlayHintKind"). On reading, another number is refused.
 #[derive(Clone, Copy, Drop)]
@@ -22,11 +22,11 @@ impl InlayHintKind {
     pub const PARAMETER: InlayHintKind = InlayHintKind(2);
 }
 
-impl Described for InlayHintKind {}
+impl ToJson for InlayHintKind {
+    ghost stands = { λ it. number (unsigned it.0) };
 
-impl Serialize for InlayHintKind {
-    fn serialize<S: Serializer>(&self, out: &mut S) -> Result<(), S::Error> {
-        self.0.serialize(out)
+    fn to_json(&self, alloc: Global) -> Result<Value, AllocError> {
+        self.0.to_json(alloc)
     }
 }
 
@@ -101,7 +101,30 @@ impl InlayHint {
     }
 }
 
-impl Described for InlayHint {}
+impl ToJson for InlayHint {
+    ghost stands = { λ it. object_of (
+        (codes "position", Some (⟦<Position as ToJson>⟧.stands it.position))
+        ∷ (codes "label", Some (⟦<String as ToJson>⟧.stands it.label))
+        ∷ (codes "kind", option_map ⟦<InlayHintKind as ToJson>⟧.stands it.kind)
+        ∷ (codes "textEdits", option_map ⟦<Vec<TextEdit> as ToJson>⟧.stands it.text_edits)
+        ∷ (codes "tooltip", option_map ⟦<String as ToJson>⟧.stands it.tooltip)
+        ∷ (codes "paddingLeft", option_map ⟦<bool as ToJson>⟧.stands it.padding_left)
+        ∷ (codes "paddingRight", option_map ⟦<bool as ToJson>⟧.stands it.padding_right)
+        ∷ (codes "data", option_map ⟦<Value as ToJson>⟧.stands it.«data») ∷ []) };
+
+    fn to_json(&self, alloc: Global) -> Result<Value, AllocError> {
+        Object::new(alloc)
+            .member("position", &self.position)
+            .member("label", &self.label)
+            .some("kind", &self.kind)
+            .some("textEdits", &self.text_edits)
+            .some("tooltip", &self.tooltip)
+            .some("paddingLeft", &self.padding_left)
+            .some("paddingRight", &self.padding_right)
+            .some("data", &self.data)
+            .end()
+    }
+}
 
 impl Keyed for InlayHint {
     const KEYS: &'static [&'static str] = &[
@@ -114,25 +137,6 @@ impl Keyed for InlayHint {
         "paddingRight",
         "data",
     ];
-}
-
-impl WriteMembers for InlayHint {
-    fn write<O: Sink>(&self, out: O) -> O {
-        out.member(&self.position)
-            .member(&self.label)
-            .some(&self.kind)
-            .some(&self.text_edits)
-            .some(&self.tooltip)
-            .some(&self.padding_left)
-            .some(&self.padding_right)
-            .some(&self.data)
-    }
-}
-
-impl Serialize for InlayHint {
-    fn serialize<S: Serializer>(&self, out: &mut S) -> Result<(), S::Error> {
-        write_object(self, out)
-    }
 }
 
 impl ReadMembers for InlayHint {

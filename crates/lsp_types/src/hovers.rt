@@ -1,12 +1,14 @@
 //! Texts that a client shows, and hovers.
 // `tools/types` wrote this file from `types.txt`: change that.
+ghost use Rattle.std.specs.Prelude.{◌∷◌, [], Some, codes, option_map};
+ghost use Rattle.lsp_types.specs.Json.{object_of};
+
 use crate::choices::MarkupKind;
-use crate::json::{Keyed, ReadMembers, Sink, Source, WriteMembers, read_object, write_object};
+use crate::json::{Keyed, Object, ReadMembers, Source, ToJson, read_object};
 use lsp_text::Range;
-use serde::{
-    Described, Deserialize, DeserializeOwned, Deserializer, Format, Serialize, Serializer,
-};
-use std::alloc::Global;
+use serde::{Deserialize, DeserializeOwned, Deserializer, Format};
+use serde_json::Value;
+use std::alloc::{AllocError, Global};
 
 /// A text to show (LSP 3.17, "MarkupContent").
 #[derive(Drop)]
@@ -17,22 +19,21 @@ pub struct MarkupContent {
     pub value: String,
 }
 
-impl Described for MarkupContent {}
+impl ToJson for MarkupContent {
+    ghost stands = { λ it. object_of (
+        (codes "kind", Some (⟦<MarkupKind as ToJson>⟧.stands it.kind))
+        ∷ (codes "value", Some (⟦<String as ToJson>⟧.stands it.value)) ∷ []) };
+
+    fn to_json(&self, alloc: Global) -> Result<Value, AllocError> {
+        Object::new(alloc)
+            .member("kind", &self.kind)
+            .member("value", &self.value)
+            .end()
+    }
+}
 
 impl Keyed for MarkupContent {
     const KEYS: &'static [&'static str] = &["kind", "value"];
-}
-
-impl WriteMembers for MarkupContent {
-    fn write<O: Sink>(&self, out: O) -> O {
-        out.member(&self.kind).member(&self.value)
-    }
-}
-
-impl Serialize for MarkupContent {
-    fn serialize<S: Serializer>(&self, out: &mut S) -> Result<(), S::Error> {
-        write_object(self, out)
-    }
 }
 
 impl ReadMembers for MarkupContent {
@@ -71,22 +72,21 @@ pub struct Hover {
     pub range: Option<Range>,
 }
 
-impl Described for Hover {}
+impl ToJson for Hover {
+    ghost stands = { λ it. object_of (
+        (codes "contents", Some (⟦<MarkupContent as ToJson>⟧.stands it.contents))
+        ∷ (codes "range", option_map ⟦<Range as ToJson>⟧.stands it.range) ∷ []) };
+
+    fn to_json(&self, alloc: Global) -> Result<Value, AllocError> {
+        Object::new(alloc)
+            .member("contents", &self.contents)
+            .some("range", &self.range)
+            .end()
+    }
+}
 
 impl Keyed for Hover {
     const KEYS: &'static [&'static str] = &["contents", "range"];
-}
-
-impl WriteMembers for Hover {
-    fn write<O: Sink>(&self, out: O) -> O {
-        out.member(&self.contents).some(&self.range)
-    }
-}
-
-impl Serialize for Hover {
-    fn serialize<S: Serializer>(&self, out: &mut S) -> Result<(), S::Error> {
-        write_object(self, out)
-    }
 }
 
 impl ReadMembers for Hover {

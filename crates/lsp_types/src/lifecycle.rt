@@ -1,17 +1,16 @@
 //! The handshake.
 // `tools/types` wrote this file from `types.txt`: change that.
+ghost use Rattle.std.specs.Prelude.{◌∷◌, [], Some, codes, option_map};
+ghost use Rattle.lsp_types.specs.Json.{object_of};
+
 use crate::capabilities::ServerCapabilities;
 use crate::choices::NumberOrString;
-use crate::json::{
-    Keyed, ReadMembers, Sink, Source, WriteMembers, if_fits, read_object, write_object,
-};
+use crate::json::{Keyed, Object, ReadMembers, Source, ToJson, if_fits, read_object};
 use crate::progress::ProgressToken;
 use crate::workspace::WorkspaceFolder;
-use serde::{
-    Described, Deserialize, DeserializeOwned, Deserializer, Format, Serialize, Serializer,
-};
+use serde::{Deserialize, DeserializeOwned, Deserializer, Format};
 use serde_json::Value;
-use std::alloc::Global;
+use std::alloc::{AllocError, Global};
 
 /// The params of `initialize`, as far as most servers read them (LSP 3.17, "Initialize Request").
 #[derive(Drop)]
@@ -38,7 +37,34 @@ pub struct InitializeParams {
     pub work_done_token: Option<ProgressToken>,
 }
 
-impl Described for InitializeParams {}
+impl ToJson for InitializeParams {
+    ghost stands = { λ it. object_of (
+        (codes "processId", Some (⟦<Option<i32> as ToJson>⟧.stands it.process_id))
+        ∷ (codes "clientInfo", option_map ⟦<ClientInfo as ToJson>⟧.stands it.client_info)
+        ∷ (codes "locale", option_map ⟦<String as ToJson>⟧.stands it.locale)
+        ∷ (codes "rootPath", option_map ⟦<String as ToJson>⟧.stands it.root_path)
+        ∷ (codes "rootUri", Some (⟦<Option<String> as ToJson>⟧.stands it.root_uri))
+        ∷ (codes "workspaceFolders", option_map ⟦<Vec<WorkspaceFolder> as ToJson>⟧.stands it.workspace_folders)
+        ∷ (codes "initializationOptions", option_map ⟦<Value as ToJson>⟧.stands it.initialization_options)
+        ∷ (codes "capabilities", Some (⟦<Value as ToJson>⟧.stands it.capabilities))
+        ∷ (codes "trace", option_map ⟦<String as ToJson>⟧.stands it.trace)
+        ∷ (codes "workDoneToken", option_map ⟦<ProgressToken as ToJson>⟧.stands it.work_done_token) ∷ []) };
+
+    fn to_json(&self, alloc: Global) -> Result<Value, AllocError> {
+        Object::new(alloc)
+            .member("processId", &self.process_id)
+            .some("clientInfo", &self.client_info)
+            .some("locale", &self.locale)
+            .some("rootPath", &self.root_path)
+            .member("rootUri", &self.root_uri)
+            .some("workspaceFolders", &self.workspace_folders)
+            .some("initializationOptions", &self.initialization_options)
+            .member("capabilities", &self.capabilities)
+            .some("trace", &self.trace)
+            .some("workDoneToken", &self.work_done_token)
+            .end()
+    }
+}
 
 impl Keyed for InitializeParams {
     const KEYS: &'static [&'static str] = &[
@@ -53,27 +79,6 @@ impl Keyed for InitializeParams {
         "trace",
         "workDoneToken",
     ];
-}
-
-impl WriteMembers for InitializeParams {
-    fn write<O: Sink>(&self, out: O) -> O {
-        out.member(&self.process_id)
-            .some(&self.client_info)
-            .some(&self.locale)
-            .some(&self.root_path)
-            .member(&self.root_uri)
-            .some(&self.workspace_folders)
-            .some(&self.initialization_options)
-            .member(&self.capabilities)
-            .some(&self.trace)
-            .some(&self.work_done_token)
-    }
-}
-
-impl Serialize for InitializeParams {
-    fn serialize<S: Serializer>(&self, out: &mut S) -> Result<(), S::Error> {
-        write_object(self, out)
-    }
 }
 
 impl ReadMembers for InitializeParams {
@@ -128,22 +133,21 @@ impl ServerInfo {
     }
 }
 
-impl Described for ServerInfo {}
+impl ToJson for ServerInfo {
+    ghost stands = { λ it. object_of (
+        (codes "name", Some (⟦<String as ToJson>⟧.stands it.name))
+        ∷ (codes "version", option_map ⟦<String as ToJson>⟧.stands it.version) ∷ []) };
+
+    fn to_json(&self, alloc: Global) -> Result<Value, AllocError> {
+        Object::new(alloc)
+            .member("name", &self.name)
+            .some("version", &self.version)
+            .end()
+    }
+}
 
 impl Keyed for ServerInfo {
     const KEYS: &'static [&'static str] = &["name", "version"];
-}
-
-impl WriteMembers for ServerInfo {
-    fn write<O: Sink>(&self, out: O) -> O {
-        out.member(&self.name).some(&self.version)
-    }
-}
-
-impl Serialize for ServerInfo {
-    fn serialize<S: Serializer>(&self, out: &mut S) -> Result<(), S::Error> {
-        write_object(self, out)
-    }
 }
 
 impl ReadMembers for ServerInfo {
@@ -185,21 +189,16 @@ pub struct InitializeResult {
     pub server_info: ServerInfo,
 }
 
-impl Described for InitializeResult {}
+impl ToJson for InitializeResult {
+    ghost stands = { λ it. object_of (
+        (codes "capabilities", Some (⟦<ServerCapabilities as ToJson>⟧.stands it.capabilities))
+        ∷ (codes "serverInfo", Some (⟦<ServerInfo as ToJson>⟧.stands it.server_info)) ∷ []) };
 
-impl Keyed for InitializeResult {
-    const KEYS: &'static [&'static str] = &["capabilities", "serverInfo"];
-}
-
-impl WriteMembers for InitializeResult {
-    fn write<O: Sink>(&self, out: O) -> O {
-        out.member(&self.capabilities).member(&self.server_info)
-    }
-}
-
-impl Serialize for InitializeResult {
-    fn serialize<S: Serializer>(&self, out: &mut S) -> Result<(), S::Error> {
-        write_object(self, out)
+    fn to_json(&self, alloc: Global) -> Result<Value, AllocError> {
+        Object::new(alloc)
+            .member("capabilities", &self.capabilities)
+            .member("serverInfo", &self.server_info)
+            .end()
     }
 }
 
@@ -210,22 +209,17 @@ pub struct SetTraceParams {
     pub value: String,
 }
 
-impl Described for SetTraceParams {}
+impl ToJson for SetTraceParams {
+    ghost stands = { λ it. object_of (
+        (codes "value", Some (⟦<String as ToJson>⟧.stands it.value)) ∷ []) };
+
+    fn to_json(&self, alloc: Global) -> Result<Value, AllocError> {
+        Object::new(alloc).member("value", &self.value).end()
+    }
+}
 
 impl Keyed for SetTraceParams {
     const KEYS: &'static [&'static str] = &["value"];
-}
-
-impl WriteMembers for SetTraceParams {
-    fn write<O: Sink>(&self, out: O) -> O {
-        out.member(&self.value)
-    }
-}
-
-impl Serialize for SetTraceParams {
-    fn serialize<S: Serializer>(&self, out: &mut S) -> Result<(), S::Error> {
-        write_object(self, out)
-    }
 }
 
 impl ReadMembers for SetTraceParams {
@@ -271,22 +265,21 @@ impl LogTraceParams {
     }
 }
 
-impl Described for LogTraceParams {}
+impl ToJson for LogTraceParams {
+    ghost stands = { λ it. object_of (
+        (codes "message", Some (⟦<String as ToJson>⟧.stands it.message))
+        ∷ (codes "verbose", option_map ⟦<String as ToJson>⟧.stands it.verbose) ∷ []) };
+
+    fn to_json(&self, alloc: Global) -> Result<Value, AllocError> {
+        Object::new(alloc)
+            .member("message", &self.message)
+            .some("verbose", &self.verbose)
+            .end()
+    }
+}
 
 impl Keyed for LogTraceParams {
     const KEYS: &'static [&'static str] = &["message", "verbose"];
-}
-
-impl WriteMembers for LogTraceParams {
-    fn write<O: Sink>(&self, out: O) -> O {
-        out.member(&self.message).some(&self.verbose)
-    }
-}
-
-impl Serialize for LogTraceParams {
-    fn serialize<S: Serializer>(&self, out: &mut S) -> Result<(), S::Error> {
-        write_object(self, out)
-    }
 }
 
 impl ReadMembers for LogTraceParams {
@@ -314,22 +307,17 @@ pub struct CancelParams {
     pub id: NumberOrString,
 }
 
-impl Described for CancelParams {}
+impl ToJson for CancelParams {
+    ghost stands = { λ it. object_of (
+        (codes "id", Some (⟦<NumberOrString as ToJson>⟧.stands it.id)) ∷ []) };
+
+    fn to_json(&self, alloc: Global) -> Result<Value, AllocError> {
+        Object::new(alloc).member("id", &self.id).end()
+    }
+}
 
 impl Keyed for CancelParams {
     const KEYS: &'static [&'static str] = &["id"];
-}
-
-impl WriteMembers for CancelParams {
-    fn write<O: Sink>(&self, out: O) -> O {
-        out.member(&self.id)
-    }
-}
-
-impl Serialize for CancelParams {
-    fn serialize<S: Serializer>(&self, out: &mut S) -> Result<(), S::Error> {
-        write_object(self, out)
-    }
 }
 
 impl ReadMembers for CancelParams {
@@ -379,24 +367,23 @@ impl Registration {
     }
 }
 
-impl Described for Registration {}
+impl ToJson for Registration {
+    ghost stands = { λ it. object_of (
+        (codes "id", Some (⟦<String as ToJson>⟧.stands it.id))
+        ∷ (codes "method", Some (⟦<String as ToJson>⟧.stands it.method))
+        ∷ (codes "registerOptions", option_map ⟦<Value as ToJson>⟧.stands it.register_options) ∷ []) };
+
+    fn to_json(&self, alloc: Global) -> Result<Value, AllocError> {
+        Object::new(alloc)
+            .member("id", &self.id)
+            .member("method", &self.method)
+            .some("registerOptions", &self.register_options)
+            .end()
+    }
+}
 
 impl Keyed for Registration {
     const KEYS: &'static [&'static str] = &["id", "method", "registerOptions"];
-}
-
-impl WriteMembers for Registration {
-    fn write<O: Sink>(&self, out: O) -> O {
-        out.member(&self.id)
-            .member(&self.method)
-            .some(&self.register_options)
-    }
-}
-
-impl Serialize for Registration {
-    fn serialize<S: Serializer>(&self, out: &mut S) -> Result<(), S::Error> {
-        write_object(self, out)
-    }
 }
 
 impl ReadMembers for Registration {
@@ -425,22 +412,19 @@ pub struct RegistrationParams {
     pub registrations: Vec<Registration>,
 }
 
-impl Described for RegistrationParams {}
+impl ToJson for RegistrationParams {
+    ghost stands = { λ it. object_of (
+        (codes "registrations", Some (⟦<Vec<Registration> as ToJson>⟧.stands it.registrations)) ∷ []) };
+
+    fn to_json(&self, alloc: Global) -> Result<Value, AllocError> {
+        Object::new(alloc)
+            .member("registrations", &self.registrations)
+            .end()
+    }
+}
 
 impl Keyed for RegistrationParams {
     const KEYS: &'static [&'static str] = &["registrations"];
-}
-
-impl WriteMembers for RegistrationParams {
-    fn write<O: Sink>(&self, out: O) -> O {
-        out.member(&self.registrations)
-    }
-}
-
-impl Serialize for RegistrationParams {
-    fn serialize<S: Serializer>(&self, out: &mut S) -> Result<(), S::Error> {
-        write_object(self, out)
-    }
 }
 
 impl ReadMembers for RegistrationParams {
@@ -469,22 +453,21 @@ pub struct Unregistration {
     pub method: String,
 }
 
-impl Described for Unregistration {}
+impl ToJson for Unregistration {
+    ghost stands = { λ it. object_of (
+        (codes "id", Some (⟦<String as ToJson>⟧.stands it.id))
+        ∷ (codes "method", Some (⟦<String as ToJson>⟧.stands it.method)) ∷ []) };
+
+    fn to_json(&self, alloc: Global) -> Result<Value, AllocError> {
+        Object::new(alloc)
+            .member("id", &self.id)
+            .member("method", &self.method)
+            .end()
+    }
+}
 
 impl Keyed for Unregistration {
     const KEYS: &'static [&'static str] = &["id", "method"];
-}
-
-impl WriteMembers for Unregistration {
-    fn write<O: Sink>(&self, out: O) -> O {
-        out.member(&self.id).member(&self.method)
-    }
-}
-
-impl Serialize for Unregistration {
-    fn serialize<S: Serializer>(&self, out: &mut S) -> Result<(), S::Error> {
-        write_object(self, out)
-    }
 }
 
 impl ReadMembers for Unregistration {
@@ -512,22 +495,19 @@ pub struct UnregistrationParams {
     pub unregisterations: Vec<Unregistration>,
 }
 
-impl Described for UnregistrationParams {}
+impl ToJson for UnregistrationParams {
+    ghost stands = { λ it. object_of (
+        (codes "unregisterations", Some (⟦<Vec<Unregistration> as ToJson>⟧.stands it.unregisterations)) ∷ []) };
+
+    fn to_json(&self, alloc: Global) -> Result<Value, AllocError> {
+        Object::new(alloc)
+            .member("unregisterations", &self.unregisterations)
+            .end()
+    }
+}
 
 impl Keyed for UnregistrationParams {
     const KEYS: &'static [&'static str] = &["unregisterations"];
-}
-
-impl WriteMembers for UnregistrationParams {
-    fn write<O: Sink>(&self, out: O) -> O {
-        out.member(&self.unregisterations)
-    }
-}
-
-impl Serialize for UnregistrationParams {
-    fn serialize<S: Serializer>(&self, out: &mut S) -> Result<(), S::Error> {
-        write_object(self, out)
-    }
 }
 
 impl ReadMembers for UnregistrationParams {

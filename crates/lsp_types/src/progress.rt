@@ -1,9 +1,14 @@
 //! Progress of long work, as a client shows it.
 // `tools/types` wrote this file from `types.txt`: change that.
+ghost use Rattle.std.specs.Prelude.{◌∷◌, [], Some, codes, option_map};
+ghost use Rattle.serde_json.specs.Data.{string};
+ghost use Rattle.lsp_types.specs.Json.{object_of};
+
 use crate::choices::NumberOrString;
-use crate::json::{Keyed, ReadMembers, Sink, Source, WriteMembers, read_object, write_object};
-use serde::{Described, DeserializeOwned, Deserializer, Format, Serialize, Serializer};
-use std::alloc::Global;
+use crate::json::{Keyed, Object, ReadMembers, Source, ToJson, read_object};
+use serde::{DeserializeOwned, Deserializer, Format};
+use serde_json::Value;
+use std::alloc::{AllocError, Global};
 
 /// A name that the one who asks for progress gives it (LSP 3.17, "Progress Support").
 pub type ProgressToken = NumberOrString;
@@ -16,22 +21,19 @@ pub struct WorkDoneProgressParams {
     pub work_done_token: Option<ProgressToken>,
 }
 
-impl Described for WorkDoneProgressParams {}
+impl ToJson for WorkDoneProgressParams {
+    ghost stands = { λ it. object_of (
+        (codes "workDoneToken", option_map ⟦<ProgressToken as ToJson>⟧.stands it.work_done_token) ∷ []) };
+
+    fn to_json(&self, alloc: Global) -> Result<Value, AllocError> {
+        Object::new(alloc)
+            .some("workDoneToken", &self.work_done_token)
+            .end()
+    }
+}
 
 impl Keyed for WorkDoneProgressParams {
     const KEYS: &'static [&'static str] = &["workDoneToken"];
-}
-
-impl WriteMembers for WorkDoneProgressParams {
-    fn write<O: Sink>(&self, out: O) -> O {
-        out.some(&self.work_done_token)
-    }
-}
-
-impl Serialize for WorkDoneProgressParams {
-    fn serialize<S: Serializer>(&self, out: &mut S) -> Result<(), S::Error> {
-        write_object(self, out)
-    }
 }
 
 impl ReadMembers for WorkDoneProgressParams {
@@ -58,22 +60,17 @@ pub struct WorkDoneProgressCreateParams {
     pub token: ProgressToken,
 }
 
-impl Described for WorkDoneProgressCreateParams {}
+impl ToJson for WorkDoneProgressCreateParams {
+    ghost stands = { λ it. object_of (
+        (codes "token", Some (⟦<ProgressToken as ToJson>⟧.stands it.token)) ∷ []) };
+
+    fn to_json(&self, alloc: Global) -> Result<Value, AllocError> {
+        Object::new(alloc).member("token", &self.token).end()
+    }
+}
 
 impl Keyed for WorkDoneProgressCreateParams {
     const KEYS: &'static [&'static str] = &["token"];
-}
-
-impl WriteMembers for WorkDoneProgressCreateParams {
-    fn write<O: Sink>(&self, out: O) -> O {
-        out.member(&self.token)
-    }
-}
-
-impl Serialize for WorkDoneProgressCreateParams {
-    fn serialize<S: Serializer>(&self, out: &mut S) -> Result<(), S::Error> {
-        write_object(self, out)
-    }
 }
 
 impl ReadMembers for WorkDoneProgressCreateParams {
@@ -106,21 +103,16 @@ pub struct ProgressParams<T> {
     pub value: T,
 }
 
-impl<T: Serialize> Described for ProgressParams<T> {}
+impl<T: ToJson> ToJson for ProgressParams<T> {
+    ghost stands = { λ it. object_of (
+        (codes "token", Some (⟦<ProgressToken as ToJson>⟧.stands it.token))
+        ∷ (codes "value", Some (T.stands it.value)) ∷ []) };
 
-impl<T: Serialize> Keyed for ProgressParams<T> {
-    const KEYS: &'static [&'static str] = &["token", "value"];
-}
-
-impl<T: Serialize> WriteMembers for ProgressParams<T> {
-    fn write<O: Sink>(&self, out: O) -> O {
-        out.member(&self.token).member(&self.value)
-    }
-}
-
-impl<T: Serialize> Serialize for ProgressParams<T> {
-    fn serialize<S: Serializer>(&self, out: &mut S) -> Result<(), S::Error> {
-        write_object(self, out)
+    fn to_json(&self, alloc: Global) -> Result<Value, AllocError> {
+        Object::new(alloc)
+            .member("token", &self.token)
+            .member("value", &self.value)
+            .end()
     }
 }
 
@@ -158,7 +150,24 @@ impl WorkDoneProgressBegin {
     }
 }
 
-impl Described for WorkDoneProgressBegin {}
+impl ToJson for WorkDoneProgressBegin {
+    ghost stands = { λ it. object_of (
+        (codes "kind", Some (string (codes "begin")))
+        ∷ (codes "title", Some (⟦<String as ToJson>⟧.stands it.title))
+        ∷ (codes "cancellable", option_map ⟦<bool as ToJson>⟧.stands it.cancellable)
+        ∷ (codes "message", option_map ⟦<String as ToJson>⟧.stands it.message)
+        ∷ (codes "percentage", option_map ⟦<u32 as ToJson>⟧.stands it.percentage) ∷ []) };
+
+    fn to_json(&self, alloc: Global) -> Result<Value, AllocError> {
+        Object::new(alloc)
+            .text("kind", "begin")
+            .member("title", &self.title)
+            .some("cancellable", &self.cancellable)
+            .some("message", &self.message)
+            .some("percentage", &self.percentage)
+            .end()
+    }
+}
 
 impl Keyed for WorkDoneProgressBegin {
     const KEYS: &'static [&'static str] = &[
@@ -168,22 +177,6 @@ impl Keyed for WorkDoneProgressBegin {
         "message",
         "percentage",
     ];
-}
-
-impl WriteMembers for WorkDoneProgressBegin {
-    fn write<O: Sink>(&self, out: O) -> O {
-        out.member(&"begin")
-            .member(&self.title)
-            .some(&self.cancellable)
-            .some(&self.message)
-            .some(&self.percentage)
-    }
-}
-
-impl Serialize for WorkDoneProgressBegin {
-    fn serialize<S: Serializer>(&self, out: &mut S) -> Result<(), S::Error> {
-        write_object(self, out)
-    }
 }
 
 impl ReadMembers for WorkDoneProgressBegin {
@@ -237,25 +230,25 @@ impl Default for WorkDoneProgressReport {
     }
 }
 
-impl Described for WorkDoneProgressReport {}
+impl ToJson for WorkDoneProgressReport {
+    ghost stands = { λ it. object_of (
+        (codes "kind", Some (string (codes "report")))
+        ∷ (codes "cancellable", option_map ⟦<bool as ToJson>⟧.stands it.cancellable)
+        ∷ (codes "message", option_map ⟦<String as ToJson>⟧.stands it.message)
+        ∷ (codes "percentage", option_map ⟦<u32 as ToJson>⟧.stands it.percentage) ∷ []) };
+
+    fn to_json(&self, alloc: Global) -> Result<Value, AllocError> {
+        Object::new(alloc)
+            .text("kind", "report")
+            .some("cancellable", &self.cancellable)
+            .some("message", &self.message)
+            .some("percentage", &self.percentage)
+            .end()
+    }
+}
 
 impl Keyed for WorkDoneProgressReport {
     const KEYS: &'static [&'static str] = &["kind", "cancellable", "message", "percentage"];
-}
-
-impl WriteMembers for WorkDoneProgressReport {
-    fn write<O: Sink>(&self, out: O) -> O {
-        out.member(&"report")
-            .some(&self.cancellable)
-            .some(&self.message)
-            .some(&self.percentage)
-    }
-}
-
-impl Serialize for WorkDoneProgressReport {
-    fn serialize<S: Serializer>(&self, out: &mut S) -> Result<(), S::Error> {
-        write_object(self, out)
-    }
 }
 
 impl ReadMembers for WorkDoneProgressReport {
@@ -298,22 +291,21 @@ impl Default for WorkDoneProgressEnd {
     }
 }
 
-impl Described for WorkDoneProgressEnd {}
+impl ToJson for WorkDoneProgressEnd {
+    ghost stands = { λ it. object_of (
+        (codes "kind", Some (string (codes "end")))
+        ∷ (codes "message", option_map ⟦<String as ToJson>⟧.stands it.message) ∷ []) };
+
+    fn to_json(&self, alloc: Global) -> Result<Value, AllocError> {
+        Object::new(alloc)
+            .text("kind", "end")
+            .some("message", &self.message)
+            .end()
+    }
+}
 
 impl Keyed for WorkDoneProgressEnd {
     const KEYS: &'static [&'static str] = &["kind", "message"];
-}
-
-impl WriteMembers for WorkDoneProgressEnd {
-    fn write<O: Sink>(&self, out: O) -> O {
-        out.member(&"end").some(&self.message)
-    }
-}
-
-impl Serialize for WorkDoneProgressEnd {
-    fn serialize<S: Serializer>(&self, out: &mut S) -> Result<(), S::Error> {
-        write_object(self, out)
-    }
 }
 
 impl ReadMembers for WorkDoneProgressEnd {

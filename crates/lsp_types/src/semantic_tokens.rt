@@ -1,8 +1,12 @@
 //! The result of requests for semantic tokens.
 // `tools/types` wrote this file from `types.txt`: change that.
-use crate::json::{Keyed, ReadMembers, Sink, Source, WriteMembers, read_object, write_object};
-use serde::{Described, DeserializeOwned, Deserializer, Format, Serialize, Serializer};
-use std::alloc::Global;
+ghost use Rattle.std.specs.Prelude.{◌∷◌, [], Some, codes, option_map};
+ghost use Rattle.lsp_types.specs.Json.{object_of};
+
+use crate::json::{Keyed, Object, ReadMembers, Source, ToJson, read_object};
+use serde::{DeserializeOwned, Deserializer, Format};
+use serde_json::Value;
+use std::alloc::{AllocError, Global};
 
 /// The result of `textDocument/semanticTokens/full` and `/range`, or null (LSP 3.17, "Semantic Tokens").
 #[derive(Drop)]
@@ -13,22 +17,21 @@ pub struct SemanticTokens {
     pub data: Vec<u32>,
 }
 
-impl Described for SemanticTokens {}
+impl ToJson for SemanticTokens {
+    ghost stands = { λ it. object_of (
+        (codes "resultId", option_map ⟦<String as ToJson>⟧.stands it.result_id)
+        ∷ (codes "data", Some (⟦<Vec<u32> as ToJson>⟧.stands it.«data»)) ∷ []) };
+
+    fn to_json(&self, alloc: Global) -> Result<Value, AllocError> {
+        Object::new(alloc)
+            .some("resultId", &self.result_id)
+            .member("data", &self.data)
+            .end()
+    }
+}
 
 impl Keyed for SemanticTokens {
     const KEYS: &'static [&'static str] = &["resultId", "data"];
-}
-
-impl WriteMembers for SemanticTokens {
-    fn write<O: Sink>(&self, out: O) -> O {
-        out.some(&self.result_id).member(&self.data)
-    }
-}
-
-impl Serialize for SemanticTokens {
-    fn serialize<S: Serializer>(&self, out: &mut S) -> Result<(), S::Error> {
-        write_object(self, out)
-    }
 }
 
 impl ReadMembers for SemanticTokens {

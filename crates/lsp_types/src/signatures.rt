@@ -1,17 +1,19 @@
 //! Signature help: what a call takes, while it is typed.
 // `tools/types` wrote this file from `types.txt`: change that.
+ghost use Rattle.std.specs.Prelude.{◌∷◌, [], Some, codes, option_map};
+ghost use Rattle.serde_json.specs.Data.{number, unsigned};
+ghost use Rattle.lsp_types.specs.Json.{object_of};
+
 use crate::documents::TextDocumentIdentifier;
 use crate::hovers::MarkupContent;
 use crate::json::{
-    Blank, Keyed, ReadMembers, Sink, Source, WriteMembers, if_fits, number_within, read_object,
-    write_object,
+    Blank, Keyed, Object, ReadMembers, Source, ToJson, if_fits, number_within, read_object,
 };
 use crate::progress::ProgressToken;
 use lsp_text::Position;
-use serde::{
-    Described, Deserialize, DeserializeOwned, Deserializer, Format, Serialize, Serializer,
-};
-use std::alloc::Global;
+use serde::{Deserialize, DeserializeOwned, Deserializer, Format};
+use serde_json::Value;
+use std::alloc::{AllocError, Global};
 
 /// The result of `textDocument/signatureHelp` (LSP 3.17, "Signature Help Request").
 #[derive(Drop)]
@@ -43,24 +45,23 @@ impl SignatureHelp {
     }
 }
 
-impl Described for SignatureHelp {}
+impl ToJson for SignatureHelp {
+    ghost stands = { λ it. object_of (
+        (codes "signatures", Some (⟦<Vec<SignatureInformation> as ToJson>⟧.stands it.signatures))
+        ∷ (codes "activeSignature", option_map ⟦<u32 as ToJson>⟧.stands it.active_signature)
+        ∷ (codes "activeParameter", option_map ⟦<u32 as ToJson>⟧.stands it.active_parameter) ∷ []) };
+
+    fn to_json(&self, alloc: Global) -> Result<Value, AllocError> {
+        Object::new(alloc)
+            .member("signatures", &self.signatures)
+            .some("activeSignature", &self.active_signature)
+            .some("activeParameter", &self.active_parameter)
+            .end()
+    }
+}
 
 impl Keyed for SignatureHelp {
     const KEYS: &'static [&'static str] = &["signatures", "activeSignature", "activeParameter"];
-}
-
-impl WriteMembers for SignatureHelp {
-    fn write<O: Sink>(&self, out: O) -> O {
-        out.member(&self.signatures)
-            .some(&self.active_signature)
-            .some(&self.active_parameter)
-    }
-}
-
-impl Serialize for SignatureHelp {
-    fn serialize<S: Serializer>(&self, out: &mut S) -> Result<(), S::Error> {
-        write_object(self, out)
-    }
 }
 
 impl ReadMembers for SignatureHelp {
@@ -116,7 +117,22 @@ impl SignatureInformation {
     }
 }
 
-impl Described for SignatureInformation {}
+impl ToJson for SignatureInformation {
+    ghost stands = { λ it. object_of (
+        (codes "label", Some (⟦<String as ToJson>⟧.stands it.label))
+        ∷ (codes "documentation", option_map ⟦<MarkupContent as ToJson>⟧.stands it.documentation)
+        ∷ (codes "parameters", option_map ⟦<Vec<ParameterInformation> as ToJson>⟧.stands it.parameters)
+        ∷ (codes "activeParameter", option_map ⟦<u32 as ToJson>⟧.stands it.active_parameter) ∷ []) };
+
+    fn to_json(&self, alloc: Global) -> Result<Value, AllocError> {
+        Object::new(alloc)
+            .member("label", &self.label)
+            .some("documentation", &self.documentation)
+            .some("parameters", &self.parameters)
+            .some("activeParameter", &self.active_parameter)
+            .end()
+    }
+}
 
 impl Keyed for SignatureInformation {
     const KEYS: &'static [&'static str] = &[
@@ -125,21 +141,6 @@ impl Keyed for SignatureInformation {
         "parameters",
         "activeParameter",
     ];
-}
-
-impl WriteMembers for SignatureInformation {
-    fn write<O: Sink>(&self, out: O) -> O {
-        out.member(&self.label)
-            .some(&self.documentation)
-            .some(&self.parameters)
-            .some(&self.active_parameter)
-    }
-}
-
-impl Serialize for SignatureInformation {
-    fn serialize<S: Serializer>(&self, out: &mut S) -> Result<(), S::Error> {
-        write_object(self, out)
-    }
 }
 
 impl ReadMembers for SignatureInformation {
@@ -197,22 +198,21 @@ impl ParameterInformation {
     }
 }
 
-impl Described for ParameterInformation {}
+impl ToJson for ParameterInformation {
+    ghost stands = { λ it. object_of (
+        (codes "label", Some (⟦<String as ToJson>⟧.stands it.label))
+        ∷ (codes "documentation", option_map ⟦<MarkupContent as ToJson>⟧.stands it.documentation) ∷ []) };
+
+    fn to_json(&self, alloc: Global) -> Result<Value, AllocError> {
+        Object::new(alloc)
+            .member("label", &self.label)
+            .some("documentation", &self.documentation)
+            .end()
+    }
+}
 
 impl Keyed for ParameterInformation {
     const KEYS: &'static [&'static str] = &["label", "documentation"];
-}
-
-impl WriteMembers for ParameterInformation {
-    fn write<O: Sink>(&self, out: O) -> O {
-        out.member(&self.label).some(&self.documentation)
-    }
-}
-
-impl Serialize for ParameterInformation {
-    fn serialize<S: Serializer>(&self, out: &mut S) -> Result<(), S::Error> {
-        write_object(self, out)
-    }
 }
 
 impl ReadMembers for ParameterInformation {
@@ -255,11 +255,11 @@ impl SignatureHelpTriggerKind {
     pub const CONTENT_CHANGE: SignatureHelpTriggerKind = SignatureHelpTriggerKind(3);
 }
 
-impl Described for SignatureHelpTriggerKind {}
+impl ToJson for SignatureHelpTriggerKind {
+    ghost stands = { λ it. number (unsigned it.0) };
 
-impl Serialize for SignatureHelpTriggerKind {
-    fn serialize<S: Serializer>(&self, out: &mut S) -> Result<(), S::Error> {
-        self.0.serialize(out)
+    fn to_json(&self, alloc: Global) -> Result<Value, AllocError> {
+        self.0.to_json(alloc)
     }
 }
 
@@ -303,7 +303,22 @@ pub struct SignatureHelpContext {
     pub active_signature_help: Option<SignatureHelp>,
 }
 
-impl Described for SignatureHelpContext {}
+impl ToJson for SignatureHelpContext {
+    ghost stands = { λ it. object_of (
+        (codes "triggerKind", Some (⟦<SignatureHelpTriggerKind as ToJson>⟧.stands it.trigger_kind))
+        ∷ (codes "triggerCharacter", option_map ⟦<String as ToJson>⟧.stands it.trigger_character)
+        ∷ (codes "isRetrigger", Some (⟦<bool as ToJson>⟧.stands it.is_retrigger))
+        ∷ (codes "activeSignatureHelp", option_map ⟦<SignatureHelp as ToJson>⟧.stands it.active_signature_help) ∷ []) };
+
+    fn to_json(&self, alloc: Global) -> Result<Value, AllocError> {
+        Object::new(alloc)
+            .member("triggerKind", &self.trigger_kind)
+            .some("triggerCharacter", &self.trigger_character)
+            .member("isRetrigger", &self.is_retrigger)
+            .some("activeSignatureHelp", &self.active_signature_help)
+            .end()
+    }
+}
 
 impl Keyed for SignatureHelpContext {
     const KEYS: &'static [&'static str] = &[
@@ -312,21 +327,6 @@ impl Keyed for SignatureHelpContext {
         "isRetrigger",
         "activeSignatureHelp",
     ];
-}
-
-impl WriteMembers for SignatureHelpContext {
-    fn write<O: Sink>(&self, out: O) -> O {
-        out.member(&self.trigger_kind)
-            .some(&self.trigger_character)
-            .member(&self.is_retrigger)
-            .some(&self.active_signature_help)
-    }
-}
-
-impl Serialize for SignatureHelpContext {
-    fn serialize<S: Serializer>(&self, out: &mut S) -> Result<(), S::Error> {
-        write_object(self, out)
-    }
 }
 
 impl ReadMembers for SignatureHelpContext {
@@ -362,25 +362,25 @@ pub struct SignatureHelpParams {
     pub work_done_token: Option<ProgressToken>,
 }
 
-impl Described for SignatureHelpParams {}
+impl ToJson for SignatureHelpParams {
+    ghost stands = { λ it. object_of (
+        (codes "textDocument", Some (⟦<TextDocumentIdentifier as ToJson>⟧.stands it.text_document))
+        ∷ (codes "position", Some (⟦<Position as ToJson>⟧.stands it.position))
+        ∷ (codes "context", option_map ⟦<SignatureHelpContext as ToJson>⟧.stands it.context)
+        ∷ (codes "workDoneToken", option_map ⟦<ProgressToken as ToJson>⟧.stands it.work_done_token) ∷ []) };
+
+    fn to_json(&self, alloc: Global) -> Result<Value, AllocError> {
+        Object::new(alloc)
+            .member("textDocument", &self.text_document)
+            .member("position", &self.position)
+            .some("context", &self.context)
+            .some("workDoneToken", &self.work_done_token)
+            .end()
+    }
+}
 
 impl Keyed for SignatureHelpParams {
     const KEYS: &'static [&'static str] = &["textDocument", "position", "context", "workDoneToken"];
-}
-
-impl WriteMembers for SignatureHelpParams {
-    fn write<O: Sink>(&self, out: O) -> O {
-        out.member(&self.text_document)
-            .member(&self.position)
-            .some(&self.context)
-            .some(&self.work_done_token)
-    }
-}
-
-impl Serialize for SignatureHelpParams {
-    fn serialize<S: Serializer>(&self, out: &mut S) -> Result<(), S::Error> {
-        write_object(self, out)
-    }
 }
 
 impl ReadMembers for SignatureHelpParams {

@@ -1,17 +1,18 @@
 //! Symbols of a document and of a workspace.
 // `tools/types` wrote this file from `types.txt`: change that.
+ghost use Rattle.std.specs.Prelude.{◌∷◌, [], Some, codes, option_map};
+ghost use Rattle.serde_json.specs.Data.{number, unsigned};
+ghost use Rattle.lsp_types.specs.Json.{object_of};
+
 use crate::documents::Location;
 use crate::json::{
-    Blank, Keyed, Object, ReadMembers, Sink, Source, WriteMembers, if_fits, number_within,
-    read_object, write_object,
+    Blank, Keyed, Object, ReadMembers, Source, ToJson, if_fits, number_within, read_object,
 };
 use crate::progress::ProgressToken;
 use lsp_text::Range;
-use serde::{
-    Described, Deserialize, DeserializeOwned, Deserializer, Format, Serialize, Serializer,
-};
+use serde::{Deserialize, DeserializeOwned, Deserializer, Format};
 use serde_json::Value;
-use std::alloc::Global;
+use std::alloc::{AllocError, Global};
 
 /// What a symbol is (LSP 3.17, "SymbolKind"). On reading, another number is refused.
 #[derive(Clone, Copy, Drop)]
@@ -72,11 +73,11 @@ impl SymbolKind {
     pub const TYPE_PARAMETER: SymbolKind = SymbolKind(26);
 }
 
-impl Described for SymbolKind {}
+impl ToJson for SymbolKind {
+    ghost stands = { λ it. number (unsigned it.0) };
 
-impl Serialize for SymbolKind {
-    fn serialize<S: Serializer>(&self, out: &mut S) -> Result<(), S::Error> {
-        self.0.serialize(out)
+    fn to_json(&self, alloc: Global) -> Result<Value, AllocError> {
+        self.0.to_json(alloc)
     }
 }
 
@@ -116,11 +117,11 @@ impl SymbolTag {
     pub const DEPRECATED: SymbolTag = SymbolTag(1);
 }
 
-impl Described for SymbolTag {}
+impl ToJson for SymbolTag {
+    ghost stands = { λ it. number (unsigned it.0) };
 
-impl Serialize for SymbolTag {
-    fn serialize<S: Serializer>(&self, out: &mut S) -> Result<(), S::Error> {
-        self.0.serialize(out)
+    fn to_json(&self, alloc: Global) -> Result<Value, AllocError> {
+        self.0.to_json(alloc)
     }
 }
 
@@ -202,37 +203,6 @@ impl DocumentSymbol {
     }
 }
 
-impl Described for DocumentSymbol {}
-
-impl Keyed for DocumentSymbol {
-    const KEYS: &'static [&'static str] = &[
-        "name",
-        "detail",
-        "kind",
-        "tags",
-        "deprecated",
-        "range",
-        "selectionRange",
-        "children",
-    ];
-}
-
-impl Serialize for DocumentSymbol {
-    // One function, since it has others of its type in it.
-    fn serialize<S: Serializer>(&self, out: &mut S) -> Result<(), S::Error> {
-        let mut object = Object::begin(DocumentSymbol::KEYS, out)
-            .member(&self.name)
-            .some(&self.detail)
-            .member(&self.kind)
-            .some(&self.tags)
-            .some(&self.deprecated)
-            .member(&self.range)
-            .member(&self.selection_range)
-            .member(&self.children);
-        object.end()
-    }
-}
-
 /// The params of `workspace/symbol` (LSP 3.17, "Workspace Symbols Request"). The result is a list of `WorkspaceSymbol` or null.
 #[derive(Drop)]
 pub struct WorkspaceSymbolParams {
@@ -244,24 +214,23 @@ pub struct WorkspaceSymbolParams {
     pub partial_result_token: Option<ProgressToken>,
 }
 
-impl Described for WorkspaceSymbolParams {}
+impl ToJson for WorkspaceSymbolParams {
+    ghost stands = { λ it. object_of (
+        (codes "query", Some (⟦<String as ToJson>⟧.stands it.query))
+        ∷ (codes "workDoneToken", option_map ⟦<ProgressToken as ToJson>⟧.stands it.work_done_token)
+        ∷ (codes "partialResultToken", option_map ⟦<ProgressToken as ToJson>⟧.stands it.partial_result_token) ∷ []) };
+
+    fn to_json(&self, alloc: Global) -> Result<Value, AllocError> {
+        Object::new(alloc)
+            .member("query", &self.query)
+            .some("workDoneToken", &self.work_done_token)
+            .some("partialResultToken", &self.partial_result_token)
+            .end()
+    }
+}
 
 impl Keyed for WorkspaceSymbolParams {
     const KEYS: &'static [&'static str] = &["query", "workDoneToken", "partialResultToken"];
-}
-
-impl WriteMembers for WorkspaceSymbolParams {
-    fn write<O: Sink>(&self, out: O) -> O {
-        out.member(&self.query)
-            .some(&self.work_done_token)
-            .some(&self.partial_result_token)
-    }
-}
-
-impl Serialize for WorkspaceSymbolParams {
-    fn serialize<S: Serializer>(&self, out: &mut S) -> Result<(), S::Error> {
-        write_object(self, out)
-    }
 }
 
 impl ReadMembers for WorkspaceSymbolParams {
@@ -325,7 +294,26 @@ impl WorkspaceSymbol {
     }
 }
 
-impl Described for WorkspaceSymbol {}
+impl ToJson for WorkspaceSymbol {
+    ghost stands = { λ it. object_of (
+        (codes "name", Some (⟦<String as ToJson>⟧.stands it.name))
+        ∷ (codes "kind", Some (⟦<SymbolKind as ToJson>⟧.stands it.kind))
+        ∷ (codes "tags", option_map ⟦<Vec<SymbolTag> as ToJson>⟧.stands it.tags)
+        ∷ (codes "containerName", option_map ⟦<String as ToJson>⟧.stands it.container_name)
+        ∷ (codes "location", Some (⟦<Location as ToJson>⟧.stands it.location))
+        ∷ (codes "data", option_map ⟦<Value as ToJson>⟧.stands it.«data») ∷ []) };
+
+    fn to_json(&self, alloc: Global) -> Result<Value, AllocError> {
+        Object::new(alloc)
+            .member("name", &self.name)
+            .member("kind", &self.kind)
+            .some("tags", &self.tags)
+            .some("containerName", &self.container_name)
+            .member("location", &self.location)
+            .some("data", &self.data)
+            .end()
+    }
+}
 
 impl Keyed for WorkspaceSymbol {
     const KEYS: &'static [&'static str] = &[
@@ -336,23 +324,6 @@ impl Keyed for WorkspaceSymbol {
         "location",
         "data",
     ];
-}
-
-impl WriteMembers for WorkspaceSymbol {
-    fn write<O: Sink>(&self, out: O) -> O {
-        out.member(&self.name)
-            .member(&self.kind)
-            .some(&self.tags)
-            .some(&self.container_name)
-            .member(&self.location)
-            .some(&self.data)
-    }
-}
-
-impl Serialize for WorkspaceSymbol {
-    fn serialize<S: Serializer>(&self, out: &mut S) -> Result<(), S::Error> {
-        write_object(self, out)
-    }
 }
 
 impl ReadMembers for WorkspaceSymbol {

@@ -1,13 +1,14 @@
 //! What a server shows.
 // `tools/types` wrote this file from `types.txt`: change that.
-use crate::json::{
-    Blank, Keyed, ReadMembers, Sink, Source, WriteMembers, number_within, read_object, write_object,
-};
+ghost use Rattle.std.specs.Prelude.{◌∷◌, [], Some, codes, option_map};
+ghost use Rattle.serde_json.specs.Data.{number, unsigned};
+ghost use Rattle.lsp_types.specs.Json.{object_of};
+
+use crate::json::{Blank, Keyed, Object, ReadMembers, Source, ToJson, number_within, read_object};
 use lsp_text::Range;
-use serde::{
-    Described, Deserialize, DeserializeOwned, Deserializer, Format, Serialize, Serializer,
-};
-use std::alloc::Global;
+use serde::{Deserialize, DeserializeOwned, Deserializer, Format};
+use serde_json::Value;
+use std::alloc::{AllocError, Global};
 
 /// How important a message is (LSP 3.17, "MessageType"). On reading, another number is refused.
 #[derive(Clone, Copy, Drop)]
@@ -24,11 +25,11 @@ impl MessageType {
     pub const LOG: MessageType = MessageType(4);
 }
 
-impl Described for MessageType {}
+impl ToJson for MessageType {
+    ghost stands = { λ it. number (unsigned it.0) };
 
-impl Serialize for MessageType {
-    fn serialize<S: Serializer>(&self, out: &mut S) -> Result<(), S::Error> {
-        self.0.serialize(out)
+    fn to_json(&self, alloc: Global) -> Result<Value, AllocError> {
+        self.0.to_json(alloc)
     }
 }
 
@@ -68,22 +69,21 @@ pub struct ShowMessageParams {
     pub message: String,
 }
 
-impl Described for ShowMessageParams {}
+impl ToJson for ShowMessageParams {
+    ghost stands = { λ it. object_of (
+        (codes "type", Some (⟦<MessageType as ToJson>⟧.stands it.typ))
+        ∷ (codes "message", Some (⟦<String as ToJson>⟧.stands it.message)) ∷ []) };
+
+    fn to_json(&self, alloc: Global) -> Result<Value, AllocError> {
+        Object::new(alloc)
+            .member("type", &self.typ)
+            .member("message", &self.message)
+            .end()
+    }
+}
 
 impl Keyed for ShowMessageParams {
     const KEYS: &'static [&'static str] = &["type", "message"];
-}
-
-impl WriteMembers for ShowMessageParams {
-    fn write<O: Sink>(&self, out: O) -> O {
-        out.member(&self.typ).member(&self.message)
-    }
-}
-
-impl Serialize for ShowMessageParams {
-    fn serialize<S: Serializer>(&self, out: &mut S) -> Result<(), S::Error> {
-        write_object(self, out)
-    }
 }
 
 impl ReadMembers for ShowMessageParams {
@@ -135,24 +135,23 @@ impl ShowMessageRequestParams {
     }
 }
 
-impl Described for ShowMessageRequestParams {}
+impl ToJson for ShowMessageRequestParams {
+    ghost stands = { λ it. object_of (
+        (codes "type", Some (⟦<MessageType as ToJson>⟧.stands it.typ))
+        ∷ (codes "message", Some (⟦<String as ToJson>⟧.stands it.message))
+        ∷ (codes "actions", option_map ⟦<Vec<MessageActionItem> as ToJson>⟧.stands it.actions) ∷ []) };
+
+    fn to_json(&self, alloc: Global) -> Result<Value, AllocError> {
+        Object::new(alloc)
+            .member("type", &self.typ)
+            .member("message", &self.message)
+            .some("actions", &self.actions)
+            .end()
+    }
+}
 
 impl Keyed for ShowMessageRequestParams {
     const KEYS: &'static [&'static str] = &["type", "message", "actions"];
-}
-
-impl WriteMembers for ShowMessageRequestParams {
-    fn write<O: Sink>(&self, out: O) -> O {
-        out.member(&self.typ)
-            .member(&self.message)
-            .some(&self.actions)
-    }
-}
-
-impl Serialize for ShowMessageRequestParams {
-    fn serialize<S: Serializer>(&self, out: &mut S) -> Result<(), S::Error> {
-        write_object(self, out)
-    }
 }
 
 impl ReadMembers for ShowMessageRequestParams {
@@ -181,22 +180,17 @@ pub struct MessageActionItem {
     pub title: String,
 }
 
-impl Described for MessageActionItem {}
+impl ToJson for MessageActionItem {
+    ghost stands = { λ it. object_of (
+        (codes "title", Some (⟦<String as ToJson>⟧.stands it.title)) ∷ []) };
+
+    fn to_json(&self, alloc: Global) -> Result<Value, AllocError> {
+        Object::new(alloc).member("title", &self.title).end()
+    }
+}
 
 impl Keyed for MessageActionItem {
     const KEYS: &'static [&'static str] = &["title"];
-}
-
-impl WriteMembers for MessageActionItem {
-    fn write<O: Sink>(&self, out: O) -> O {
-        out.member(&self.title)
-    }
-}
-
-impl Serialize for MessageActionItem {
-    fn serialize<S: Serializer>(&self, out: &mut S) -> Result<(), S::Error> {
-        write_object(self, out)
-    }
 }
 
 impl ReadMembers for MessageActionItem {
@@ -250,25 +244,25 @@ impl ShowDocumentParams {
     }
 }
 
-impl Described for ShowDocumentParams {}
+impl ToJson for ShowDocumentParams {
+    ghost stands = { λ it. object_of (
+        (codes "uri", Some (⟦<String as ToJson>⟧.stands it.uri))
+        ∷ (codes "external", option_map ⟦<bool as ToJson>⟧.stands it.external)
+        ∷ (codes "takeFocus", option_map ⟦<bool as ToJson>⟧.stands it.take_focus)
+        ∷ (codes "selection", option_map ⟦<Range as ToJson>⟧.stands it.selection) ∷ []) };
+
+    fn to_json(&self, alloc: Global) -> Result<Value, AllocError> {
+        Object::new(alloc)
+            .member("uri", &self.uri)
+            .some("external", &self.external)
+            .some("takeFocus", &self.take_focus)
+            .some("selection", &self.selection)
+            .end()
+    }
+}
 
 impl Keyed for ShowDocumentParams {
     const KEYS: &'static [&'static str] = &["uri", "external", "takeFocus", "selection"];
-}
-
-impl WriteMembers for ShowDocumentParams {
-    fn write<O: Sink>(&self, out: O) -> O {
-        out.member(&self.uri)
-            .some(&self.external)
-            .some(&self.take_focus)
-            .some(&self.selection)
-    }
-}
-
-impl Serialize for ShowDocumentParams {
-    fn serialize<S: Serializer>(&self, out: &mut S) -> Result<(), S::Error> {
-        write_object(self, out)
-    }
 }
 
 impl ReadMembers for ShowDocumentParams {
@@ -298,22 +292,17 @@ pub struct ShowDocumentResult {
     pub success: bool,
 }
 
-impl Described for ShowDocumentResult {}
+impl ToJson for ShowDocumentResult {
+    ghost stands = { λ it. object_of (
+        (codes "success", Some (⟦<bool as ToJson>⟧.stands it.success)) ∷ []) };
+
+    fn to_json(&self, alloc: Global) -> Result<Value, AllocError> {
+        Object::new(alloc).member("success", &self.success).end()
+    }
+}
 
 impl Keyed for ShowDocumentResult {
     const KEYS: &'static [&'static str] = &["success"];
-}
-
-impl WriteMembers for ShowDocumentResult {
-    fn write<O: Sink>(&self, out: O) -> O {
-        out.member(&self.success)
-    }
-}
-
-impl Serialize for ShowDocumentResult {
-    fn serialize<S: Serializer>(&self, out: &mut S) -> Result<(), S::Error> {
-        write_object(self, out)
-    }
 }
 
 impl ReadMembers for ShowDocumentResult {

@@ -1,16 +1,17 @@
 //! Folders, configuration and commands of a workspace.
 // `tools/types` wrote this file from `types.txt`: change that.
+ghost use Rattle.std.specs.Prelude.{◌∷◌, [], Some, codes, option_map};
+ghost use Rattle.serde_json.specs.Data.{number, unsigned};
+ghost use Rattle.lsp_types.specs.Json.{object_of};
+
 use crate::edits::WorkspaceEdit;
 use crate::json::{
-    Blank, Keyed, ReadMembers, Sink, Source, WriteMembers, if_fits, number_within, read_object,
-    write_object,
+    Blank, Keyed, Object, ReadMembers, Source, ToJson, if_fits, number_within, read_object,
 };
 use crate::progress::ProgressToken;
-use serde::{
-    Described, Deserialize, DeserializeOwned, Deserializer, Format, Serialize, Serializer,
-};
+use serde::{Deserialize, DeserializeOwned, Deserializer, Format};
 use serde_json::Value;
-use std::alloc::Global;
+use std::alloc::{AllocError, Global};
 
 /// A folder that is open in the client (LSP 3.17, "WorkspaceFolder").
 #[derive(Drop)]
@@ -21,22 +22,21 @@ pub struct WorkspaceFolder {
     pub name: Option<String>,
 }
 
-impl Described for WorkspaceFolder {}
+impl ToJson for WorkspaceFolder {
+    ghost stands = { λ it. object_of (
+        (codes "uri", Some (⟦<String as ToJson>⟧.stands it.uri))
+        ∷ (codes "name", option_map ⟦<String as ToJson>⟧.stands it.name) ∷ []) };
+
+    fn to_json(&self, alloc: Global) -> Result<Value, AllocError> {
+        Object::new(alloc)
+            .member("uri", &self.uri)
+            .some("name", &self.name)
+            .end()
+    }
+}
 
 impl Keyed for WorkspaceFolder {
     const KEYS: &'static [&'static str] = &["uri", "name"];
-}
-
-impl WriteMembers for WorkspaceFolder {
-    fn write<O: Sink>(&self, out: O) -> O {
-        out.member(&self.uri).some(&self.name)
-    }
-}
-
-impl Serialize for WorkspaceFolder {
-    fn serialize<S: Serializer>(&self, out: &mut S) -> Result<(), S::Error> {
-        write_object(self, out)
-    }
 }
 
 impl ReadMembers for WorkspaceFolder {
@@ -73,22 +73,17 @@ pub struct DidChangeWorkspaceFoldersParams {
     pub event: WorkspaceFoldersChangeEvent,
 }
 
-impl Described for DidChangeWorkspaceFoldersParams {}
+impl ToJson for DidChangeWorkspaceFoldersParams {
+    ghost stands = { λ it. object_of (
+        (codes "event", Some (⟦<WorkspaceFoldersChangeEvent as ToJson>⟧.stands it.event)) ∷ []) };
+
+    fn to_json(&self, alloc: Global) -> Result<Value, AllocError> {
+        Object::new(alloc).member("event", &self.event).end()
+    }
+}
 
 impl Keyed for DidChangeWorkspaceFoldersParams {
     const KEYS: &'static [&'static str] = &["event"];
-}
-
-impl WriteMembers for DidChangeWorkspaceFoldersParams {
-    fn write<O: Sink>(&self, out: O) -> O {
-        out.member(&self.event)
-    }
-}
-
-impl Serialize for DidChangeWorkspaceFoldersParams {
-    fn serialize<S: Serializer>(&self, out: &mut S) -> Result<(), S::Error> {
-        write_object(self, out)
-    }
 }
 
 impl ReadMembers for DidChangeWorkspaceFoldersParams {
@@ -117,22 +112,21 @@ pub struct WorkspaceFoldersChangeEvent {
     pub removed: Vec<WorkspaceFolder>,
 }
 
-impl Described for WorkspaceFoldersChangeEvent {}
+impl ToJson for WorkspaceFoldersChangeEvent {
+    ghost stands = { λ it. object_of (
+        (codes "added", Some (⟦<Vec<WorkspaceFolder> as ToJson>⟧.stands it.added))
+        ∷ (codes "removed", Some (⟦<Vec<WorkspaceFolder> as ToJson>⟧.stands it.removed)) ∷ []) };
+
+    fn to_json(&self, alloc: Global) -> Result<Value, AllocError> {
+        Object::new(alloc)
+            .member("added", &self.added)
+            .member("removed", &self.removed)
+            .end()
+    }
+}
 
 impl Keyed for WorkspaceFoldersChangeEvent {
     const KEYS: &'static [&'static str] = &["added", "removed"];
-}
-
-impl WriteMembers for WorkspaceFoldersChangeEvent {
-    fn write<O: Sink>(&self, out: O) -> O {
-        out.member(&self.added).member(&self.removed)
-    }
-}
-
-impl Serialize for WorkspaceFoldersChangeEvent {
-    fn serialize<S: Serializer>(&self, out: &mut S) -> Result<(), S::Error> {
-        write_object(self, out)
-    }
 }
 
 impl ReadMembers for WorkspaceFoldersChangeEvent {
@@ -160,22 +154,17 @@ pub struct DidChangeConfigurationParams {
     pub settings: Value,
 }
 
-impl Described for DidChangeConfigurationParams {}
+impl ToJson for DidChangeConfigurationParams {
+    ghost stands = { λ it. object_of (
+        (codes "settings", Some (⟦<Value as ToJson>⟧.stands it.settings)) ∷ []) };
+
+    fn to_json(&self, alloc: Global) -> Result<Value, AllocError> {
+        Object::new(alloc).member("settings", &self.settings).end()
+    }
+}
 
 impl Keyed for DidChangeConfigurationParams {
     const KEYS: &'static [&'static str] = &["settings"];
-}
-
-impl WriteMembers for DidChangeConfigurationParams {
-    fn write<O: Sink>(&self, out: O) -> O {
-        out.member(&self.settings)
-    }
-}
-
-impl Serialize for DidChangeConfigurationParams {
-    fn serialize<S: Serializer>(&self, out: &mut S) -> Result<(), S::Error> {
-        write_object(self, out)
-    }
 }
 
 impl ReadMembers for DidChangeConfigurationParams {
@@ -208,11 +197,11 @@ impl FileChangeType {
     pub const DELETED: FileChangeType = FileChangeType(3);
 }
 
-impl Described for FileChangeType {}
+impl ToJson for FileChangeType {
+    ghost stands = { λ it. number (unsigned it.0) };
 
-impl Serialize for FileChangeType {
-    fn serialize<S: Serializer>(&self, out: &mut S) -> Result<(), S::Error> {
-        self.0.serialize(out)
+    fn to_json(&self, alloc: Global) -> Result<Value, AllocError> {
+        self.0.to_json(alloc)
     }
 }
 
@@ -252,22 +241,21 @@ pub struct FileEvent {
     pub typ: FileChangeType,
 }
 
-impl Described for FileEvent {}
+impl ToJson for FileEvent {
+    ghost stands = { λ it. object_of (
+        (codes "uri", Some (⟦<String as ToJson>⟧.stands it.uri))
+        ∷ (codes "type", Some (⟦<FileChangeType as ToJson>⟧.stands it.typ)) ∷ []) };
+
+    fn to_json(&self, alloc: Global) -> Result<Value, AllocError> {
+        Object::new(alloc)
+            .member("uri", &self.uri)
+            .member("type", &self.typ)
+            .end()
+    }
+}
 
 impl Keyed for FileEvent {
     const KEYS: &'static [&'static str] = &["uri", "type"];
-}
-
-impl WriteMembers for FileEvent {
-    fn write<O: Sink>(&self, out: O) -> O {
-        out.member(&self.uri).member(&self.typ)
-    }
-}
-
-impl Serialize for FileEvent {
-    fn serialize<S: Serializer>(&self, out: &mut S) -> Result<(), S::Error> {
-        write_object(self, out)
-    }
 }
 
 impl ReadMembers for FileEvent {
@@ -295,22 +283,17 @@ pub struct DidChangeWatchedFilesParams {
     pub changes: Vec<FileEvent>,
 }
 
-impl Described for DidChangeWatchedFilesParams {}
+impl ToJson for DidChangeWatchedFilesParams {
+    ghost stands = { λ it. object_of (
+        (codes "changes", Some (⟦<Vec<FileEvent> as ToJson>⟧.stands it.changes)) ∷ []) };
+
+    fn to_json(&self, alloc: Global) -> Result<Value, AllocError> {
+        Object::new(alloc).member("changes", &self.changes).end()
+    }
+}
 
 impl Keyed for DidChangeWatchedFilesParams {
     const KEYS: &'static [&'static str] = &["changes"];
-}
-
-impl WriteMembers for DidChangeWatchedFilesParams {
-    fn write<O: Sink>(&self, out: O) -> O {
-        out.member(&self.changes)
-    }
-}
-
-impl Serialize for DidChangeWatchedFilesParams {
-    fn serialize<S: Serializer>(&self, out: &mut S) -> Result<(), S::Error> {
-        write_object(self, out)
-    }
 }
 
 impl ReadMembers for DidChangeWatchedFilesParams {
@@ -337,22 +320,17 @@ pub struct ConfigurationParams {
     pub items: Vec<ConfigurationItem>,
 }
 
-impl Described for ConfigurationParams {}
+impl ToJson for ConfigurationParams {
+    ghost stands = { λ it. object_of (
+        (codes "items", Some (⟦<Vec<ConfigurationItem> as ToJson>⟧.stands it.items)) ∷ []) };
+
+    fn to_json(&self, alloc: Global) -> Result<Value, AllocError> {
+        Object::new(alloc).member("items", &self.items).end()
+    }
+}
 
 impl Keyed for ConfigurationParams {
     const KEYS: &'static [&'static str] = &["items"];
-}
-
-impl WriteMembers for ConfigurationParams {
-    fn write<O: Sink>(&self, out: O) -> O {
-        out.member(&self.items)
-    }
-}
-
-impl Serialize for ConfigurationParams {
-    fn serialize<S: Serializer>(&self, out: &mut S) -> Result<(), S::Error> {
-        write_object(self, out)
-    }
 }
 
 impl ReadMembers for ConfigurationParams {
@@ -398,22 +376,21 @@ impl Default for ConfigurationItem {
     }
 }
 
-impl Described for ConfigurationItem {}
+impl ToJson for ConfigurationItem {
+    ghost stands = { λ it. object_of (
+        (codes "scopeUri", option_map ⟦<String as ToJson>⟧.stands it.scope_uri)
+        ∷ (codes "section", option_map ⟦<String as ToJson>⟧.stands it.section) ∷ []) };
+
+    fn to_json(&self, alloc: Global) -> Result<Value, AllocError> {
+        Object::new(alloc)
+            .some("scopeUri", &self.scope_uri)
+            .some("section", &self.section)
+            .end()
+    }
+}
 
 impl Keyed for ConfigurationItem {
     const KEYS: &'static [&'static str] = &["scopeUri", "section"];
-}
-
-impl WriteMembers for ConfigurationItem {
-    fn write<O: Sink>(&self, out: O) -> O {
-        out.some(&self.scope_uri).some(&self.section)
-    }
-}
-
-impl Serialize for ConfigurationItem {
-    fn serialize<S: Serializer>(&self, out: &mut S) -> Result<(), S::Error> {
-        write_object(self, out)
-    }
 }
 
 impl ReadMembers for ConfigurationItem {
@@ -473,24 +450,23 @@ impl Command {
     }
 }
 
-impl Described for Command {}
+impl ToJson for Command {
+    ghost stands = { λ it. object_of (
+        (codes "title", Some (⟦<String as ToJson>⟧.stands it.title))
+        ∷ (codes "command", Some (⟦<String as ToJson>⟧.stands it.command))
+        ∷ (codes "arguments", option_map ⟦<Vec<Value> as ToJson>⟧.stands it.arguments) ∷ []) };
+
+    fn to_json(&self, alloc: Global) -> Result<Value, AllocError> {
+        Object::new(alloc)
+            .member("title", &self.title)
+            .member("command", &self.command)
+            .some("arguments", &self.arguments)
+            .end()
+    }
+}
 
 impl Keyed for Command {
     const KEYS: &'static [&'static str] = &["title", "command", "arguments"];
-}
-
-impl WriteMembers for Command {
-    fn write<O: Sink>(&self, out: O) -> O {
-        out.member(&self.title)
-            .member(&self.command)
-            .some(&self.arguments)
-    }
-}
-
-impl Serialize for Command {
-    fn serialize<S: Serializer>(&self, out: &mut S) -> Result<(), S::Error> {
-        write_object(self, out)
-    }
 }
 
 impl ReadMembers for Command {
@@ -532,24 +508,23 @@ pub struct ExecuteCommandParams {
     pub work_done_token: Option<ProgressToken>,
 }
 
-impl Described for ExecuteCommandParams {}
+impl ToJson for ExecuteCommandParams {
+    ghost stands = { λ it. object_of (
+        (codes "command", Some (⟦<String as ToJson>⟧.stands it.command))
+        ∷ (codes "arguments", option_map ⟦<Vec<Value> as ToJson>⟧.stands it.arguments)
+        ∷ (codes "workDoneToken", option_map ⟦<ProgressToken as ToJson>⟧.stands it.work_done_token) ∷ []) };
+
+    fn to_json(&self, alloc: Global) -> Result<Value, AllocError> {
+        Object::new(alloc)
+            .member("command", &self.command)
+            .some("arguments", &self.arguments)
+            .some("workDoneToken", &self.work_done_token)
+            .end()
+    }
+}
 
 impl Keyed for ExecuteCommandParams {
     const KEYS: &'static [&'static str] = &["command", "arguments", "workDoneToken"];
-}
-
-impl WriteMembers for ExecuteCommandParams {
-    fn write<O: Sink>(&self, out: O) -> O {
-        out.member(&self.command)
-            .some(&self.arguments)
-            .some(&self.work_done_token)
-    }
-}
-
-impl Serialize for ExecuteCommandParams {
-    fn serialize<S: Serializer>(&self, out: &mut S) -> Result<(), S::Error> {
-        write_object(self, out)
-    }
 }
 
 impl ReadMembers for ExecuteCommandParams {
@@ -594,22 +569,21 @@ impl ApplyWorkspaceEditParams {
     }
 }
 
-impl Described for ApplyWorkspaceEditParams {}
+impl ToJson for ApplyWorkspaceEditParams {
+    ghost stands = { λ it. object_of (
+        (codes "label", option_map ⟦<String as ToJson>⟧.stands it.label)
+        ∷ (codes "edit", Some (⟦<WorkspaceEdit as ToJson>⟧.stands it.edit)) ∷ []) };
+
+    fn to_json(&self, alloc: Global) -> Result<Value, AllocError> {
+        Object::new(alloc)
+            .some("label", &self.label)
+            .member("edit", &self.edit)
+            .end()
+    }
+}
 
 impl Keyed for ApplyWorkspaceEditParams {
     const KEYS: &'static [&'static str] = &["label", "edit"];
-}
-
-impl WriteMembers for ApplyWorkspaceEditParams {
-    fn write<O: Sink>(&self, out: O) -> O {
-        out.some(&self.label).member(&self.edit)
-    }
-}
-
-impl Serialize for ApplyWorkspaceEditParams {
-    fn serialize<S: Serializer>(&self, out: &mut S) -> Result<(), S::Error> {
-        write_object(self, out)
-    }
 }
 
 impl ReadMembers for ApplyWorkspaceEditParams {
@@ -641,24 +615,23 @@ pub struct ApplyWorkspaceEditResult {
     pub failed_change: Option<u32>,
 }
 
-impl Described for ApplyWorkspaceEditResult {}
+impl ToJson for ApplyWorkspaceEditResult {
+    ghost stands = { λ it. object_of (
+        (codes "applied", Some (⟦<bool as ToJson>⟧.stands it.applied))
+        ∷ (codes "failureReason", option_map ⟦<String as ToJson>⟧.stands it.failure_reason)
+        ∷ (codes "failedChange", option_map ⟦<u32 as ToJson>⟧.stands it.failed_change) ∷ []) };
+
+    fn to_json(&self, alloc: Global) -> Result<Value, AllocError> {
+        Object::new(alloc)
+            .member("applied", &self.applied)
+            .some("failureReason", &self.failure_reason)
+            .some("failedChange", &self.failed_change)
+            .end()
+    }
+}
 
 impl Keyed for ApplyWorkspaceEditResult {
     const KEYS: &'static [&'static str] = &["applied", "failureReason", "failedChange"];
-}
-
-impl WriteMembers for ApplyWorkspaceEditResult {
-    fn write<O: Sink>(&self, out: O) -> O {
-        out.member(&self.applied)
-            .some(&self.failure_reason)
-            .some(&self.failed_change)
-    }
-}
-
-impl Serialize for ApplyWorkspaceEditResult {
-    fn serialize<S: Serializer>(&self, out: &mut S) -> Result<(), S::Error> {
-        write_object(self, out)
-    }
 }
 
 impl ReadMembers for ApplyWorkspaceEditResult {

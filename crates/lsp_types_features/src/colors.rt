@@ -1,12 +1,14 @@
 //! Colors that a text names.
 // `tools/types` wrote this file from `types.txt`: change that.
+ghost use Rattle.std.specs.Prelude.{◌∷◌, [], Some, codes, option_map};
+ghost use Rattle.lsp_types.specs.Json.{object_of};
+
 use lsp_text::Range;
-use lsp_types::json::{
-    Keyed, ReadMembers, Sink, Source, WriteMembers, if_fits, read_object, write_object,
-};
+use lsp_types::json::{Keyed, Object, ReadMembers, Source, ToJson, if_fits, read_object};
 use lsp_types::{DocumentSymbolParams, ProgressToken, TextDocumentIdentifier, TextEdit};
-use serde::{Described, DeserializeOwned, Deserializer, Format, Serialize, Serializer};
-use std::alloc::Global;
+use serde::{DeserializeOwned, Deserializer, Format};
+use serde_json::Value;
+use std::alloc::{AllocError, Global};
 
 /// The params of `textDocument/documentColor` (LSP 3.17, "Document Color Request"). The result is a list of `ColorInformation`.
 pub type DocumentColorParams = DocumentSymbolParams;
@@ -24,25 +26,25 @@ pub struct Color {
     pub alpha: f64,
 }
 
-impl Described for Color {}
+impl ToJson for Color {
+    ghost stands = { λ it. object_of (
+        (codes "red", Some (⟦<f64 as ToJson>⟧.stands it.red))
+        ∷ (codes "green", Some (⟦<f64 as ToJson>⟧.stands it.green))
+        ∷ (codes "blue", Some (⟦<f64 as ToJson>⟧.stands it.blue))
+        ∷ (codes "alpha", Some (⟦<f64 as ToJson>⟧.stands it.alpha)) ∷ []) };
+
+    fn to_json(&self, alloc: Global) -> Result<Value, AllocError> {
+        Object::new(alloc)
+            .member("red", &self.red)
+            .member("green", &self.green)
+            .member("blue", &self.blue)
+            .member("alpha", &self.alpha)
+            .end()
+    }
+}
 
 impl Keyed for Color {
     const KEYS: &'static [&'static str] = &["red", "green", "blue", "alpha"];
-}
-
-impl WriteMembers for Color {
-    fn write<O: Sink>(&self, out: O) -> O {
-        out.member(&self.red)
-            .member(&self.green)
-            .member(&self.blue)
-            .member(&self.alpha)
-    }
-}
-
-impl Serialize for Color {
-    fn serialize<S: Serializer>(&self, out: &mut S) -> Result<(), S::Error> {
-        write_object(self, out)
-    }
 }
 
 impl ReadMembers for Color {
@@ -74,22 +76,21 @@ pub struct ColorInformation {
     pub color: Color,
 }
 
-impl Described for ColorInformation {}
+impl ToJson for ColorInformation {
+    ghost stands = { λ it. object_of (
+        (codes "range", Some (⟦<Range as ToJson>⟧.stands it.range))
+        ∷ (codes "color", Some (⟦<Color as ToJson>⟧.stands it.color)) ∷ []) };
+
+    fn to_json(&self, alloc: Global) -> Result<Value, AllocError> {
+        Object::new(alloc)
+            .member("range", &self.range)
+            .member("color", &self.color)
+            .end()
+    }
+}
 
 impl Keyed for ColorInformation {
     const KEYS: &'static [&'static str] = &["range", "color"];
-}
-
-impl WriteMembers for ColorInformation {
-    fn write<O: Sink>(&self, out: O) -> O {
-        out.member(&self.range).member(&self.color)
-    }
-}
-
-impl Serialize for ColorInformation {
-    fn serialize<S: Serializer>(&self, out: &mut S) -> Result<(), S::Error> {
-        write_object(self, out)
-    }
 }
 
 impl ReadMembers for ColorInformation {
@@ -126,7 +127,24 @@ pub struct ColorPresentationParams {
     pub partial_result_token: Option<ProgressToken>,
 }
 
-impl Described for ColorPresentationParams {}
+impl ToJson for ColorPresentationParams {
+    ghost stands = { λ it. object_of (
+        (codes "textDocument", Some (⟦<TextDocumentIdentifier as ToJson>⟧.stands it.text_document))
+        ∷ (codes "color", Some (⟦<Color as ToJson>⟧.stands it.color))
+        ∷ (codes "range", Some (⟦<Range as ToJson>⟧.stands it.range))
+        ∷ (codes "workDoneToken", option_map ⟦<ProgressToken as ToJson>⟧.stands it.work_done_token)
+        ∷ (codes "partialResultToken", option_map ⟦<ProgressToken as ToJson>⟧.stands it.partial_result_token) ∷ []) };
+
+    fn to_json(&self, alloc: Global) -> Result<Value, AllocError> {
+        Object::new(alloc)
+            .member("textDocument", &self.text_document)
+            .member("color", &self.color)
+            .member("range", &self.range)
+            .some("workDoneToken", &self.work_done_token)
+            .some("partialResultToken", &self.partial_result_token)
+            .end()
+    }
+}
 
 impl Keyed for ColorPresentationParams {
     const KEYS: &'static [&'static str] = &[
@@ -136,22 +154,6 @@ impl Keyed for ColorPresentationParams {
         "workDoneToken",
         "partialResultToken",
     ];
-}
-
-impl WriteMembers for ColorPresentationParams {
-    fn write<O: Sink>(&self, out: O) -> O {
-        out.member(&self.text_document)
-            .member(&self.color)
-            .member(&self.range)
-            .some(&self.work_done_token)
-            .some(&self.partial_result_token)
-    }
-}
-
-impl Serialize for ColorPresentationParams {
-    fn serialize<S: Serializer>(&self, out: &mut S) -> Result<(), S::Error> {
-        write_object(self, out)
-    }
 }
 
 impl ReadMembers for ColorPresentationParams {
@@ -205,24 +207,23 @@ impl ColorPresentation {
     }
 }
 
-impl Described for ColorPresentation {}
+impl ToJson for ColorPresentation {
+    ghost stands = { λ it. object_of (
+        (codes "label", Some (⟦<String as ToJson>⟧.stands it.label))
+        ∷ (codes "textEdit", option_map ⟦<TextEdit as ToJson>⟧.stands it.text_edit)
+        ∷ (codes "additionalTextEdits", option_map ⟦<Vec<TextEdit> as ToJson>⟧.stands it.additional_text_edits) ∷ []) };
+
+    fn to_json(&self, alloc: Global) -> Result<Value, AllocError> {
+        Object::new(alloc)
+            .member("label", &self.label)
+            .some("textEdit", &self.text_edit)
+            .some("additionalTextEdits", &self.additional_text_edits)
+            .end()
+    }
+}
 
 impl Keyed for ColorPresentation {
     const KEYS: &'static [&'static str] = &["label", "textEdit", "additionalTextEdits"];
-}
-
-impl WriteMembers for ColorPresentation {
-    fn write<O: Sink>(&self, out: O) -> O {
-        out.member(&self.label)
-            .some(&self.text_edit)
-            .some(&self.additional_text_edits)
-    }
-}
-
-impl Serialize for ColorPresentation {
-    fn serialize<S: Serializer>(&self, out: &mut S) -> Result<(), S::Error> {
-        write_object(self, out)
-    }
 }
 
 impl ReadMembers for ColorPresentation {

@@ -1,13 +1,14 @@
 //! Who calls whom, and which types stand above and below another.
 // `tools/types` wrote this file from `types.txt`: change that.
+ghost use Rattle.std.specs.Prelude.{◌∷◌, [], Some, codes, option_map};
+ghost use Rattle.lsp_types.specs.Json.{object_of};
+
 use lsp_text::Range;
-use lsp_types::json::{
-    Keyed, ReadMembers, Sink, Source, WriteMembers, if_fits, read_object, write_object,
-};
+use lsp_types::json::{Keyed, Object, ReadMembers, Source, ToJson, if_fits, read_object};
 use lsp_types::{HoverParams, ProgressToken, SymbolKind, SymbolTag};
-use serde::{Described, DeserializeOwned, Deserializer, Format, Serialize, Serializer};
+use serde::{DeserializeOwned, Deserializer, Format};
 use serde_json::Value;
-use std::alloc::Global;
+use std::alloc::{AllocError, Global};
 
 /// The params of `textDocument/prepareCallHierarchy` (LSP 3.17, "Prepare Call Hierarchy Request"). The result is a list of
 /// `CallHierarchyItem` or null.
@@ -69,7 +70,30 @@ impl CallHierarchyItem {
     }
 }
 
-impl Described for CallHierarchyItem {}
+impl ToJson for CallHierarchyItem {
+    ghost stands = { λ it. object_of (
+        (codes "name", Some (⟦<String as ToJson>⟧.stands it.name))
+        ∷ (codes "kind", Some (⟦<SymbolKind as ToJson>⟧.stands it.kind))
+        ∷ (codes "tags", option_map ⟦<Vec<SymbolTag> as ToJson>⟧.stands it.tags)
+        ∷ (codes "detail", option_map ⟦<String as ToJson>⟧.stands it.detail)
+        ∷ (codes "uri", Some (⟦<String as ToJson>⟧.stands it.uri))
+        ∷ (codes "range", Some (⟦<Range as ToJson>⟧.stands it.range))
+        ∷ (codes "selectionRange", Some (⟦<Range as ToJson>⟧.stands it.selection_range))
+        ∷ (codes "data", option_map ⟦<Value as ToJson>⟧.stands it.«data») ∷ []) };
+
+    fn to_json(&self, alloc: Global) -> Result<Value, AllocError> {
+        Object::new(alloc)
+            .member("name", &self.name)
+            .member("kind", &self.kind)
+            .some("tags", &self.tags)
+            .some("detail", &self.detail)
+            .member("uri", &self.uri)
+            .member("range", &self.range)
+            .member("selectionRange", &self.selection_range)
+            .some("data", &self.data)
+            .end()
+    }
+}
 
 impl Keyed for CallHierarchyItem {
     const KEYS: &'static [&'static str] = &[
@@ -82,25 +106,6 @@ impl Keyed for CallHierarchyItem {
         "selectionRange",
         "data",
     ];
-}
-
-impl WriteMembers for CallHierarchyItem {
-    fn write<O: Sink>(&self, out: O) -> O {
-        out.member(&self.name)
-            .member(&self.kind)
-            .some(&self.tags)
-            .some(&self.detail)
-            .member(&self.uri)
-            .member(&self.range)
-            .member(&self.selection_range)
-            .some(&self.data)
-    }
-}
-
-impl Serialize for CallHierarchyItem {
-    fn serialize<S: Serializer>(&self, out: &mut S) -> Result<(), S::Error> {
-        write_object(self, out)
-    }
 }
 
 impl ReadMembers for CallHierarchyItem {
@@ -139,24 +144,23 @@ pub struct CallHierarchyIncomingCallsParams {
     pub partial_result_token: Option<ProgressToken>,
 }
 
-impl Described for CallHierarchyIncomingCallsParams {}
+impl ToJson for CallHierarchyIncomingCallsParams {
+    ghost stands = { λ it. object_of (
+        (codes "item", Some (⟦<CallHierarchyItem as ToJson>⟧.stands it.item))
+        ∷ (codes "workDoneToken", option_map ⟦<ProgressToken as ToJson>⟧.stands it.work_done_token)
+        ∷ (codes "partialResultToken", option_map ⟦<ProgressToken as ToJson>⟧.stands it.partial_result_token) ∷ []) };
+
+    fn to_json(&self, alloc: Global) -> Result<Value, AllocError> {
+        Object::new(alloc)
+            .member("item", &self.item)
+            .some("workDoneToken", &self.work_done_token)
+            .some("partialResultToken", &self.partial_result_token)
+            .end()
+    }
+}
 
 impl Keyed for CallHierarchyIncomingCallsParams {
     const KEYS: &'static [&'static str] = &["item", "workDoneToken", "partialResultToken"];
-}
-
-impl WriteMembers for CallHierarchyIncomingCallsParams {
-    fn write<O: Sink>(&self, out: O) -> O {
-        out.member(&self.item)
-            .some(&self.work_done_token)
-            .some(&self.partial_result_token)
-    }
-}
-
-impl Serialize for CallHierarchyIncomingCallsParams {
-    fn serialize<S: Serializer>(&self, out: &mut S) -> Result<(), S::Error> {
-        write_object(self, out)
-    }
 }
 
 impl ReadMembers for CallHierarchyIncomingCallsParams {
@@ -187,22 +191,21 @@ pub struct CallHierarchyIncomingCall {
     pub from_ranges: Vec<Range>,
 }
 
-impl Described for CallHierarchyIncomingCall {}
+impl ToJson for CallHierarchyIncomingCall {
+    ghost stands = { λ it. object_of (
+        (codes "from", Some (⟦<CallHierarchyItem as ToJson>⟧.stands it.from))
+        ∷ (codes "fromRanges", Some (⟦<Vec<Range> as ToJson>⟧.stands it.from_ranges)) ∷ []) };
+
+    fn to_json(&self, alloc: Global) -> Result<Value, AllocError> {
+        Object::new(alloc)
+            .member("from", &self.from)
+            .member("fromRanges", &self.from_ranges)
+            .end()
+    }
+}
 
 impl Keyed for CallHierarchyIncomingCall {
     const KEYS: &'static [&'static str] = &["from", "fromRanges"];
-}
-
-impl WriteMembers for CallHierarchyIncomingCall {
-    fn write<O: Sink>(&self, out: O) -> O {
-        out.member(&self.from).member(&self.from_ranges)
-    }
-}
-
-impl Serialize for CallHierarchyIncomingCall {
-    fn serialize<S: Serializer>(&self, out: &mut S) -> Result<(), S::Error> {
-        write_object(self, out)
-    }
 }
 
 impl ReadMembers for CallHierarchyIncomingCall {
@@ -236,22 +239,21 @@ pub struct CallHierarchyOutgoingCall {
     pub from_ranges: Vec<Range>,
 }
 
-impl Described for CallHierarchyOutgoingCall {}
+impl ToJson for CallHierarchyOutgoingCall {
+    ghost stands = { λ it. object_of (
+        (codes "to", Some (⟦<CallHierarchyItem as ToJson>⟧.stands it.to))
+        ∷ (codes "fromRanges", Some (⟦<Vec<Range> as ToJson>⟧.stands it.from_ranges)) ∷ []) };
+
+    fn to_json(&self, alloc: Global) -> Result<Value, AllocError> {
+        Object::new(alloc)
+            .member("to", &self.to)
+            .member("fromRanges", &self.from_ranges)
+            .end()
+    }
+}
 
 impl Keyed for CallHierarchyOutgoingCall {
     const KEYS: &'static [&'static str] = &["to", "fromRanges"];
-}
-
-impl WriteMembers for CallHierarchyOutgoingCall {
-    fn write<O: Sink>(&self, out: O) -> O {
-        out.member(&self.to).member(&self.from_ranges)
-    }
-}
-
-impl Serialize for CallHierarchyOutgoingCall {
-    fn serialize<S: Serializer>(&self, out: &mut S) -> Result<(), S::Error> {
-        write_object(self, out)
-    }
 }
 
 impl ReadMembers for CallHierarchyOutgoingCall {

@@ -1,13 +1,16 @@
 //! What variables hold, shown within the text while a program stands still.
 // `tools/types` wrote this file from `types.txt`: change that.
+ghost use Rattle.std.specs.Prelude.{◌∷◌, [], Some, codes, option_map};
+ghost use Rattle.lsp_types.specs.Json.{object_of};
+
 use lsp_text::Range;
 use lsp_types::json::{
-    Keyed, ReadMembers, Sink, Source, WriteMembers, if_fits, read_if_fits, read_object,
-    write_object,
+    Keyed, Object, ReadMembers, Source, ToJson, if_fits, read_if_fits, read_object,
 };
 use lsp_types::{ProgressToken, TextDocumentIdentifier};
-use serde::{Described, DeserializeOwned, Deserializer, Format, Serialize, Serializer};
-use std::alloc::Global;
+use serde::{DeserializeOwned, Deserializer, Format};
+use serde_json::Value;
+use std::alloc::{AllocError, Global};
 
 /// The params of `textDocument/inlineValue` (LSP 3.17, "Inline Value Request"). The result is a list of `InlineValue` or null.
 #[derive(Drop)]
@@ -22,25 +25,25 @@ pub struct InlineValueParams {
     pub work_done_token: Option<ProgressToken>,
 }
 
-impl Described for InlineValueParams {}
+impl ToJson for InlineValueParams {
+    ghost stands = { λ it. object_of (
+        (codes "textDocument", Some (⟦<TextDocumentIdentifier as ToJson>⟧.stands it.text_document))
+        ∷ (codes "range", Some (⟦<Range as ToJson>⟧.stands it.range))
+        ∷ (codes "context", Some (⟦<InlineValueContext as ToJson>⟧.stands it.context))
+        ∷ (codes "workDoneToken", option_map ⟦<ProgressToken as ToJson>⟧.stands it.work_done_token) ∷ []) };
+
+    fn to_json(&self, alloc: Global) -> Result<Value, AllocError> {
+        Object::new(alloc)
+            .member("textDocument", &self.text_document)
+            .member("range", &self.range)
+            .member("context", &self.context)
+            .some("workDoneToken", &self.work_done_token)
+            .end()
+    }
+}
 
 impl Keyed for InlineValueParams {
     const KEYS: &'static [&'static str] = &["textDocument", "range", "context", "workDoneToken"];
-}
-
-impl WriteMembers for InlineValueParams {
-    fn write<O: Sink>(&self, out: O) -> O {
-        out.member(&self.text_document)
-            .member(&self.range)
-            .member(&self.context)
-            .some(&self.work_done_token)
-    }
-}
-
-impl Serialize for InlineValueParams {
-    fn serialize<S: Serializer>(&self, out: &mut S) -> Result<(), S::Error> {
-        write_object(self, out)
-    }
 }
 
 impl ReadMembers for InlineValueParams {
@@ -72,22 +75,21 @@ pub struct InlineValueContext {
     pub stopped_location: Range,
 }
 
-impl Described for InlineValueContext {}
+impl ToJson for InlineValueContext {
+    ghost stands = { λ it. object_of (
+        (codes "frameId", Some (⟦<i32 as ToJson>⟧.stands it.frame_id))
+        ∷ (codes "stoppedLocation", Some (⟦<Range as ToJson>⟧.stands it.stopped_location)) ∷ []) };
+
+    fn to_json(&self, alloc: Global) -> Result<Value, AllocError> {
+        Object::new(alloc)
+            .member("frameId", &self.frame_id)
+            .member("stoppedLocation", &self.stopped_location)
+            .end()
+    }
+}
 
 impl Keyed for InlineValueContext {
     const KEYS: &'static [&'static str] = &["frameId", "stoppedLocation"];
-}
-
-impl WriteMembers for InlineValueContext {
-    fn write<O: Sink>(&self, out: O) -> O {
-        out.member(&self.frame_id).member(&self.stopped_location)
-    }
-}
-
-impl Serialize for InlineValueContext {
-    fn serialize<S: Serializer>(&self, out: &mut S) -> Result<(), S::Error> {
-        write_object(self, out)
-    }
 }
 
 impl ReadMembers for InlineValueContext {
@@ -117,22 +119,21 @@ pub struct InlineValueText {
     pub text: String,
 }
 
-impl Described for InlineValueText {}
+impl ToJson for InlineValueText {
+    ghost stands = { λ it. object_of (
+        (codes "range", Some (⟦<Range as ToJson>⟧.stands it.range))
+        ∷ (codes "text", Some (⟦<String as ToJson>⟧.stands it.text)) ∷ []) };
+
+    fn to_json(&self, alloc: Global) -> Result<Value, AllocError> {
+        Object::new(alloc)
+            .member("range", &self.range)
+            .member("text", &self.text)
+            .end()
+    }
+}
 
 impl Keyed for InlineValueText {
     const KEYS: &'static [&'static str] = &["range", "text"];
-}
-
-impl WriteMembers for InlineValueText {
-    fn write<O: Sink>(&self, out: O) -> O {
-        out.member(&self.range).member(&self.text)
-    }
-}
-
-impl Serialize for InlineValueText {
-    fn serialize<S: Serializer>(&self, out: &mut S) -> Result<(), S::Error> {
-        write_object(self, out)
-    }
 }
 
 impl ReadMembers for InlineValueText {
@@ -183,24 +184,23 @@ impl InlineValueVariableLookup {
     }
 }
 
-impl Described for InlineValueVariableLookup {}
+impl ToJson for InlineValueVariableLookup {
+    ghost stands = { λ it. object_of (
+        (codes "range", Some (⟦<Range as ToJson>⟧.stands it.range))
+        ∷ (codes "variableName", option_map ⟦<String as ToJson>⟧.stands it.variable_name)
+        ∷ (codes "caseSensitiveLookup", Some (⟦<bool as ToJson>⟧.stands it.case_sensitive_lookup)) ∷ []) };
+
+    fn to_json(&self, alloc: Global) -> Result<Value, AllocError> {
+        Object::new(alloc)
+            .member("range", &self.range)
+            .some("variableName", &self.variable_name)
+            .member("caseSensitiveLookup", &self.case_sensitive_lookup)
+            .end()
+    }
+}
 
 impl Keyed for InlineValueVariableLookup {
     const KEYS: &'static [&'static str] = &["range", "variableName", "caseSensitiveLookup"];
-}
-
-impl WriteMembers for InlineValueVariableLookup {
-    fn write<O: Sink>(&self, out: O) -> O {
-        out.member(&self.range)
-            .some(&self.variable_name)
-            .member(&self.case_sensitive_lookup)
-    }
-}
-
-impl Serialize for InlineValueVariableLookup {
-    fn serialize<S: Serializer>(&self, out: &mut S) -> Result<(), S::Error> {
-        write_object(self, out)
-    }
 }
 
 impl ReadMembers for InlineValueVariableLookup {
@@ -248,22 +248,21 @@ impl InlineValueEvaluatableExpression {
     }
 }
 
-impl Described for InlineValueEvaluatableExpression {}
+impl ToJson for InlineValueEvaluatableExpression {
+    ghost stands = { λ it. object_of (
+        (codes "range", Some (⟦<Range as ToJson>⟧.stands it.range))
+        ∷ (codes "expression", option_map ⟦<String as ToJson>⟧.stands it.expression) ∷ []) };
+
+    fn to_json(&self, alloc: Global) -> Result<Value, AllocError> {
+        Object::new(alloc)
+            .member("range", &self.range)
+            .some("expression", &self.expression)
+            .end()
+    }
+}
 
 impl Keyed for InlineValueEvaluatableExpression {
     const KEYS: &'static [&'static str] = &["range", "expression"];
-}
-
-impl WriteMembers for InlineValueEvaluatableExpression {
-    fn write<O: Sink>(&self, out: O) -> O {
-        out.member(&self.range).some(&self.expression)
-    }
-}
-
-impl Serialize for InlineValueEvaluatableExpression {
-    fn serialize<S: Serializer>(&self, out: &mut S) -> Result<(), S::Error> {
-        write_object(self, out)
-    }
 }
 
 impl ReadMembers for InlineValueEvaluatableExpression {
@@ -295,14 +294,20 @@ pub enum InlineValue {
     Expression(InlineValueEvaluatableExpression),
 }
 
-impl Described for InlineValue {}
+impl ToJson for InlineValue {
+    ghost use Rattle.lsp_types_features.specs.declared.inline_values.InlineValue.TheVariants.{Text, Lookup, Expression};
 
-impl Serialize for InlineValue {
-    fn serialize<S: Serializer>(&self, out: &mut S) -> Result<(), S::Error> {
+    ghost stands = { elim [
+      | Text it ↦ ⟦<InlineValueText as ToJson>⟧.stands it
+      | Lookup it ↦ ⟦<InlineValueVariableLookup as ToJson>⟧.stands it
+      | Expression it ↦ ⟦<InlineValueEvaluatableExpression as ToJson>⟧.stands it
+    ] };
+
+    fn to_json(&self, alloc: Global) -> Result<Value, AllocError> {
         match self {
-            InlineValue::Text(it) => it.serialize(out),
-            InlineValue::Lookup(it) => it.serialize(out),
-            InlineValue::Expression(it) => it.serialize(out),
+            InlineValue::Text(it) => it.to_json(alloc),
+            InlineValue::Lookup(it) => it.to_json(alloc),
+            InlineValue::Expression(it) => it.to_json(alloc),
         }
     }
 }

@@ -1,12 +1,13 @@
 //! Types of LSP 3.17 for the language features that fewer servers have: highlights, folds, selections, monikers, lenses, links, hierarchies of
 //! calls and types, colors, inline values, changes of semantic tokens, and diagnostics that a client asks for. As in `lsp_types`, each is safe
-//! and each call returns; that its keys are the standard's is tested and not proved.
+//! and each call returns, and what it is written as is proved; that the keys are the standard's is tested.
 #![tactic(auto)]
 
 mod colors;
 mod hierarchies;
 mod inline_values;
 pub mod methods;
+mod nested;
 mod places;
 mod reports;
 mod token_changes;

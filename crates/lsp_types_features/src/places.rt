@@ -1,19 +1,20 @@
 //! Places that belong together: highlights, folds, selections, links and lenses.
 // `tools/types` wrote this file from `types.txt`: change that.
+ghost use Rattle.std.specs.Prelude.{◌∷◌, [], Some, codes, option_map};
+ghost use Rattle.serde_json.specs.Data.{number, unsigned};
+ghost use Rattle.lsp_types.specs.Json.{object_of};
+
 use lsp_text::{Position, Range};
 use lsp_types::json::{
-    Keyed, Object, ReadMembers, Sink, Source, WriteMembers, if_fits, number_within, read_object,
-    write_object,
+    Keyed, Object, ReadMembers, Source, ToJson, if_fits, number_within, read_object,
 };
 use lsp_types::{
     Command, DefinitionParams, DocumentSymbolParams, HoverParams, ProgressToken,
     TextDocumentIdentifier,
 };
-use serde::{
-    Described, Deserialize, DeserializeOwned, Deserializer, Format, Serialize, Serializer,
-};
+use serde::{Deserialize, DeserializeOwned, Deserializer, Format};
 use serde_json::Value;
-use std::alloc::Global;
+use std::alloc::{AllocError, Global};
 
 /// A place to mark (LSP 3.17, "Document Highlights Request").
 #[derive(Drop)]
@@ -38,22 +39,21 @@ impl DocumentHighlight {
     }
 }
 
-impl Described for DocumentHighlight {}
+impl ToJson for DocumentHighlight {
+    ghost stands = { λ it. object_of (
+        (codes "range", Some (⟦<Range as ToJson>⟧.stands it.range))
+        ∷ (codes "kind", option_map ⟦<DocumentHighlightKind as ToJson>⟧.stands it.kind) ∷ []) };
+
+    fn to_json(&self, alloc: Global) -> Result<Value, AllocError> {
+        Object::new(alloc)
+            .member("range", &self.range)
+            .some("kind", &self.kind)
+            .end()
+    }
+}
 
 impl Keyed for DocumentHighlight {
     const KEYS: &'static [&'static str] = &["range", "kind"];
-}
-
-impl WriteMembers for DocumentHighlight {
-    fn write<O: Sink>(&self, out: O) -> O {
-        out.member(&self.range).some(&self.kind)
-    }
-}
-
-impl Serialize for DocumentHighlight {
-    fn serialize<S: Serializer>(&self, out: &mut S) -> Result<(), S::Error> {
-        write_object(self, out)
-    }
 }
 
 impl ReadMembers for DocumentHighlight {
@@ -87,11 +87,11 @@ impl DocumentHighlightKind {
     pub const WRITE: DocumentHighlightKind = DocumentHighlightKind(3);
 }
 
-impl Described for DocumentHighlightKind {}
+impl ToJson for DocumentHighlightKind {
+    ghost stands = { λ it. number (unsigned it.0) };
 
-impl Serialize for DocumentHighlightKind {
-    fn serialize<S: Serializer>(&self, out: &mut S) -> Result<(), S::Error> {
-        self.0.serialize(out)
+    fn to_json(&self, alloc: Global) -> Result<Value, AllocError> {
+        self.0.to_json(alloc)
     }
 }
 
@@ -165,7 +165,26 @@ impl FoldingRange {
     }
 }
 
-impl Described for FoldingRange {}
+impl ToJson for FoldingRange {
+    ghost stands = { λ it. object_of (
+        (codes "startLine", Some (⟦<u32 as ToJson>⟧.stands it.start_line))
+        ∷ (codes "startCharacter", option_map ⟦<u32 as ToJson>⟧.stands it.start_character)
+        ∷ (codes "endLine", Some (⟦<u32 as ToJson>⟧.stands it.end_line))
+        ∷ (codes "endCharacter", option_map ⟦<u32 as ToJson>⟧.stands it.end_character)
+        ∷ (codes "kind", option_map ⟦<String as ToJson>⟧.stands it.kind)
+        ∷ (codes "collapsedText", option_map ⟦<String as ToJson>⟧.stands it.collapsed_text) ∷ []) };
+
+    fn to_json(&self, alloc: Global) -> Result<Value, AllocError> {
+        Object::new(alloc)
+            .member("startLine", &self.start_line)
+            .some("startCharacter", &self.start_character)
+            .member("endLine", &self.end_line)
+            .some("endCharacter", &self.end_character)
+            .some("kind", &self.kind)
+            .some("collapsedText", &self.collapsed_text)
+            .end()
+    }
+}
 
 impl Keyed for FoldingRange {
     const KEYS: &'static [&'static str] = &[
@@ -176,23 +195,6 @@ impl Keyed for FoldingRange {
         "kind",
         "collapsedText",
     ];
-}
-
-impl WriteMembers for FoldingRange {
-    fn write<O: Sink>(&self, out: O) -> O {
-        out.member(&self.start_line)
-            .some(&self.start_character)
-            .member(&self.end_line)
-            .some(&self.end_character)
-            .some(&self.kind)
-            .some(&self.collapsed_text)
-    }
-}
-
-impl Serialize for FoldingRange {
-    fn serialize<S: Serializer>(&self, out: &mut S) -> Result<(), S::Error> {
-        write_object(self, out)
-    }
 }
 
 impl ReadMembers for FoldingRange {
@@ -231,7 +233,22 @@ pub struct SelectionRangeParams {
     pub partial_result_token: Option<ProgressToken>,
 }
 
-impl Described for SelectionRangeParams {}
+impl ToJson for SelectionRangeParams {
+    ghost stands = { λ it. object_of (
+        (codes "textDocument", Some (⟦<TextDocumentIdentifier as ToJson>⟧.stands it.text_document))
+        ∷ (codes "positions", Some (⟦<Vec<Position> as ToJson>⟧.stands it.positions))
+        ∷ (codes "workDoneToken", option_map ⟦<ProgressToken as ToJson>⟧.stands it.work_done_token)
+        ∷ (codes "partialResultToken", option_map ⟦<ProgressToken as ToJson>⟧.stands it.partial_result_token) ∷ []) };
+
+    fn to_json(&self, alloc: Global) -> Result<Value, AllocError> {
+        Object::new(alloc)
+            .member("textDocument", &self.text_document)
+            .member("positions", &self.positions)
+            .some("workDoneToken", &self.work_done_token)
+            .some("partialResultToken", &self.partial_result_token)
+            .end()
+    }
+}
 
 impl Keyed for SelectionRangeParams {
     const KEYS: &'static [&'static str] = &[
@@ -240,21 +257,6 @@ impl Keyed for SelectionRangeParams {
         "workDoneToken",
         "partialResultToken",
     ];
-}
-
-impl WriteMembers for SelectionRangeParams {
-    fn write<O: Sink>(&self, out: O) -> O {
-        out.member(&self.text_document)
-            .member(&self.positions)
-            .some(&self.work_done_token)
-            .some(&self.partial_result_token)
-    }
-}
-
-impl Serialize for SelectionRangeParams {
-    fn serialize<S: Serializer>(&self, out: &mut S) -> Result<(), S::Error> {
-        write_object(self, out)
-    }
 }
 
 impl ReadMembers for SelectionRangeParams {
@@ -284,22 +286,6 @@ pub struct SelectionRange {
     pub range: Range,
     /// The next larger part, which has this one in it.
     pub parent: Option<Box<SelectionRange>>,
-}
-
-impl Described for SelectionRange {}
-
-impl Keyed for SelectionRange {
-    const KEYS: &'static [&'static str] = &["range", "parent"];
-}
-
-impl Serialize for SelectionRange {
-    // One function, since it has others of its type in it.
-    fn serialize<S: Serializer>(&self, out: &mut S) -> Result<(), S::Error> {
-        let mut object = Object::begin(SelectionRange::KEYS, out)
-            .member(&self.range)
-            .some(&self.parent);
-        object.end()
-    }
 }
 
 /// The params of `textDocument/linkedEditingRange` (LSP 3.17, "Linked Editing Range"). The result is a `LinkedEditingRanges` or
@@ -332,22 +318,21 @@ impl LinkedEditingRanges {
     }
 }
 
-impl Described for LinkedEditingRanges {}
+impl ToJson for LinkedEditingRanges {
+    ghost stands = { λ it. object_of (
+        (codes "ranges", Some (⟦<Vec<Range> as ToJson>⟧.stands it.ranges))
+        ∷ (codes "wordPattern", option_map ⟦<String as ToJson>⟧.stands it.word_pattern) ∷ []) };
+
+    fn to_json(&self, alloc: Global) -> Result<Value, AllocError> {
+        Object::new(alloc)
+            .member("ranges", &self.ranges)
+            .some("wordPattern", &self.word_pattern)
+            .end()
+    }
+}
 
 impl Keyed for LinkedEditingRanges {
     const KEYS: &'static [&'static str] = &["ranges", "wordPattern"];
-}
-
-impl WriteMembers for LinkedEditingRanges {
-    fn write<O: Sink>(&self, out: O) -> O {
-        out.member(&self.ranges).some(&self.word_pattern)
-    }
-}
-
-impl Serialize for LinkedEditingRanges {
-    fn serialize<S: Serializer>(&self, out: &mut S) -> Result<(), S::Error> {
-        write_object(self, out)
-    }
 }
 
 impl ReadMembers for LinkedEditingRanges {
@@ -405,25 +390,25 @@ impl Moniker {
     }
 }
 
-impl Described for Moniker {}
+impl ToJson for Moniker {
+    ghost stands = { λ it. object_of (
+        (codes "scheme", Some (⟦<String as ToJson>⟧.stands it.scheme))
+        ∷ (codes "identifier", Some (⟦<String as ToJson>⟧.stands it.identifier))
+        ∷ (codes "unique", Some (⟦<String as ToJson>⟧.stands it.unique))
+        ∷ (codes "kind", option_map ⟦<String as ToJson>⟧.stands it.kind) ∷ []) };
+
+    fn to_json(&self, alloc: Global) -> Result<Value, AllocError> {
+        Object::new(alloc)
+            .member("scheme", &self.scheme)
+            .member("identifier", &self.identifier)
+            .member("unique", &self.unique)
+            .some("kind", &self.kind)
+            .end()
+    }
+}
 
 impl Keyed for Moniker {
     const KEYS: &'static [&'static str] = &["scheme", "identifier", "unique", "kind"];
-}
-
-impl WriteMembers for Moniker {
-    fn write<O: Sink>(&self, out: O) -> O {
-        out.member(&self.scheme)
-            .member(&self.identifier)
-            .member(&self.unique)
-            .some(&self.kind)
-    }
-}
-
-impl Serialize for Moniker {
-    fn serialize<S: Serializer>(&self, out: &mut S) -> Result<(), S::Error> {
-        write_object(self, out)
-    }
 }
 
 impl ReadMembers for Moniker {
@@ -479,22 +464,23 @@ impl CodeLens {
     }
 }
 
-impl Described for CodeLens {}
+impl ToJson for CodeLens {
+    ghost stands = { λ it. object_of (
+        (codes "range", Some (⟦<Range as ToJson>⟧.stands it.range))
+        ∷ (codes "command", option_map ⟦<Command as ToJson>⟧.stands it.command)
+        ∷ (codes "data", option_map ⟦<Value as ToJson>⟧.stands it.«data») ∷ []) };
+
+    fn to_json(&self, alloc: Global) -> Result<Value, AllocError> {
+        Object::new(alloc)
+            .member("range", &self.range)
+            .some("command", &self.command)
+            .some("data", &self.data)
+            .end()
+    }
+}
 
 impl Keyed for CodeLens {
     const KEYS: &'static [&'static str] = &["range", "command", "data"];
-}
-
-impl WriteMembers for CodeLens {
-    fn write<O: Sink>(&self, out: O) -> O {
-        out.member(&self.range).some(&self.command).some(&self.data)
-    }
-}
-
-impl Serialize for CodeLens {
-    fn serialize<S: Serializer>(&self, out: &mut S) -> Result<(), S::Error> {
-        write_object(self, out)
-    }
 }
 
 impl ReadMembers for CodeLens {
@@ -553,25 +539,25 @@ impl DocumentLink {
     }
 }
 
-impl Described for DocumentLink {}
+impl ToJson for DocumentLink {
+    ghost stands = { λ it. object_of (
+        (codes "range", Some (⟦<Range as ToJson>⟧.stands it.range))
+        ∷ (codes "target", option_map ⟦<String as ToJson>⟧.stands it.target)
+        ∷ (codes "tooltip", option_map ⟦<String as ToJson>⟧.stands it.tooltip)
+        ∷ (codes "data", option_map ⟦<Value as ToJson>⟧.stands it.«data») ∷ []) };
+
+    fn to_json(&self, alloc: Global) -> Result<Value, AllocError> {
+        Object::new(alloc)
+            .member("range", &self.range)
+            .some("target", &self.target)
+            .some("tooltip", &self.tooltip)
+            .some("data", &self.data)
+            .end()
+    }
+}
 
 impl Keyed for DocumentLink {
     const KEYS: &'static [&'static str] = &["range", "target", "tooltip", "data"];
-}
-
-impl WriteMembers for DocumentLink {
-    fn write<O: Sink>(&self, out: O) -> O {
-        out.member(&self.range)
-            .some(&self.target)
-            .some(&self.tooltip)
-            .some(&self.data)
-    }
-}
-
-impl Serialize for DocumentLink {
-    fn serialize<S: Serializer>(&self, out: &mut S) -> Result<(), S::Error> {
-        write_object(self, out)
-    }
 }
 
 impl ReadMembers for DocumentLink {

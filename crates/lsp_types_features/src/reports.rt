@@ -1,12 +1,16 @@
 //! Diagnostics that a client asks for.
 // `tools/types` wrote this file from `types.txt`: change that.
+ghost use Rattle.std.specs.Prelude.{◌∷◌, [], Some, codes, option_map};
+ghost use Rattle.serde_json.specs.Data.{string};
+ghost use Rattle.lsp_types.specs.Json.{object_of};
+
 use lsp_types::json::{
-    Keyed, ReadMembers, Sink, Source, WriteMembers, if_fits, read_if_fits, read_object,
-    write_object,
+    Keyed, Object, ReadMembers, Source, ToJson, if_fits, read_if_fits, read_object,
 };
 use lsp_types::{Diagnostic, ProgressToken, TextDocumentIdentifier};
-use serde::{Described, DeserializeOwned, Deserializer, Format, Serialize, Serializer};
-use std::alloc::Global;
+use serde::{DeserializeOwned, Deserializer, Format};
+use serde_json::Value;
+use std::alloc::{AllocError, Global};
 use std::collections::BTreeMap;
 
 /// The params of `textDocument/diagnostic` (LSP 3.17, "Document Diagnostics"). The result is a `DocumentDiagnosticReport`.
@@ -24,7 +28,24 @@ pub struct DocumentDiagnosticParams {
     pub partial_result_token: Option<ProgressToken>,
 }
 
-impl Described for DocumentDiagnosticParams {}
+impl ToJson for DocumentDiagnosticParams {
+    ghost stands = { λ it. object_of (
+        (codes "textDocument", Some (⟦<TextDocumentIdentifier as ToJson>⟧.stands it.text_document))
+        ∷ (codes "identifier", option_map ⟦<String as ToJson>⟧.stands it.identifier)
+        ∷ (codes "previousResultId", option_map ⟦<String as ToJson>⟧.stands it.previous_result_id)
+        ∷ (codes "workDoneToken", option_map ⟦<ProgressToken as ToJson>⟧.stands it.work_done_token)
+        ∷ (codes "partialResultToken", option_map ⟦<ProgressToken as ToJson>⟧.stands it.partial_result_token) ∷ []) };
+
+    fn to_json(&self, alloc: Global) -> Result<Value, AllocError> {
+        Object::new(alloc)
+            .member("textDocument", &self.text_document)
+            .some("identifier", &self.identifier)
+            .some("previousResultId", &self.previous_result_id)
+            .some("workDoneToken", &self.work_done_token)
+            .some("partialResultToken", &self.partial_result_token)
+            .end()
+    }
+}
 
 impl Keyed for DocumentDiagnosticParams {
     const KEYS: &'static [&'static str] = &[
@@ -34,22 +55,6 @@ impl Keyed for DocumentDiagnosticParams {
         "workDoneToken",
         "partialResultToken",
     ];
-}
-
-impl WriteMembers for DocumentDiagnosticParams {
-    fn write<O: Sink>(&self, out: O) -> O {
-        out.member(&self.text_document)
-            .some(&self.identifier)
-            .some(&self.previous_result_id)
-            .some(&self.work_done_token)
-            .some(&self.partial_result_token)
-    }
-}
-
-impl Serialize for DocumentDiagnosticParams {
-    fn serialize<S: Serializer>(&self, out: &mut S) -> Result<(), S::Error> {
-        write_object(self, out)
-    }
 }
 
 impl ReadMembers for DocumentDiagnosticParams {
@@ -99,24 +104,23 @@ impl FullDocumentDiagnosticReport {
     }
 }
 
-impl Described for FullDocumentDiagnosticReport {}
+impl ToJson for FullDocumentDiagnosticReport {
+    ghost stands = { λ it. object_of (
+        (codes "kind", Some (string (codes "full")))
+        ∷ (codes "resultId", option_map ⟦<String as ToJson>⟧.stands it.result_id)
+        ∷ (codes "items", Some (⟦<Vec<Diagnostic> as ToJson>⟧.stands it.items)) ∷ []) };
+
+    fn to_json(&self, alloc: Global) -> Result<Value, AllocError> {
+        Object::new(alloc)
+            .text("kind", "full")
+            .some("resultId", &self.result_id)
+            .member("items", &self.items)
+            .end()
+    }
+}
 
 impl Keyed for FullDocumentDiagnosticReport {
     const KEYS: &'static [&'static str] = &["kind", "resultId", "items"];
-}
-
-impl WriteMembers for FullDocumentDiagnosticReport {
-    fn write<O: Sink>(&self, out: O) -> O {
-        out.member(&"full")
-            .some(&self.result_id)
-            .member(&self.items)
-    }
-}
-
-impl Serialize for FullDocumentDiagnosticReport {
-    fn serialize<S: Serializer>(&self, out: &mut S) -> Result<(), S::Error> {
-        write_object(self, out)
-    }
 }
 
 impl ReadMembers for FullDocumentDiagnosticReport {
@@ -145,22 +149,21 @@ pub struct UnchangedDocumentDiagnosticReport {
     pub result_id: String,
 }
 
-impl Described for UnchangedDocumentDiagnosticReport {}
+impl ToJson for UnchangedDocumentDiagnosticReport {
+    ghost stands = { λ it. object_of (
+        (codes "kind", Some (string (codes "unchanged")))
+        ∷ (codes "resultId", Some (⟦<String as ToJson>⟧.stands it.result_id)) ∷ []) };
+
+    fn to_json(&self, alloc: Global) -> Result<Value, AllocError> {
+        Object::new(alloc)
+            .text("kind", "unchanged")
+            .member("resultId", &self.result_id)
+            .end()
+    }
+}
 
 impl Keyed for UnchangedDocumentDiagnosticReport {
     const KEYS: &'static [&'static str] = &["kind", "resultId"];
-}
-
-impl WriteMembers for UnchangedDocumentDiagnosticReport {
-    fn write<O: Sink>(&self, out: O) -> O {
-        out.member(&"unchanged").member(&self.result_id)
-    }
-}
-
-impl Serialize for UnchangedDocumentDiagnosticReport {
-    fn serialize<S: Serializer>(&self, out: &mut S) -> Result<(), S::Error> {
-        write_object(self, out)
-    }
 }
 
 impl ReadMembers for UnchangedDocumentDiagnosticReport {
@@ -190,13 +193,18 @@ pub enum RelatedReport {
     Unchanged(UnchangedDocumentDiagnosticReport),
 }
 
-impl Described for RelatedReport {}
+impl ToJson for RelatedReport {
+    ghost use Rattle.lsp_types_features.specs.declared.reports.RelatedReport.TheVariants.{Full, Unchanged};
 
-impl Serialize for RelatedReport {
-    fn serialize<S: Serializer>(&self, out: &mut S) -> Result<(), S::Error> {
+    ghost stands = { elim [
+      | Full it ↦ ⟦<FullDocumentDiagnosticReport as ToJson>⟧.stands it
+      | Unchanged it ↦ ⟦<UnchangedDocumentDiagnosticReport as ToJson>⟧.stands it
+    ] };
+
+    fn to_json(&self, alloc: Global) -> Result<Value, AllocError> {
         match self {
-            RelatedReport::Full(it) => it.serialize(out),
-            RelatedReport::Unchanged(it) => it.serialize(out),
+            RelatedReport::Full(it) => it.to_json(alloc),
+            RelatedReport::Unchanged(it) => it.to_json(alloc),
         }
     }
 }
@@ -246,25 +254,25 @@ impl RelatedFullDocumentDiagnosticReport {
     }
 }
 
-impl Described for RelatedFullDocumentDiagnosticReport {}
+impl ToJson for RelatedFullDocumentDiagnosticReport {
+    ghost stands = { λ it. object_of (
+        (codes "kind", Some (string (codes "full")))
+        ∷ (codes "resultId", option_map ⟦<String as ToJson>⟧.stands it.result_id)
+        ∷ (codes "items", Some (⟦<Vec<Diagnostic> as ToJson>⟧.stands it.items))
+        ∷ (codes "relatedDocuments", option_map ⟦<BTreeMap<String, RelatedReport> as ToJson>⟧.stands it.related_documents) ∷ []) };
+
+    fn to_json(&self, alloc: Global) -> Result<Value, AllocError> {
+        Object::new(alloc)
+            .text("kind", "full")
+            .some("resultId", &self.result_id)
+            .member("items", &self.items)
+            .some("relatedDocuments", &self.related_documents)
+            .end()
+    }
+}
 
 impl Keyed for RelatedFullDocumentDiagnosticReport {
     const KEYS: &'static [&'static str] = &["kind", "resultId", "items", "relatedDocuments"];
-}
-
-impl WriteMembers for RelatedFullDocumentDiagnosticReport {
-    fn write<O: Sink>(&self, out: O) -> O {
-        out.member(&"full")
-            .some(&self.result_id)
-            .member(&self.items)
-            .some(&self.related_documents)
-    }
-}
-
-impl Serialize for RelatedFullDocumentDiagnosticReport {
-    fn serialize<S: Serializer>(&self, out: &mut S) -> Result<(), S::Error> {
-        write_object(self, out)
-    }
 }
 
 impl ReadMembers for RelatedFullDocumentDiagnosticReport {
@@ -313,24 +321,23 @@ impl RelatedUnchangedDocumentDiagnosticReport {
     }
 }
 
-impl Described for RelatedUnchangedDocumentDiagnosticReport {}
+impl ToJson for RelatedUnchangedDocumentDiagnosticReport {
+    ghost stands = { λ it. object_of (
+        (codes "kind", Some (string (codes "unchanged")))
+        ∷ (codes "resultId", Some (⟦<String as ToJson>⟧.stands it.result_id))
+        ∷ (codes "relatedDocuments", option_map ⟦<BTreeMap<String, RelatedReport> as ToJson>⟧.stands it.related_documents) ∷ []) };
+
+    fn to_json(&self, alloc: Global) -> Result<Value, AllocError> {
+        Object::new(alloc)
+            .text("kind", "unchanged")
+            .member("resultId", &self.result_id)
+            .some("relatedDocuments", &self.related_documents)
+            .end()
+    }
+}
 
 impl Keyed for RelatedUnchangedDocumentDiagnosticReport {
     const KEYS: &'static [&'static str] = &["kind", "resultId", "relatedDocuments"];
-}
-
-impl WriteMembers for RelatedUnchangedDocumentDiagnosticReport {
-    fn write<O: Sink>(&self, out: O) -> O {
-        out.member(&"unchanged")
-            .member(&self.result_id)
-            .some(&self.related_documents)
-    }
-}
-
-impl Serialize for RelatedUnchangedDocumentDiagnosticReport {
-    fn serialize<S: Serializer>(&self, out: &mut S) -> Result<(), S::Error> {
-        write_object(self, out)
-    }
 }
 
 impl ReadMembers for RelatedUnchangedDocumentDiagnosticReport {
@@ -361,13 +368,18 @@ pub enum DocumentDiagnosticReport {
     Unchanged(RelatedUnchangedDocumentDiagnosticReport),
 }
 
-impl Described for DocumentDiagnosticReport {}
+impl ToJson for DocumentDiagnosticReport {
+    ghost use Rattle.lsp_types_features.specs.declared.reports.DocumentDiagnosticReport.TheVariants.{Full, Unchanged};
 
-impl Serialize for DocumentDiagnosticReport {
-    fn serialize<S: Serializer>(&self, out: &mut S) -> Result<(), S::Error> {
+    ghost stands = { elim [
+      | Full it ↦ ⟦<RelatedFullDocumentDiagnosticReport as ToJson>⟧.stands it
+      | Unchanged it ↦ ⟦<RelatedUnchangedDocumentDiagnosticReport as ToJson>⟧.stands it
+    ] };
+
+    fn to_json(&self, alloc: Global) -> Result<Value, AllocError> {
         match self {
-            DocumentDiagnosticReport::Full(it) => it.serialize(out),
-            DocumentDiagnosticReport::Unchanged(it) => it.serialize(out),
+            DocumentDiagnosticReport::Full(it) => it.to_json(alloc),
+            DocumentDiagnosticReport::Unchanged(it) => it.to_json(alloc),
         }
     }
 }
@@ -396,22 +408,21 @@ pub struct PreviousResultId {
     pub value: String,
 }
 
-impl Described for PreviousResultId {}
+impl ToJson for PreviousResultId {
+    ghost stands = { λ it. object_of (
+        (codes "uri", Some (⟦<String as ToJson>⟧.stands it.uri))
+        ∷ (codes "value", Some (⟦<String as ToJson>⟧.stands it.value)) ∷ []) };
+
+    fn to_json(&self, alloc: Global) -> Result<Value, AllocError> {
+        Object::new(alloc)
+            .member("uri", &self.uri)
+            .member("value", &self.value)
+            .end()
+    }
+}
 
 impl Keyed for PreviousResultId {
     const KEYS: &'static [&'static str] = &["uri", "value"];
-}
-
-impl WriteMembers for PreviousResultId {
-    fn write<O: Sink>(&self, out: O) -> O {
-        out.member(&self.uri).member(&self.value)
-    }
-}
-
-impl Serialize for PreviousResultId {
-    fn serialize<S: Serializer>(&self, out: &mut S) -> Result<(), S::Error> {
-        write_object(self, out)
-    }
 }
 
 impl ReadMembers for PreviousResultId {
@@ -445,7 +456,22 @@ pub struct WorkspaceDiagnosticParams {
     pub partial_result_token: Option<ProgressToken>,
 }
 
-impl Described for WorkspaceDiagnosticParams {}
+impl ToJson for WorkspaceDiagnosticParams {
+    ghost stands = { λ it. object_of (
+        (codes "identifier", option_map ⟦<String as ToJson>⟧.stands it.identifier)
+        ∷ (codes "previousResultIds", Some (⟦<Vec<PreviousResultId> as ToJson>⟧.stands it.previous_result_ids))
+        ∷ (codes "workDoneToken", option_map ⟦<ProgressToken as ToJson>⟧.stands it.work_done_token)
+        ∷ (codes "partialResultToken", option_map ⟦<ProgressToken as ToJson>⟧.stands it.partial_result_token) ∷ []) };
+
+    fn to_json(&self, alloc: Global) -> Result<Value, AllocError> {
+        Object::new(alloc)
+            .some("identifier", &self.identifier)
+            .member("previousResultIds", &self.previous_result_ids)
+            .some("workDoneToken", &self.work_done_token)
+            .some("partialResultToken", &self.partial_result_token)
+            .end()
+    }
+}
 
 impl Keyed for WorkspaceDiagnosticParams {
     const KEYS: &'static [&'static str] = &[
@@ -454,21 +480,6 @@ impl Keyed for WorkspaceDiagnosticParams {
         "workDoneToken",
         "partialResultToken",
     ];
-}
-
-impl WriteMembers for WorkspaceDiagnosticParams {
-    fn write<O: Sink>(&self, out: O) -> O {
-        out.some(&self.identifier)
-            .member(&self.previous_result_ids)
-            .some(&self.work_done_token)
-            .some(&self.partial_result_token)
-    }
-}
-
-impl Serialize for WorkspaceDiagnosticParams {
-    fn serialize<S: Serializer>(&self, out: &mut S) -> Result<(), S::Error> {
-        write_object(self, out)
-    }
 }
 
 impl ReadMembers for WorkspaceDiagnosticParams {
@@ -525,26 +536,27 @@ impl WorkspaceFullDocumentDiagnosticReport {
     }
 }
 
-impl Described for WorkspaceFullDocumentDiagnosticReport {}
+impl ToJson for WorkspaceFullDocumentDiagnosticReport {
+    ghost stands = { λ it. object_of (
+        (codes "kind", Some (string (codes "full")))
+        ∷ (codes "resultId", option_map ⟦<String as ToJson>⟧.stands it.result_id)
+        ∷ (codes "items", Some (⟦<Vec<Diagnostic> as ToJson>⟧.stands it.items))
+        ∷ (codes "uri", Some (⟦<String as ToJson>⟧.stands it.uri))
+        ∷ (codes "version", Some (⟦<Option<i32> as ToJson>⟧.stands it.version)) ∷ []) };
+
+    fn to_json(&self, alloc: Global) -> Result<Value, AllocError> {
+        Object::new(alloc)
+            .text("kind", "full")
+            .some("resultId", &self.result_id)
+            .member("items", &self.items)
+            .member("uri", &self.uri)
+            .member("version", &self.version)
+            .end()
+    }
+}
 
 impl Keyed for WorkspaceFullDocumentDiagnosticReport {
     const KEYS: &'static [&'static str] = &["kind", "resultId", "items", "uri", "version"];
-}
-
-impl WriteMembers for WorkspaceFullDocumentDiagnosticReport {
-    fn write<O: Sink>(&self, out: O) -> O {
-        out.member(&"full")
-            .some(&self.result_id)
-            .member(&self.items)
-            .member(&self.uri)
-            .member(&self.version)
-    }
-}
-
-impl Serialize for WorkspaceFullDocumentDiagnosticReport {
-    fn serialize<S: Serializer>(&self, out: &mut S) -> Result<(), S::Error> {
-        write_object(self, out)
-    }
 }
 
 impl ReadMembers for WorkspaceFullDocumentDiagnosticReport {
@@ -598,25 +610,25 @@ impl WorkspaceUnchangedDocumentDiagnosticReport {
     }
 }
 
-impl Described for WorkspaceUnchangedDocumentDiagnosticReport {}
+impl ToJson for WorkspaceUnchangedDocumentDiagnosticReport {
+    ghost stands = { λ it. object_of (
+        (codes "kind", Some (string (codes "unchanged")))
+        ∷ (codes "resultId", Some (⟦<String as ToJson>⟧.stands it.result_id))
+        ∷ (codes "uri", Some (⟦<String as ToJson>⟧.stands it.uri))
+        ∷ (codes "version", Some (⟦<Option<i32> as ToJson>⟧.stands it.version)) ∷ []) };
+
+    fn to_json(&self, alloc: Global) -> Result<Value, AllocError> {
+        Object::new(alloc)
+            .text("kind", "unchanged")
+            .member("resultId", &self.result_id)
+            .member("uri", &self.uri)
+            .member("version", &self.version)
+            .end()
+    }
+}
 
 impl Keyed for WorkspaceUnchangedDocumentDiagnosticReport {
     const KEYS: &'static [&'static str] = &["kind", "resultId", "uri", "version"];
-}
-
-impl WriteMembers for WorkspaceUnchangedDocumentDiagnosticReport {
-    fn write<O: Sink>(&self, out: O) -> O {
-        out.member(&"unchanged")
-            .member(&self.result_id)
-            .member(&self.uri)
-            .member(&self.version)
-    }
-}
-
-impl Serialize for WorkspaceUnchangedDocumentDiagnosticReport {
-    fn serialize<S: Serializer>(&self, out: &mut S) -> Result<(), S::Error> {
-        write_object(self, out)
-    }
 }
 
 impl ReadMembers for WorkspaceUnchangedDocumentDiagnosticReport {
@@ -648,13 +660,18 @@ pub enum WorkspaceDocumentDiagnosticReport {
     Unchanged(WorkspaceUnchangedDocumentDiagnosticReport),
 }
 
-impl Described for WorkspaceDocumentDiagnosticReport {}
+impl ToJson for WorkspaceDocumentDiagnosticReport {
+    ghost use Rattle.lsp_types_features.specs.declared.reports.WorkspaceDocumentDiagnosticReport.TheVariants.{Full, Unchanged};
 
-impl Serialize for WorkspaceDocumentDiagnosticReport {
-    fn serialize<S: Serializer>(&self, out: &mut S) -> Result<(), S::Error> {
+    ghost stands = { elim [
+      | Full it ↦ ⟦<WorkspaceFullDocumentDiagnosticReport as ToJson>⟧.stands it
+      | Unchanged it ↦ ⟦<WorkspaceUnchangedDocumentDiagnosticReport as ToJson>⟧.stands it
+    ] };
+
+    fn to_json(&self, alloc: Global) -> Result<Value, AllocError> {
         match self {
-            WorkspaceDocumentDiagnosticReport::Full(it) => it.serialize(out),
-            WorkspaceDocumentDiagnosticReport::Unchanged(it) => it.serialize(out),
+            WorkspaceDocumentDiagnosticReport::Full(it) => it.to_json(alloc),
+            WorkspaceDocumentDiagnosticReport::Unchanged(it) => it.to_json(alloc),
         }
     }
 }
@@ -681,22 +698,17 @@ pub struct WorkspaceDiagnosticReport {
     pub items: Vec<WorkspaceDocumentDiagnosticReport>,
 }
 
-impl Described for WorkspaceDiagnosticReport {}
+impl ToJson for WorkspaceDiagnosticReport {
+    ghost stands = { λ it. object_of (
+        (codes "items", Some (⟦<Vec<WorkspaceDocumentDiagnosticReport> as ToJson>⟧.stands it.items)) ∷ []) };
+
+    fn to_json(&self, alloc: Global) -> Result<Value, AllocError> {
+        Object::new(alloc).member("items", &self.items).end()
+    }
+}
 
 impl Keyed for WorkspaceDiagnosticReport {
     const KEYS: &'static [&'static str] = &["items"];
-}
-
-impl WriteMembers for WorkspaceDiagnosticReport {
-    fn write<O: Sink>(&self, out: O) -> O {
-        out.member(&self.items)
-    }
-}
-
-impl Serialize for WorkspaceDiagnosticReport {
-    fn serialize<S: Serializer>(&self, out: &mut S) -> Result<(), S::Error> {
-        write_object(self, out)
-    }
 }
 
 impl ReadMembers for WorkspaceDiagnosticReport {
@@ -723,22 +735,19 @@ pub struct DiagnosticServerCancellationData {
     pub retrigger_request: bool,
 }
 
-impl Described for DiagnosticServerCancellationData {}
+impl ToJson for DiagnosticServerCancellationData {
+    ghost stands = { λ it. object_of (
+        (codes "retriggerRequest", Some (⟦<bool as ToJson>⟧.stands it.retrigger_request)) ∷ []) };
+
+    fn to_json(&self, alloc: Global) -> Result<Value, AllocError> {
+        Object::new(alloc)
+            .member("retriggerRequest", &self.retrigger_request)
+            .end()
+    }
+}
 
 impl Keyed for DiagnosticServerCancellationData {
     const KEYS: &'static [&'static str] = &["retriggerRequest"];
-}
-
-impl WriteMembers for DiagnosticServerCancellationData {
-    fn write<O: Sink>(&self, out: O) -> O {
-        out.member(&self.retrigger_request)
-    }
-}
-
-impl Serialize for DiagnosticServerCancellationData {
-    fn serialize<S: Serializer>(&self, out: &mut S) -> Result<(), S::Error> {
-        write_object(self, out)
-    }
 }
 
 impl ReadMembers for DiagnosticServerCancellationData {

@@ -1,12 +1,15 @@
 //! What changed of semantic tokens.
 // `tools/types` wrote this file from `types.txt`: change that.
+ghost use Rattle.std.specs.Prelude.{◌∷◌, [], Some, codes, option_map};
+ghost use Rattle.lsp_types.specs.Json.{object_of};
+
 use lsp_types::json::{
-    Keyed, ReadMembers, Sink, Source, WriteMembers, if_fits, read_if_fits, read_object,
-    write_object,
+    Keyed, Object, ReadMembers, Source, ToJson, if_fits, read_if_fits, read_object,
 };
 use lsp_types::{ProgressToken, SemanticTokens, TextDocumentIdentifier};
-use serde::{Described, DeserializeOwned, Deserializer, Format, Serialize, Serializer};
-use std::alloc::Global;
+use serde::{DeserializeOwned, Deserializer, Format};
+use serde_json::Value;
+use std::alloc::{AllocError, Global};
 
 /// The params of `textDocument/semanticTokens/full/delta` (LSP 3.17, "Semantic Tokens").
 #[derive(Drop)]
@@ -21,7 +24,22 @@ pub struct SemanticTokensDeltaParams {
     pub partial_result_token: Option<ProgressToken>,
 }
 
-impl Described for SemanticTokensDeltaParams {}
+impl ToJson for SemanticTokensDeltaParams {
+    ghost stands = { λ it. object_of (
+        (codes "textDocument", Some (⟦<TextDocumentIdentifier as ToJson>⟧.stands it.text_document))
+        ∷ (codes "previousResultId", Some (⟦<String as ToJson>⟧.stands it.previous_result_id))
+        ∷ (codes "workDoneToken", option_map ⟦<ProgressToken as ToJson>⟧.stands it.work_done_token)
+        ∷ (codes "partialResultToken", option_map ⟦<ProgressToken as ToJson>⟧.stands it.partial_result_token) ∷ []) };
+
+    fn to_json(&self, alloc: Global) -> Result<Value, AllocError> {
+        Object::new(alloc)
+            .member("textDocument", &self.text_document)
+            .member("previousResultId", &self.previous_result_id)
+            .some("workDoneToken", &self.work_done_token)
+            .some("partialResultToken", &self.partial_result_token)
+            .end()
+    }
+}
 
 impl Keyed for SemanticTokensDeltaParams {
     const KEYS: &'static [&'static str] = &[
@@ -30,21 +48,6 @@ impl Keyed for SemanticTokensDeltaParams {
         "workDoneToken",
         "partialResultToken",
     ];
-}
-
-impl WriteMembers for SemanticTokensDeltaParams {
-    fn write<O: Sink>(&self, out: O) -> O {
-        out.member(&self.text_document)
-            .member(&self.previous_result_id)
-            .some(&self.work_done_token)
-            .some(&self.partial_result_token)
-    }
-}
-
-impl Serialize for SemanticTokensDeltaParams {
-    fn serialize<S: Serializer>(&self, out: &mut S) -> Result<(), S::Error> {
-        write_object(self, out)
-    }
 }
 
 impl ReadMembers for SemanticTokensDeltaParams {
@@ -97,24 +100,23 @@ impl SemanticTokensEdit {
     }
 }
 
-impl Described for SemanticTokensEdit {}
+impl ToJson for SemanticTokensEdit {
+    ghost stands = { λ it. object_of (
+        (codes "start", Some (⟦<u32 as ToJson>⟧.stands it.start))
+        ∷ (codes "deleteCount", Some (⟦<u32 as ToJson>⟧.stands it.delete_count))
+        ∷ (codes "data", option_map ⟦<Vec<u32> as ToJson>⟧.stands it.«data») ∷ []) };
+
+    fn to_json(&self, alloc: Global) -> Result<Value, AllocError> {
+        Object::new(alloc)
+            .member("start", &self.start)
+            .member("deleteCount", &self.delete_count)
+            .some("data", &self.data)
+            .end()
+    }
+}
 
 impl Keyed for SemanticTokensEdit {
     const KEYS: &'static [&'static str] = &["start", "deleteCount", "data"];
-}
-
-impl WriteMembers for SemanticTokensEdit {
-    fn write<O: Sink>(&self, out: O) -> O {
-        out.member(&self.start)
-            .member(&self.delete_count)
-            .some(&self.data)
-    }
-}
-
-impl Serialize for SemanticTokensEdit {
-    fn serialize<S: Serializer>(&self, out: &mut S) -> Result<(), S::Error> {
-        write_object(self, out)
-    }
 }
 
 impl ReadMembers for SemanticTokensEdit {
@@ -162,22 +164,21 @@ impl SemanticTokensDelta {
     }
 }
 
-impl Described for SemanticTokensDelta {}
+impl ToJson for SemanticTokensDelta {
+    ghost stands = { λ it. object_of (
+        (codes "resultId", option_map ⟦<String as ToJson>⟧.stands it.result_id)
+        ∷ (codes "edits", Some (⟦<Vec<SemanticTokensEdit> as ToJson>⟧.stands it.edits)) ∷ []) };
+
+    fn to_json(&self, alloc: Global) -> Result<Value, AllocError> {
+        Object::new(alloc)
+            .some("resultId", &self.result_id)
+            .member("edits", &self.edits)
+            .end()
+    }
+}
 
 impl Keyed for SemanticTokensDelta {
     const KEYS: &'static [&'static str] = &["resultId", "edits"];
-}
-
-impl WriteMembers for SemanticTokensDelta {
-    fn write<O: Sink>(&self, out: O) -> O {
-        out.some(&self.result_id).member(&self.edits)
-    }
-}
-
-impl Serialize for SemanticTokensDelta {
-    fn serialize<S: Serializer>(&self, out: &mut S) -> Result<(), S::Error> {
-        write_object(self, out)
-    }
 }
 
 impl ReadMembers for SemanticTokensDelta {
@@ -207,13 +208,18 @@ pub enum SemanticTokensDeltaResult {
     Tokens(SemanticTokens),
 }
 
-impl Described for SemanticTokensDeltaResult {}
+impl ToJson for SemanticTokensDeltaResult {
+    ghost use Rattle.lsp_types_features.specs.declared.token_changes.SemanticTokensDeltaResult.TheVariants.{Delta, Tokens};
 
-impl Serialize for SemanticTokensDeltaResult {
-    fn serialize<S: Serializer>(&self, out: &mut S) -> Result<(), S::Error> {
+    ghost stands = { elim [
+      | Delta it ↦ ⟦<SemanticTokensDelta as ToJson>⟧.stands it
+      | Tokens it ↦ ⟦<SemanticTokens as ToJson>⟧.stands it
+    ] };
+
+    fn to_json(&self, alloc: Global) -> Result<Value, AllocError> {
         match self {
-            SemanticTokensDeltaResult::Delta(it) => it.serialize(out),
-            SemanticTokensDeltaResult::Tokens(it) => it.serialize(out),
+            SemanticTokensDeltaResult::Delta(it) => it.to_json(alloc),
+            SemanticTokensDeltaResult::Tokens(it) => it.to_json(alloc),
         }
     }
 }

@@ -1,10 +1,14 @@
 //! Files that are made, renamed or deleted, and files that are watched.
 // `tools/types` wrote this file from `types.txt`: change that.
+ghost use Rattle.std.specs.Prelude.{◌∷◌, [], Some, codes, option_map};
+ghost use Rattle.lsp_types.specs.Json.{object_of};
+
 use lsp_types::json::{
-    Blank, Keyed, ReadMembers, Sink, Source, WriteMembers, read_if_fits, read_object, write_object,
+    Blank, Keyed, Object, ReadMembers, Source, ToJson, read_if_fits, read_object,
 };
-use serde::{Described, DeserializeOwned, Deserializer, Format, Serialize, Serializer};
-use std::alloc::Global;
+use serde::{DeserializeOwned, Deserializer, Format};
+use serde_json::Value;
+use std::alloc::{AllocError, Global};
 
 /// A file or a folder that is made (LSP 3.17, "FileCreate").
 #[derive(Drop)]
@@ -13,22 +17,17 @@ pub struct FileCreate {
     pub uri: String,
 }
 
-impl Described for FileCreate {}
+impl ToJson for FileCreate {
+    ghost stands = { λ it. object_of (
+        (codes "uri", Some (⟦<String as ToJson>⟧.stands it.uri)) ∷ []) };
+
+    fn to_json(&self, alloc: Global) -> Result<Value, AllocError> {
+        Object::new(alloc).member("uri", &self.uri).end()
+    }
+}
 
 impl Keyed for FileCreate {
     const KEYS: &'static [&'static str] = &["uri"];
-}
-
-impl WriteMembers for FileCreate {
-    fn write<O: Sink>(&self, out: O) -> O {
-        out.member(&self.uri)
-    }
-}
-
-impl Serialize for FileCreate {
-    fn serialize<S: Serializer>(&self, out: &mut S) -> Result<(), S::Error> {
-        write_object(self, out)
-    }
 }
 
 impl ReadMembers for FileCreate {
@@ -56,22 +55,17 @@ pub struct CreateFilesParams {
     pub files: Vec<FileCreate>,
 }
 
-impl Described for CreateFilesParams {}
+impl ToJson for CreateFilesParams {
+    ghost stands = { λ it. object_of (
+        (codes "files", Some (⟦<Vec<FileCreate> as ToJson>⟧.stands it.files)) ∷ []) };
+
+    fn to_json(&self, alloc: Global) -> Result<Value, AllocError> {
+        Object::new(alloc).member("files", &self.files).end()
+    }
+}
 
 impl Keyed for CreateFilesParams {
     const KEYS: &'static [&'static str] = &["files"];
-}
-
-impl WriteMembers for CreateFilesParams {
-    fn write<O: Sink>(&self, out: O) -> O {
-        out.member(&self.files)
-    }
-}
-
-impl Serialize for CreateFilesParams {
-    fn serialize<S: Serializer>(&self, out: &mut S) -> Result<(), S::Error> {
-        write_object(self, out)
-    }
 }
 
 impl ReadMembers for CreateFilesParams {
@@ -107,22 +101,21 @@ pub struct FileRename {
     pub new_uri: String,
 }
 
-impl Described for FileRename {}
+impl ToJson for FileRename {
+    ghost stands = { λ it. object_of (
+        (codes "oldUri", Some (⟦<String as ToJson>⟧.stands it.old_uri))
+        ∷ (codes "newUri", Some (⟦<String as ToJson>⟧.stands it.new_uri)) ∷ []) };
+
+    fn to_json(&self, alloc: Global) -> Result<Value, AllocError> {
+        Object::new(alloc)
+            .member("oldUri", &self.old_uri)
+            .member("newUri", &self.new_uri)
+            .end()
+    }
+}
 
 impl Keyed for FileRename {
     const KEYS: &'static [&'static str] = &["oldUri", "newUri"];
-}
-
-impl WriteMembers for FileRename {
-    fn write<O: Sink>(&self, out: O) -> O {
-        out.member(&self.old_uri).member(&self.new_uri)
-    }
-}
-
-impl Serialize for FileRename {
-    fn serialize<S: Serializer>(&self, out: &mut S) -> Result<(), S::Error> {
-        write_object(self, out)
-    }
 }
 
 impl ReadMembers for FileRename {
@@ -151,22 +144,17 @@ pub struct RenameFilesParams {
     pub files: Vec<FileRename>,
 }
 
-impl Described for RenameFilesParams {}
+impl ToJson for RenameFilesParams {
+    ghost stands = { λ it. object_of (
+        (codes "files", Some (⟦<Vec<FileRename> as ToJson>⟧.stands it.files)) ∷ []) };
+
+    fn to_json(&self, alloc: Global) -> Result<Value, AllocError> {
+        Object::new(alloc).member("files", &self.files).end()
+    }
+}
 
 impl Keyed for RenameFilesParams {
     const KEYS: &'static [&'static str] = &["files"];
-}
-
-impl WriteMembers for RenameFilesParams {
-    fn write<O: Sink>(&self, out: O) -> O {
-        out.member(&self.files)
-    }
-}
-
-impl Serialize for RenameFilesParams {
-    fn serialize<S: Serializer>(&self, out: &mut S) -> Result<(), S::Error> {
-        write_object(self, out)
-    }
 }
 
 impl ReadMembers for RenameFilesParams {
@@ -206,22 +194,19 @@ impl Default for FileOperationPatternOptions {
     }
 }
 
-impl Described for FileOperationPatternOptions {}
+impl ToJson for FileOperationPatternOptions {
+    ghost stands = { λ it. object_of (
+        (codes "ignoreCase", option_map ⟦<bool as ToJson>⟧.stands it.ignore_case) ∷ []) };
+
+    fn to_json(&self, alloc: Global) -> Result<Value, AllocError> {
+        Object::new(alloc)
+            .some("ignoreCase", &self.ignore_case)
+            .end()
+    }
+}
 
 impl Keyed for FileOperationPatternOptions {
     const KEYS: &'static [&'static str] = &["ignoreCase"];
-}
-
-impl WriteMembers for FileOperationPatternOptions {
-    fn write<O: Sink>(&self, out: O) -> O {
-        out.some(&self.ignore_case)
-    }
-}
-
-impl Serialize for FileOperationPatternOptions {
-    fn serialize<S: Serializer>(&self, out: &mut S) -> Result<(), S::Error> {
-        write_object(self, out)
-    }
 }
 
 impl ReadMembers for FileOperationPatternOptions {
@@ -271,24 +256,23 @@ impl FileOperationPattern {
     }
 }
 
-impl Described for FileOperationPattern {}
+impl ToJson for FileOperationPattern {
+    ghost stands = { λ it. object_of (
+        (codes "glob", Some (⟦<String as ToJson>⟧.stands it.glob))
+        ∷ (codes "matches", option_map ⟦<String as ToJson>⟧.stands it.matches)
+        ∷ (codes "options", option_map ⟦<FileOperationPatternOptions as ToJson>⟧.stands it.options) ∷ []) };
+
+    fn to_json(&self, alloc: Global) -> Result<Value, AllocError> {
+        Object::new(alloc)
+            .member("glob", &self.glob)
+            .some("matches", &self.matches)
+            .some("options", &self.options)
+            .end()
+    }
+}
 
 impl Keyed for FileOperationPattern {
     const KEYS: &'static [&'static str] = &["glob", "matches", "options"];
-}
-
-impl WriteMembers for FileOperationPattern {
-    fn write<O: Sink>(&self, out: O) -> O {
-        out.member(&self.glob)
-            .some(&self.matches)
-            .some(&self.options)
-    }
-}
-
-impl Serialize for FileOperationPattern {
-    fn serialize<S: Serializer>(&self, out: &mut S) -> Result<(), S::Error> {
-        write_object(self, out)
-    }
 }
 
 impl ReadMembers for FileOperationPattern {
@@ -336,22 +320,21 @@ impl FileOperationFilter {
     }
 }
 
-impl Described for FileOperationFilter {}
+impl ToJson for FileOperationFilter {
+    ghost stands = { λ it. object_of (
+        (codes "scheme", option_map ⟦<String as ToJson>⟧.stands it.scheme)
+        ∷ (codes "pattern", Some (⟦<FileOperationPattern as ToJson>⟧.stands it.pattern)) ∷ []) };
+
+    fn to_json(&self, alloc: Global) -> Result<Value, AllocError> {
+        Object::new(alloc)
+            .some("scheme", &self.scheme)
+            .member("pattern", &self.pattern)
+            .end()
+    }
+}
 
 impl Keyed for FileOperationFilter {
     const KEYS: &'static [&'static str] = &["scheme", "pattern"];
-}
-
-impl WriteMembers for FileOperationFilter {
-    fn write<O: Sink>(&self, out: O) -> O {
-        out.some(&self.scheme).member(&self.pattern)
-    }
-}
-
-impl Serialize for FileOperationFilter {
-    fn serialize<S: Serializer>(&self, out: &mut S) -> Result<(), S::Error> {
-        write_object(self, out)
-    }
 }
 
 impl ReadMembers for FileOperationFilter {
@@ -379,22 +362,17 @@ pub struct FileOperationRegistrationOptions {
     pub filters: Vec<FileOperationFilter>,
 }
 
-impl Described for FileOperationRegistrationOptions {}
+impl ToJson for FileOperationRegistrationOptions {
+    ghost stands = { λ it. object_of (
+        (codes "filters", Some (⟦<Vec<FileOperationFilter> as ToJson>⟧.stands it.filters)) ∷ []) };
+
+    fn to_json(&self, alloc: Global) -> Result<Value, AllocError> {
+        Object::new(alloc).member("filters", &self.filters).end()
+    }
+}
 
 impl Keyed for FileOperationRegistrationOptions {
     const KEYS: &'static [&'static str] = &["filters"];
-}
-
-impl WriteMembers for FileOperationRegistrationOptions {
-    fn write<O: Sink>(&self, out: O) -> O {
-        out.member(&self.filters)
-    }
-}
-
-impl Serialize for FileOperationRegistrationOptions {
-    fn serialize<S: Serializer>(&self, out: &mut S) -> Result<(), S::Error> {
-        write_object(self, out)
-    }
 }
 
 impl ReadMembers for FileOperationRegistrationOptions {
@@ -457,7 +435,26 @@ impl Default for FileOperationOptions {
     }
 }
 
-impl Described for FileOperationOptions {}
+impl ToJson for FileOperationOptions {
+    ghost stands = { λ it. object_of (
+        (codes "didCreate", option_map ⟦<FileOperationRegistrationOptions as ToJson>⟧.stands it.did_create)
+        ∷ (codes "willCreate", option_map ⟦<FileOperationRegistrationOptions as ToJson>⟧.stands it.will_create)
+        ∷ (codes "didRename", option_map ⟦<FileOperationRegistrationOptions as ToJson>⟧.stands it.did_rename)
+        ∷ (codes "willRename", option_map ⟦<FileOperationRegistrationOptions as ToJson>⟧.stands it.will_rename)
+        ∷ (codes "didDelete", option_map ⟦<FileOperationRegistrationOptions as ToJson>⟧.stands it.did_delete)
+        ∷ (codes "willDelete", option_map ⟦<FileOperationRegistrationOptions as ToJson>⟧.stands it.will_delete) ∷ []) };
+
+    fn to_json(&self, alloc: Global) -> Result<Value, AllocError> {
+        Object::new(alloc)
+            .some("didCreate", &self.did_create)
+            .some("willCreate", &self.will_create)
+            .some("didRename", &self.did_rename)
+            .some("willRename", &self.will_rename)
+            .some("didDelete", &self.did_delete)
+            .some("willDelete", &self.will_delete)
+            .end()
+    }
+}
 
 impl Keyed for FileOperationOptions {
     const KEYS: &'static [&'static str] = &[
@@ -468,23 +465,6 @@ impl Keyed for FileOperationOptions {
         "didDelete",
         "willDelete",
     ];
-}
-
-impl WriteMembers for FileOperationOptions {
-    fn write<O: Sink>(&self, out: O) -> O {
-        out.some(&self.did_create)
-            .some(&self.will_create)
-            .some(&self.did_rename)
-            .some(&self.will_rename)
-            .some(&self.did_delete)
-            .some(&self.will_delete)
-    }
-}
-
-impl Serialize for FileOperationOptions {
-    fn serialize<S: Serializer>(&self, out: &mut S) -> Result<(), S::Error> {
-        write_object(self, out)
-    }
 }
 
 impl ReadMembers for FileOperationOptions {
@@ -518,22 +498,21 @@ pub struct RelativePattern {
     pub pattern: String,
 }
 
-impl Described for RelativePattern {}
+impl ToJson for RelativePattern {
+    ghost stands = { λ it. object_of (
+        (codes "baseUri", Some (⟦<String as ToJson>⟧.stands it.base_uri))
+        ∷ (codes "pattern", Some (⟦<String as ToJson>⟧.stands it.pattern)) ∷ []) };
+
+    fn to_json(&self, alloc: Global) -> Result<Value, AllocError> {
+        Object::new(alloc)
+            .member("baseUri", &self.base_uri)
+            .member("pattern", &self.pattern)
+            .end()
+    }
+}
 
 impl Keyed for RelativePattern {
     const KEYS: &'static [&'static str] = &["baseUri", "pattern"];
-}
-
-impl WriteMembers for RelativePattern {
-    fn write<O: Sink>(&self, out: O) -> O {
-        out.member(&self.base_uri).member(&self.pattern)
-    }
-}
-
-impl Serialize for RelativePattern {
-    fn serialize<S: Serializer>(&self, out: &mut S) -> Result<(), S::Error> {
-        write_object(self, out)
-    }
 }
 
 impl ReadMembers for RelativePattern {
@@ -563,13 +542,18 @@ pub enum GlobPattern {
     Relative(RelativePattern),
 }
 
-impl Described for GlobPattern {}
+impl ToJson for GlobPattern {
+    ghost use Rattle.lsp_types_workspace.specs.declared.files.GlobPattern.TheVariants.{Pattern, Relative};
 
-impl Serialize for GlobPattern {
-    fn serialize<S: Serializer>(&self, out: &mut S) -> Result<(), S::Error> {
+    ghost stands = { elim [
+      | Pattern it ↦ ⟦<String as ToJson>⟧.stands it
+      | Relative it ↦ ⟦<RelativePattern as ToJson>⟧.stands it
+    ] };
+
+    fn to_json(&self, alloc: Global) -> Result<Value, AllocError> {
         match self {
-            GlobPattern::Pattern(it) => it.serialize(out),
-            GlobPattern::Relative(it) => it.serialize(out),
+            GlobPattern::Pattern(it) => it.to_json(alloc),
+            GlobPattern::Relative(it) => it.to_json(alloc),
         }
     }
 }
@@ -605,22 +589,21 @@ pub struct FileSystemWatcher {
     pub kind: Option<u32>,
 }
 
-impl Described for FileSystemWatcher {}
+impl ToJson for FileSystemWatcher {
+    ghost stands = { λ it. object_of (
+        (codes "globPattern", Some (⟦<GlobPattern as ToJson>⟧.stands it.glob_pattern))
+        ∷ (codes "kind", option_map ⟦<u32 as ToJson>⟧.stands it.kind) ∷ []) };
+
+    fn to_json(&self, alloc: Global) -> Result<Value, AllocError> {
+        Object::new(alloc)
+            .member("globPattern", &self.glob_pattern)
+            .some("kind", &self.kind)
+            .end()
+    }
+}
 
 impl Keyed for FileSystemWatcher {
     const KEYS: &'static [&'static str] = &["globPattern", "kind"];
-}
-
-impl WriteMembers for FileSystemWatcher {
-    fn write<O: Sink>(&self, out: O) -> O {
-        out.member(&self.glob_pattern).some(&self.kind)
-    }
-}
-
-impl Serialize for FileSystemWatcher {
-    fn serialize<S: Serializer>(&self, out: &mut S) -> Result<(), S::Error> {
-        write_object(self, out)
-    }
 }
 
 impl ReadMembers for FileSystemWatcher {
@@ -649,22 +632,17 @@ pub struct DidChangeWatchedFilesRegistrationOptions {
     pub watchers: Vec<FileSystemWatcher>,
 }
 
-impl Described for DidChangeWatchedFilesRegistrationOptions {}
+impl ToJson for DidChangeWatchedFilesRegistrationOptions {
+    ghost stands = { λ it. object_of (
+        (codes "watchers", Some (⟦<Vec<FileSystemWatcher> as ToJson>⟧.stands it.watchers)) ∷ []) };
+
+    fn to_json(&self, alloc: Global) -> Result<Value, AllocError> {
+        Object::new(alloc).member("watchers", &self.watchers).end()
+    }
+}
 
 impl Keyed for DidChangeWatchedFilesRegistrationOptions {
     const KEYS: &'static [&'static str] = &["watchers"];
-}
-
-impl WriteMembers for DidChangeWatchedFilesRegistrationOptions {
-    fn write<O: Sink>(&self, out: O) -> O {
-        out.member(&self.watchers)
-    }
-}
-
-impl Serialize for DidChangeWatchedFilesRegistrationOptions {
-    fn serialize<S: Serializer>(&self, out: &mut S) -> Result<(), S::Error> {
-        write_object(self, out)
-    }
 }
 
 impl ReadMembers for DidChangeWatchedFilesRegistrationOptions {

@@ -1,5 +1,5 @@
 //! Types of LSP 3.17 for files that are made, renamed, deleted or watched, and for notebooks. As in `lsp_types`, each is safe and each call
-//! returns; that its keys are the standard's is tested and not proved.
+//! returns, and what it is written as is proved; that the keys are the standard's is tested.
 #![tactic(auto)]
 
 mod files;

@@ -1,16 +1,17 @@
 //! Notebooks, whose cells are documents of their own.
 // `tools/types` wrote this file from `types.txt`: change that.
+ghost use Rattle.std.specs.Prelude.{◌∷◌, [], Some, codes, option_map};
+ghost use Rattle.serde_json.specs.Data.{number, unsigned};
+ghost use Rattle.lsp_types.specs.Json.{object_of};
+
 use lsp_text::ContentChange;
 use lsp_types::json::{
-    Blank, Changes, Keyed, ReadMembers, Sink, Source, WriteMembers, number_within, read_object,
-    write_object,
+    Blank, Changes, Keyed, Object, ReadMembers, Source, ToJson, number_within, read_object,
 };
 use lsp_types::{TextDocumentIdentifier, TextDocumentItem, VersionedTextDocumentIdentifier};
-use serde::{
-    Described, Deserialize, DeserializeOwned, Deserializer, Format, Serialize, Serializer,
-};
+use serde::{Deserialize, DeserializeOwned, Deserializer, Format};
 use serde_json::Value;
-use std::alloc::Global;
+use std::alloc::{AllocError, Global};
 
 /// What a cell holds (LSP 3.17, "NotebookCellKind"). On reading, another number is refused.
 #[derive(Clone, Copy, Drop)]
@@ -23,11 +24,11 @@ impl NotebookCellKind {
     pub const CODE: NotebookCellKind = NotebookCellKind(2);
 }
 
-impl Described for NotebookCellKind {}
+impl ToJson for NotebookCellKind {
+    ghost stands = { λ it. number (unsigned it.0) };
 
-impl Serialize for NotebookCellKind {
-    fn serialize<S: Serializer>(&self, out: &mut S) -> Result<(), S::Error> {
-        self.0.serialize(out)
+    fn to_json(&self, alloc: Global) -> Result<Value, AllocError> {
+        self.0.to_json(alloc)
     }
 }
 
@@ -67,22 +68,21 @@ pub struct ExecutionSummary {
     pub success: Option<bool>,
 }
 
-impl Described for ExecutionSummary {}
+impl ToJson for ExecutionSummary {
+    ghost stands = { λ it. object_of (
+        (codes "executionOrder", Some (⟦<u32 as ToJson>⟧.stands it.execution_order))
+        ∷ (codes "success", option_map ⟦<bool as ToJson>⟧.stands it.success) ∷ []) };
+
+    fn to_json(&self, alloc: Global) -> Result<Value, AllocError> {
+        Object::new(alloc)
+            .member("executionOrder", &self.execution_order)
+            .some("success", &self.success)
+            .end()
+    }
+}
 
 impl Keyed for ExecutionSummary {
     const KEYS: &'static [&'static str] = &["executionOrder", "success"];
-}
-
-impl WriteMembers for ExecutionSummary {
-    fn write<O: Sink>(&self, out: O) -> O {
-        out.member(&self.execution_order).some(&self.success)
-    }
-}
-
-impl Serialize for ExecutionSummary {
-    fn serialize<S: Serializer>(&self, out: &mut S) -> Result<(), S::Error> {
-        write_object(self, out)
-    }
 }
 
 impl ReadMembers for ExecutionSummary {
@@ -116,25 +116,25 @@ pub struct NotebookCell {
     pub execution_summary: Option<ExecutionSummary>,
 }
 
-impl Described for NotebookCell {}
+impl ToJson for NotebookCell {
+    ghost stands = { λ it. object_of (
+        (codes "kind", Some (⟦<NotebookCellKind as ToJson>⟧.stands it.kind))
+        ∷ (codes "document", Some (⟦<String as ToJson>⟧.stands it.document))
+        ∷ (codes "metadata", option_map ⟦<Value as ToJson>⟧.stands it.metadata)
+        ∷ (codes "executionSummary", option_map ⟦<ExecutionSummary as ToJson>⟧.stands it.execution_summary) ∷ []) };
+
+    fn to_json(&self, alloc: Global) -> Result<Value, AllocError> {
+        Object::new(alloc)
+            .member("kind", &self.kind)
+            .member("document", &self.document)
+            .some("metadata", &self.metadata)
+            .some("executionSummary", &self.execution_summary)
+            .end()
+    }
+}
 
 impl Keyed for NotebookCell {
     const KEYS: &'static [&'static str] = &["kind", "document", "metadata", "executionSummary"];
-}
-
-impl WriteMembers for NotebookCell {
-    fn write<O: Sink>(&self, out: O) -> O {
-        out.member(&self.kind)
-            .member(&self.document)
-            .some(&self.metadata)
-            .some(&self.execution_summary)
-    }
-}
-
-impl Serialize for NotebookCell {
-    fn serialize<S: Serializer>(&self, out: &mut S) -> Result<(), S::Error> {
-        write_object(self, out)
-    }
 }
 
 impl ReadMembers for NotebookCell {
@@ -172,26 +172,27 @@ pub struct NotebookDocument {
     pub cells: Vec<NotebookCell>,
 }
 
-impl Described for NotebookDocument {}
+impl ToJson for NotebookDocument {
+    ghost stands = { λ it. object_of (
+        (codes "uri", Some (⟦<String as ToJson>⟧.stands it.uri))
+        ∷ (codes "notebookType", Some (⟦<String as ToJson>⟧.stands it.notebook_type))
+        ∷ (codes "version", Some (⟦<i32 as ToJson>⟧.stands it.version))
+        ∷ (codes "metadata", option_map ⟦<Value as ToJson>⟧.stands it.metadata)
+        ∷ (codes "cells", Some (⟦<Vec<NotebookCell> as ToJson>⟧.stands it.cells)) ∷ []) };
+
+    fn to_json(&self, alloc: Global) -> Result<Value, AllocError> {
+        Object::new(alloc)
+            .member("uri", &self.uri)
+            .member("notebookType", &self.notebook_type)
+            .member("version", &self.version)
+            .some("metadata", &self.metadata)
+            .member("cells", &self.cells)
+            .end()
+    }
+}
 
 impl Keyed for NotebookDocument {
     const KEYS: &'static [&'static str] = &["uri", "notebookType", "version", "metadata", "cells"];
-}
-
-impl WriteMembers for NotebookDocument {
-    fn write<O: Sink>(&self, out: O) -> O {
-        out.member(&self.uri)
-            .member(&self.notebook_type)
-            .member(&self.version)
-            .some(&self.metadata)
-            .member(&self.cells)
-    }
-}
-
-impl Serialize for NotebookDocument {
-    fn serialize<S: Serializer>(&self, out: &mut S) -> Result<(), S::Error> {
-        write_object(self, out)
-    }
 }
 
 impl ReadMembers for NotebookDocument {
@@ -224,23 +225,21 @@ pub struct DidOpenNotebookDocumentParams {
     pub cell_text_documents: Vec<TextDocumentItem>,
 }
 
-impl Described for DidOpenNotebookDocumentParams {}
+impl ToJson for DidOpenNotebookDocumentParams {
+    ghost stands = { λ it. object_of (
+        (codes "notebookDocument", Some (⟦<NotebookDocument as ToJson>⟧.stands it.notebook_document))
+        ∷ (codes "cellTextDocuments", Some (⟦<Vec<TextDocumentItem> as ToJson>⟧.stands it.cell_text_documents)) ∷ []) };
+
+    fn to_json(&self, alloc: Global) -> Result<Value, AllocError> {
+        Object::new(alloc)
+            .member("notebookDocument", &self.notebook_document)
+            .member("cellTextDocuments", &self.cell_text_documents)
+            .end()
+    }
+}
 
 impl Keyed for DidOpenNotebookDocumentParams {
     const KEYS: &'static [&'static str] = &["notebookDocument", "cellTextDocuments"];
-}
-
-impl WriteMembers for DidOpenNotebookDocumentParams {
-    fn write<O: Sink>(&self, out: O) -> O {
-        out.member(&self.notebook_document)
-            .member(&self.cell_text_documents)
-    }
-}
-
-impl Serialize for DidOpenNotebookDocumentParams {
-    fn serialize<S: Serializer>(&self, out: &mut S) -> Result<(), S::Error> {
-        write_object(self, out)
-    }
 }
 
 impl ReadMembers for DidOpenNotebookDocumentParams {
@@ -270,22 +269,21 @@ pub struct VersionedNotebookDocumentIdentifier {
     pub uri: String,
 }
 
-impl Described for VersionedNotebookDocumentIdentifier {}
+impl ToJson for VersionedNotebookDocumentIdentifier {
+    ghost stands = { λ it. object_of (
+        (codes "version", Some (⟦<i32 as ToJson>⟧.stands it.version))
+        ∷ (codes "uri", Some (⟦<String as ToJson>⟧.stands it.uri)) ∷ []) };
+
+    fn to_json(&self, alloc: Global) -> Result<Value, AllocError> {
+        Object::new(alloc)
+            .member("version", &self.version)
+            .member("uri", &self.uri)
+            .end()
+    }
+}
 
 impl Keyed for VersionedNotebookDocumentIdentifier {
     const KEYS: &'static [&'static str] = &["version", "uri"];
-}
-
-impl WriteMembers for VersionedNotebookDocumentIdentifier {
-    fn write<O: Sink>(&self, out: O) -> O {
-        out.member(&self.version).member(&self.uri)
-    }
-}
-
-impl Serialize for VersionedNotebookDocumentIdentifier {
-    fn serialize<S: Serializer>(&self, out: &mut S) -> Result<(), S::Error> {
-        write_object(self, out)
-    }
 }
 
 impl ReadMembers for VersionedNotebookDocumentIdentifier {
@@ -317,24 +315,23 @@ pub struct NotebookCellArrayChange {
     pub cells: Option<Vec<NotebookCell>>,
 }
 
-impl Described for NotebookCellArrayChange {}
+impl ToJson for NotebookCellArrayChange {
+    ghost stands = { λ it. object_of (
+        (codes "start", Some (⟦<u32 as ToJson>⟧.stands it.start))
+        ∷ (codes "deleteCount", Some (⟦<u32 as ToJson>⟧.stands it.delete_count))
+        ∷ (codes "cells", option_map ⟦<Vec<NotebookCell> as ToJson>⟧.stands it.cells) ∷ []) };
+
+    fn to_json(&self, alloc: Global) -> Result<Value, AllocError> {
+        Object::new(alloc)
+            .member("start", &self.start)
+            .member("deleteCount", &self.delete_count)
+            .some("cells", &self.cells)
+            .end()
+    }
+}
 
 impl Keyed for NotebookCellArrayChange {
     const KEYS: &'static [&'static str] = &["start", "deleteCount", "cells"];
-}
-
-impl WriteMembers for NotebookCellArrayChange {
-    fn write<O: Sink>(&self, out: O) -> O {
-        out.member(&self.start)
-            .member(&self.delete_count)
-            .some(&self.cells)
-    }
-}
-
-impl Serialize for NotebookCellArrayChange {
-    fn serialize<S: Serializer>(&self, out: &mut S) -> Result<(), S::Error> {
-        write_object(self, out)
-    }
 }
 
 impl ReadMembers for NotebookCellArrayChange {
@@ -367,24 +364,23 @@ pub struct NotebookCellStructure {
     pub did_close: Option<Vec<TextDocumentIdentifier>>,
 }
 
-impl Described for NotebookCellStructure {}
+impl ToJson for NotebookCellStructure {
+    ghost stands = { λ it. object_of (
+        (codes "array", Some (⟦<NotebookCellArrayChange as ToJson>⟧.stands it.array))
+        ∷ (codes "didOpen", option_map ⟦<Vec<TextDocumentItem> as ToJson>⟧.stands it.did_open)
+        ∷ (codes "didClose", option_map ⟦<Vec<TextDocumentIdentifier> as ToJson>⟧.stands it.did_close) ∷ []) };
+
+    fn to_json(&self, alloc: Global) -> Result<Value, AllocError> {
+        Object::new(alloc)
+            .member("array", &self.array)
+            .some("didOpen", &self.did_open)
+            .some("didClose", &self.did_close)
+            .end()
+    }
+}
 
 impl Keyed for NotebookCellStructure {
     const KEYS: &'static [&'static str] = &["array", "didOpen", "didClose"];
-}
-
-impl WriteMembers for NotebookCellStructure {
-    fn write<O: Sink>(&self, out: O) -> O {
-        out.member(&self.array)
-            .some(&self.did_open)
-            .some(&self.did_close)
-    }
-}
-
-impl Serialize for NotebookCellStructure {
-    fn serialize<S: Serializer>(&self, out: &mut S) -> Result<(), S::Error> {
-        write_object(self, out)
-    }
 }
 
 impl ReadMembers for NotebookCellStructure {
@@ -415,22 +411,21 @@ pub struct NotebookCellTextChange {
     pub changes: Vec<ContentChange>,
 }
 
-impl Described for NotebookCellTextChange {}
+impl ToJson for NotebookCellTextChange {
+    ghost stands = { λ it. object_of (
+        (codes "document", Some (⟦<VersionedTextDocumentIdentifier as ToJson>⟧.stands it.document))
+        ∷ (codes "changes", Some (⟦<Vec<ContentChange> as ToJson>⟧.stands it.changes)) ∷ []) };
+
+    fn to_json(&self, alloc: Global) -> Result<Value, AllocError> {
+        Object::new(alloc)
+            .member("document", &self.document)
+            .member("changes", &self.changes)
+            .end()
+    }
+}
 
 impl Keyed for NotebookCellTextChange {
     const KEYS: &'static [&'static str] = &["document", "changes"];
-}
-
-impl WriteMembers for NotebookCellTextChange {
-    fn write<O: Sink>(&self, out: O) -> O {
-        out.member(&self.document).member(&self.changes)
-    }
-}
-
-impl Serialize for NotebookCellTextChange {
-    fn serialize<S: Serializer>(&self, out: &mut S) -> Result<(), S::Error> {
-        write_object(self, out)
-    }
 }
 
 impl ReadMembers for NotebookCellTextChange {
@@ -462,24 +457,23 @@ pub struct NotebookCellChanges {
     pub text_content: Option<Vec<NotebookCellTextChange>>,
 }
 
-impl Described for NotebookCellChanges {}
+impl ToJson for NotebookCellChanges {
+    ghost stands = { λ it. object_of (
+        (codes "structure", option_map ⟦<NotebookCellStructure as ToJson>⟧.stands it.structure)
+        ∷ (codes "data", option_map ⟦<Vec<NotebookCell> as ToJson>⟧.stands it.«data»)
+        ∷ (codes "textContent", option_map ⟦<Vec<NotebookCellTextChange> as ToJson>⟧.stands it.text_content) ∷ []) };
+
+    fn to_json(&self, alloc: Global) -> Result<Value, AllocError> {
+        Object::new(alloc)
+            .some("structure", &self.structure)
+            .some("data", &self.data)
+            .some("textContent", &self.text_content)
+            .end()
+    }
+}
 
 impl Keyed for NotebookCellChanges {
     const KEYS: &'static [&'static str] = &["structure", "data", "textContent"];
-}
-
-impl WriteMembers for NotebookCellChanges {
-    fn write<O: Sink>(&self, out: O) -> O {
-        out.some(&self.structure)
-            .some(&self.data)
-            .some(&self.text_content)
-    }
-}
-
-impl Serialize for NotebookCellChanges {
-    fn serialize<S: Serializer>(&self, out: &mut S) -> Result<(), S::Error> {
-        write_object(self, out)
-    }
 }
 
 impl ReadMembers for NotebookCellChanges {
@@ -510,22 +504,21 @@ pub struct NotebookDocumentChangeEvent {
     pub cells: Option<NotebookCellChanges>,
 }
 
-impl Described for NotebookDocumentChangeEvent {}
+impl ToJson for NotebookDocumentChangeEvent {
+    ghost stands = { λ it. object_of (
+        (codes "metadata", option_map ⟦<Value as ToJson>⟧.stands it.metadata)
+        ∷ (codes "cells", option_map ⟦<NotebookCellChanges as ToJson>⟧.stands it.cells) ∷ []) };
+
+    fn to_json(&self, alloc: Global) -> Result<Value, AllocError> {
+        Object::new(alloc)
+            .some("metadata", &self.metadata)
+            .some("cells", &self.cells)
+            .end()
+    }
+}
 
 impl Keyed for NotebookDocumentChangeEvent {
     const KEYS: &'static [&'static str] = &["metadata", "cells"];
-}
-
-impl WriteMembers for NotebookDocumentChangeEvent {
-    fn write<O: Sink>(&self, out: O) -> O {
-        out.some(&self.metadata).some(&self.cells)
-    }
-}
-
-impl Serialize for NotebookDocumentChangeEvent {
-    fn serialize<S: Serializer>(&self, out: &mut S) -> Result<(), S::Error> {
-        write_object(self, out)
-    }
 }
 
 impl ReadMembers for NotebookDocumentChangeEvent {
@@ -555,22 +548,21 @@ pub struct DidChangeNotebookDocumentParams {
     pub change: NotebookDocumentChangeEvent,
 }
 
-impl Described for DidChangeNotebookDocumentParams {}
+impl ToJson for DidChangeNotebookDocumentParams {
+    ghost stands = { λ it. object_of (
+        (codes "notebookDocument", Some (⟦<VersionedNotebookDocumentIdentifier as ToJson>⟧.stands it.notebook_document))
+        ∷ (codes "change", Some (⟦<NotebookDocumentChangeEvent as ToJson>⟧.stands it.change)) ∷ []) };
+
+    fn to_json(&self, alloc: Global) -> Result<Value, AllocError> {
+        Object::new(alloc)
+            .member("notebookDocument", &self.notebook_document)
+            .member("change", &self.change)
+            .end()
+    }
+}
 
 impl Keyed for DidChangeNotebookDocumentParams {
     const KEYS: &'static [&'static str] = &["notebookDocument", "change"];
-}
-
-impl WriteMembers for DidChangeNotebookDocumentParams {
-    fn write<O: Sink>(&self, out: O) -> O {
-        out.member(&self.notebook_document).member(&self.change)
-    }
-}
-
-impl Serialize for DidChangeNotebookDocumentParams {
-    fn serialize<S: Serializer>(&self, out: &mut S) -> Result<(), S::Error> {
-        write_object(self, out)
-    }
 }
 
 impl ReadMembers for DidChangeNotebookDocumentParams {
@@ -601,22 +593,19 @@ pub struct DidSaveNotebookDocumentParams {
     pub notebook_document: NotebookDocumentIdentifier,
 }
 
-impl Described for DidSaveNotebookDocumentParams {}
+impl ToJson for DidSaveNotebookDocumentParams {
+    ghost stands = { λ it. object_of (
+        (codes "notebookDocument", Some (⟦<NotebookDocumentIdentifier as ToJson>⟧.stands it.notebook_document)) ∷ []) };
+
+    fn to_json(&self, alloc: Global) -> Result<Value, AllocError> {
+        Object::new(alloc)
+            .member("notebookDocument", &self.notebook_document)
+            .end()
+    }
+}
 
 impl Keyed for DidSaveNotebookDocumentParams {
     const KEYS: &'static [&'static str] = &["notebookDocument"];
-}
-
-impl WriteMembers for DidSaveNotebookDocumentParams {
-    fn write<O: Sink>(&self, out: O) -> O {
-        out.member(&self.notebook_document)
-    }
-}
-
-impl Serialize for DidSaveNotebookDocumentParams {
-    fn serialize<S: Serializer>(&self, out: &mut S) -> Result<(), S::Error> {
-        write_object(self, out)
-    }
 }
 
 impl ReadMembers for DidSaveNotebookDocumentParams {
@@ -645,23 +634,21 @@ pub struct DidCloseNotebookDocumentParams {
     pub cell_text_documents: Vec<TextDocumentIdentifier>,
 }
 
-impl Described for DidCloseNotebookDocumentParams {}
+impl ToJson for DidCloseNotebookDocumentParams {
+    ghost stands = { λ it. object_of (
+        (codes "notebookDocument", Some (⟦<NotebookDocumentIdentifier as ToJson>⟧.stands it.notebook_document))
+        ∷ (codes "cellTextDocuments", Some (⟦<Vec<TextDocumentIdentifier> as ToJson>⟧.stands it.cell_text_documents)) ∷ []) };
+
+    fn to_json(&self, alloc: Global) -> Result<Value, AllocError> {
+        Object::new(alloc)
+            .member("notebookDocument", &self.notebook_document)
+            .member("cellTextDocuments", &self.cell_text_documents)
+            .end()
+    }
+}
 
 impl Keyed for DidCloseNotebookDocumentParams {
     const KEYS: &'static [&'static str] = &["notebookDocument", "cellTextDocuments"];
-}
-
-impl WriteMembers for DidCloseNotebookDocumentParams {
-    fn write<O: Sink>(&self, out: O) -> O {
-        out.member(&self.notebook_document)
-            .member(&self.cell_text_documents)
-    }
-}
-
-impl Serialize for DidCloseNotebookDocumentParams {
-    fn serialize<S: Serializer>(&self, out: &mut S) -> Result<(), S::Error> {
-        write_object(self, out)
-    }
 }
 
 impl ReadMembers for DidCloseNotebookDocumentParams {

@@ -7,7 +7,7 @@ use crate::typed::{listed, refused, taken_id};
 use crate::types::get;
 use lsp_message::{ErrorCode, Message, Notification, Request, RequestId, ResponseError};
 use lsp_methods::{
-    Configuration, answer, on_notification, on_request, read_params, tell, try_answer,
+    Configuration, answer, on_notification, on_request, read_params, reply, tell, try_answer,
 };
 use lsp_service::Act;
 use lsp_types::methods::{
@@ -88,7 +88,10 @@ fn above(
 
 fn folds(alloc: Global, id: RequestId, params: FoldingRangeParams) -> Acts {
     drop(params);
-    listed(alloc, Act::reply(alloc, id, &[FoldingRange::new(1, 2)]))
+    let folds = Some(vec![in alloc; FoldingRange::new(1, 2)]?);
+    let reply = reply::<FoldingRangeRequest, u32>(alloc, id, &folds);
+    drop(folds);
+    listed(alloc, reply)
 }
 
 fn completed(alloc: Global, request: Request) -> Acts
@@ -154,6 +157,13 @@ fn say_reply(said: &mut Said, id: RequestId, outcome: Result<Value, ResponseErro
 fn say(said: &mut Said, act: Act<u32>) {
     match act {
         Act::Reply(id, outcome) => say_reply(said, id, outcome),
+        Act::ReplyText(id, text) => match text.into_value(said.alloc) {
+            Ok(found) => say_reply(said, id, Ok(found)),
+            Err(_) => {
+                drop(id);
+                said.is_short = true;
+            }
+        },
         Act::Tell(notification) => {
             let Notification { method, params } = notification;
             said.push("tell ");

@@ -1,6 +1,6 @@
 // Values of the types of `lsp_types_features` and `lsp_types_workspace`.
 use crate::said::Said;
-use crate::types::{back, get, of_other, say_written};
+use crate::types::{back, get, of_other, say_json};
 use lsp_types::{Position, Range};
 use lsp_types_features::{
     CallHierarchyIncomingCall, CallHierarchyIncomingCallsParams, CallHierarchyItem,
@@ -90,7 +90,7 @@ pub fn selection(said: &mut Said, found: &Value) {
         );
     }
     if let Some(selection) = &around {
-        say_written(said, &**selection);
+        say_json(said, &**selection);
     }
     drop(around);
     drop(ranges);

@@ -1,8 +1,8 @@
 // Values that are read by types of serde's own kinds and written again. A row is `plain TYPE: VALUE; VALUE; ..`.
 use crate::said::{Said, Stepped};
-use crate::types::back;
+use crate::types::{read_text, read_typed, reason, say_both, text_of};
 use serde::{Deserialize, DeserializeOwned, Deserializer, Format, Serialize};
-use serde_json::Value;
+use serde_json::{Error, Value, to_value};
 use std::alloc::Global;
 use std::collections::BTreeMap;
 
@@ -92,6 +92,29 @@ impl DeserializeOwned for Empty {
             Some(_) => Err(from.unknown_key()),
             None => Ok(Empty),
         }
+    }
+}
+
+/// As `types::back`, of a type that serde writes.
+fn back<T: Serialize + DeserializeOwned + Drop>(said: &mut Said, text: &str) {
+    said.is_wrong = false;
+    let straight = written(said, read_typed::<T>(said.alloc, text));
+    let by_text = written(said, read_text::<T>(said.alloc, text));
+    say_both(said, straight, by_text);
+}
+
+/// What was read, as it is written again, or why it was not.
+fn written<T: Serialize + Drop>(said: &mut Said, read: Result<T, Error>) -> String {
+    match read {
+        Ok(value) => {
+            let tree = to_value(said.alloc, &value);
+            drop(value);
+            match tree {
+                Ok(tree) => text_of(said, tree),
+                Err(error) => reason(said, error),
+            }
+        }
+        Err(error) => reason(said, error),
     }
 }
 

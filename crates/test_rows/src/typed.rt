@@ -9,7 +9,10 @@ use std::alloc::{AllocError, AllocFailed, Global};
 /// - `typed/show` shows a text, and gives null.
 /// - `typed/marks` publishes the position as what is wrong with the document, at version 7, and gives null. In the first line nothing
 ///   is wrong, at no version.
-pub fn asked<P: Drop>(alloc: Global, request: Request) -> Result<Vec<Act<P>>, AllocError> {
+pub fn asked<P: Drop + PartialEq>(
+    alloc: Global,
+    request: Request,
+) -> Result<Vec<Act<P>>, AllocError> {
     match request.method.as_str() {
         "typed/uri" => Act::answer(alloc, request, |place: TextDocumentPositionParams| {
             Ok(place.text_document.uri)
@@ -70,7 +73,7 @@ fn and<T: Drop>(mut items: Vec<T>, item: Result<T, AllocError>) -> Result<Vec<T>
 }
 
 /// Tells the position, and has the client log a warning.
-pub fn noticed<P: Drop>(
+pub fn noticed<P: Drop + PartialEq>(
     alloc: Global,
     notification: Notification,
 ) -> Result<Vec<Act<P>>, AllocError> {
@@ -105,12 +108,12 @@ pub fn refused<T: Drop, E: Drop>(made: Result<E, AllocError>) -> Result<Result<T
     }
 }
 
-fn shown<P: Drop>(alloc: Global, id: RequestId) -> Result<Vec<Act<P>>, AllocError> {
+fn shown<P: Drop + PartialEq>(alloc: Global, id: RequestId) -> Result<Vec<Act<P>>, AllocError> {
     let shown = Act::show(alloc, MessageType::INFO, "here");
     both(alloc, shown, Act::reply(alloc, id, &()))
 }
 
-fn marked<P: Drop>(
+fn marked<P: Drop + PartialEq>(
     alloc: Global,
     id: RequestId,
     place: TextDocumentPositionParams,
@@ -126,7 +129,7 @@ fn marked<P: Drop>(
     both(alloc, marked, Act::reply(alloc, id, &()))
 }
 
-fn told<P: Drop>(alloc: Global, at: Position) -> Result<Vec<Act<P>>, AllocError> {
+fn told<P: Drop + PartialEq>(alloc: Global, at: Position) -> Result<Vec<Act<P>>, AllocError> {
     let told = Act::tell(alloc, "typed/told", &at);
     both(alloc, told, Act::log(alloc, MessageType::WARNING, "told"))
 }

@@ -22,7 +22,7 @@ use lsp_types::{
     ShowDocumentParams, ShowDocumentResult, ShowMessageParams, ShowMessageRequestParams,
     SignatureHelp, SignatureHelpOptions, SignatureHelpParams, SymbolKind, TextDocumentParams,
     TextDocumentPositionParams, TextDocumentRangeParams, TextDocumentSyncKind,
-    TextDocumentSyncOptions, UnregistrationParams, WillSaveTextDocumentParams,
+    TextDocumentSyncOptions, ToJson, UnregistrationParams, WillSaveTextDocumentParams,
     WorkDoneProgressBegin, WorkDoneProgressCreateParams, WorkDoneProgressEnd,
     WorkDoneProgressParams, WorkDoneProgressReport, WorkspaceFoldersServerCapabilities,
     WorkspaceOptions, WorkspaceSymbol, WorkspaceSymbolParams,
@@ -70,7 +70,15 @@ fn read_or<T: Drop>(said: &mut Said, found: Result<T, Error>, otherwise: T) -> T
     }
 }
 
-/// Says a value as JSON writes it.
+/// Says a type of LSP as JSON writes it.
+pub fn say_json<T: ToJson>(said: &mut Said, value: &T) {
+    match value.to_json(said.alloc) {
+        Ok(tree) => said.show(tree),
+        Err(_) => said.is_short = true,
+    }
+}
+
+/// Says another value as JSON writes it.
 pub fn say_written<T: Serialize>(said: &mut Said, value: &T) {
     match to_value(said.alloc, value) {
         Ok(tree) => said.show(tree),
@@ -80,10 +88,15 @@ pub fn say_written<T: Serialize>(said: &mut Said, value: &T) {
 
 /// Says the value that a text of JSON has by a type, as it is written again, or `refused`. It is read straight and through its text; if
 /// the two differ, it says both.
-pub fn back<T: Serialize + DeserializeOwned + Drop>(said: &mut Said, text: &str) {
+pub fn back<T: ToJson + DeserializeOwned + Drop>(said: &mut Said, text: &str) {
     said.is_wrong = false;
     let straight = written(said, read_typed::<T>(said.alloc, text));
     let by_text = written(said, read_text::<T>(said.alloc, text));
+    say_both(said, straight, by_text);
+}
+
+/// Says what was read straight and through its text: once, if the two are the same.
+pub fn say_both(said: &mut Said, straight: String, by_text: String) {
     if straight != by_text {
         said.push(straight.as_str());
         said.push(", but by its text ");
@@ -97,7 +110,7 @@ pub fn back<T: Serialize + DeserializeOwned + Drop>(said: &mut Said, text: &str)
 }
 
 /// The value that a text of JSON has by its type, read through the text.
-fn read_text<T: DeserializeOwned>(alloc: Global, text: &str) -> Result<T, Error> {
+pub fn read_text<T: DeserializeOwned>(alloc: Global, text: &str) -> Result<T, Error> {
     match Value::from_str(alloc, text) {
         Ok(value) => serde_json::from_value(alloc, value),
         Err(error) => Err(error),
@@ -105,7 +118,7 @@ fn read_text<T: DeserializeOwned>(alloc: Global, text: &str) -> Result<T, Error>
 }
 
 /// What was read, as it is written again, or why it was not.
-fn written<T: Serialize + Drop>(said: &mut Said, read: Result<T, Error>) -> String {
+fn written<T: ToJson + Drop>(said: &mut Said, read: Result<T, Error>) -> String {
     match read {
         Ok(value) => {
             let told = text_by(said, &value);
@@ -116,19 +129,26 @@ fn written<T: Serialize + Drop>(said: &mut Said, read: Result<T, Error>) -> Stri
     }
 }
 
-/// A value as JSON writes it, or why it does not.
-fn text_by<T: Serialize>(said: &mut Said, value: &T) -> String {
-    match to_value(said.alloc, value) {
-        Ok(tree) => {
-            let told = tree.to_string(said.alloc);
-            drop(tree);
-            said.made(told, String::new(said.alloc))
+/// A value as JSON writes it.
+fn text_by<T: ToJson>(said: &mut Said, value: &T) -> String {
+    match value.to_json(said.alloc) {
+        Ok(tree) => text_of(said, tree),
+        Err(_) => {
+            said.is_short = true;
+            String::new(said.alloc)
         }
-        Err(error) => reason(said, error),
     }
 }
 
-fn reason(said: &mut Said, error: Error) -> String {
+/// The text of a tree.
+pub fn text_of(said: &mut Said, tree: Value) -> String {
+    let told = tree.to_string(said.alloc);
+    drop(tree);
+    said.made(told, String::new(said.alloc))
+}
+
+/// Why a value was not read or written.
+pub fn reason(said: &mut Said, error: Error) -> String {
     let told = format!(in said.alloc; "{error}");
     said.refuse(error);
     said.made(told, String::new(said.alloc))
@@ -259,7 +279,7 @@ fn of_members(said: &mut Said, name: &str, found: &Value) {
         },
         "ServerCapabilities" => {
             let all = capabilities(said, found);
-            say_written(said, &all);
+            say_json(said, &all);
             drop(all);
         }
         "DocumentCapabilities" => document_capabilities(said, found),
@@ -276,7 +296,7 @@ fn document_capabilities(said: &mut Said, params: &Value) {
     let client = params.get("capabilities").unwrap_or(&none);
     match Agreed::with_capabilities(said.alloc, client, include_text) {
         Ok((_, can)) => {
-            say_written(said, &can);
+            say_json(said, &can);
             drop(can);
         }
         Err(_) => said.is_short = true,
@@ -322,12 +342,12 @@ pub fn get<T: DeserializeOwned + Drop>(
     read_or(said, found, otherwise)
 }
 
-fn progress<T: Serialize + DeserializeOwned + Drop>(said: &mut Said, found: &Value) {
+fn progress<T: ToJson + DeserializeOwned + Drop>(said: &mut Said, found: &Value) {
     let token = get(said, found, "token", NumberOrString::Number(0));
     match member::<T>(said.alloc, found, "value") {
         Ok(value) => {
             let told = ProgressParams { token, value };
-            say_written(said, &told);
+            say_json(said, &told);
             drop(told);
         }
         Err(error) => {
@@ -341,7 +361,7 @@ fn progress<T: Serialize + DeserializeOwned + Drop>(said: &mut Said, found: &Val
 fn symbol_with_children(said: &mut Said, found: &Value) {
     let mut symbol = symbol(said, found);
     add_children(said, found, &mut symbol.children);
-    say_written(said, &symbol);
+    say_json(said, &symbol);
     drop(symbol);
 }
 
@@ -378,8 +398,17 @@ fn initialized(said: &mut Said, found: &Value) {
         capabilities: ServerCapabilities::default(),
         server_info,
     };
-    say_written(said, &result);
+    say_json(said, &result);
     drop(result);
+}
+
+/// The object that is given as `more`, if one is.
+fn more(said: &mut Said, found: &Value) -> Option<Value> {
+    let more: Option<Map<String, Value>> = get(said, found, "more", None);
+    match more {
+        Some(members) => Some(Value::Object(members)),
+        None => None,
+    }
 }
 
 /// A server that can do all that has a field, and what is given as `more`.
@@ -407,7 +436,7 @@ fn capabilities(said: &mut Said, found: &Value) -> ServerCapabilities {
             work_done_progress: Some(true),
         }),
         semantic_tokens_provider: Some(tokens(said, found)),
-        more: get(said, found, "more", None),
+        more: more(said, found),
         ..objects(said, found)
     }
 }

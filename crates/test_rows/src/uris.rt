@@ -1,6 +1,6 @@
 // Paths and their URIs, the folders that are open, the numbers of semantic tokens, and the place that params ask about.
 use crate::said::Said;
-use crate::types::{read, read_typed, say_written};
+use crate::types::{read, read_typed, say_json, say_written};
 use lsp_text::{LineEnds, PositionEncoding, Text};
 use lsp_types::{
     FileUriFault, InitializeParams, Position, SemanticToken, SemanticTokens, names_path,
@@ -63,7 +63,7 @@ pub fn tokens(said: &mut Said, text: &str) {
     drop(tokens);
     match encoded {
         Ok(Some(found)) => {
-            say_written(said, &found);
+            say_json(said, &found);
             drop(found);
         }
         Ok(None) => said.push("not in order"),

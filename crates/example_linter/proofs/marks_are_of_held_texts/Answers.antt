@@ -2,7 +2,7 @@ use Rattle.example_linter.proofs.Turns.{all_shown}
 use Rattle.example_linter.proofs.marks_are_of_held_texts.Goals as goal
 
 pub returns : goal.returns
-returns c = all_shown _ _ (record {
+returns c = all_shown _ _ _ (record {
   began = λ old acts new h. h.1;
   requested = λ old id method params acts new h. h.1;
   notified = λ old method params acts new h. h.0;

@@ -1,7 +1,9 @@
+use denote.Param.Send.{sendable}
 use Rattle.std.proofs.Common.{true}
 use Rattle.lsp_threads.proofs.Sessions.{taken_told_as}
 use Rattle.lsp_threads.specs.Passing.{noted}
 use Rattle.lsp_threads.specs.declared.run.Threaded.{Threaded}
+use Rattle.example_linter.proofs.Crossing.{findings_send}
 use Rattle.example_linter.proofs.serve.Goals as goal
 
 pub returns-clause-told : goal.returns-clause-told
@@ -10,3 +12,7 @@ returns-clause-told g c =
     (λ (done : Threaded _). done.taken.parts) (λ (done : Threaded _). noted done.given)
     (λ (done : Threaded _). done.answer) _
     c.run_jobs.ensures.told
+
+-- The threads may own what an analysis finds.
+pub run_jobs-requires-send-J-Found : goal.run_jobs-requires-send-J-Found
+run_jobs-requires-send-J-Found g c κs within = search (findings_send, sendable) depth 60

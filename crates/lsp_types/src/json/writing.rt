@@ -1,134 +1,226 @@
-// How objects are written.
-use crate::json::{Keyed, key_at};
-use serde::{Serialize, Serializer};
-use serde_json::Value;
+// How values are written as JSON.
+ghost use Rattle.std.specs.Prelude.{◌≡◌, false, map, option_map, string_bytes, IfOk, OnOk, Some};
+ghost use Rattle.serde_json.specs.Data.{Data, Members, array, no_members, object, string};
+ghost use Rattle.serde_json.specs.Find.{as_object};
+ghost use Rattle.serde_json.specs.View.{items_of, members_view, view};
+ghost use Rattle.lsp_types.specs.Json.{Has, with_member, with_members, with_object, with_rest};
 
-/// What takes the members of an object, one for each of its keys.
-pub trait Sink: Sized {
-    /// Writes a member.
-    fn member<T: Serialize>(self, value: &T) -> Self;
+use serde_json::{Map, Value};
+use std::alloc::{AllocError, Global};
+use std::collections::BTreeMap;
 
-    /// Writes a member, if it has a value.
-    fn some<T: Serialize>(self, value: &Option<T>) -> Self;
+/// A type that says which JSON it is written as.
+pub trait ToJson {
+    // The JSON that a value stands for.
+    ghost stands: { Self → Data };
 
-    /// Writes the members of an object beside the others, if there is one. Another value fails. It takes no key.
-    fn rest(self, value: &Option<Value>) -> Self;
+    /// It. `Err` means that an allocation failed.
+    fn to_json(&self, alloc: Global) -> Result<Value, AllocError>
+        ensures { IfOk result (λ value. view value ≡ stands self.now) };
 }
 
-/// An object that can be written.
-pub trait WriteMembers: Keyed {
-    /// Writes its members.
-    fn write<O: Sink>(&self, out: O) -> O;
-}
-
-/// An object that is written. After a failure nothing is written.
+/// An object that is written, member after member. A failed allocation is kept until its end, so that no step can fail.
 #[derive(Drop)]
-pub struct Object<'s, S: Serializer> {
-    out: &'s mut S,
-    keys: &'static [&'static str],
-    next: usize,
-    failed: Option<S::Error>,
+pub struct Object {
+    alloc: Global,
+    members: Map<String, Value>,
+    failed: bool,
 }
 
-impl<'s, S: Serializer> Object<'s, S> {
-    /// Begins it.
-    pub fn begin(keys: &'static [&'static str], out: &'s mut S) -> Object<'s, S> {
-        let failed = out.begin_map(None).err();
+impl Object {
+    /// One without members.
+    pub fn new(alloc: Global) -> Object
+        ensures { Has result.failed (members_view result.members.entries) no_members }
+    {
         Object {
-            out,
-            keys,
-            next: 0,
-            failed,
+            alloc,
+            members: Map::new(alloc),
+            failed: false,
         }
     }
 
-    /// Passes over a key.
-    fn pass(self) -> Object<'s, S> {
+    /// With a member.
+    pub fn member<T: ToJson>(self, key: &str, value: &T) -> Object
+        ensures { (members : Members) → Has self.failed (members_view self.members.entries) members
+            → Has result.failed (members_view result.members.entries)
+            (with_member members (key.now, Some (T.stands value.now))) }
+    {
         let Object {
-            out,
-            keys,
-            next,
+            alloc,
+            mut members,
             failed,
         } = self;
+        let failed = failed || put(alloc, &mut members, key, value).is_err();
         Object {
-            out,
-            keys,
-            next: next.saturating_add(1),
+            alloc,
+            members,
             failed,
         }
     }
 
-    /// Ends it, or gives what failed.
-    pub fn end(&mut self) -> Result<(), S::Error> {
-        match self.failed.take() {
-            None => self.out.end_map(),
-            Some(failed) => Err(failed),
-        }
-    }
-}
-
-impl<S: Serializer> Sink for Object<'_, S> {
-    fn member<T: Serialize>(self, value: &T) -> Self {
-        let Object {
-            out,
-            keys,
-            next,
-            failed,
-        } = self;
-        let failed = match failed {
-            None => put(key_at(keys, next), value, out).err(),
-            failed => failed,
-        };
-        Object {
-            out,
-            keys,
-            next: next.saturating_add(1),
-            failed,
-        }
-    }
-
-    fn some<T: Serialize>(self, value: &Option<T>) -> Self {
+    /// With a member, if it has a value.
+    #[tactic(auto, unfolding(crate::specs::Json::with_member))]
+    pub fn some<T: ToJson>(self, key: &str, value: &Option<T>) -> Object
+        ensures { (members : Members) → Has self.failed (members_view self.members.entries) members
+            → Has result.failed (members_view result.members.entries)
+            (with_member members (key.now, option_map T.stands value.now)) }
+    {
         match value {
-            Some(value) => self.member(value),
-            None => self.pass(),
+            Some(value) => self.member(key, value),
+            None => self,
         }
     }
 
-    fn rest(self, value: &Option<Value>) -> Self {
+    /// With a member that is this text.
+    pub fn text(self, key: &str, text: &str) -> Object
+        ensures { (members : Members) → Has self.failed (members_view self.members.entries) members
+            → Has result.failed (members_view result.members.entries)
+            (with_member members (key.now, Some (string text.now))) }
+    {
         let Object {
-            out,
-            keys,
-            next,
+            alloc,
+            mut members,
             failed,
         } = self;
-        let failed = match (failed, value) {
-            (None, Some(value)) => put_rest(value, out).err(),
-            (failed, _) => failed,
-        };
+        let failed = failed || put_text(alloc, &mut members, key, text).is_err();
         Object {
-            out,
-            keys,
-            next,
+            alloc,
+            members,
             failed,
         }
     }
+
+    /// With a member for each entry of a map.
+    pub fn each<T: ToJson>(self, values: &BTreeMap<String, T>) -> Object
+        ensures { (members : Members) → Has self.failed (members_view self.members.entries) members
+            → Has result.failed (members_view result.members.entries)
+            (with_members members
+            (map (λ entry. (string_bytes entry.0, Some (T.stands entry.1))) values.now.entries)) }
+    {
+        let Object {
+            alloc,
+            mut members,
+            failed,
+        } = self;
+        let failed = failed || put_each(alloc, &mut members, values).is_err();
+        Object {
+            alloc,
+            members,
+            failed,
+        }
+    }
+
+    /// With the members of an object, if there is one.
+    pub fn rest(self, value: &Option<Value>) -> Object
+        ensures { (members : Members) → Has self.failed (members_view self.members.entries) members
+            → Has result.failed (members_view result.members.entries)
+            (with_rest members (option_map view value.now)) }
+    {
+        match value {
+            Some(value) => self.members_of(value),
+            None => self,
+        }
+    }
+
+    /// With the members of a value, if it is an object.
+    #[tactic(auto, using(crate::proofs::JsonLemmas::each_members))]
+    fn members_of(self, value: &Value) -> Object
+        ensures { (members : Members) → Has self.failed (members_view self.members.entries) members
+            → Has result.failed (members_view result.members.entries)
+            (with_object members (as_object (view value.now))) }
+    {
+        match value.as_object() {
+            Some(more) => self.each(more),
+            None => self,
+        }
+    }
+
+    /// With a member that is a list of these values.
+    pub fn list(self, key: &str, values: Vec<Value>) -> Object
+        ensures { (members : Members) → Has self.failed (members_view self.members.entries) members
+            → Has result.failed (members_view result.members.entries)
+            (with_member members (key.now, Some (array (items_of (map view values.items))))) }
+    {
+        self.value(key, Some(Value::Array(values)))
+    }
+
+    /// With a member that is this value, if there is one.
+    #[tactic(auto, unfolding(crate::specs::Json::with_member))]
+    pub fn value(self, key: &str, value: Option<Value>) -> Object
+        ensures { (members : Members) → Has self.failed (members_view self.members.entries) members
+            → Has result.failed (members_view result.members.entries)
+            (with_member members (key.now, option_map view value)) }
+    {
+        let Some(value) = value else {
+            return self;
+        };
+        let Object {
+            alloc,
+            mut members,
+            failed,
+        } = self;
+        let failed = failed || serde_json::put(&mut members, alloc, key, value).is_err();
+        Object {
+            alloc,
+            members,
+            failed,
+        }
+    }
+
+    /// The object.
+    pub fn end(self) -> Result<Value, AllocError>
+        ensures { (members : Members) → Has self.failed (members_view self.members.entries) members
+            → IfOk result (λ value. view value ≡ object members) }
+    {
+        if self.failed {
+            return Err(AllocError);
+        }
+        Ok(Value::Object(self.members))
+    }
 }
 
-/// Writes an object.
-pub fn write_object<T: WriteMembers, S: Serializer>(
+/// Writes a member.
+#[tactic(auto, unfolding(crate::specs::Json::with_member))]
+fn put<T: ToJson>(
+    alloc: Global,
+    members: &mut Map<String, Value>,
+    key: &str,
     value: &T,
-    out: &mut S,
-) -> Result<(), S::Error> {
-    let mut object = value.write(Object::begin(T::KEYS, out));
-    object.end()
+) -> Result<(), AllocError>
+    ensures { OnOk result (members_view members.new.entries
+        ≡ with_member (members_view members.old.entries) (key.now, Some (T.stands value.now))) }
+{
+    let value = value.to_json(alloc)?;
+    serde_json::put(members, alloc, key, value)
 }
 
-fn put<T: Serialize, S: Serializer>(key: &str, value: &T, out: &mut S) -> Result<(), S::Error> {
-    out.key(key)?;
-    value.serialize(out)
+/// Writes a member that is this text.
+#[tactic(auto, unfolding(crate::specs::Json::with_member))]
+fn put_text(
+    alloc: Global,
+    members: &mut Map<String, Value>,
+    key: &str,
+    text: &str,
+) -> Result<(), AllocError>
+    ensures { OnOk result (members_view members.new.entries
+        ≡ with_member (members_view members.old.entries) (key.now, Some (string text.now))) }
+{
+    let value = Value::try_from_str(alloc, text)?;
+    serde_json::put(members, alloc, key, value)
 }
 
-fn put_rest<S: Serializer>(value: &Value, out: &mut S) -> Result<(), S::Error> {
-    out.flatten_next()?;
-    value.serialize(out)
+/// Writes a member for each entry of a map.
+fn put_each<T: ToJson>(
+    alloc: Global,
+    members: &mut Map<String, Value>,
+    values: &BTreeMap<String, T>,
+) -> Result<(), AllocError>
+    ensures { OnOk result (members_view members.new.entries
+        ≡ with_members (members_view members.old.entries)
+        (map (λ entry. (string_bytes entry.0, Some (T.stands entry.1))) values.now.entries)) }
+{
+    for (key, value) in values {
+        put(alloc, members, key.as_str(), value)?;
+    }
+    Ok(())
 }

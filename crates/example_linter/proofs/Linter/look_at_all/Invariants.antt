@@ -1,9 +1,8 @@
 use Rattle.std.proofs.Common.{◌≡◌, ℕ, List, [], map}
 use Rattle.std.specs.List.{All}
 use Rattle.lsp_documents.specs.Held.{documents_of}
-use Rattle.lsp_service.specs.View.{act_view}
 use Rattle.example_linter.proofs.Heard.{AreLeft}
-use Rattle.example_linter.specs.Followed.{Clears, IsChangeOf}
+use Rattle.example_linter.specs.Followed.{act_seen, Clears, IsChangeOf}
 use Rattle.example_linter.proofs.Linter.look_at_all.Given as goal
 
 abbrev pub invariant-loop-uri : goal.invariant-loop-uri
@@ -13,6 +12,6 @@ invariant-loop-uri l = record {
       × IsChangeOf (documents_of l.fn.self.documents) uri change) l.self.1.1.1.0.items;
   rest : l.fn.self.changes.items ≡ []
       → AreLeft (documents_of l.fn.self.documents) l.self.1.1.1.0.items l.uri-iterator;
-  clear : All (Clears (documents_of l.fn.self.documents)) (map act_view l.fn.acts.items)
-      → All (Clears (documents_of l.fn.self.documents)) (map act_view l.acts.items);
+  clear : All (Clears (documents_of l.fn.self.documents)) (map act_seen l.fn.acts.items)
+      → All (Clears (documents_of l.fn.self.documents)) (map act_seen l.acts.items);
 }
