@@ -1,0 +1,118 @@
+-- What a message breaks, by all that passed before it (JSON-RPC 2.0, sections 4 and 5; LSP 3.17, "Server lifecycle").
+use Rattle.std.specs.Option.{option_or}
+use Rattle.std.specs.Prelude.{ℕ, Bool, true, false, ◌&&◌, ◌||◌, List, [], ◌∷◌, Option, Some, None, is_some}
+use Rattle.std.specs.Prelude.{option_map, if◌then◌else◌, codes}
+use Rattle.lsp_message.specs.Id.{Id}
+use Rattle.lsp_message.specs.Message.{Message, request, notification, response}
+use Rattle.lsp_message.specs.Methods.{request_id}
+use Rattle.lsp_watch.specs.Log.{Log, Passed, asks, tells, reply_id, is_success, from_client, other, waiting}
+use Rattle.lsp_watch.specs.Log.{is_initialize, answers_initialize}
+use Rattle.lsp_watch.specs.declared.breach.Breach.{Breach}
+use Rattle.lsp_watch.specs.declared.breach.Rule.{Rule}
+use Rattle.lsp_watch.specs.declared.breach.Rule.TheVariants.{NobodyAsked, IdStillOpen, BeforeResult, BeforeInitialized}
+use Rattle.lsp_watch.specs.declared.breach.Rule.TheVariants.{SentAgain, AfterShutdown, AfterExit}
+use Rattle.lsp_watch.specs.declared.breach.Way.{Way}
+use Rattle.lsp_watch.specs.declared.breach.Way.TheVariants.{ToServer, ToClient}
+use Rattle.lsp_watch.specs.declared.lifecycle.Lifecycle.{Lifecycle}
+
+-- ---- where the lifecycle stands: the place of the last message that is such
+
+abbrev pub place_of : (Passed → Bool) → Log → Option ℕ
+place_of such [] = None
+place_of such (p ∷ before) = if such p then Some p.place else place_of such before
+
+abbrev pub client_tells : List ℕ → Passed → Bool
+client_tells method p = from_client p.way && tells method p.message
+
+abbrev pub client_asks : List ℕ → Passed → Bool
+client_asks method p = from_client p.way && asks method p.message
+
+-- the `initialize` that waits: the last one, unless a reply to `initialize` passed since
+abbrev pub initializing : Log → Option ℕ
+initializing [] = None
+initializing (p ∷ before) = if is_initialize p then Some p.place
+    else if answers_initialize before p then None else initializing before
+
+-- the last reply that gave `initialize` its result
+abbrev pub initialize_result : Log → Option ℕ
+initialize_result [] = None
+initialize_result (p ∷ before) = if answers_initialize before p && is_success p.message then Some p.place
+    else initialize_result before
+
+abbrev pub lifecycle_of : Log → Lifecycle
+lifecycle_of log = record {
+  initialize = initializing log;
+  result = initialize_result log;
+  initialized = place_of (client_tells (codes "initialized")) log;
+  shutdown = place_of (client_asks (codes "shutdown")) log;
+  exit = place_of (client_tells (codes "exit")) log;
+}
+
+-- ---- the rules of the lifecycle, for requests and notifications: whoever is asked may always reply
+
+-- a rule, and the place of the message that it is broken against
+abbrev pub Finding : Type 0
+Finding = Rule × Option ℕ
+
+-- the rule is broken if such a message passed
+abbrev pub broken_by : Rule → Option ℕ → Option Finding
+broken_by rule at = option_map (λ place. (rule, Some place)) at
+
+-- what a server may send while `initialize` waits
+abbrev pub is_early : Message → Bool
+is_early m = tells (codes "window/showMessage") m || tells (codes "window/logMessage") m
+    || tells (codes "telemetry/event") m || tells (codes "$/progress") m
+    || asks (codes "window/showMessageRequest") m
+
+module _ (stands : Lifecycle) where
+  -- a server sends nothing before the result of `initialize`, but what may go with it
+  abbrev pub server_finding : Message → Option Finding
+  server_finding m = if is_some stands.result || (is_some stands.initialize && is_early m) then None
+      else Some (BeforeResult, stands.initialize)
+
+  -- after the result: `initialized` comes first, and once
+  abbrev pub opened_finding : Option ℕ → Message → Option Finding
+  opened_finding None m = Some (BeforeResult, stands.initialize)
+  opened_finding (Some place) m = if tells (codes "initialized") m then broken_by SentAgain stands.initialized
+      else if is_some stands.initialized then None else Some (BeforeInitialized, Some place)
+
+  -- a client sends `initialize` first, again only where it got an error, and nothing else before the result
+  abbrev pub opening_finding : Message → Option Finding
+  opening_finding m = if asks (codes "initialize") m
+      then option_or (broken_by SentAgain stands.result) (broken_by BeforeResult stands.initialize)
+      else opened_finding stands.result m
+
+  -- `exit` may come at any time, once; after `shutdown` nothing else may
+  abbrev pub client_finding : Message → Option Finding
+  client_finding m = if tells (codes "exit") m then broken_by AfterExit stands.exit
+      else option_or (option_or (broken_by AfterExit stands.exit) (broken_by AfterShutdown stands.shutdown))
+      (opening_finding m)
+
+abbrev pub lifecycle_finding : Log → Way → Message → Option Finding
+lifecycle_finding before way (response i outcome) = None
+lifecycle_finding before ToServer m = client_finding (lifecycle_of before) m
+lifecycle_finding before ToClient m = server_finding (lifecycle_of before) m
+
+-- ---- the rules of ids
+
+-- a reply needs a request that waits for it
+abbrev pub reply_finding : Option Passed → Option Finding
+reply_finding None = Some (NobodyAsked, None)
+reply_finding (Some asked) = None
+
+-- a request needs an id under which none waits
+abbrev pub id_finding : Log → Way → Message → Option Finding
+id_finding before way (request i m params) =
+    option_map (λ asked. (IdStillOpen, Some asked.place)) (waiting way i before)
+id_finding before way (notification m params) = None
+id_finding before way (response i outcome) = reply_finding (waiting (other way) i before)
+
+-- ---- what a message breaks
+
+abbrev pub id_of : Message → Option Id
+id_of m = option_or (request_id m) (reply_id m)
+
+abbrev pub breach_of : Log → Way → Message → Option Breach
+breach_of before way m =
+    option_map (λ found. record { rule = found.0; id = id_of m; against = found.1 })
+    (option_or (lifecycle_finding before way m) (id_finding before way m))
