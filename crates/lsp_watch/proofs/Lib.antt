@@ -1,1 +1,4 @@
+mod CleanOrder
+mod CleanReplies
 mod Keeping
+mod Refused

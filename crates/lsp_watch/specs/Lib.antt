@@ -1,3 +1,4 @@
+pub mod CleanLog
 pub mod Log
 pub mod Rules
 pub mod Saw

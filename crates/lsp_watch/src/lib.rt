@@ -3,6 +3,7 @@
 #![tactic(auto)]
 
 mod breach;
+pub mod laws;
 mod lifecycle;
 mod watch;
 

@@ -1,0 +1,13 @@
+//! A law of logs. It is the contract of a function, so the proofs of callers can use it.
+ghost use Rattle.lsp_watch.specs.CleanLog.{IsClean, RepliesOnce, KeepsOrder};
+ghost use Rattle.lsp_watch.specs.Log.{Log};
+
+/// In a log in which no message breaks a rule:
+///
+/// - Each reply answers one request that passed before it the other way, and each request has at most one reply, at every beginning of
+///   the log (JSON-RPC 2.0, section 5).
+/// - The requests and notifications of both sides keep the order of the lifecycle (LSP 3.17, "Server lifecycle").
+pub fn a_clean_log_keeps_order()
+    ensures replies { (log : Log) → IsClean log → RepliesOnce log }
+    ensures order { (log : Log) → IsClean log → KeepsOrder log }
+{}
