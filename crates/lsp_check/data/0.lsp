@@ -1,0 +1,15 @@
+-> {"jsonrpc":"2.0","id":0,"method":"initialize"}
+<- {"jsonrpc":"2.0","id":0,"result":null}
+-> {"jsonrpc":"2.0","method":"initialized"}
+-> {"jsonrpc":"2.0","method":"textDocument/didOpen"}
+<- {"jsonrpc":"2.0","id":2,"method":"workspace/configuration"}
+-> {"jsonrpc":"2.0","method":"initialized"}
+-> {"jsonrpc":"2.0","id":2,"result":null}
+<- {"jsonrpc":"2.0","method":"$/progress"}
+<- {"jsonrpc":"2.0","id":3,"method":"client/registerCapability"}
+-> {"jsonrpc":"2.0","id":3,"result":null}
+-> {"jsonrpc":"2.0","id":8,"method":"textDocument/prepareRename"}
+<- {"jsonrpc":"2.0","id":8,"result":null}
+<- {"jsonrpc":"2.0","id":14,"result":null}
+-> {"jsonrpc":"2.0","id":15,"method":"shutdown"}
+<- {"jsonrpc":"2.0","id":15,"result":null}

@@ -1,0 +1,17 @@
+-> {"jsonrpc":"2.0","id":0,"method":"initialize"}
+<- {"jsonrpc":"2.0","id":12,"result":null}
+-> {"jsonrpc":"2.0","method":"initialized"}
+-> {"jsonrpc":"2.0","method":"textDocument/didOpen"}
+<- {"jsonrpc":"2.0","id":7,"result":null}
+-> {"jsonrpc":"2.0","id":8,"method":"textDocument/prepareRename"}
+<- {"jsonrpc":"2.0","id":8,"result":null}
+<- {"jsonrpc":"2.0","method":"textDocument/publishDiagnostics"}
+<- {"jsonrpc":"2.0","id":15,"result":null}
+-> {"jsonrpc":"2.0","id":10,"method":"textDocument/signatureHelp"}
+<- {"jsonrpc":"2.0","id":10,"result":null}
+-> {"jsonrpc":"2.0","id":12,"method":"textDocument/completion"}
+<- {"jsonrpc":"2.0","id":0,"result":null}
+-> {"jsonrpc":"2.0","method":"textDocument/didChange"}
+-> {"jsonrpc":"2.0","id":15,"method":"shutdown"}
+-> {"jsonrpc":"2.0","method":"textDocument/didClose"}
+<- {"jsonrpc":"2.0","id":15,"result":null}

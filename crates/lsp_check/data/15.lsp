@@ -1,0 +1,11 @@
+-> {"jsonrpc":"2.0","id":0,"method":"initialize"}
+<- {"jsonrpc":"2.0","id":0,"result":null}
+-> {"jsonrpc":"2.0","method":"initialized"}
+-> {"jsonrpc":"2.0","id":2,"method":"textDocument/definition"}
+<- {"jsonrpc":"2.0","id":2,"result":null}
+-> {"jsonrpc":"2.0","id":12,"method":"textDocument/completion"}
+<- {"jsonrpc":"2.0","id":12,"result":null}
+-> {"jsonrpc":"2.0","method":"textDocument/didChange"}
+<- {"jsonrpc":"2.0","method":"textDocument/publishDiagnostics"}
+-> {"jsonrpc":"2.0","id":15,"method":"shutdown"}
+<- {"jsonrpc":"2.0","id":15,"result":null}

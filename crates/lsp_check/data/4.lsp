@@ -1,0 +1,17 @@
+-> {"jsonrpc":"2.0","id":0,"method":"initialize"}
+-> {"jsonrpc":"2.0","id":0,"method":"initialize"}
+<- {"jsonrpc":"2.0","id":0,"result":null}
+-> {"jsonrpc":"2.0","method":"initialized"}
+<- {"jsonrpc":"2.0","method":"$/progress"}
+-> {"jsonrpc":"2.0","id":8,"method":"textDocument/prepareRename"}
+<- {"jsonrpc":"2.0","id":8,"result":null}
+-> {"jsonrpc":"2.0","id":9,"method":"textDocument/rename"}
+<- {"jsonrpc":"2.0","id":9,"result":null}
+-> {"jsonrpc":"2.0","id":11,"method":"textDocument/completion"}
+<- {"jsonrpc":"2.0","id":11,ÿ"error":{"code":1,"message":""}}
+-> {"jsonrpc":"2.0","method":"textDocument/didChange"}
+-> {"jsonrpc":"2.0","method":"textDocument/didChange"}
+-> {"jsonrpc":"2.0","id":14,"method":"textDocument/inlayHint"}
+<- {"jsonrpc":"2.0","id":14,"result":null}
+-> {"jsonrpc":"2.0","id":15,"method":"shutdown"}
+<- {"jsonrpc":"2.0","id":15,"result":null}
