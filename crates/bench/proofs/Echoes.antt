@@ -4,6 +4,7 @@ use Rattle.serde_json.specs.Data.{Data}
 use Rattle.lsp_message.specs.Id.{Id}
 use Rattle.lsp_message.specs.Message.{Message, response}
 use Rattle.lsp_service.specs.Acts.{Act}
+use Rattle.lsp_service.specs.declared.server.Server.{Ghosts as Plain}
 use Rattle.lsp_session.specs.Session.{Exchange}
 use Rattle.lsp_jobs.specs.Ends.{Came, ComesTo, End, Outcome, ended, found, gave, gave_up, out_of_memory}
 use Rattle.lsp_jobs.specs.Ends.{reply_of}
@@ -17,7 +18,7 @@ some_act : {A B : Type 0} (before after : List A) (x : A) → before ++ x ∷ af
 some_act [] after x e = absurd (cc (e))
 some_act (y ∷ before) after x e = absurd (cc (e))
 
-module _ {S J F P : Type 0} (may : StatedJobs S J F P)
+module _ {S J F P : Type 0} (plain : Plain S P) (may : StatedJobs S J F P)
     (hears_none : (old : S) (name : JobName) (it : F) (acts : List (Act P)) (new : S) → may.hears old name it acts new
     → acts ≡ [])
     (ends_none : (old : S) (name : JobName) (end : JobEnd) (acts : List (Act P)) (new : S)
@@ -43,17 +44,19 @@ module _ {S J F P : Type 0} (may : StatedJobs S J F P)
   gives job method params result gave_up is_for comes same = absurd (cc (same))
 
   -- the reply is the params of the last request
-  echoed : (earlier : List Exchange) (id : Id) (result : Data) → AnswersRequest may earlier id (Ok result)
-      ⊎ RepliesItself may id (Ok result) → (method : List ℕ) × LastRequest earlier id method result
-  echoed earlier id result (inr itself) =
+  echoed : (first : S) (earlier : List Exchange) (id : Id) (result : Data)
+      → AnswersRequest plain may first earlier id (Ok result) ⊎ RepliesItself may id (Ok result)
+      → (method : List ℕ) × LastRequest earlier id method result
+  echoed first earlier id result (inr itself) =
       some_act itself.before itself.after _ (silent itself.old itself.name itself.end _ itself.new itself.saw)
-  echoed earlier id result (inl by) =
-      let params = gives by.job by.method by.params result by.came by.is_for by.comes by.reply in
-      (by.method, subst (λ (p : Data). LastRequest earlier id by.method p) (sym params) by.waits)
+  echoed first earlier id result (inl by) =
+      let g = by.given in
+      let params = gives by.job g.method g.params result by.came g.is_for by.comes by.reply in
+      (g.method, subst (λ (p : Data). LastRequest earlier id g.method p) (sym params) g.last)
 
-  pub echo_at_wakes : (exchanges : List Exchange)
+  pub echo_at_wakes : (first : S) (exchanges : List Exchange)
       → ((earlier later : List Exchange) (x : Exchange) (before after : List Message) (id : Id) (outcome : Outcome)
       → exchanges ≡ earlier ++ x ∷ later → x.came ≡ None → x.sent ≡ before ++ response id outcome ∷ after
-      → AnswersRequest may earlier id outcome ⊎ RepliesItself may id outcome) → EchoesAtWakes exchanges
-  echo_at_wakes exchanges law earlier later x before after id result cut woken sent =
-      echoed earlier id result (law earlier later x before after id (Ok result) cut woken sent)
+      → AnswersRequest plain may first earlier id outcome ⊎ RepliesItself may id outcome) → EchoesAtWakes exchanges
+  echo_at_wakes first exchanges law earlier later x before after id result cut woken sent =
+      echoed first earlier id result (law earlier later x before after id (Ok result) cut woken sent)

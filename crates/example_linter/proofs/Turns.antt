@@ -8,10 +8,9 @@ use Rattle.lsp_documents.specs.Notices.{Documents}
 use Rattle.lsp_documents.specs.declared.known.OpenText.{OpenText}
 use Rattle.lsp_jobs.specs.Asking.{by_server, of_job}
 use Rattle.lsp_jobs.specs.Ends.{Came, ComesTo, End, Outcome, end_of, ended, found, gave, gave_up, out_of_memory}
-use Rattle.lsp_jobs.specs.JobLaw.{Left, IsLeft, at_ends}
 use Rattle.lsp_jobs.specs.Pooled.{reply_at}
-use Rattle.lsp_jobs.specs.SlotLaw.{AllLeaveAlone, AreTurns, IsCalled, IsTurn, LastStart, LeavesAlone, SeesLeft}
-use Rattle.lsp_jobs.specs.SlotLaw.{SlotHistory, Stands, StartsLast, Turn, WakeDoes}
+use Rattle.lsp_jobs.specs.SlotLaw.{AllLeaveAlone, AreTurns, IsCalled, IsLeft, IsTurn, LastStart, LeavesAlone, Left}
+use Rattle.lsp_jobs.specs.SlotLaw.{SeesLeft, SlotHistory, Stands, StartsLast, Turn, WakeDoes, at_ends}
 use Rattle.lsp_jobs.specs.Stated.{SeesEnd, StatedJobs}
 use Rattle.lsp_jobs.specs.declared.asking.Asked.{Asked}
 use Rattle.lsp_jobs.specs.declared.job_server.JobEnd.{JobEnd}
@@ -188,18 +187,18 @@ module _ {P : Type 0} (written : Diagnostic → Data) (plain : Plain Linter P)
     good_from earlier start now good back =
         subst (Good earlier) (sym (taken back.0 start now back.1)) good
 
-    goes_on : (start : Linter) (earlier turns before later : List (Turn plain may)) (t : Turn plain may)
-        → Good earlier start → AreTurns plain may start turns → turns ≡ before ++ t ∷ later
+    goes_on : (start last : Linter) (earlier turns before later : List (Turn plain may)) (t : Turn plain may)
+        → Good earlier start → AreTurns plain may start turns last → turns ≡ before ++ t ∷ later
         → Good (earlier ++ before) t.old × IsTurn plain may t
-    goes_on start earlier [] before later t good are e = absurd (not_empty before later t e)
-    goes_on start earlier (x ∷ turns) [] later t good are e =
+    goes_on start last earlier [] before later t good are e = absurd (not_empty before later t e)
+    goes_on start last earlier (x ∷ turns) [] later t good are e =
         let same : x ≡ t = cc (e) in
         subst (λ (y : List (Turn plain may) × Turn plain may). Good y.0 y.1.old × IsTurn plain may y.1)
         (λ k. (sym (append-nil earlier) k, same k)) (good_from earlier start x.old good are.0, are.1)
-    goes_on start earlier (x ∷ turns) (b ∷ before) later t good are e =
+    goes_on start last earlier (x ∷ turns) (b ∷ before) later t good are e =
         let same : x ≡ b = cc (e) in
         let more : turns ≡ before ++ t ∷ later = cc (e) in
-        let on = goes_on x.new (earlier ++ x ∷ []) turns before later t
+        let on = goes_on x.new last (earlier ++ x ∷ []) turns before later t
         (good_on earlier x (good_from earlier start x.old good are.0) are.1) are.2 more in (
           subst (λ (l : List (Turn plain may)). Good l t.old) (append_assoc earlier (x ∷ []) before
               ∙ ap (λ (y : Turn plain may). earlier ++ y ∷ before) same) on.0,
@@ -290,5 +289,5 @@ module _ {P : Type 0} (written : Diagnostic → Data) (plain : Plain Linter P)
           none = none;
           right = λ slot analysis last. absurd (not_empty last.before last.since last.turn last.cut);
         } in
-        shows_held t earlier (goes_on start [] history.turns earlier later t good history.linked cut).0 before after
-        method params at (history.wakes earlier later t cut woken)
+        shows_held t earlier (goes_on start history.last [] history.turns earlier later t good history.linked cut).0
+        before after method params at (history.wakes earlier later t cut woken)

@@ -1,6 +1,3 @@
 mod Known
-mod Lists
-mod Order
-mod Replies
 mod Searches
 mod Symbols

@@ -1,7 +1,7 @@
 -- Which texts are open after the messages of a client (LSP 3.17, "Text Document Synchronization"), and that searches
 -- are of those.
 use Rattle.serde_json.specs.Data.{Data}
-use Rattle.std.specs.Prelude.{◌≡◌, ◌⊎◌, ℕ, false, List, [], ◌∷◌, ◌++◌, Option, Some, None, MatchOption, Result}
+use Rattle.std.specs.Prelude.{◌≡◌, ◌⊎◌, ℕ, List, [], ◌∷◌, ◌++◌, Option, Some, None, MatchOption, Result}
 use Rattle.std.specs.Prelude.{codes}
 use Rattle.lsp_documents.specs.Heard.{Answers as Answered}
 use Rattle.lsp_documents.specs.Held.{documents_of, texts_of}
@@ -11,9 +11,9 @@ use Rattle.lsp_documents.specs.declared.documents.TextDocuments.{TextDocuments}
 use Rattle.lsp_documents.specs.declared.fault.Made.{Made}
 use Rattle.lsp_documents.specs.declared.fault.NotMade.{NotMade}
 use Rattle.lsp_jobs.specs.Ends.{Outcome}
-use Rattle.lsp_jobs.specs.JobLaw.{concerns}
+use Rattle.lsp_jobs.specs.JobLaw.{LastRequest}
 use Rattle.lsp_message.specs.Id.{Id}
-use Rattle.lsp_message.specs.Message.{Message, request, notification, response}
+use Rattle.lsp_message.specs.Message.{Message, notification, response}
 use Rattle.lsp_session.specs.Session.{Exchange, came_of}
 use Rattle.lsp_session.specs.SessionLaws.{EndsWithResult}
 use Rattle.lsp_text.specs.Lines.{LinedText}
@@ -52,23 +52,13 @@ pub record AreOpen (exchanges : List Exchange) (texts : List (List ℕ × LinedT
   pub made : HearsAll first (came_of heard) documents
   pub are : texts ≡ texts_of documents
 
--- none of these is a request under this id, or cancels it
-abbrev pub NoneConcerns : Id → List (Option Message) → Type 0
-NoneConcerns id [] = Unit {0}
-NoneConcerns id (came ∷ rest) = (concerns id came ≡ false) × NoneConcerns id rest
-
 -- The last request under this id is a search, and this answers it: by all headings with its word, of the texts that
 -- were open when it came, and by no others.
 pub record AnswersSearch (earlier : List Exchange) (id : Id) (outcome : Outcome) : Type 0 where
-  pub before : List Exchange
-  pub asks : Exchange
-  pub since : List Exchange
-  pub cut : earlier ≡ before ++ asks ∷ since
   pub params : Data
-  pub came : asks.came ≡ Some (request id (codes "workspace/symbol") params)
-  pub last : NoneConcerns id (came_of since)
+  pub last : LastRequest earlier id (codes "workspace/symbol") params
   pub texts : List (List ℕ × LinedText)
-  pub are_open : AreOpen before texts
+  pub are_open : AreOpen last.before texts
   pub answers : Answers texts params outcome
 
 -- So is each reply that is sent at a wake.

@@ -12,7 +12,7 @@ ghost use Rattle.example_search.specs.Promise.{AnswersOnce, SearchSession};
 
 use crate::search::Search;
 use crate::server::Sums;
-use lsp_jobs::laws::{session_with_jobs_keeps_laws, slots_hear_their_last_jobs};
+use lsp_jobs::laws::{requests_are_answered_by_their_jobs, session_with_jobs_keeps_laws};
 use lsp_jobs::{Job, JobServer, NoSlots, PoolSize, Slots, run_jobs};
 use lsp_server::laws::server_keeps_laws;
 use lsp_server::{
@@ -139,5 +139,5 @@ fn symbols_are_of_open_texts<T: Wait + Drop>()
         first last exchanges stop shutdown_reply answer
         → SearchesOpenTexts exchanges }
 {
-    slots_hear_their_last_jobs::<T, Sums, Search>();
+    requests_are_answered_by_their_jobs::<Sums, Search>();
 }

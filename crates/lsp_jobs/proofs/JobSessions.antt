@@ -8,7 +8,7 @@ use Rattle.lsp_service.specs.QueuedServer.{woken_with_queues}
 use Rattle.lsp_service.specs.View as queues
 use Rattle.lsp_service.specs.declared.queued_server.WokenQueuedServer.{WokenQueuedServer}
 use Rattle.lsp_service.specs.declared.server.Server.{Ghosts as Plain}
-use Rattle.lsp_jobs.proofs.Answering.{answers_by_jobs}
+use Rattle.lsp_jobs.proofs.SessionTurns.{answers_by_jobs}
 use Rattle.lsp_jobs.specs.JobLaw.{LawfulJobSession}
 use Rattle.lsp_jobs.specs.JobSession.{JobSession, seen_with_jobs}
 use Rattle.lsp_jobs.specs.Seen.{seen}

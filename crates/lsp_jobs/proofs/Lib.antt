@@ -1,6 +1,8 @@
 mod Answering
 pub mod JobSenderSend
 mod JobSessions
+mod LastJobs
+mod SessionTurns
 pub mod NameLemmas
 mod Tables
 mod Tickets

@@ -22,7 +22,8 @@ use Rattle.lsp_service.specs.Stated.{Stated}
 use Rattle.lsp_service.specs.View.{queues_of, seen}
 use Rattle.lsp_service.specs.declared.queued_server.QueuedServer.{QueuedServer}
 use Rattle.lsp_jobs.specs.Ends.{Outcome}
-use Rattle.lsp_jobs.specs.JobLaw.{concerns, is_that, IsQuiet, LastRequest}
+use Rattle.lsp_jobs.specs.JobLaw.{IsQuiet, LastRequest}
+use Rattle.lsp_jobs.specs.SlotLaw.{concerns, is_that}
 
 pub fewer : (p : Message → Bool) (output more full : List Message) → output ++ more ≡ full → how_many p full ≡ 0
     → how_many p output ≡ 0

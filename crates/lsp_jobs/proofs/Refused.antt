@@ -17,13 +17,14 @@ use Rattle.lsp_service.specs.Acts.{cancel_all, cancel_method, cancel_params}
 use Rattle.lsp_service.specs.Law.{how_many, is_reply_under, is_request_under, one_if}
 use Rattle.lsp_service.specs.SentByActs.{all_sends}
 use Rattle.lsp_service.specs.declared.server.Server.{Ghosts as Plain}
+use Rattle.lsp_jobs.proofs.LastJobs.{job_of_last}
 use Rattle.lsp_jobs.specs.Asking.{by_server, of_job}
 use Rattle.lsp_jobs.specs.Ends.{Came, ComesTo, End, Outcome, end_of, reply_of, too_many}
-use Rattle.lsp_jobs.specs.JobLaw.{concerns, is_that, AnswersRequest, IsQuiet, LastRequest, LawfulJobSession, Left}
-use Rattle.lsp_jobs.specs.JobLaw.{at_ends}
-use Rattle.lsp_jobs.specs.JobLaw.{RepliesItself, SendsReply, Waits, WakeSends}
+use Rattle.lsp_jobs.specs.JobLaw.{AnswersRequest, IsQuiet, LastRequest, LawfulJobSession, Leads, RepliesItself}
+use Rattle.lsp_jobs.specs.JobLaw.{WakeSends}
 use Rattle.lsp_jobs.specs.Pooled.{reply_at, IsAtOnce}
-use Rattle.lsp_jobs.specs.SlotLaw.{AllQuiet, IsCalled, IsTurn, MayPass, Spares, Stands, Turn, WakeDoes}
+use Rattle.lsp_jobs.specs.SlotLaw.{AllQuiet, IsCalled, IsTurn, JobSays, LastGiven, Left, MayPass, Spares, Stands, Turn}
+use Rattle.lsp_jobs.specs.SlotLaw.{WakeDoes, at_ends, concerns, is_that}
 use Rattle.lsp_jobs.specs.declared.asking.Asked.{Asked}
 use Rattle.lsp_jobs.specs.declared.asking.Asked.TheVariants.{ByJob}
 use Rattle.lsp_jobs.specs.Stated.{SeesEnd, StatedJobs}
@@ -180,9 +181,9 @@ latest xs x id method params l =
       | inr later ↦ (let q = quiet_last id later.0 x (subst (IsQuiet id) later.1 l.quiet) in (inr q.0, q.1))
     ]
 
-module _ {S J F P : Type 0} (may : StatedJobs S J F P) where
-  abbrev Whose : List Exchange → Id → Outcome → Type 0
-  Whose earlier id outcome = AnswersRequest may earlier id outcome ⊎ RepliesItself may id outcome
+module _ {S J F P : Type 0} (plain : Plain S P) (may : StatedJobs S J F P) where
+  abbrev Whose : S → List Exchange → Id → Outcome → Type 0
+  Whose first earlier id outcome = AnswersRequest plain may first earlier id outcome ⊎ RepliesItself may id outcome
 
   by_left : (left : List (Left may)) (id : Id) (outcome : Outcome) → Has (replies id outcome) (at_ends may left)
       → RepliesItself may id outcome
@@ -201,167 +202,169 @@ module _ {S J F P : Type 0} (may : StatedJobs S J F P) where
         | inr later ↦ by_left left id outcome later
       ]
 
-  by_outcome : {output : List Message} (earlier : List Exchange) (o : SendsReply may earlier output) (id : Id)
-      (outcome : Outcome) → Has (replies id outcome) ((o.first ++ reply_at o.name o.came)
-      ++ at_ends may o.left) → Whose earlier id outcome
-  by_outcome {output} earlier o id outcome has =
-      elim (has_either (replies id outcome) (o.first ++ reply_at o.name o.came) (at_ends may o.left)
-      has.0 has.1 has.2) [
-        | inr later ↦ inr (by_left o.left id outcome later)
-        | inl now ↦ elim (has_either (replies id outcome) o.first (reply_at o.name o.came) now.0 now.1
-            now.2) [
-              | inl own ↦ inr (record {
-                name = o.name;
-                end = end_of o.came;
-                old = o.old;
-                before = own.0;
-                after = own.1;
-                new = o.new;
-                saw = subst (λ (acts : List (Act P)). SeesEnd may o.old o.name (end_of o.came) acts o.new)
-                    own.2 o.saw;
-              })
-              | inr reply ↦ inl (at o.name o.waits reply)
-            ]
+  -- a reply among acts of which there is one
+  only_reply : {A Q : Type 0} (act : Act Q) (id : Id) (outcome : Outcome) → (act ≡ replies id outcome → A)
+      → Has (replies id outcome) (act ∷ []) → A
+  only_reply act id outcome gives has =
+      elim (first_or_later act (replies id outcome) [] has.0 has.1 has.2) [
+        | inl is ↦ gives is
+        | inr later ↦ not_empty later.0 has.1 (replies id outcome) later.1
       ]
-    where
-      at : (name : JobName) → Waits may earlier name o.job → Has {A = Act P} (replies id outcome)
-          (reply_at name o.came) → AnswersRequest may earlier id outcome
-      at (Slot slot) waits has = not_empty has.0 has.1 (replies id outcome) has.2
-      at (Request i) waits has =
-          elim (first_or_later (replies i (reply_of o.came)) (replies id outcome) [] has.0 has.1 has.2) [
-            | inr later ↦ not_empty later.0 has.1 (replies id outcome) later.1
-            | inl is ↦
-                let the : i ≡ id = cc (is) in
-                let it : reply_of o.came ≡ outcome = cc (is) in record {
-                  method = waits.0;
-                  params = waits.1;
-                  waits = subst (λ (x : Id). LastRequest earlier x waits.0 waits.1) the waits.3;
-                  job = o.job;
-                  is_for = waits.2;
-                  came = o.came;
-                  comes = o.comes;
-                  reply = sym it;
-                }
-          ]
+
+  -- that of the job that stands
+  by_name : (first : S) (earlier : List Exchange) (turns : List (Turn plain may)) (now : S) (name : JobName) (job : J)
+      (came : Came F) (id : Id) (outcome : Outcome) → Leads plain may first earlier turns now
+      → Stands plain may turns name job → ComesTo may.comes_to job came
+      → Has {A = Act P} (replies id outcome) (reply_at name came) → AnswersRequest plain may first earlier id outcome
+  by_name first earlier turns now (Slot slot) job came id outcome led stands comes has =
+      not_empty has.0 has.1 (replies id outcome) has.2
+  by_name first earlier turns now (Request i) job came id outcome led stands comes has =
+      only_reply (replies i (reply_of came)) id outcome (λ is.
+      let the : i ≡ id = cc (is) in
+      let it : reply_of came ≡ outcome = cc (is) in record {
+        job = job;
+        given = job_of_last plain may first earlier turns now id job led
+            (subst (λ (x : Id). LastGiven plain may turns x job) the stands);
+        came = came;
+        comes = comes;
+        reply = sym it;
+      }) has
+
+  by_job : (first : S) (earlier : List Exchange) (turns : List (Turn plain may)) (t : Turn plain may) (name : JobName)
+      (job : J) (id : Id) (outcome : Outcome) → Leads plain may first earlier turns t.old
+      → Stands plain may turns name job → JobSays plain may t name job → Has (replies id outcome) t.call.acts
+      → Whose first earlier id outcome
+  by_job first earlier turns t name job id outcome led stands (inl r) has =
+      only_reply (tells r.0 r.1) id outcome (λ wrong. absurd (cc (wrong)))
+      (subst (Has (replies id outcome)) r.3 has)
+  by_job first earlier turns t name job id outcome led stands (inr (inl a)) has =
+      only_reply (asks a.0 a.1 (ByJob a.2)) id outcome (λ wrong. absurd (cc (wrong)))
+      (subst (Has (replies id outcome)) a.4 has)
+  by_job first earlier turns t name job id outcome led stands (inr (inr o)) has =
+      let own = by_own ((o.1 ++ reply_at name o.0) ++ at_ends may t.left) id outcome
+      (subst (Has (replies id outcome)) o.4 has) in
+      elim (has_either (replies id outcome) (o.1 ++ reply_at name o.0) (at_ends may t.left) own.0 own.1 own.2) [
+        | inr later ↦ inr (by_left t.left id outcome later)
+        | inl now ↦ elim (has_either (replies id outcome) o.1 (reply_at name o.0) now.0 now.1 now.2) [
+          | inl itself ↦ inr (record {
+            name = name;
+            end = end_of o.0;
+            old = t.old;
+            before = itself.0;
+            after = itself.1;
+            new = t.asked;
+            saw = subst (λ (acts : List (Act P)). SeesEnd may t.old name (end_of o.0) acts t.asked) itself.2 o.3;
+          })
+          | inr reply ↦ inl (by_name first earlier turns t.old name job o.0 id outcome led stands o.2 reply)
+        ]
+      ]
 
   -- whose reply it is
-  pub whose : (earlier : List Exchange) (output before after : List Message) (id : Id) (outcome : Outcome)
-      → WakeSends may earlier output → output ≡ before ++ response id outcome ∷ after
-      → Whose earlier id outcome
-  whose earlier output before after id outcome (inl nothing) cut =
-      not_empty before after (response id outcome) (sym nothing ∙ cut)
-  whose earlier output before after id outcome (inr (inl r)) cut =
-      let has = by_an_act (tells r.method r.params ∷ []) r.sent.0 id outcome before (after ++ r.sent.1)
-      (r.sent.2 ∙ ap (λ (l : List Message). l ++ r.sent.1) cut ∙ append_assoc before (response id outcome ∷ after)
-      r.sent.1) in
-      elim (first_or_later (tells r.method r.params) (replies id outcome) [] has.0 has.1 has.2) [
-        | inl wrong ↦ absurd (cc (wrong))
-        | inr later ↦ not_empty later.0 has.1 (replies id outcome) later.1
-      ]
-  whose earlier output before after id outcome (inr (inr (inl a))) cut =
-      let has = by_an_act (asks a.method a.params (ByJob a.number) ∷ []) a.sent.0 id outcome before (after ++ a.sent.1)
-      (a.sent.2 ∙ ap (λ (l : List Message). l ++ a.sent.1) cut ∙ append_assoc before (response id outcome ∷ after)
-      a.sent.1) in
-      elim (first_or_later (asks a.method a.params (ByJob a.number)) (replies id outcome) [] has.0 has.1 has.2) [
-        | inl wrong ↦ absurd (cc (wrong))
-        | inr later ↦ not_empty later.0 has.1 (replies id outcome) later.1
-      ]
-  whose earlier output before after id outcome (inr (inr (inr (inr w)))) cut =
-      let has = by_an_act (cancels (of_job w.0) ∷ []) w.1.0 id outcome before (after ++ w.1.1)
-      (w.1.2 ∙ ap (λ (l : List Message). l ++ w.1.1) cut ∙ append_assoc before (response id outcome ∷ after)
-      w.1.1) in
-      elim (first_or_later (cancels (of_job w.0)) (replies id outcome) [] has.0 has.1 has.2) [
-        | inl wrong ↦ absurd (cc (wrong))
-        | inr later ↦ not_empty later.0 has.1 (replies id outcome) later.1
-      ]
-  whose earlier output before after id outcome (inr (inr (inr (inl o)))) cut =
-      by_outcome earlier o id outcome (by_own _ id outcome (by_an_act _ o.sent.0 id outcome before
-      (after ++ o.sent.1)
-      (o.sent.2 ∙ ap (λ (l : List Message). l ++ o.sent.1) cut ∙ append_assoc before (response id outcome ∷ after)
-      o.sent.1)))
+  pub whose : (first : S) (earlier : List Exchange) (output before after : List Message) (id : Id) (outcome : Outcome)
+      → WakeSends plain may first earlier output → output ≡ before ++ response id outcome ∷ after
+      → Whose first earlier id outcome
+  whose first earlier output before after id outcome w cut = at w.does
+    where
+      has : Has (replies id outcome) w.turn.call.acts
+      has = by_an_act w.turn.call.acts w.sent.0 id outcome before (after ++ w.sent.1)
+          (w.sent.2 ∙ ap (λ (l : List Message). l ++ w.sent.1) cut
+          ∙ append_assoc before (response id outcome ∷ after) w.sent.1)
 
-module _ {S J F P : Type 0} (may : StatedJobs S J F P) where
+      at : WakeDoes plain may w.turns w.turn → Whose first earlier id outcome
+      at (inl nothing) = not_empty has.0 has.1 (replies id outcome) (sym nothing ∙ has.2)
+      at (inr (inl s)) = by_job first earlier w.turns w.turn s.0 s.1 id outcome w.led s.2 s.3 has
+      at (inr (inr c)) = only_reply (cancels (of_job c.0)) id outcome (λ wrong. absurd (cc (wrong)))
+          (subst (Has (replies id outcome)) c.1 has)
+
   -- at a wake, after these exchanges, one reply is sent, and no more
-  abbrev Gives : List Exchange → Id → Outcome → Type 0
-  Gives earlier id outcome = WakeSends may earlier (response id outcome ∷ [])
+  abbrev Gives : S → List Exchange → Id → Outcome → Type 0
+  Gives first earlier id outcome = WakeSends plain may first earlier (response id outcome ∷ [])
 
-  its_own : (earlier : List Exchange) (id : Id) (outcome : Outcome) → (RepliesItself may id outcome → ⊥)
-      → Gives earlier id outcome → AnswersRequest may earlier id outcome
-  its_own earlier id outcome silent gives =
-      elim (whose may earlier (response id outcome ∷ []) [] [] id outcome gives refl) [
+  its_own : (first : S) (earlier : List Exchange) (id : Id) (outcome : Outcome) → (RepliesItself may id outcome → ⊥)
+      → Gives first earlier id outcome → AnswersRequest plain may first earlier id outcome
+  its_own first earlier id outcome silent gives =
+      elim (whose first earlier (response id outcome ∷ []) [] [] id outcome gives refl) [
         | inl r ↦ r
         | inr itself ↦ absurd (silent itself)
       ]
 
-  module _ (silent : (id : Id) (outcome : Outcome) → RepliesItself may id outcome → ⊥) where
-    -- a reply to which no job may come that is for the last request under the id, be it that of an earlier or another
-    -- one
+  module _ (first : S) (silent : (id : Id) (outcome : Outcome) → RepliesItself may id outcome → ⊥) where
+    -- a reply to which no job may come that the server may give for the last request under the id, be it that of an
+    -- earlier or another one, or of a job that is for the request and was not given
     forbidden : (xs : List Exchange) (id : Id) (method : List ℕ) (params : Data) (output : List Message)
         (outcome : Outcome)
-        → ((job : J) (came : Came F) → may.is_for job method params → ComesTo may.comes_to job came
-        → outcome ≡ reply_of came → ⊥)
-        → Gives (xs ++ record { came = Some (request id method params); sent = output } ∷ []) id outcome → ⊥
+        → ((server : S) (job : J) (came : Came F) → may.gives server id method params job
+        → may.is_for job method params → ComesTo may.comes_to job came → outcome ≡ reply_of came → ⊥)
+        → Gives first (xs ++ record { came = Some (request id method params); sent = output } ∷ []) id outcome → ⊥
     forbidden xs id method params output outcome never gives =
-        let r = its_own (xs ++ record { came = Some (request id method params); sent = output } ∷ []) id outcome
-        (silent id outcome) gives in
-        at r (latest xs (record { came = Some (request id method params); sent = output }) id r.method r.params
-        r.waits).0
+        let r = its_own first all id outcome (silent id outcome) gives in
+        at r (latest xs asks id r.given.method r.given.params r.given.last).0
       where
-        at : (r : AnswersRequest may (xs ++ record { came = Some (request id method params); sent = output } ∷ []) id
-            outcome)
-            → (◌≡◌ {A = Option Message} (Some (request id method params)) (Some (request id r.method r.params)))
+        asks : Exchange
+        asks = record { came = Some (request id method params); sent = output }
+
+        all : List Exchange
+        all = xs ++ asks ∷ []
+
+        at : (r : AnswersRequest plain may first all id outcome)
+            → (◌≡◌ {A = Option Message} (Some (request id method params))
+            (Some (request id r.given.method r.given.params)))
             ⊎ (eq_by_cmp id_cmp id id ≡ false) → ⊥
         at r (inl is) =
-            let m : method ≡ r.method = cc (is) in
-            let p : params ≡ r.params = cc (is) in
-            let is_for = subst (λ (x : List ℕ × Data). may.is_for r.job x.0 x.1) (λ k. (sym m k, sym p k)) r.is_for in
-            never r.job r.came is_for r.comes r.reply
+            let m : method ≡ r.given.method = cc (is) in
+            let p : params ≡ r.given.params = cc (is) in
+            let both = subst (λ (x : List ℕ × Data). may.gives r.given.server id x.0 x.1 r.job
+            × may.is_for r.job x.0 x.1) (λ k. (sym m k, sym p k)) (r.given.gives, r.given.is_for) in
+            never r.given.server r.job r.came both.0 both.1 r.comes r.reply
         at r (inr calm) = let e : true ≡ false = sym (same id) ∙ calm in absurd (cc (e))
 
     -- a reply after the request's cancellation
     after_cancellation : (xs : List Exchange) (id : Id) (method : List ℕ) (params : Data) (output : List Message)
         (outcome : Outcome) → cancelled_by method params ≡ Some id
-        → Gives (xs ++ record { came = Some (notification method params); sent = output } ∷ []) id outcome → ⊥
+        → Gives first (xs ++ record { came = Some (notification method params); sent = output } ∷ []) id outcome → ⊥
     after_cancellation xs id method params output outcome is gives =
-        let r = its_own (xs ++ record { came = Some (notification method params); sent = output } ∷ []) id outcome
+        let r = its_own first (xs ++ record { came = Some (notification method params); sent = output } ∷ []) id outcome
         (silent id outcome) gives in
-        elim (latest xs (record { came = Some (notification method params); sent = output }) id r.method r.params
-        r.waits).0 [
+        elim (latest xs (record { came = Some (notification method params); sent = output }) id r.given.method
+        r.given.params r.given.last).0 [
           | inl wrong ↦ absurd (cc (wrong))
           | inr calm ↦ (let e : true ≡ false = sym (same id) ∙ sym (ap (is_that id) is) ∙ calm in absurd (cc (e)))
         ]
 
     -- a second reply; and the outcome of a job after its request was refused
     second_reply : (xs : List Exchange) (id : Id) (came : Option Message) (one outcome : Outcome)
-        → Gives (xs ++ record { came = came; sent = response id one ∷ [] } ∷ []) id outcome → ⊥
+        → Gives first (xs ++ record { came = came; sent = response id one ∷ [] } ∷ []) id outcome → ⊥
     second_reply xs id came one outcome gives =
-        let r = its_own (xs ++ record { came = came; sent = response id one ∷ [] } ∷ []) id outcome
+        let r = its_own first (xs ++ record { came = came; sent = response id one ∷ [] } ∷ []) id outcome
         (silent id outcome) gives in
         let none : one_if (eq_by_cmp id_cmp id id) + 0 ≡ 0 = (latest xs (record {
           came = came;
           sent = response id one
               ∷ [];
-        }) id r.method r.params r.waits).1 in
+        }) id r.given.method r.given.params r.given.last).1 in
         let some : one_if (eq_by_cmp id_cmp id id) ≡ 1 = ap one_if (same id) in
         omega (arith, none, some)
 
     after_refusal : (xs : List Exchange) (id : Id) (method : List ℕ) (params : Data) (outcome : Outcome)
-        → Gives (xs ++ record { came = Some (request id method params); sent = response id (Err too_many) ∷ [] } ∷ [])
-        id outcome → ⊥
+        → Gives first (xs ++ record {
+          came = Some (request id method params);
+          sent = response id (Err too_many) ∷ [];
+        } ∷ []) id outcome → ⊥
     after_refusal xs id method params outcome = second_reply xs id (Some (request id method params))
         (Err too_many) outcome
 
     -- a reply, and no request under its id came
     no_request : (earlier : List Exchange) (id : Id) (outcome : Outcome) → how_many (is_request_under id)
-        (messages_of earlier) ≡ 0 → Gives earlier id outcome → ⊥
+        (messages_of earlier) ≡ 0 → Gives first earlier id outcome → ⊥
     no_request earlier id outcome none gives =
-        let r = its_own earlier id outcome (silent id outcome) gives in
-        let l = r.waits in
-        let x : Exchange = record { came = Some (request id r.method r.params); sent = l.sent } in
-        let all : messages_of earlier ≡ messages_of l.before ++ request id r.method r.params ∷ messages_of l.since = ap
-        messages_of l.came ∙ messages_both l.before (x ∷ l.since) in
+        let r = its_own first earlier id outcome (silent id outcome) gives in
+        let l = r.given.last in
+        let x : Exchange = record { came = Some (request id r.given.method r.given.params); sent = l.sent } in
+        let all : messages_of earlier
+        ≡ messages_of l.before ++ request id r.given.method r.given.params ∷ messages_of l.since =
+        ap messages_of l.came ∙ messages_both l.before (x ∷ l.since) in
         let count = ap (how_many (is_request_under id)) all ∙ how_many-append (is_request_under id)
-        (messages_of l.before) (request id r.method r.params ∷ messages_of l.since) in
+        (messages_of l.before) (request id r.given.method r.given.params ∷ messages_of l.since) in
         let one : one_if (eq_by_cmp id_cmp id id) ≡ 1 = ap one_if (same id) in
         omega (arith, none, count, one)
 

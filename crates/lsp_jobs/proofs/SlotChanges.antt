@@ -10,10 +10,9 @@ use Rattle.lsp_message.specs.IdLaws.{id_decides}
 use Rattle.lsp_service.specs.Acts.{Act, tells, asks, replies, cancels}
 use Rattle.lsp_service.specs.declared.server.Server.{Ghosts as Plain}
 use Rattle.lsp_jobs.specs.Ends.{End, ended}
-use Rattle.lsp_jobs.specs.JobLaw.{IsLeft, Left, at_ends}
 use Rattle.lsp_jobs.specs.PendingJobs.{PendingJobs, without}
 use Rattle.lsp_jobs.specs.Pooled.{unanswered, Changes, EndsThen, Frees, StartsOne}
-use Rattle.lsp_jobs.specs.SlotLaw.{LeavesAlone, SeesLeft, Spares, StartsLast}
+use Rattle.lsp_jobs.specs.SlotLaw.{IsLeft, LeavesAlone, Left, SeesLeft, Spares, StartsLast, at_ends}
 use Rattle.lsp_jobs.specs.Stated.{StatedJobs}
 use Rattle.lsp_jobs.specs.declared.job_server.JobEnd.TheVariants.{Refused, Replaced, Stopped}
 use Rattle.lsp_jobs.specs.declared.job_server.SlotChange.{SlotChange}

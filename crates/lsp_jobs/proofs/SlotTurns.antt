@@ -16,14 +16,14 @@ use Rattle.lsp_jobs.proofs.Answering.{back_pending, does_jobs, requests_then, Fr
 use Rattle.lsp_jobs.proofs.SlotChanges.{fewer_slots, moves_all, unanswered_slot, went_all, Went}
 use Rattle.lsp_jobs.specs.Asking.{by_server, ByServers}
 use Rattle.lsp_jobs.specs.Ends.{end_of}
-use Rattle.lsp_jobs.specs.JobLaw.{at_ends, concerns, Left}
 use Rattle.lsp_jobs.specs.JobSession.{seen_with_jobs}
 use Rattle.lsp_jobs.specs.PendingJobs.{PendingJobs, no_jobs, without}
 use Rattle.lsp_jobs.specs.PoolView.{pending_jobs}
 use Rattle.lsp_jobs.specs.Pooled.{reply_at, unanswered, without_cancelled, ChangesSlots, Does, Finishes, TakesLong}
 use Rattle.lsp_jobs.specs.Seen.{seen}
-use Rattle.lsp_jobs.specs.SlotLaw.{AllLeaveAlone, AllQuiet, AreTurns, IsCalled, IsGiven, IsTurn, LeavesAlone, MayPass}
-use Rattle.lsp_jobs.specs.SlotLaw.{SeesLeft, SlotHistory, Spares, Stands, StartsLast, Turn, WakeDoes}
+use Rattle.lsp_jobs.specs.SlotLaw.{AllLeaveAlone, AllQuiet, AreTurns, IsCalled, IsGiven, IsTurn, LeavesAlone, Left}
+use Rattle.lsp_jobs.specs.SlotLaw.{MayPass, SeesLeft, SlotHistory, Spares, Stands, StartsLast, Turn, WakeDoes, at_ends}
+use Rattle.lsp_jobs.specs.SlotLaw.{concerns}
 use Rattle.lsp_jobs.specs.declared.asking.Asked.{Asked}
 use Rattle.lsp_jobs.specs.declared.asking.Asked.TheVariants.{ByJob, ByServer}
 use Rattle.lsp_jobs.specs.Stated.{SeesEnd, StatedJobs}
@@ -34,7 +34,7 @@ use Rattle.lsp_jobs.specs.declared.pooled_server.PooledServer.{PooledServer}
 
 module _ {S J F P : Type 0} (plain : Plain S P) (may : StatedJobs S J F P) where
   -- what becomes of the jobs in slots
-  abbrev MovesTo : List (SlotChange J) → PendingJobs J → PendingJobs J → Type 0
+  abbrev pub MovesTo : List (SlotChange J) → PendingJobs J → PendingJobs J → Type 0
   MovesTo changes old new = (slot : Id) (e : J) → new (Slot slot) ≡ Some e
       → ((old (Slot slot) ≡ Some e) × LeavesAlone slot changes) ⊎ StartsLast changes slot e
 
@@ -79,7 +79,7 @@ module _ {S J F P : Type 0} (plain : Plain S P) (may : StatedJobs S J F P) where
       → FromCall (IsGiven plain may t.old t.call.acts) old t.call.came id e × Spares id t.call.acts
 
   -- each job that is pending in a slot is the last that was started there, and each other the one given for its request
-  abbrev AllStand : List (Turn plain may) → PendingJobs J → Type 0
+  abbrev pub AllStand : List (Turn plain may) → PendingJobs J → Type 0
   AllStand earlier pending = (name : JobName) (e : J) → pending name ≡ Some e → Stands plain may earlier name e
 
   alone_more : (slot : Id) (turns : List (Turn plain may)) (t : Turn plain may) → AllLeaveAlone plain may slot turns
@@ -155,15 +155,15 @@ module _ (T : Type 0) {S J F P : Type 0} (plain : Plain S P) (may : StatedJobs S
   pended p = pending_jobs p.pool
 
   -- a call as a turn
-  record TurnOf (old did : PooledServer T S J F) (call : Call (Asked P)) : Type 0 where
-    turn : Turn plain may
-    of_call : turn.call ≡ call
-    from : turn.old ≡ old.server
-    to : turn.new ≡ did.server
-    gave : turn.given ≡ given_at plain may call.came (pended did)
-    is_turn : IsTurn plain may turn
-    moves : MovesTo plain may turn.changes (pended old) (pended did)
-    wake : (earlier : List (Turn plain may)) → AllStand plain may earlier (pended old) → call.came ≡ None
+  pub record TurnOf (old did : PooledServer T S J F) (call : Call (Asked P)) : Type 0 where
+    pub turn : Turn plain may
+    pub of_call : turn.call ≡ call
+    pub from : turn.old ≡ old.server
+    pub to : turn.new ≡ did.server
+    pub gave : turn.given ≡ given_at plain may call.came (pended did)
+    pub is_turn : IsTurn plain may turn
+    pub moves : MovesTo plain may turn.changes (pended old) (pended did)
+    pub wake : (earlier : List (Turn plain may)) → AllStand plain may earlier (pended old) → call.came ≡ None
         → WakeDoes plain may earlier turn
 
   -- the server did nothing
@@ -308,7 +308,7 @@ module _ (T : Type 0) {S J F P : Type 0} (plain : Plain S P) (may : StatedJobs S
         )),
       ))
 
-  handed_turn : (old did : PooledServer T S J F) (arrived : Option Message) (payload : Option (Asked P))
+  pub handed_turn : (old did : PooledServer T S J F) (arrived : Option Message) (payload : Option (Asked P))
       (acts : List (Act (Asked P))) → Handed W old arrived payload acts did
       → TurnOf old did (record { came = arrived; payload = payload; acts = acts })
   handed_turn old did (Some (request id method params)) payload acts h = elim h.0 [
@@ -360,7 +360,7 @@ module _ (T : Type 0) {S J F P : Type 0} (plain : Plain S P) (may : StatedJobs S
           inr (inr (w.number, ap (λ (c : Call (Asked P)). c.acts) is ∙ w.acts)))
 
   -- what the server took back
-  took_back : (payloads : List (Asked P)) (old new : PooledServer T S J F) → TakesBack W.takes_back old payloads new
+  pub took_back : (payloads : List (Asked P)) (old new : PooledServer T S J F) → TakesBack W.takes_back old payloads new
       → (own : List P) × TakesBack plain.takes_back old.server own new.server
   took_back [] old new same = ([], ap (λ (p : PooledServer T S J F). p.server) same)
   took_back (ByServer payload ∷ payloads) old new back =
@@ -382,18 +382,32 @@ module _ (T : Type 0) {S J F P : Type 0} (plain : Plain S P) (may : StatedJobs S
       subst (λ (x : Call (Asked P) × S). FromCall (IsGiven plain may x.1 x.0.acts) (pended old) x.0.came id e
       × Spares id x.0.acts) (λ k. (sym is k, sym from k)) (comes id e has)
 
+  -- and each job that is pending then stands
+  pub stands_after : (old did : PooledServer T S J F) (earlier : List (Turn plain may)) (call : Call (Asked P))
+      (t : TurnOf old did call) → AllStand plain may earlier (pended old)
+      → ((id : Id) (e : J) → pended did (Request id) ≡ Some e
+      → FromCall (IsGiven plain may old.server call.acts) (pended old) call.came id e × Spares id call.acts)
+      → AllStand plain may (earlier ++ t.turn ∷ []) (pended did)
+  stands_after old did earlier call t stand comes =
+      stand_on plain may earlier t.turn (pended old) (pended did) stand t.moves
+      (t.gave ∙ ap (λ (c : Call (Asked P)). given_at plain may c.came (pended did)) (sym t.of_call))
+      (comes_at old did call t.turn t.of_call t.from comes)
+
   record Turns (start : S) (earlier : List (Turn plain may)) (calls : List (Call (Asked P))) : Type 0 where
     turns : List (Turn plain may)
     are : map_list (λ (t : Turn plain may). t.call) turns ≡ calls
-    linked : AreTurns plain may start turns
+    last : S
+    linked : AreTurns plain may start turns last
     wakes : (before later : List (Turn plain may)) (t : Turn plain may) → turns ≡ before ++ t ∷ later
         → t.call.came ≡ None → WakeDoes plain may (earlier ++ before) t
 
-  no_turns : (start : S) (earlier : List (Turn plain may)) → Turns start earlier []
-  no_turns start earlier = record {
+  no_turns : (start now : S) (earlier : List (Turn plain may))
+      → ((own : List P) × TakesBack plain.takes_back start own now) → Turns start earlier []
+  no_turns start now earlier between = record {
     turns = [];
     are = refl;
-    linked = tt;
+    last = now;
+    linked = between;
     wakes = never;
   }
     where
@@ -409,10 +423,11 @@ module _ (T : Type 0) {S J F P : Type 0} (plain : Plain S P) (may : StatedJobs S
   one_turn start old did earlier call calls between t stand rest = record {
     turns = t.turn ∷ rest.turns;
     are = λ k. t.of_call k ∷ rest.are k;
+    last = rest.last;
     linked = (
       subst (λ (s : S). (own : List P) × TakesBack plain.takes_back start own s) (sym t.from) between,
       t.is_turn,
-      subst (λ (s : S). AreTurns plain may s rest.turns) (sym t.to) rest.linked,
+      subst (λ (s : S). AreTurns plain may s rest.turns rest.last) (sym t.to) rest.linked,
     );
     wakes = at;
   }
@@ -435,61 +450,72 @@ module _ (T : Type 0) {S J F P : Type 0} (plain : Plain S P) (may : StatedJobs S
   all_turns : (count : ℕ) (calls : List (Call (Asked P))) (start : S) (old last : PooledServer T S J F)
       (earlier : List (Turn plain may)) → ((own : List P) × TakesBack plain.takes_back start own old.server)
       → AllStand plain may earlier (pended old) → TakesCalls W count old calls last → Turns start earlier calls
-  all_turns count [] start old last earlier between stand same = no_turns start earlier
+  all_turns count [] start old last earlier between stand same = no_turns start old.server earlier between
   all_turns count (call ∷ calls) start old last earlier between stand run =
       let did = run.0 in
       let mid = run.1 in
       let t = handed_turn old did call.came call.payload call.acts run.2 in
-      let comes = comes_at old did call t.turn t.of_call t.from
+      let stands = stands_after old did earlier call t stand
       (requests_then T plain may old did call.came call.payload call.acts run.2) in
-      let stands = stand_on plain may earlier t.turn (pended old) (pended did) stand t.moves
-      (t.gave ∙ ap (λ (c : Call (Asked P)). given_at plain may c.came (pended did)) (sym t.of_call)) comes in
       one_turn start old did earlier call calls between t stand
       (all_turns (ids_after_all count call.acts) calls did.server mid last (earlier ++ t.turn ∷ [])
       (took_back (unsent count call.acts) did mid run.3)
       (subst (AllStand plain may (earlier ++ t.turn ∷ []))
       (sym (back_pending T plain may (unsent count call.acts) did mid run.3)) stands) run.4)
 
-  pub slot_history : (start last : PooledServer T S J F) (opening : Exchange) (later : List Exchange) (m : Message)
-      → pended start ≡ no_jobs → opening.came ≡ Some m → is_initialized m ≡ true
-      → (part : TakesPart W start last opening later)
-      → SlotHistory plain may start.server opening part.begun part.calls
-  slot_history start last opening later m none came begins part =
-      let stand : AllStand plain may [] (pended start) = λ name e has. absurd (no_job name e has) in
-      let t = opened in
-      let all = one_turn start.server start part.did [] now part.calls ([], refl) t stand
-      (all_turns (ids_after_all 0 part.begun) part.calls part.did.server part.first part.called ([] ++ t.turn ∷ [])
-      (took_back (unsent 0 part.begun) part.did part.first part.took_back)
-      (subst (AllStand plain may ([] ++ t.turn ∷ []))
-      (sym (back_pending T plain may (unsent 0 part.begun) part.did part.first part.took_back))
-      (stand_on plain may [] t.turn (pended start) (pended part.did) stand t.moves
-      (t.gave ∙ ap (λ (c : Call (Asked P)). given_at plain may c.came (pended part.did)) (sym t.of_call))
-      (comes_at start part.did now t.turn t.of_call t.from (λ id e has. absurd (none_given id e has)))))
-      part.took_calls) in
-      record { turns = all.turns; are = all.are; linked = all.linked; wakes = all.wakes }
+  -- no job is pending at first
+  no_job : (start : PooledServer T S J F) → pended start ≡ no_jobs → (name : JobName) (e : J)
+      → pended start name ≡ Some e → ⊥
+  no_job start none name e has = let no = ap (λ (p : PendingJobs J). p name) (sym none) ∙ has in absurd (cc (no))
+
+  -- `initialized` came
+  pub opened : (start did : PooledServer T S J F) (m : Message) (acts : List (Act (Asked P)))
+      → is_initialized m ≡ true → W.at_initialized start acts did
+      → TurnOf start did (record { came = Some m; payload = None; acts = acts })
+  opened start did m acts begins began = does_turn start did (record { came = Some m; payload = None; acts = acts })
+      (pended start) (plain.at_initialized start.server) began (is_called m begins) (λ slot e has. has)
+      (λ none. absurd (cc (none)))
     where
-      now : Call (Asked P)
-      now = record { came = opening.came; payload = None; acts = part.begun }
-
-      no_job : (name : JobName) (e : J) → pended start name ≡ Some e → ⊥
-      no_job name e has = let no = ap (λ (p : PendingJobs J). p name) (sym none) ∙ has in absurd (cc (no))
-
-      none_given : (id : Id) (e : J) → pended part.did (Request id) ≡ Some e → ⊥
-      none_given id e has =
-          (does_jobs plain may (λ id e. ⊥) (plain.at_initialized start.server) (pended start) part.began.0
-          (seen part.did) (λ id e has. absurd (no_job (Request id) e has)) part.began.2 id e has).0
-
       is_called : (m : Message) → is_initialized m ≡ true → (acts : List (Act P)) (mid : S)
           → plain.at_initialized start.server acts mid → IsCalled plain may start.server (Some m) acts mid
       is_called (notification method params) begins acts mid does = inr (begins, does)
       is_called (request id method params) begins acts mid does = absurd (cc (begins))
       is_called (response id outcome) begins acts mid does = absurd (cc (begins))
 
-      opened : TurnOf start part.did now
-      opened = does_turn start part.did now (pended start) (plain.at_initialized start.server) part.began
-          (λ acts mid does. subst (λ (l : Option Message). IsCalled plain may start.server l acts mid) (sym came)
-          (is_called m begins acts mid does)) (λ slot e has. has)
-          (λ none. absurd (cc (came, none)))
+  pub stands_opened : (start did : PooledServer T S J F) (call : Call (Asked P)) → pended start ≡ no_jobs
+      → W.at_initialized start call.acts did → (t : TurnOf start did call)
+      → AllStand plain may (t.turn ∷ []) (pended did)
+  stands_opened start did call none began t =
+      stands_after start did [] call t (λ name e has. absurd (no_job start none name e has))
+      (λ id e has. absurd (none_given id e has))
+    where
+      none_given : (id : Id) (e : J) → pended did (Request id) ≡ Some e → ⊥
+      none_given id e has =
+          (does_jobs plain may (λ id e. ⊥) (plain.at_initialized start.server) (pended start) began.0 (seen did)
+          (λ id e has. absurd (no_job start none (Request id) e has)) began.2 id e has).0
+
+  pub slot_history : (start last : PooledServer T S J F) (opening : Exchange) (later : List Exchange) (m : Message)
+      → pended start ≡ no_jobs → opening.came ≡ Some m → is_initialized m ≡ true
+      → (part : TakesPart W start last opening later)
+      → SlotHistory plain may start.server opening part.begun part.calls
+  slot_history start last opening later m none came begins part =
+      let t : TurnOf start part.did now = subst (λ (o : Option Message). TurnOf start part.did (record {
+        came = o;
+        payload = None;
+        acts = part.begun;
+      })) (sym came) (opened start part.did m part.begun begins part.began) in
+      let all = one_turn start.server start part.did [] now part.calls ([], refl) t
+      (λ name e has. absurd (no_job start none name e has))
+      (all_turns (ids_after_all 0 part.begun) part.calls part.did.server part.first part.called (t.turn ∷ [])
+      (took_back (unsent 0 part.begun) part.did part.first part.took_back)
+      (subst (AllStand plain may (t.turn ∷ []))
+      (sym (back_pending T plain may (unsent 0 part.begun) part.did part.first part.took_back))
+      (stands_opened start part.did now none part.began t))
+      part.took_calls) in
+      record { turns = all.turns; are = all.are; last = all.last; linked = all.linked; wakes = all.wakes }
+    where
+      now : Call (Asked P)
+      now = record { came = opening.came; payload = None; acts = part.begun }
 
   -- up to the result of `initialize` no job is started
   pub early_pending : (early : List Exchange) (old start : PooledServer T S J F) → AnswersInitialize W old early start

@@ -1,35 +1,21 @@
--- What a client sees of jobs, in the exchanges of a session: whose outcome is sent at a wake.
+-- What a client sees of jobs, in the exchanges of a session: what a wake sends, and whose outcome that is.
 use Rattle.serde_json.specs.Data.{Data}
-use Rattle.std.specs.Ordering.{eq_by_cmp}
-use Rattle.std.specs.Prelude.{◌≡◌, ◌⊎◌, ℕ, Bool, false, List, [], ◌∷◌, ◌++◌, map, Option, Some, None}
-use Rattle.lsp_message.specs.Id.{Id, id_cmp}
-use Rattle.lsp_message.specs.Message.{Message, request, notification}
+use Rattle.std.specs.Prelude.{◌≡◌, ◌⊎◌, ℕ, true, false, List, [], ◌∷◌, ◌++◌, Option, Some, None}
+use Rattle.lsp_message.specs.Id.{Id}
+use Rattle.lsp_message.specs.Message.{Message, request}
 use Rattle.lsp_session.specs.Session.{Exchange, SessionAnswer, Stop}
-use Rattle.lsp_service.specs.Acts.{Act, Queues, tells, asks, replies, cancels, cancelled_by}
-use Rattle.lsp_service.specs.Law.{KeepsLaws, how_many, is_reply_under}
+use Rattle.lsp_session.specs.SessionLaws.{EndsWithResult}
+use Rattle.lsp_service.specs.Acts.{Act, Queues, replies}
+use Rattle.lsp_service.specs.Law.{AnswersInitialize, KeepsLaws, how_many, is_reply_under}
 use Rattle.lsp_service.specs.QueuedServer.{held_by}
-use Rattle.lsp_service.specs.SentByActs.{all_sends}
+use Rattle.lsp_service.specs.SentByActs.{acts_done_at, all_sends}
+use Rattle.lsp_service.specs.Stated.{unwoken}
 use Rattle.lsp_service.specs.declared.server.Server.{Ghosts as Plain}
-use Rattle.lsp_jobs.specs.Asking.{by_server, of_job}
-use Rattle.lsp_jobs.specs.Ends.{Came, ComesTo, End, Outcome, end_of, ended, reply_of}
+use Rattle.lsp_jobs.specs.Ends.{Came, ComesTo, End, Outcome, reply_of}
 use Rattle.lsp_jobs.specs.JobSession.{JobSession, seen_with_jobs}
-use Rattle.lsp_jobs.specs.Pooled.{reply_at}
+use Rattle.lsp_jobs.specs.SlotLaw.{AreTurns, IsTurn, Turn, WakeDoes, concerns}
 use Rattle.lsp_jobs.specs.Stated.{SeesEnd, StatedJobs}
-use Rattle.lsp_jobs.specs.declared.asking.Asked.{Asked}
-use Rattle.lsp_jobs.specs.declared.asking.Asked.TheVariants.{ByJob}
-use Rattle.lsp_jobs.specs.declared.job_server.JobEnd.TheVariants.{Refused, Replaced, Stopped}
 use Rattle.lsp_jobs.specs.declared.names.JobName.{JobName}
-use Rattle.lsp_jobs.specs.declared.names.JobName.TheVariants.{Request, Slot}
-
-abbrev pub is_that : Id → Option Id → Bool
-is_that id None = false
-is_that id (Some i) = eq_by_cmp id_cmp id i
-
--- a request under this id comes, or its cancellation
-abbrev pub concerns : Id → Option Message → Bool
-concerns id (Some (request i method params)) = eq_by_cmp id_cmp id i
-concerns id (Some (notification method params)) = is_that id (cancelled_by method params)
-concerns id came = false
 
 -- in none of these exchanges a request under this id came, or its cancellation, or was a reply under it sent
 abbrev pub IsQuiet : Id → List Exchange → Type 0
@@ -61,29 +47,70 @@ abbrev pub SendsSo : {P : Type 0} → List (Act P) → List Message → Type 0
 SendsSo {P} acts output = (queues : Queues P) × (not_sent : List Message)
     × (all_sends queues acts ≡ output ++ not_sent)
 
--- a job ended before it came to something
-abbrev pub IsLeft : {F : Type 0} → End F → Type 0
-IsLeft (ended Refused) = Unit {0}
-IsLeft (ended Replaced) = Unit {0}
-IsLeft (ended Stopped) = Unit {0}
-IsLeft end = ⊥
+module _ {S J F P : Type 0} (plain : Plain S P) (may : StatedJobs S J F P) where
+  -- This turn was taken at this exchange: what is done in it is sent. If the outbox refused a message, no more is.
+  abbrev pub IsTakenAt : Exchange → Turn plain may → Type 0
+  IsTakenAt x t = (t.call.came ≡ x.came) × SendsSo (acts_done_at x.came t.call.acts) x.sent
+
+  -- one turn at each of these exchanges
+  abbrev pub AreTakenAt : List Exchange → List (Turn plain may) → Type 0
+  AreTakenAt [] [] = Unit {0}
+  AreTakenAt (x ∷ xs) (t ∷ turns) = IsTakenAt x t × AreTakenAt xs turns
+  AreTakenAt xs turns = ⊥
+
+  -- These exchanges took the server from its first state to this one. Up to the result of `initialize` it was only
+  -- initialized. Then it took these turns, one at each exchange.
+  pub record Leads (first : S) (exchanges : List Exchange) (turns : List (Turn plain may)) (now : S) : Type 0 where
+    pub early : List Exchange
+    pub later : List Exchange
+    pub cut : exchanges ≡ early ++ later
+    pub result : EndsWithResult early
+    pub start : S
+    pub initialized : AnswersInitialize (unwoken plain) first early start
+    pub taken : AreTakenAt later turns
+    pub linked : AreTurns plain may start turns now
+
+  -- A wake after these exchanges is the turn that follows theirs, and this is sent. In it nothing is done, or a job
+  -- that stands there says something, or what a job asked is cancelled.
+  pub record WakeSends (first : S) (earlier : List Exchange) (output : List Message) : Type 0 where
+    pub turns : List (Turn plain may)
+    pub turn : Turn plain may
+    pub led : Leads first earlier turns turn.old
+    pub is_turn : IsTurn plain may turn
+    pub woken : turn.call.came ≡ None
+    pub does : WakeDoes plain may turns turn
+    pub sent : SendsSo turn.call.acts output
+
+  -- at each wake this is sent, and replies go to no other requests
+  abbrev pub AnswersByJobs : S → List Exchange → Type 0
+  AnswersByJobs first exchanges =
+      (earlier later : List Exchange) (x : Exchange) → exchanges ≡ earlier ++ x ∷ later
+      → x.came ≡ None
+      → WakeSends first earlier x.sent × RepliesToLast earlier x.sent
+
+  -- The last request under the id came after these exchanges, which had taken the server to this state. It called the
+  -- request long and gave this job, which is for it.
+  pub record JobOfLast (first : S) (earlier : List Exchange) (id : Id) (job : J) : Type 0 where
+    pub method : List ℕ
+    pub params : Data
+    pub last : LastRequest earlier id method params
+    pub turns : List (Turn plain may)
+    pub server : S
+    pub led : Leads first last.before turns server
+    pub long : may.sorts server method params true
+    pub gives : may.gives server id method params job
+    pub is_for : may.is_for job method params
+
+  -- This is the reply to the last request under the id, whatever its job came to: what it may come to, or an error: it
+  -- gave no reply, an allocation failed, or it ended as cancelled.
+  pub record AnswersRequest (first : S) (earlier : List Exchange) (id : Id) (outcome : Outcome) : Type 0 where
+    pub job : J
+    pub given : JobOfLast first earlier id job
+    pub came : Came F
+    pub comes : ComesTo may.comes_to job came
+    pub reply : outcome ≡ reply_of came
 
 module _ {S J F P : Type 0} (may : StatedJobs S J F P) where
-  -- The job of a slot ended before it came to something. The server sees that, and does this.
-  pub record Left : Type 0 where
-    pub slot : Id
-    pub end : End F
-    pub is_left : IsLeft end
-    pub old : S
-    pub acts : List (Act P)
-    pub new : S
-    pub saw : SeesEnd may old (Slot slot) end acts new
-
-  -- what is done at these ends
-  abbrev pub at_ends : List Left → List (Act P)
-  at_ends [] = []
-  at_ends (l ∷ ls) = l.acts ++ at_ends ls
-
   -- The server sees how a job ended, and then answers this request by itself.
   pub record RepliesItself (id : Id) (outcome : Outcome) : Type 0 where
     pub name : JobName
@@ -93,77 +120,6 @@ module _ {S J F P : Type 0} (may : StatedJobs S J F P) where
     pub after : List (Act P)
     pub new : S
     pub saw : SeesEnd may old name end (before ++ replies id outcome ∷ after) new
-
-  -- The last request under the id waits for a job that is for it, and this is the reply to it, whatever that job came
-  -- to: what it may come to, or an error: it gave no reply, an allocation failed, or it ended as cancelled.
-  pub record AnswersRequest (earlier : List Exchange) (id : Id) (outcome : Outcome) : Type 0 where
-    pub method : List ℕ
-    pub params : Data
-    pub waits : LastRequest earlier id method params
-    pub job : J
-    pub is_for : may.is_for job method params
-    pub came : Came F
-    pub comes : ComesTo may.comes_to job came
-    pub reply : outcome ≡ reply_of came
-
-  -- The last request under the id waits for this job, which is for it. Nobody waits for a job in a slot: see `SlotLaw`.
-  abbrev pub Waits : List Exchange → JobName → J → Type 0
-  Waits earlier (Request id) job =
-      (method : List ℕ) × (params : Data) × may.is_for job method params × LastRequest earlier id method params
-  Waits earlier (Slot slot) job = Unit {0}
-
-  -- a job that is pending under some name reports
-  pub record SendsReport (earlier : List Exchange) (output : List Message) : Type 0 where
-    pub name : JobName
-    pub job : J
-    pub method : List ℕ
-    pub params : Data
-    pub waits : Waits earlier name job
-    pub reports : may.reports job method params
-    pub sent : SendsSo {P = Asked P} (tells method params ∷ []) output
-
-  -- a job that is pending under some name asks the client
-  pub record SendsRequest (earlier : List Exchange) (output : List Message) : Type 0 where
-    pub name : JobName
-    pub job : J
-    pub method : List ℕ
-    pub params : Data
-    pub number : ℕ
-    pub waits : Waits earlier name job
-    pub may_ask : may.asks job method params
-    pub sent : SendsSo {P = Asked P} (asks method params (ByJob number) ∷ []) output
-
-  -- A job came to this. The server sees that and does something first, then the request gets the reply, if the job is
-  -- for one. Then the server sees how jobs ended whose slots it changed.
-  pub record SendsReply (earlier : List Exchange) (output : List Message) : Type 0 where
-    pub name : JobName
-    pub job : J
-    pub came : Came F
-    pub waits : Waits earlier name job
-    pub comes : ComesTo may.comes_to job came
-    pub old : S
-    pub first : List (Act P)
-    pub new : S
-    pub saw : SeesEnd may old name (end_of came) first new
-    pub left : List Left
-    pub sent : SendsSo (map by_server ((first ++ reply_at name came) ++ at_ends left)) output
-
-  -- what one job asked the client is cancelled, if it has no reply yet
-  abbrev pub SendsCancellation : List Message → Type 0
-  SendsCancellation output = (number : ℕ) × SendsSo {P = Asked P} (cancels (of_job number) ∷ []) output
-
-  -- what is sent at a wake, after these exchanges
-  abbrev pub WakeSends : List Exchange → List Message → Type 0
-  WakeSends earlier output = (output ≡ [])
-      ⊎ (SendsReport earlier output
-      ⊎ (SendsRequest earlier output ⊎ (SendsReply earlier output ⊎ SendsCancellation output)))
-
-  -- at each wake this is sent, and replies go to no other requests
-  abbrev pub AnswersByJobs : List Exchange → Type 0
-  AnswersByJobs exchanges =
-      (earlier later : List Exchange) (x : Exchange) → exchanges ≡ earlier ++ x ∷ later
-      → x.came ≡ None
-      → WakeSends earlier x.sent × RepliesToLast earlier x.sent
 
 module _ (T : Type 0) {S J F P : Type 0} (plain : Plain S P) (may : StatedJobs S J F P) where
   -- a session of a server with jobs, which keeps the laws of a session of a server, and in which each job answers its
@@ -175,4 +131,4 @@ module _ (T : Type 0) {S J F P : Type 0} (plain : Plain S P) (may : StatedJobs S
     pub laws : KeepsLaws (seen_with_jobs T plain may) session.old session.new
         (held_by (seen_with_jobs T plain may) session.session) exchanges stop shutdown_reply
         answer
-    pub jobs : AnswersByJobs may exchanges
+    pub jobs : AnswersByJobs plain may first exchanges

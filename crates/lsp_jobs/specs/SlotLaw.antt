@@ -1,24 +1,43 @@
--- Of which jobs a server hears: of the last one in each of its slots, and of the one for the last request under an id.
+-- The turns of a server with jobs, and of which jobs it hears: of the last one in each of its slots, and of the one for
+-- the last request under an id.
 use Rattle.serde_json.specs.Data.{Data}
-use Rattle.std.specs.Prelude.{◌≡◌, ◌⊎◌, ℕ, true, false, List, [], ◌∷◌, ◌++◌, map, Option, Some, None}
-use Rattle.lsp_message.specs.Id.{Id, same_id}
+use Rattle.std.specs.Ordering.{eq_by_cmp}
+use Rattle.std.specs.Prelude.{◌≡◌, ◌⊎◌, ℕ, Bool, true, false, List, [], ◌∷◌, ◌++◌, map, Option, Some, None}
+use Rattle.lsp_message.specs.Id.{Id, id_cmp, same_id}
 use Rattle.lsp_message.specs.Message.{Message, request, notification, response}
 use Rattle.lsp_message.specs.Methods.{is_initialized}
 use Rattle.lsp_session.specs.Session.{Exchange}
-use Rattle.lsp_service.specs.Acts.{Act, tells, asks, replies, cancels, TakesBack}
+use Rattle.lsp_service.specs.Acts.{Act, tells, asks, replies, cancels, cancelled_by, TakesBack}
 use Rattle.lsp_service.specs.Law.{Call}
 use Rattle.lsp_service.specs.declared.server.Server.{Ghosts as Plain}
 use Rattle.lsp_jobs.specs.Asking.{by_server, of_job}
-use Rattle.lsp_jobs.specs.Ends.{Came, ComesTo, Outcome, end_of}
-use Rattle.lsp_jobs.specs.JobLaw.{concerns, Left, at_ends}
+use Rattle.lsp_jobs.specs.Ends.{Came, ComesTo, End, Outcome, end_of, ended}
 use Rattle.lsp_jobs.specs.Pooled.{reply_at, IsAtOnce}
 use Rattle.lsp_jobs.specs.declared.asking.Asked.{Asked}
 use Rattle.lsp_jobs.specs.declared.asking.Asked.TheVariants.{ByJob}
 use Rattle.lsp_jobs.specs.Stated.{SeesEnd, StatedJobs}
+use Rattle.lsp_jobs.specs.declared.job_server.JobEnd.TheVariants.{Refused, Replaced, Stopped}
 use Rattle.lsp_jobs.specs.declared.job_server.SlotChange.{SlotChange}
 use Rattle.lsp_jobs.specs.declared.job_server.SlotChange.TheVariants.{Start, Stop}
 use Rattle.lsp_jobs.specs.declared.names.JobName.{JobName}
 use Rattle.lsp_jobs.specs.declared.names.JobName.TheVariants.{Request, Slot}
+
+abbrev pub is_that : Id → Option Id → Bool
+is_that id None = false
+is_that id (Some i) = eq_by_cmp id_cmp id i
+
+-- a request under this id comes, or its cancellation
+abbrev pub concerns : Id → Option Message → Bool
+concerns id (Some (request i method params)) = eq_by_cmp id_cmp id i
+concerns id (Some (notification method params)) = is_that id (cancelled_by method params)
+concerns id came = false
+
+-- a job ended before it came to something
+abbrev pub IsLeft : {F : Type 0} → End F → Type 0
+IsLeft (ended Refused) = Unit {0}
+IsLeft (ended Replaced) = Unit {0}
+IsLeft (ended Stopped) = Unit {0}
+IsLeft end = ⊥
 
 module _ {P : Type 0} where
   -- none of these acts replies under the id
@@ -44,6 +63,22 @@ module _ {J : Type 0} where
     pub after : List (SlotChange J)
     pub cut : changes ≡ before ++ Start slot job ∷ after
     pub alone : LeavesAlone slot after
+
+module _ {S J F P : Type 0} (may : StatedJobs S J F P) where
+  -- The job of a slot ended before it came to something. The server sees that, and does this.
+  pub record Left : Type 0 where
+    pub slot : Id
+    pub end : End F
+    pub is_left : IsLeft end
+    pub old : S
+    pub acts : List (Act P)
+    pub new : S
+    pub saw : SeesEnd may old (Slot slot) end acts new
+
+  -- what is done at these ends
+  abbrev pub at_ends : List Left → List (Act P)
+  at_ends [] = []
+  at_ends (l ∷ ls) = l.acts ++ at_ends ls
 
 module _ {S J F P : Type 0} (plain : Plain S P) (may : StatedJobs S J F P) where
   -- the server sees, one after another, how jobs ended whose slots it changed
@@ -105,11 +140,12 @@ module _ {S J F P : Type 0} (plain : Plain S P) (may : StatedJobs S J F P) where
       × SeesLeft t.made t.left t.new × (t.call.acts ≡ map by_server (acts ++ at_ends may t.left)))
       ⊎ (MayPass t.old t.call.came t.call.acts × (t.changes ≡ []) × (t.left ≡ []) × (t.new ≡ t.old))
 
-  -- Each turn begins where the one before ended, but that the server took back what found no id for a request.
-  abbrev pub AreTurns : S → List Turn → Type 0
-  AreTurns start [] = Unit {0}
-  AreTurns start (t ∷ turns) =
-      ((payloads : List P) × TakesBack plain.takes_back start payloads t.old) × IsTurn t × AreTurns t.new turns
+  -- Turns take the server from one state to another. Each begins where the one before ended, but that the server took
+  -- back what found no id for a request.
+  abbrev pub AreTurns : S → List Turn → S → Type 0
+  AreTurns start [] now = (payloads : List P) × TakesBack plain.takes_back start payloads now
+  AreTurns start (t ∷ turns) now =
+      ((payloads : List P) × TakesBack plain.takes_back start payloads t.old) × IsTurn t × AreTurns t.new turns now
 
   abbrev pub AllLeaveAlone : Id → List Turn → Type 0
   AllLeaveAlone slot [] = Unit {0}
@@ -173,6 +209,7 @@ module _ {S J F P : Type 0} (plain : Plain S P) (may : StatedJobs S J F P) where
     pub turns : List Turn
     pub are : map (λ (t : Turn). t.call) turns
         ≡ record { came = opening.came; payload = None; acts = begun } ∷ calls
-    pub linked : AreTurns start turns
+    pub last : S
+    pub linked : AreTurns start turns last
     pub wakes : (earlier later : List Turn) (t : Turn) → turns ≡ earlier ++ t ∷ later → t.call.came ≡ None
         → WakeDoes earlier t

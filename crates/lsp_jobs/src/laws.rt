@@ -24,8 +24,10 @@ use crate::job_server::{JobServer, Slots};
 use lsp_session::Listener;
 use std::sync::Wait;
 
-/// A session that was run by `run_jobs`, with a limit or without one, and that passes over nothing. At each wake nothing is sent, or one
-/// notification or request of a pending job, or what is done at its outcome, or the request of one job is cancelled: see `AnswersByJobs`. And it keeps the laws of
+/// A session that was run by `run_jobs`, with a limit or without one, and that passes over nothing. At each exchange since the result of
+/// `initialize` the server took a turn. At each wake nothing is sent, or one notification or request of a pending job, or what is done at
+/// its outcome, or the request of one job is cancelled. A job that is pending for a request is the one that was given for it, one in a slot
+/// the last that was started there: see `AnswersByJobs`. And it keeps the laws of
 /// `lsp_service::laws::server_keeps_laws`: under no id more replies than requests, whatever jobs come to and when; one reply for the last
 /// request under an id, unless it is still held or the session ended at it, and one for each that was cancelled; and before `initialized` nothing but errors and the result of `initialize`, nothing after the reply to `shutdown`.
 pub fn session_with_jobs_keeps_laws<T: Wait + Drop, S: JobServer<J>, J: Job>()
@@ -70,16 +72,18 @@ pub fn session_with_jobs_that_asks_keeps_laws<
         before after answer }
 {}
 
-/// Of each reply that is sent at a wake. The last request under its id came before, and since then no reply under the id was sent and no
-/// cancellation of it came. The outcome is one that a job may come to which is for that request; or one of three errors: its job gave no
-/// reply, an allocation failed, or it ended by `Interrupted::Cancelled`, for whatever reason. Or the server saw how a job ended, and then answered the request by itself: a server
-/// that does nothing then, as by `NoSlots`, never does.
+/// Of each reply that is sent at a wake, in a session that began in the state `first`. The last request under its id came before, and since
+/// then no reply under the id was sent and no cancellation of it came. The exchanges before the request had taken the server to a state in
+/// which it called the request long and gave a job for it (`gives`). The outcome is one that this job may come to; or one of three errors: it
+/// gave no reply, an allocation failed, or it ended by `Interrupted::Cancelled`, for whatever reason. Or the server saw how a job ended, and
+/// then answered the request by itself: a server that does nothing then, as by `NoSlots`, never does.
 pub fn requests_are_answered_by_their_jobs<S: JobServer<J>, J: Job>()
-    ensures { (exchanges : List Exchange) → AnswersByJobs (stated_jobs S.JobServer.own ⟦<S::Slots as Slots<S, J>>⟧ J.Job) exchanges
+    ensures { (first : S) (exchanges : List Exchange)
+        → AnswersByJobs S.Server (stated_jobs S.JobServer.own ⟦<S::Slots as Slots<S, J>>⟧ J.Job) first exchanges
         → (earlier later : List Exchange) (x : Exchange) (before after : List Message) (id : Id)
         (outcome : Outcome) → exchanges ≡ earlier ++ x ∷ later → x.came ≡ None
         → x.sent ≡ before ++ response id outcome ∷ after
-        → AnswersRequest (stated_jobs S.JobServer.own ⟦<S::Slots as Slots<S, J>>⟧ J.Job) earlier id outcome
+        → AnswersRequest S.Server (stated_jobs S.JobServer.own ⟦<S::Slots as Slots<S, J>>⟧ J.Job) first earlier id outcome
         ⊎ RepliesItself (stated_jobs S.JobServer.own ⟦<S::Slots as Slots<S, J>>⟧ J.Job) id outcome }
 {}
 

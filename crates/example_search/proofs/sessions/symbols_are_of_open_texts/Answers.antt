@@ -3,7 +3,7 @@ use Rattle.example_search.proofs.Searches.{searches}
 use Rattle.example_search.proofs.sessions.symbols_are_of_open_texts.Goals as goal
 
 pub returns : goal.returns
-returns g c = searches g.row.T.Denot _ _ (record {
+returns g c = λ first last exchanges stop shutdown_reply answer none lawful. searches _ _ (record {
   initialized = λ old params outcome new h. h;
   began = λ old acts new h. h;
   requested = λ old id method params acts new h. h;
@@ -17,4 +17,4 @@ returns g c = searches g.row.T.Denot _ _ (record {
   gives = λ old id method params job h. h;
   is_for = λ job method params h. h;
   finds = λ job reply it h. h;
-}) c.slots_hear_their_last_jobs.ensures.turns c.slots_hear_their_last_jobs.ensures.first
+}) first exchanges none (c.requests_are_answered_by_their_jobs.ensures first exchanges lawful.jobs)

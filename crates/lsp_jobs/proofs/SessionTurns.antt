@@ -1,0 +1,400 @@
+-- The turns of a server with jobs through its session, one at each exchange since the result of `initialize`.
+use Rattle.serde_json.specs.Data.{Data}
+use Rattle.std.proofs.Common.{◌≡◌, refl, sym, ◌∙◌, ap, subst, ℕ, Bool, true, false, List, [], ◌∷◌, ◌++◌, append_assoc}
+use Rattle.std.proofs.Common.{append-nil, Option, Some, None, codes}
+use Rattle.std.proofs.lemmas.Slice.Eq.{bytes_eq-Decides}
+use Rattle.std.specs.Bool.{MatchBool}
+use Rattle.std.specs.Prelude.{Result, Ok, Err, IsSomeAnd}
+use Rattle.lsp_message.specs.Id.{Id}
+use Rattle.lsp_message.specs.Message.{Message, ErrorObject, request, notification, response}
+use Rattle.lsp_message.specs.Methods.{is_initialize, is_initialized}
+use Rattle.lsp_queue.specs.Queue.{count_of}
+use Rattle.lsp_session.proofs.Ran.{Ran, reaches_ran, Idle, early_request, early_note, unasked, uninvited, leaves, exits}
+use Rattle.lsp_session.proofs.Ran.{late, stays, StepCase, at_initialize, at_initialized, at_served, at_woken}
+use Rattle.lsp_session.proofs.Ran.{at_shutdown, idle, row, part_one}
+use Rattle.lsp_session.specs.Replies.{IsEarlyReply}
+use Rattle.lsp_session.specs.Session.{Exchange, SessionAnswer, Stop, Phase, starting, replied as in_reply, serving}
+use Rattle.lsp_session.specs.Session.{phase_after, Step}
+use Rattle.lsp_session.specs.SessionLaws.{EndsWithResult}
+use Rattle.lsp_service.proofs.Acting.{acts_at}
+use Rattle.lsp_service.proofs.Counting.{Fresh}
+use Rattle.lsp_service.specs.Acts.{Act, Queues, TakesBack, unsent}
+use Rattle.lsp_service.specs.Law.{AnswersInitialize, Call, Initializes}
+use Rattle.lsp_service.specs.QueuedServer.{with_queues, OpensSending, WorksSending}
+use Rattle.lsp_service.specs.Stated.{Stated, unwoken}
+use Rattle.lsp_service.specs.SentByActs.{ActsAt, acts_done_at, all_sends, queues_at}
+use Rattle.lsp_service.specs.View as queues
+use Rattle.lsp_service.specs.declared.queued_server.QueuedServer.{QueuedServer}
+use Rattle.lsp_service.specs.declared.server.Server.{Ghosts as Plain}
+use Rattle.lsp_jobs.proofs.Answering.{back_pending, requests_then, sent_all}
+use Rattle.lsp_jobs.proofs.Owed.{replies_at_wake, waits_called, waits_opened, HeldWaits}
+use Rattle.lsp_jobs.proofs.SlotTurns.{AllStand, TurnOf, handed_turn, opened as opening_turn, stands_after}
+use Rattle.lsp_jobs.proofs.SlotTurns.{stands_opened, took_back}
+use Rattle.lsp_jobs.specs.JobLaw.{AnswersByJobs, AreTakenAt, IsTakenAt, Leads, RepliesToLast, SendsSo, WakeSends}
+use Rattle.lsp_jobs.specs.JobSession.{JobSession, seen_with_jobs}
+use Rattle.lsp_jobs.specs.PendingJobs.{PendingJobs, no_jobs}
+use Rattle.lsp_jobs.specs.PoolView.{pending_jobs}
+use Rattle.lsp_jobs.specs.SlotLaw.{AreTurns, IsTurn, Turn}
+use Rattle.lsp_jobs.specs.Stated.{StatedJobs}
+use Rattle.lsp_jobs.specs.declared.asking.Asked.{Asked}
+use Rattle.lsp_jobs.specs.declared.pooled_server.PooledServer.{PooledServer}
+
+-- `initialized` cancels no request
+no_cancel : {P : Type 0} (m : Message) (acts : List (Act P)) → is_initialized m ≡ true → acts_done_at (Some m) acts
+    ≡ acts
+no_cancel (request id method params) acts is = absurd (cc (is))
+no_cancel (response id outcome) acts is = absurd (cc (is))
+no_cancel (notification method params) acts is =
+    subst (λ (name : List ℕ). acts_done_at (Some (notification name params)) acts ≡ acts)
+    (sym ((bytes_eq-Decides method (codes "initialized")).0 is)) (append-nil acts)
+
+module _ {S P : Type 0} (may : Stated S P) where
+  -- what one message does up to the result of `initialize`
+  abbrev Begins : S → Exchange → S → Type 0
+  Begins old x new = IsSomeAnd x.came (λ m. MatchBool (is_initialize m) (Initializes may old m x.sent new) (new ≡ old))
+
+  begins_more : (old mid new : S) (xs : List Exchange) (x : Exchange) → AnswersInitialize may old xs mid
+      → Begins mid x new → AnswersInitialize may old (xs ++ x ∷ []) new
+  begins_more old mid new [] x same one = (new, subst (λ (s : S). Begins s x new) same one, refl)
+  begins_more old mid new (y ∷ xs) x run one = (run.0, run.1, begins_more run.0 mid new xs x run.2 one)
+
+module _ {S J F P : Type 0} (plain : Plain S P) (may : StatedJobs S J F P) where
+  taken_more : (xs : List Exchange) (turns : List (Turn plain may)) (x : Exchange) (t : Turn plain may)
+      → AreTakenAt plain may xs turns → IsTakenAt plain may x t → AreTakenAt plain may (xs ++ x ∷ []) (turns ++ t ∷ [])
+  taken_more [] [] x t all one = (one, tt)
+  taken_more [] (u ∷ turns) x t all one = absurd all
+  taken_more (y ∷ xs) [] x t all one = absurd all
+  taken_more (y ∷ xs) (u ∷ turns) x t all one = (all.0, taken_more xs turns x t all.1 one)
+
+  turns_more : (start now : S) (turns : List (Turn plain may)) (t : Turn plain may)
+      → AreTurns plain may start turns t.old → IsTurn plain may t
+      → ((own : List P) × TakesBack plain.takes_back t.new own now)
+      → AreTurns plain may start (turns ++ t ∷ []) now
+  turns_more start now [] t are is back = (are, is, back)
+  turns_more start now (u ∷ turns) t are is back = (are.0, are.1, turns_more u.new now turns t are.2 is back)
+
+  -- one exchange more, and its turn
+  leads_on : (first now : S) (earlier : List Exchange) (x : Exchange) (turns : List (Turn plain may))
+      (t : Turn plain may) → Leads plain may first earlier turns t.old → IsTakenAt plain may x t → IsTurn plain may t
+      → ((own : List P) × TakesBack plain.takes_back t.new own now)
+      → Leads plain may first (earlier ++ x ∷ []) (turns ++ t ∷ []) now
+  leads_on first now earlier x turns t led taken is back = record {
+    early = led.early;
+    later = led.later ++ x ∷ [];
+    cut = ap (λ (xs : List Exchange). xs ++ x ∷ []) led.cut ∙ append_assoc led.early led.later (x ∷ []);
+    result = led.result;
+    start = led.start;
+    initialized = led.initialized;
+    taken = taken_more led.later turns x t led.taken taken;
+    linked = turns_more led.start now turns t led.linked is back;
+  }
+
+module _ (T : Type 0) {S J F P : Type 0} (plain : Plain S P) (may : StatedJobs S J F P) (first : S) where
+  abbrev W : Stated (PooledServer T S J F) (Asked P)
+  W = seen_with_jobs T plain may
+
+  abbrev Working : Type 0
+  Working = QueuedServer (PooledServer T S J F) (Asked P)
+
+  abbrev pending : Working → PendingJobs J
+  pending w = pending_jobs w.server.pool
+
+  abbrev queues_in : Working → Queues (Asked P)
+  queues_in w = queues.queues_of w.queues
+
+  -- the turns that led here, and that each job which is pending stands
+  record Stood (earlier : List Exchange) (w : Working) : Type 0 where
+    turns : List (Turn plain may)
+    led : Leads plain may first earlier turns w.server.server
+    stand : AllStand plain may turns (pending w)
+
+  -- up to the result of `initialize`
+  abbrev Early : List Exchange → Working → Type 0
+  Early earlier w = Fresh W w × (pending w ≡ no_jobs) × AnswersInitialize (unwoken plain) first earlier w.server.server
+
+  abbrev Ready : List Exchange → Phase → Working → Type 0
+  Ready earlier starting w = Early earlier w
+  Ready earlier in_reply w = Early earlier w × EndsWithResult earlier
+  Ready earlier serving w = ((queues_in w).sent ≡ []) × Stood earlier w × ((id : Id) → HeldWaits W id earlier w)
+  Ready earlier phase w = Unit {0}
+
+  abbrev Wake : List Exchange → Exchange → Type 0
+  Wake earlier x = x.came ≡ None → WakeSends plain may first earlier x.sent × RepliesToLast earlier x.sent
+
+  abbrev Steps_on : List Exchange → Exchange → Phase → Working → Type 0
+  Steps_on earlier x q w = Wake earlier x × Ready (earlier ++ x ∷ []) q w
+
+  -- the turn of the server's at an exchange
+  stood_on : (earlier : List Exchange) (x : Exchange) (old did : PooledServer T S J F) (w' : Working)
+      (call : Call (Asked P)) (turns : List (Turn plain may)) (count : ℕ) → (t : TurnOf T plain may old did call)
+      → Leads plain may first earlier turns old.server → IsTakenAt plain may x t.turn
+      → TakesBack W.takes_back did (unsent count call.acts) w'.server
+      → AllStand plain may (turns ++ t.turn ∷ []) (pending_jobs did.pool) → Stood (earlier ++ x ∷ []) w'
+  stood_on earlier x old did w' call turns count t led taken back stand = record {
+    turns = turns ++ t.turn ∷ [];
+    led = leads_on plain may first w'.server.server earlier x turns t.turn
+        (subst (Leads plain may first earlier turns) (sym t.from) led) taken t.is_turn
+        (subst (λ (s : S). (own : List P) × TakesBack plain.takes_back s own w'.server.server) (sym t.to)
+        (took_back T plain may (unsent count call.acts) did w'.server back));
+    stand = subst (AllStand plain may (turns ++ t.turn ∷ []))
+        (sym (back_pending T plain may (unsent count call.acts) did w'.server back)) stand;
+  }
+
+  -- the server is called
+  called : (earlier : List Exchange) (w w' : Working) (x : Exchange) (full more : List Message) → x.sent ++ more ≡ full
+      → Ready earlier serving w
+      → WorksSending W (queues.seen w) x.came full (queues.seen w') → Steps_on earlier x serving w'
+  called earlier w w' x full more part ready gives = (
+    λ none. (
+      record {
+        turns = s.turns;
+        turn = t.turn;
+        led = subst (Leads plain may first earlier s.turns) (sym t.from) s.led;
+        is_turn = t.is_turn;
+        woken = taken.0 ∙ none;
+        does = t.wake s.turns s.stand none;
+        sent = subst (λ (o : Option Message). SendsSo (acts_done_at o t.turn.call.acts) x.sent) none taken.1;
+      },
+      λ id. replies_at_wake W id earlier w w' x full more part ready.0 (ready.2 id)
+          (subst (λ (l : Option Message). WorksSending W (queues.seen w) l full (queues.seen w')) none gives),
+    ),
+    (
+      ap (λ (y : PooledServer T S J F × Queues (Asked P)). y.1.sent) gives.3,
+      stood_on earlier x w.server a.did w' call s.turns (count_of (queues_in w).asked) t s.led taken a.back
+          (stands_after T plain may w.server a.did s.turns call t s.stand
+          (requests_then T plain may w.server a.did x.came a.payload a.acts a.handed)),
+      λ id. waits_called W id earlier w w' x full more part ready.0 (ready.2 id) gives,
+    ),
+  )
+    where
+      a : ActsAt W (queues.seen w) x.came full (queues.seen w')
+      a = acts_at W (queues.seen w) x.came full (queues.seen w') gives
+
+      s : Stood earlier w
+      s = ready.1
+
+      call : Call (Asked P)
+      call = record { came = x.came; payload = a.payload; acts = a.acts }
+
+      t : TurnOf T plain may w.server a.did call
+      t = handed_turn T plain may w.server a.did x.came a.payload a.acts a.handed
+
+      asked : Queues (Asked P)
+      asked = queues_at (queues_in w) x.came a.payload
+
+      taken : IsTakenAt plain may x t.turn
+      taken = (
+        ap (λ (c : Call (Asked P)). c.came) t.of_call,
+        (
+          asked,
+          more,
+          ap (λ (c : Call (Asked P)). all_sends asked (acts_done_at x.came c.acts)) t.of_call
+              ∙ sym (a.sent ∙ ap (λ (l : List Message). l ++ all_sends asked (acts_done_at x.came a.acts)) ready.0)
+              ∙ sym part,
+        ),
+      )
+
+  -- `initialized` came
+  opened : (earlier : List Exchange) (w w' : Working) (x : Exchange) (m : Message) (full more : List Message) → x.came
+      ≡ Some m → is_initialized m ≡ true → x.sent ++ more ≡ full → Early earlier w → EndsWithResult earlier
+      → OpensSending W (queues.seen w) full (queues.seen w') → Steps_on earlier x serving w'
+  opened earlier w w' x m full more there begins part early ends o = (
+    (λ none. absurd (cc (there, none))),
+    (
+      ap (λ (y : PooledServer T S J F × Queues (Asked P)). y.1.sent) o.3,
+      stood_on earlier x w.server o.1.1 w' call [] (count_of (queues_in w).asked) t led taken
+          (subst (λ (p : PooledServer T S J F). TakesBack W.takes_back o.1.1
+          (unsent (count_of (queues_in w).asked) o.1.0) p)
+          (sym (ap (λ (y : PooledServer T S J F × Queues (Asked P)). y.0) o.3)) o.1.3)
+          (stands_opened T plain may w.server o.1.1 call early.1 o.1.2 t),
+      λ id. waits_opened W id (earlier ++ x ∷ []) w w' full early.0 o,
+    ),
+  )
+    where
+      call : Call (Asked P)
+      call = record { came = Some m; payload = None; acts = o.1.0 }
+
+      t : TurnOf T plain may w.server o.1.1 call
+      t = opening_turn T plain may w.server o.1.1 m o.1.0 begins o.1.2
+
+      led : Leads plain may first earlier [] w.server.server
+      led = record {
+        early = earlier;
+        later = [];
+        cut = sym (append-nil earlier);
+        result = ends;
+        start = w.server.server;
+        initialized = early.2;
+        taken = tt;
+        linked = ([], refl);
+      }
+
+      sent : full ≡ all_sends (queues_in w) o.1.0
+      sent = o.2 ∙ ap (λ (d : Queues (Asked P)). d.sent) o.1.4 ∙ sent_all (queues_in w) o.1.0
+          ∙ ap (λ (d : Queues (Asked P)). d.sent ++ all_sends (queues_in w) o.1.0) early.0
+
+      taken : IsTakenAt plain may x t.turn
+      taken = (
+        ap (λ (c : Call (Asked P)). c.came) t.of_call ∙ sym there,
+        (
+          queues_in w,
+          more,
+          ap (λ (c : Call (Asked P)). all_sends (queues_in w) (acts_done_at x.came c.acts)) t.of_call
+              ∙ ap (λ (l : Option Message). all_sends (queues_in w) (acts_done_at l o.1.0)) there
+              ∙ ap (all_sends (queues_in w)) (no_cancel m o.1.0 begins) ∙ sym sent ∙ sym part,
+        ),
+      )
+
+  -- a message that comes before the result
+  abbrev Begun : Working → Exchange → Working → Message → Bool → Type 0
+  Begun w x w' m b = MatchBool b (Initializes (unwoken plain) w.server.server m x.sent w'.server.server)
+      (w'.server.server ≡ w.server.server)
+
+  begins_at : (w w' : Working) (x : Exchange) (full : List Message) (q : Phase)
+      → ((r : Message) → full ≡ r ∷ [] → x.sent ≡ r ∷ []) → Step (with_queues W) starting w x.came full q w'
+      → Begins (unwoken plain) w.server.server x w'.server.server
+  begins_at w w' x full q one step = at x.came step
+    where
+      by : (i : Id) (method : List ℕ) (params : Data) (b : Bool)
+          → MatchBool b ((outcome : Result Data ErrorObject) × (with_queues W).initializes w params outcome w'
+          × (full ≡ response i outcome ∷ []) × (q ≡ phase_after outcome))
+          ((reply : Message) × IsEarlyReply i reply × (full ≡ reply ∷ []) × (q ≡ starting) × (w' ≡ w))
+          → Begun w x w' (request i method params) b
+      by i method params true step = record {
+        id = i;
+        method = method;
+        params = params;
+        outcome = step.0;
+        came = refl;
+        gave = step.1.0.0;
+        told = one (response i step.0) step.2;
+      }
+      by i method params false step = ap (λ (v : Working). v.server.server) step.4
+
+      at : (came : Option Message) → Step (with_queues W) starting w came full q w'
+          → IsSomeAnd came (λ m. Begun w x w' m (is_initialize m))
+      at (Some (request i method params)) step = by i method params (is_initialize (request i method params)) step
+      at (Some m) step = ap (λ (v : Working). v.server.server) step.1
+      at None step = step
+
+  -- a message for which the server is not called
+  idly : (earlier : List Exchange) (p q : Phase) (w w' : Working) (x : Exchange) (m : Message) (full : List Message)
+      → w' ≡ w → (p ≡ starting → AnswersInitialize (unwoken plain) first (earlier ++ x ∷ []) w'.server.server)
+      → Ready earlier p w → Idle p m full q → Ready (earlier ++ x ∷ []) q w'
+  idly earlier p q w w' x m full same early ready idles = at idles
+    where
+      on : p ≡ starting → Early (earlier ++ x ∷ []) w'
+      on begun =
+          let before : Early earlier w = (rw begun at ready) in
+          let both = subst (λ (v : Working). Fresh W v × (pending v ≡ no_jobs)) (sym same) (before.0, before.1) in
+          (both.0, both.1, early begun)
+
+      at : Idle p m full q → Ready (earlier ++ x ∷ []) q w'
+      at (early_request i method params reply begun is replies sent next) = rw next (on begun)
+      at (early_note begun mute early sent next) = rw next (on begun)
+      at (unasked shown begun mute other sent next) = rw next tt
+      at (uninvited shown begun other sent next) = rw next tt
+      at (leaves begun e sent next) = rw next tt
+      at (exits i begun e sent next) = rw next tt
+      at (late i begun is sent next) = rw next tt
+      at (stays i shown begun e sent next) = rw next tt
+
+  one_step : (earlier : List Exchange) (p q : Phase) (w w' : Working) (x : Exchange) (full more : List Message) → x.sent
+      ++ more ≡ full → (x.sent ≡ [] → full ≡ []) → Ready earlier p w
+      → Step (with_queues W) p w x.came full q w' → Steps_on earlier x q w'
+  one_step earlier p q w w' x full more part some ready step = by (row (with_queues W) p q w w' x.came full step)
+    where
+      one : (r : Message) → full ≡ r ∷ [] → x.sent ≡ r ∷ []
+      one r e = part_one x.sent more full r part some e
+
+      early : p ≡ starting → AnswersInitialize (unwoken plain) first (earlier ++ x ∷ []) w'.server.server
+      early begun =
+          let before : Early earlier w = (rw begun at ready) in
+          begins_more (unwoken plain) first w.server.server w'.server.server earlier x before.2
+          (begins_at w w' x full q one (rw begun at step))
+
+      after : (i : Id) (method : List ℕ) (params : Data) (outcome : Result Data ErrorObject)
+          → x.came ≡ Some (request i method params) → is_initialize (request i method params) ≡ true
+          → full ≡ response i outcome ∷ [] → Early (earlier ++ x ∷ []) w'
+          → Ready (earlier ++ x ∷ []) (phase_after outcome) w'
+      after i method params (Err error) is e sent on = on
+      after i method params (Ok result) is e sent on = (
+        on,
+        record {
+          before = earlier;
+          id = i;
+          method = method;
+          params = params;
+          result = result;
+          asks = e;
+          cut = λ k. earlier ++ record { came = is k; sent = one (response i (Ok result)) sent k } ∷ [];
+        },
+      )
+
+      by : StepCase (with_queues W) p w x.came full q w' → Steps_on earlier x q w'
+      by (at_initialize i method params outcome begun is e init sent next) =
+          let before : Early earlier w = (rw begun at ready) in (
+            (λ none. absurd (cc (is, none))),
+            rw next (after i method params outcome is e sent
+                (init.1 ∙ before.0, init.0.1 ∙ before.1, early begun)),
+          )
+      by (at_initialized m begun there e gives next) =
+          let before : Early earlier w × EndsWithResult earlier = (rw begun at ready) in
+          rw next (opened earlier w w' x m full more there e part before.0 before.1 gives)
+      by (at_served m begun there e gives next) =
+          rw next (called earlier w w' x full more part (rw begun at ready) (subst (λ (l : Option Message). WorksSending
+          W (queues.seen w) l full (queues.seen w')) (sym there) gives))
+      by (at_woken begun none gives next) =
+          rw next (called earlier w w' x full more part (rw begun at ready) (subst (λ (l : Option Message). WorksSending
+          W (queues.seen w) l full (queues.seen w')) (sym none) gives))
+      by (at_shutdown i method params parting begun there e gives sent next) = (
+        (λ none. absurd (cc (there, none))),
+        rw next tt,
+      )
+      by (idle m there same any is) = (
+        (λ none. absurd (cc (there, none))),
+        idly earlier p q w w' x m full same early ready is,
+      )
+
+  abbrev AllWakes : List Exchange → List Exchange → Type 0
+  AllWakes earlier [] = Unit {0}
+  AllWakes earlier (x ∷ xs) = Wake earlier x × AllWakes (earlier ++ x ∷ []) xs
+
+  run_wakes : (stop : Stop) (earlier xs : List Exchange) (p q : Phase) (w w' : Working) → Ran (with_queues W) stop p w
+      xs q w' → Ready earlier p w → AllWakes earlier xs
+  run_wakes stop earlier [] p q w w' run ready = tt
+  run_wakes stop earlier (x ∷ xs) p q w w' run ready =
+      let one = one_step earlier p run.4 w run.5 x run.0 run.1 run.2 run.3 ready run.6 in
+      (one.0, run_wakes stop (earlier ++ x ∷ []) xs run.4 q run.5 w' run.8 one.1)
+
+  abbrev At : List Exchange → List Message → Type 0
+  At earlier output = WakeSends plain may first earlier output × RepliesToLast earlier output
+
+  at_each : (earlier xs : List Exchange) → AllWakes earlier xs → (before later : List Exchange) (x : Exchange) → xs
+      ≡ before ++ x ∷ later → x.came ≡ None → At (earlier ++ before) x.sent
+  at_each earlier [] all [] later x e none = absurd (cc (e))
+  at_each earlier [] all (b ∷ before) later x e none = absurd (cc (e))
+  at_each earlier (y ∷ xs) all [] later x e none =
+      let same : y ≡ x = cc (e) in
+      subst (λ (es : List Exchange). At es x.sent) (sym (append-nil earlier)) (subst (Wake earlier) same all.0 none)
+  at_each earlier (y ∷ xs) all (b ∷ before) later x e none =
+      let same : y ≡ b = cc (e) in
+      let rest : xs ≡ before ++ x ∷ later = cc (e) in
+      subst (λ (es : List Exchange). At es x.sent)
+      (append_assoc earlier (y ∷ []) before ∙ ap (λ (z : Exchange). earlier ++ z ∷ before) same)
+      (at_each (earlier ++ y ∷ []) xs all.1 before later x rest none)
+
+pub answers_by_jobs : (T : Type 0) {S J F P : Type 0} (plain : Plain S P) (may : StatedJobs S J F P) (first last : S)
+    (xs : List Exchange) (stop : Stop) (shutdown_reply : Option Message) (answer : SessionAnswer)
+    → JobSession T plain may first last xs stop shutdown_reply answer → AnswersByJobs plain may first xs
+answers_by_jobs T {S} {J} {F} {P} plain may first last xs stop shutdown_reply answer session =
+    let s = session.session in
+    let began = ap (λ (y : PooledServer T S J F × Queues (Asked P)). y.0) s.from_first in
+    let none : pending_jobs s.old.server.pool ≡ no_jobs =
+    ap (λ (p : PooledServer T S J F). pending_jobs p.pool) began
+    ∙ ap (λ (y : S × PendingJobs J). y.1) session.from_first in
+    let same : s.old.server.server ≡ first =
+    ap (λ (p : PooledServer T S J F). p.server) began ∙ ap (λ (y : S × PendingJobs J). y.0) session.from_first in
+    at_each T plain may first [] xs (run_wakes T plain may first stop [] xs starting s.out.last s.old s.out.after
+    (reaches_ran (with_queues (seen_with_jobs T plain may)) stop starting s.out.last s.old s.out.after xs s.out.reached)
+    (ap (λ (y : PooledServer T S J F × Queues (Asked P)). y.1) s.from_first, none, same))
