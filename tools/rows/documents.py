@@ -4,6 +4,7 @@ The model knows nothing of bytes: a text is a list of code points, a line a list
 of what each code point takes in the encoding. It follows LSP 3.17, "Text Document Synchronization" and "Position", and what
 docs/DECISIONS.md says where they are silent; it was never made to follow the program.
 """
+import itertools
 import json
 import random
 import re
@@ -438,7 +439,7 @@ def back(table, uri):
 
 
 def wrong(table):
-    """Notifications with something wrong in them, and after each one each way back."""
+    """Notifications with something wrong in them, and after each one a way back: all ways in turn, since none asks what was wrong."""
     table.begin("utf-16", standard=True, makesLate=True)
     a, b = "file:///a", "file:///b"
     table.opens(a, "abc", 5)
@@ -460,7 +461,7 @@ def wrong(table):
     table.saves(b, text=5)
     table.saves(b, text="not taken: the text is known")
     table.saves(b, text="x\r\ny")
-    item = {"uri": a, "version": 7}
+    item, ways = {"uri": a, "version": 7}, itertools.cycle(back(table, a))
     at = lambda line, character: {"textDocument": item, "contentChanges": [{"text": "y", "range": {"start": {"line": line, "character": character}, "end": {"line": line, "character": character}}}]}
     for method, params in [
         ("didOpen", None), ("didOpen", []), ("didOpen", {}), ("didOpen", {"textDocument": 1}),
@@ -484,16 +485,22 @@ def wrong(table):
         ("didChange", at(0, 2**53)), ("didChange", at(0, 2**64)), ("didChange", at(True, 0)), ("didChange", at(GREATEST, GREATEST)), ("didChange", at(2**31, 0)),
         ("didSave", {}), ("didClose", {"textDocument": {}}), ("didClose", None),
     ]:
-        for way in back(table, a):
-            table.tell("textDocument/" + method, params)
-            table.changes(a, 8, [(((0, 1), (0, 1)), "-")])
-            way()
-            table.changes(a, 10, [(((0, 1), (0, 1)), "+")])
         table.opens(a, "abc", 5)
-        table.opens(b, "x\r\ny", 1, "other")
+        if not table.documents.is_known(b):
+            table.opens(b, "x\r\ny", 1, "other")
+        table.tell("textDocument/" + method, params)
+        table.changes(a, 8, [(((0, 1), (0, 1)), "-")])
+        next(ways)()
+    table.opens(a, "abc", 5)
     table.tell("textDocument/didChange", {"textDocument": item, "contentChanges": [{"text": "w", "range": None}, {"text": "y", "range": SPAN, "rangeLength": 9}]})
+    # The same of a document whose text is lost, and of one that is not open.
+    others = [("didOpen", {"textDocument": {"uri": a}}), ("didChange", at(0.5, 0))]
+    for method, params in 2 * others:
+        table.tell("textDocument/" + method, params)
     table.closes(a)
     table.closes(a)
+    for method, params in others:
+        table.tell("textDocument/" + method, params)
     table.changes(a, 8, [(((0, 0), (0, 0)), "no")])
     table.changes(a, 8, [(((0, 0), (0, 0)), "-"), (None, "yes"), (((0, 9), (0, 9)), "!")])
     table.changes(a, 9, [(((0, 4), (0, 4)), "!")])
@@ -501,21 +508,21 @@ def wrong(table):
 
 
 def late(table):
-    """A burst whose changes come out of order, by ranges and by whole texts, and each way back (docs/DECISIONS.md)."""
+    """Bursts whose changes come out of order, by ranges and by whole texts in turn, and each way back (docs/DECISIONS.md)."""
     a = "file:///a"
     table.begin("utf-16")
-    for bursts in [
+    bursts = [
         [(1, [(((0, 3), (0, 3)), "1")]), (3, [(((0, 4), (0, 4)), "3")]), (2, [(((0, 4), (0, 4)), "2")])],
-        [(3, [(None, "three")]), (1, [(None, "one")]), (2, [(None, "two")])], [(3, [(None, "three")]), (3, [(None, "3")]), (None, [(None, "none")]), (2, [(None, "two")])],
-    ]:
-        for way in [lambda: table.changes(a, 4, [(None, "four")]), *back(table, a)]:
-            table.opens(a, "abc", 0)
-            for version, changes in bursts:
-                table.changes(a, version, changes)
-            table.changes(a, 4, [(((0, 0), (0, 0)), "4")])
-            way()
-            table.changes(a, 5, [(((0, 0), (0, 0)), "5")])
-            table.looks(a, (0, 1))
+        [(3, [(None, "three")]), (1, [(None, "one")]), (2, [(None, "two")])],
+        [(3, [(None, "three")]), (3, [(None, "3")]), (None, [(None, "none")]), (2, [(None, "two")])],
+    ]
+    for burst, way in zip(itertools.cycle(bursts), [lambda: table.changes(a, 4, [(None, "four")]), *back(table, a)]):
+        table.opens(a, "abc", 0)
+        for version, changes in burst:
+            table.changes(a, version, changes)
+        table.changes(a, 4, [(((0, 0), (0, 0)), "4")])
+        way()
+        table.changes(a, 5, [(((0, 0), (0, 0)), "5")])
     # What else is missed lets versions begin anew.
     table.opens(a, "abc", 7)
     table.tell("textDocument/didChange", {"textDocument": {"uri": a}})
@@ -529,21 +536,18 @@ BODIES = [HALF, HALF.replace("\\ud83d", "\\ude00"), HALF[:-2], "nothing"]
 
 
 def unread(table):
-    """Bodies that are no message, and after each one each way back."""
+    """Bodies that are no message, in turn, and each way back."""
     table.begin("utf-16")
     a, b = "file:///a", "file:///b"
     table.loses(HALF)
-    for body in BODIES:
-        for way in back(table, a):
-            table.opens(a, "abc", 5)
-            table.opens(b, "x\r\ny", 1, "other")
-            table.loses(body)
-            table.changes(a, 8, [(((0, 1), (0, 1)), "-")])
-            table.loses(body)
-            table.looks(a, (0, 1))
-            way()
-            table.looks(a, (0, 1))
-            table.changes(b, 10, [(((0, 1), (0, 1)), "+")])
+    for body, way in zip(itertools.cycle(BODIES), back(table, a)):
+        table.opens(a, "abc", 5)
+        table.opens(b, "x\r\ny", 1, "other")
+        table.loses(body)
+        table.looks(a, (0, 1))
+        table.loses(body)
+        way()
+        table.changes(b, 10, [(((0, 1), (0, 1)), "+")])
 
 
 def unasked(table):
