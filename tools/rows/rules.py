@@ -834,38 +834,6 @@ def dispatch_answers(steps):
     return answers
 
 
-def handshake_answer(texts):
-    """What a handshake and a shutdown over these messages come to."""
-    messages, sent, said = [json.loads(it) for it in texts.split("; ")], 0, []
-
-    def answer(text):
-        said.append(f"{text}, sent {sent}")
-        return ["; ".join(said)]
-
-    while True:
-        if not messages:
-            return answer("start: disconnected channel")
-        came = messages.pop(0)
-        if is_request(came, "initialize"):
-            break
-        if "method" not in came or is_note(came, "exit"):
-            return answer("start: " + AT_WRONG_TIME["new"] + beginning(debug_message(came)))
-        sent += "id" in came
-    answer(f"start {id_answer(came['id'])} {compact(came.get('params'))}")
-    for name, wanted, at_end, at_wrong in [
-        ("finish", "initialized", AT_END["asked"], AT_WRONG_TIME["asked"]),
-        ("shutdown", "exit", AT_END["ending"], AT_WRONG_TIME["ending"]),
-    ]:
-        sent += 1
-        if not messages:
-            return answer(f"{name}: {at_end}")
-        came = messages.pop(0)
-        if not is_note(came, wanted):
-            return answer(f"{name}: {at_wrong}{beginning(debug_message(came))}")
-        answer("finish" if name == "finish" else "shutdown true")
-    return ["; ".join(said)]
-
-
 def value_answers(members):
     body = text_of({"jsonrpc": "2.0", **members})
     # A message is a tree whose members stand in the order of their names.

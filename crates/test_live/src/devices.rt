@@ -25,8 +25,11 @@ pub struct Source {
     pub step: usize,
     /// After how many bytes it fails, if it still does.
     pub fails_at: Option<usize>,
+    pub kind: ErrorKind,
     /// Whether it shows what follows before it fails.
     pub shows_on: bool,
+    /// Whether it is read on one thread: it has nothing yet where it would wait.
+    pub is_alone: bool,
     /// In the order of their places.
     pub pauses: Vec<Pause>,
     /// How many of the pauses are over.
@@ -40,13 +43,19 @@ impl Source {
         if let Some(place) = self.fails_at {
             if place <= self.taken {
                 self.fails_at = None;
-                return Err(io::Error::from(ErrorKind::ConnectionReset));
+                return Err(io::Error::from(self.kind));
             }
         }
         if self.taken >= self.shown {
             self.show()?;
         }
         Ok(())
+    }
+
+    /// The bytes that were not taken.
+    pub fn left(&self) -> &[u8] {
+        let left = self.bytes.as_slice().get(self.taken..);
+        left.unwrap_or(&[])
     }
 
     /// The bytes of the piece that were not taken.
@@ -77,10 +86,18 @@ impl Source {
                 return Ok(pause.at);
             }
             self.signals.tell(Signal::Pauses);
-            self.signals.wait(pause.signal, pause.wanted)?;
+            self.pass(pause)?;
             self.over = self.over.saturating_add(1);
         }
         Ok(usize::MAX)
+    }
+
+    /// Waits at a pause. On one thread nobody else brings the signal.
+    fn pass(&self, pause: Pause) -> io::Result<()> {
+        if self.is_alone && self.signals.count(pause.signal) < pause.wanted {
+            return Err(io::Error::from(ErrorKind::WouldBlock));
+        }
+        self.signals.wait(pause.signal, pause.wanted)
     }
 }
 
@@ -112,8 +129,11 @@ const REST: u32 = 200;
 pub struct Sink {
     pub signals: Arc<Signals>,
     pub taken: Vec<u8>,
+    /// How many bytes it takes at a time.
+    pub step: usize,
     /// After how many bytes it fails.
     pub room: usize,
+    pub kind: ErrorKind,
     /// The flush that fails, counted from 1. At 0 none fails.
     pub bad_flush: usize,
     pub flushes: usize,
@@ -136,10 +156,14 @@ impl Write for Sink {
         if self.is_gated {
             self.signals.wait(Signal::Requests, 1)?;
         }
-        let count = buf.len().min(self.room.saturating_sub(self.taken.len()));
+        let room = self.room.saturating_sub(self.taken.len());
+        let count = buf.len().min(self.step).min(room);
         if count == 0 {
             self.room = usize::MAX;
-            return Err(io::Error::from(ErrorKind::BrokenPipe));
+            return match self.kind {
+                ErrorKind::WriteZero => Ok(0),
+                kind => Err(io::Error::from(kind)),
+            };
         }
         let taken = &buf[..count];
         self.taken.extend_from_slice(taken)?;
@@ -155,7 +179,7 @@ impl Write for Sink {
     fn flush(&mut self) -> io::Result<()> {
         self.flushes = self.flushes.saturating_add(1);
         if self.flushes == self.bad_flush {
-            return Err(io::Error::from(ErrorKind::BrokenPipe));
+            return Err(io::Error::from(self.kind));
         }
         self.signals.flushed(self.taken.len(), self.lines / 2);
         Ok(())

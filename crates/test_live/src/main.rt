@@ -1,9 +1,11 @@
-//! What runs in threads: a table of rows on standard input, and below each row what came of it. `tools/rows/live` writes the table, and
-//! beside it what must come. No row depends on the clock: what has to be waited for is waited for. A row begins with a word:
+//! Calls over a reader and a writer, on one thread and in threads: a table of rows on standard input, and below each row what came of it.
+//! `tools/rows/make` writes the table, and beside it what must come. No row depends on the clock: what has to be waited for is waited
+//! for. A row begins with a word:
 //!
 //! - `#`: a remark.
 //! - `=`: the bytes that the next cases are about, with the escapes `\r`, `\n` and `\x` with two digits. `+` adds a text so
 //!   many times, and `pauses` says where a reader waits (`table.rt`).
+//! - `body`: what a content part means (`calls.rt`).
 //! - The name of a call over a reader and a writer: a case (`table.rt`). Its server and its jobs do what methods say (`servers.rt`,
 //!   `jobs.rt`).
 //! - `pool`: a pool of jobs by hand (`pools.rt`). `relay`, `waker`: a relay alone.
@@ -16,6 +18,7 @@
 #![tactic(auto)]
 
 mod attempt;
+mod calls;
 mod connections;
 mod devices;
 mod escapes;
@@ -30,6 +33,7 @@ mod signals;
 mod table;
 
 use attempt::{Attempt, Stop, print_below};
+use calls::attempt_alone;
 use sessions::{Run, attempt_of};
 use std::alloc::Global;
 use std::io::Write;
@@ -162,7 +166,9 @@ where
     R: Live + Net<Listener = TcpListener, Stream = TcpStream>,
 {
     match row {
+        Row::Case(run) if run.is_alone => attempt_alone(alloc, run, given),
         Row::Case(run) => attempt_of(rt, alloc, run, given),
+        Row::Whole("body", rest) => calls::meaning(alloc, rest),
         Row::Whole("relay", rest) => relays::relayed(rt, alloc, rest),
         Row::Whole("waker", rest) => relays::woken(rt, alloc, rest),
         Row::Whole("pool", rest) => pools::came_of(rt, alloc, rest),
@@ -191,7 +197,7 @@ where
     Ok(())
 }
 
-/// What comes of a case at one of its places: the same with each size of pieces, or all is told.
+/// What comes of a case at one of its places: the same with each size of pieces and in each of its ways, or all is told.
 fn run_at<R>(
     rt: &R,
     alloc: Global,
@@ -205,20 +211,27 @@ where
     let mut all = String::new(alloc);
     for word in case.steps.split(',') {
         let step: usize = word.parse()?;
-        let run = Run {
-            call: case.call,
-            pool: case.pool,
-            device: case.device,
-            step,
-            count,
-            written: case.written,
-        };
-        let came = run_once(rt, alloc, Row::Case(run), given)?;
-        if all.is_empty() {
-            all = came;
-        } else if all != came {
-            all = format!(in alloc; "{all}, but by {step}: {came}")?;
+        for way in case.ways.split(',') {
+            let came = run_once(rt, alloc, Row::Case(run_of(case, way, step, count)), given)?;
+            if all.is_empty() {
+                all = came;
+            } else if all != came {
+                all = format!(in alloc; "{all}, but {way} by {step}: {came}")?;
+            }
         }
     }
     Ok(all)
+}
+
+fn run_of(case: Case<'_>, way: &str, step: usize, count: usize) -> Run {
+    Run {
+        call: case.call,
+        pool: case.pool,
+        device: case.device,
+        step,
+        count,
+        written: case.written,
+        kind: case.kind,
+        is_alone: way == "alone",
+    }
 }

@@ -3,7 +3,7 @@ use crate::jobs::{Found, Means, Scripted, list_of, own_slot};
 use crate::signals::{Signal, Signals};
 use lsp_jobs::{AnsweredBy, JobEnd, JobName, JobServer, Slot, SlotChange, Slots};
 use lsp_message::{Notification, Request, RequestId, ResponseError};
-use lsp_service::{Act, Server};
+use lsp_service::{Act, Server, WokenServer};
 use lsp_session::{Handler, initialize_result};
 use serde_json::{Map, Value};
 use std::alloc::{AllocError, Global};
@@ -64,7 +64,8 @@ pub enum Asked {
 /// - The notification `job SCRIPT` starts a job in a slot of its own, whose result it publishes; `stop` stops it. At `answer` it answers the
 ///   request whose id is the first of the params itself, and at `withdraw` it cancels what it asked for that request. At one whose method
 ///   begins with `$/` or `window/` it does nothing.
-/// - At another notification it pushes its params, asks for the configuration and answers what it keeps.
+/// - At another notification it pushes its params, asks for the configuration and answers what it keeps. At a wake it pushes `demo/woken`,
+///   and answers what it keeps.
 /// - At a reply with the configuration it pushes the number of the question.
 /// - Of a job in a slot that found no room it pushes the slot's name.
 #[derive(Drop)]
@@ -245,6 +246,11 @@ impl Talker {
     fn push(&mut self, params: Value) -> Result<Acts, AllocError> {
         let mut acts = self.tell("demo/pushed", params)?;
         self.ask_configuration(&mut acts)?;
+        self.release(acts)
+    }
+
+    /// These acts, and the answers to what it keeps.
+    fn release(&mut self, mut acts: Acts) -> Result<Acts, AllocError> {
         for id in mem::replace(&mut self.held, Vec::new(self.alloc)) {
             acts.push(Act::Reply(id, Ok(Value::Null)))?;
         }
@@ -338,6 +344,17 @@ impl Server for Talker {
     fn unsent(&mut self, asked: Asked) -> Result<(), AllocError> {
         drop(asked);
         Ok(())
+    }
+}
+
+impl WokenServer for Talker {
+    ghost use Rattle.std.specs.Prelude.{⊤};
+
+    ghost wakes = { λ _ _ _. ⊤ };
+
+    fn woken(&mut self, _alloc: Global) -> Result<Acts, AllocError> {
+        let acts = self.tell("demo/woken", Value::Null)?;
+        self.release(acts)
     }
 }
 

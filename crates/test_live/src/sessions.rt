@@ -1,4 +1,4 @@
-// The calls over the reader and the writer. Each call of the library that is generic stands in a function of its own, since what it
+// The calls over the reader and the writer in threads. Each call of the library that is generic stands in a function of its own, since what it
 // brings is proved where it is called.
 use crate::attempt::{Attempt, Stop};
 use crate::devices::{Pause, Sink, Source};
@@ -19,7 +19,7 @@ use lsp_threads::{
 use serde_json::{Map, Value};
 use std::alloc::{AllocError, Global};
 use std::fmt::Write as _;
-use std::io::{BufRead, Write};
+use std::io::{BufRead, ErrorKind, Write};
 use std::sync::{Arc, Wait};
 use std::thread::{Builder, Threads};
 use std::time::Clock;
@@ -33,17 +33,33 @@ pub struct Run {
     pub step: usize,
     pub count: usize,
     pub written: u64,
+    pub kind: ErrorKind,
+    /// Whether the call is made on one thread.
+    pub is_alone: bool,
 }
 
 impl Run {
     /// How many bytes a header part and a content part may have.
-    fn limits(self) -> Limits {
-        match self.device {
-            Device::Limits => Limits::of_content(self.count as u64),
-            Device::Headers => Limits::new(self.count as u64, u64::MAX),
-            Device::Huge if self.count > 0 => Limits::of_content(self.count as u64),
+    pub fn limits(self) -> Limits {
+        match (self.device, self.limit()) {
+            (Device::Headers, _) => Limits::new(self.count as u64, u64::MAX),
+            (_, Some(limit)) => Limits::of_content(limit),
             _ => Limits::none(),
         }
+    }
+
+    /// How many bytes a content part may have, if the call has a limit.
+    pub fn limit(self) -> Option<u64> {
+        match self.device {
+            Device::Limits => Some(self.count as u64),
+            Device::Huge if self.count > 0 => Some(self.count as u64),
+            _ => None,
+        }
+    }
+
+    /// Whether the call has limits.
+    pub fn is_limited(self) -> bool {
+        matches!(self.device, Device::Headers) || self.limit().is_some()
     }
 
     /// How much may be unread.
@@ -55,7 +71,7 @@ impl Run {
     }
 }
 
-/// What comes of a run.
+/// What comes of a run in threads.
 pub fn attempt_of<R>(rt: &R, alloc: Global, run: Run, given: &Given) -> Result<Attempt, Stop>
 where
     R: Threads + Wait + Clock + AllocGlobal + Copy + Drop + Send + 'static,
@@ -86,7 +102,8 @@ fn all_ended(signals: &Arc<Signals>) -> Result<(), Stop> {
     Ok(())
 }
 
-fn source(
+/// The reader of a run.
+pub fn source(
     alloc: Global,
     run: Run,
     given: &Given,
@@ -109,7 +126,9 @@ fn source(
         shown: 0,
         step: run.step,
         fails_at,
+        kind: run.kind,
         shows_on,
+        is_alone: run.is_alone,
         pauses: pauses(alloc, run, given)?,
         over: 0,
     })
@@ -130,11 +149,14 @@ fn pauses(alloc: Global, run: Run, given: &Given) -> Result<Vec<Pause>, AllocErr
 /// How many bytes are written without a new allocation, which could fail in the call.
 const ROOM: usize = 65536;
 
-fn sink(alloc: Global, run: Run, signals: &Arc<Signals>) -> Result<Sink, AllocError> {
+/// The writer of a run. On one thread it takes pieces as the reader gives them.
+pub fn sink(alloc: Global, run: Run, signals: &Arc<Signals>) -> Result<Sink, AllocError> {
     let mut sink = Sink {
         signals: Arc::try_clone(signals)?,
         taken: Vec::with_capacity(alloc, ROOM)?,
+        step: if run.is_alone { run.step } else { usize::MAX },
         room: usize::MAX,
+        kind: run.kind,
         bad_flush: 0,
         flushes: 0,
         writes: 0,
@@ -152,6 +174,19 @@ fn sink(alloc: Global, run: Run, signals: &Arc<Signals>) -> Result<Sink, AllocEr
     Ok(sink)
 }
 
+/// The handler of a run.
+pub fn echo(alloc: Global, run: Run, signals: &Arc<Signals>) -> Result<Echo, AllocError> {
+    Ok(Echo {
+        alloc,
+        signals: Arc::try_clone(signals)?,
+        is_gated: matches!(run.device, Device::Gated),
+        awaited: match run.device {
+            Device::Late => run.count as u64,
+            _ => 0,
+        },
+    })
+}
+
 /// How a session of the handler ends, and what it wrote.
 fn handled<R>(
     rt: &R,
@@ -164,15 +199,7 @@ fn handled<R>(
 where
     R: Threads + Wait + Copy + Drop + Send + 'static,
 {
-    let mut echo = Echo {
-        alloc,
-        signals: Arc::try_clone(signals)?,
-        is_gated: matches!(run.device, Device::Gated),
-        awaited: match run.device {
-            Device::Late => run.count as u64,
-            _ => 0,
-        },
-    };
+    let mut echo = echo(alloc, run, signals)?;
     let mut none = Value::Object(Map::new(alloc));
     let mut service = HandlerService::new(alloc, &mut none, &mut echo);
     let came = served(rt, alloc, run, reader, writer, signals, &mut service);
@@ -269,19 +296,27 @@ fn with_passed(
     listening: &Listening,
 ) -> Result<Attempt, AllocError> {
     let mut came = came?;
-    if matches!(run.device, Device::Passes) && !came.is_refused {
-        let FaultCounts {
-            not_text,
-            no_json,
-            no_message,
-            batches,
-        } = listening.counts;
-        write!(
-            came.said,
-            "; passed {not_text} {no_json} {no_message} {batches}"
-        )?;
+    if matches!(run.device, Device::Passes) {
+        add_counts(&mut came, listening.counts)?;
     }
     Ok(came)
+}
+
+/// Adds how many content parts of each kind were passed over.
+pub fn add_counts(came: &mut Attempt, counts: FaultCounts) -> Result<(), AllocError> {
+    let FaultCounts {
+        not_text,
+        no_json,
+        no_message,
+        batches,
+    } = counts;
+    if came.is_refused {
+        return Ok(());
+    }
+    write!(
+        came.said,
+        "; passed {not_text} {no_json} {no_message} {batches}"
+    )
 }
 
 /// A session of the server with its jobs, over any reader and writer: so it is proved in one place that threads may own a job, and in
@@ -341,7 +376,8 @@ fn threads_answer(
     }
 }
 
-fn session_end(
+/// How a session ended, in words.
+pub fn session_end(
     alloc: Global,
     answer: Result<SessionEnd, SessionFault>,
 ) -> Result<String, AllocError> {
@@ -402,7 +438,7 @@ where
 }
 
 /// An end, and what was written.
-fn told(alloc: Global, run: Run, end: &str, writer: &Sink) -> Result<Attempt, AllocError> {
+pub fn told(alloc: Global, run: Run, end: &str, writer: &Sink) -> Result<Attempt, AllocError> {
     let bytes = writer.taken.as_slice();
     let written = match run.call {
         Call::Many => escape(alloc, in_order(alloc, bytes)?.as_bytes())?,
@@ -416,7 +452,7 @@ fn told(alloc: Global, run: Run, end: &str, writer: &Sink) -> Result<Attempt, Al
 }
 
 /// What came of a call that ended so: that an allocation failed, unless no memory could be enough.
-fn attempt(run: Run, end: &str, said: String) -> Attempt {
+pub fn attempt(run: Run, end: &str, said: String) -> Attempt {
     Attempt {
         said,
         is_refused: lacks_memory(end) && !matches!(run.device, Device::Huge),
@@ -424,8 +460,16 @@ fn attempt(run: Run, end: &str, said: String) -> Attempt {
 }
 
 /// Whether a fault that prints so is a failed allocation.
-fn lacks_memory(fault: &str) -> bool {
-    matches!(fault, "out of memory" | "read fault 11" | "write fault 2")
+pub fn lacks_memory(fault: &str) -> bool {
+    matches!(
+        fault,
+        "out of memory"
+            | "read fault 11"
+            | "write fault 2"
+            | "Memory"
+            | "Fault(Memory)"
+            | "Err(Memory)"
+    )
 }
 
 /// Frames in the order of their texts.

@@ -5,6 +5,7 @@ use crate::escapes::unescape;
 use crate::signals::Signal;
 use lsp_jobs::PoolSize;
 use std::alloc::Global;
+use std::io::ErrorKind;
 
 /// The bytes that cases are about, and where a reader waits in them.
 #[derive(Drop)]
@@ -81,11 +82,14 @@ fn named<T: Copy>(table: &[(&str, T)], word: Option<&str>) -> Option<T> {
 }
 
 /// A case: `CALL HOW PIECES DEVICE FROM TO`, and with the device `waits` how many bytes have to be written, with `bounds` how many
-/// messages have to wait. The call is made with each size of pieces, for each count of the device, from the first to the last.
+/// messages have to wait, with another perhaps the kind of the error with which it fails. The call is made with each size of pieces, in
+/// each of its ways, for each count of the device, from the first to the last.
 #[derive(Clone, Copy)]
 pub struct Case<'a> {
     pub call: Call,
-    /// `threads`; or for jobs the size of their pool.
+    /// The ways in which the call is made, with commas between them: `alone` is on one thread, each other in threads.
+    pub ways: &'a str,
+    /// The size of the pool of jobs.
     pub pool: PoolSize,
     /// How many bytes the reader gives at a time, with commas between the sizes.
     pub steps: &'a str,
@@ -93,15 +97,35 @@ pub struct Case<'a> {
     pub from: usize,
     pub to: usize,
     pub written: u64,
+    pub kind: ErrorKind,
 }
 
 /// What is called.
 #[derive(Clone, Copy)]
 pub enum Call {
-    /// `run_threads_of_service`, with no capabilities and the handler.
+    /// `front`.
+    Front,
+    /// `Message::read`, once; with a limit `Message::read_within`, with a bound `Message::read_telling`.
+    Read,
+    /// A `StreamInbox`, up to the first event that is no message, and once more.
+    Inbox,
+    /// `read_loop` into a list, for which the count of `fills` is the room; with a limit `read_loop_within`.
+    Loop,
+    /// `Message::write` of the first message.
+    Write,
+    /// `write_frames` of all bytes.
+    Frames,
+    /// A `FrameOutbox` to which all messages are sent.
+    Outbox,
+    /// `session` of the handler, with no capabilities; with a limit `session_within`. In threads `run_threads_of_service`.
     Session,
-    /// The same with the server that speaks.
+    /// `session_of_service` of the server that speaks, with `EndSession`; with a limit or a bound `session_with`. In threads as above.
     Speaks,
+    /// `serve_transport` of that server over a `StreamTransport`.
+    Line,
+    /// `session_of_service` of the same, woken and with `FaultCounts`; with a limit or a bound `session_with` and `Ignore`, which wakes no
+    /// server.
+    Tolerant,
     /// `run_jobs`, with that server.
     Jobs,
     /// The same. It tells what was written in the order of the texts.
@@ -169,7 +193,7 @@ pub enum Device {
 /// The case of these words. There is none if they are no case.
 pub fn case_of<'a>(call: &str, rest: &'a str) -> Option<Case<'a>> {
     let mut words = rest.split(' ');
-    let (Some(pool), Some(steps)) = (words.next(), words.next()) else {
+    let (Some(how), Some(steps)) = (words.next(), words.next()) else {
         return None;
     };
     let device = words.next();
@@ -178,24 +202,38 @@ pub fn case_of<'a>(call: &str, rest: &'a str) -> Option<Case<'a>> {
     let written = words.next();
     let call = named(&CALLS, Some(call));
     let device = named(&DEVICES, device);
-    let written = number(written.or(Some("0")))? as u64;
-    match (call, pool_of(pool), device, number(from), number(to)) {
+    let kind = named(&KINDS, written);
+    let written = match kind {
+        Some(_) => 0,
+        None => number(written.or(Some("0")))? as u64,
+    };
+    match (call, pool_of(how), device, number(from), number(to)) {
         (Some(call), Some(pool), Some(device), Some(from), Some(to)) => Some(Case {
             call,
+            ways: ways_of(how),
             pool,
             steps,
             device,
             from,
             to,
             written,
+            kind: kind.unwrap_or(ErrorKind::BrokenPipe),
         }),
         _ => None,
     }
 }
 
-/// `WORKERS`, or `WORKERS:WAITING` if only so many jobs may wait. A call without jobs has the word `threads`.
+/// The ways that a case names: `alone`, `threads`, `both`; or the size of a pool, for threads.
+fn ways_of(how: &str) -> &str {
+    match how {
+        "both" => "alone,threads",
+        how => how,
+    }
+}
+
+/// `WORKERS`, or `WORKERS:WAITING` if only so many jobs may wait. A call without jobs has the ways in which it is made.
 pub fn pool_of(word: &str) -> Option<PoolSize> {
-    if word == "threads" {
+    if matches!(word, "alone" | "threads" | "both") {
         return Some(PoolSize::from(1));
     }
     match word.split_once(":") {
@@ -208,9 +246,26 @@ pub fn pool_of(word: &str) -> Option<PoolSize> {
     }
 }
 
-static CALLS: [(&str, Call); 13] = [
+static KINDS: [(&str, ErrorKind); 5] = [
+    ("BrokenPipe", ErrorKind::BrokenPipe),
+    ("Interrupted", ErrorKind::Interrupted),
+    ("OutOfMemory", ErrorKind::OutOfMemory),
+    ("UnexpectedEof", ErrorKind::UnexpectedEof),
+    ("WriteZero", ErrorKind::WriteZero),
+];
+
+static CALLS: [(&str, Call); 22] = [
+    ("front", Call::Front),
+    ("read", Call::Read),
+    ("inbox", Call::Inbox),
+    ("loop", Call::Loop),
+    ("write", Call::Write),
+    ("frames", Call::Frames),
+    ("outbox", Call::Outbox),
     ("session", Call::Session),
     ("speaks", Call::Speaks),
+    ("line", Call::Line),
+    ("tolerant", Call::Tolerant),
     ("jobs", Call::Jobs),
     ("many", Call::Many),
     ("pump", Call::Pump),

@@ -12,8 +12,6 @@
 // of turns, as `start:10`; `finish` without one waits without limit. If a name begins with `>`, the inbox is closed until the call
 // has sent something.
 use crate::boxes::{Events, Habit, Sent};
-use crate::calls::end_name;
-use crate::devices::Sink;
 use crate::messages::message_in;
 use crate::said::{Said, Stepped};
 use crate::servers::{Echo, Talker};
@@ -26,9 +24,9 @@ use lsp_session::{
 use serde_json::{Map, Value};
 use std::alloc::{AllocError, Global};
 use std::cell::Cell;
-use std::fmt::Write;
-use std::io::ErrorKind;
-use std::mem;
+use std::fmt::Write as _;
+use std::io::{ErrorKind, Write};
+use std::{io, mem};
 
 /// A step is an event that is added.
 impl Stepped for ListInbox {
@@ -253,7 +251,8 @@ fn say_end(said: &mut Said, word: &str, boxes: &mut Boxes<'_>, echo: &mut Echo) 
         _ => return said.unknown(),
     };
     match ended {
-        Ok(end) => said.push(end_name(end)),
+        Ok(SessionEnd::ShutDown) => said.push("shut down"),
+        Ok(SessionEnd::Closed) => said.push("closed"),
         Err(error) => say_error(said, error),
     }
 }
@@ -299,18 +298,32 @@ fn write_row(said: &mut Said, boxes: &mut Boxes<'_>, events: &str, fills: usize)
     said.show(boxes.inbox.list.events.len());
 }
 
+/// Keeps what is written. It fails after so many bytes.
+#[derive(Drop)]
+struct Filling {
+    taken: Vec<u8>,
+    room: usize,
+}
+
+impl Write for Filling {
+    fn write(&mut self, buf: &[u8]) -> io::Result<usize> {
+        let room = self.room.saturating_sub(self.taken.len());
+        let count = buf.len().min(room);
+        if count == 0 {
+            return Err(io::Error::from(ErrorKind::BrokenPipe));
+        }
+        self.taken.extend_from_slice(&buf[..count])?;
+        Ok(count)
+    }
+
+    fn flush(&mut self) -> io::Result<()> {
+        Ok(())
+    }
+}
+
 fn write_all(said: &mut Said, boxes: &mut Boxes<'_>, fills: usize) {
-    let flushed = Cell::new(0);
     let taken = said.made(Vec::with_capacity(said.alloc, BYTES), Vec::new(said.alloc));
-    let mut writer = Sink {
-        taken,
-        written: &flushed,
-        step: usize::MAX,
-        room: fills,
-        kind: ErrorKind::BrokenPipe,
-        bad_flush: 0,
-        flushes: 0,
-    };
+    let mut writer = Filling { taken, room: fills };
     let Boxes { inbox, outbox, .. } = boxes;
     let end = write_loop(said.alloc, inbox, &mut writer, outbox);
     say_write_end(said, end, writer.taken.as_slice());

@@ -2,11 +2,8 @@
 //! beside it what must come. No row needs a thread, a clock or a socket. A row begins with a word:
 //!
 //! - `#`: a remark.
-//! - `=`: the bytes that the next cases are about, with the escapes `\r`, `\n` and `\x` with two digits. `+` adds a text so
-//!   many times, and `pauses` says where a reader has nothing yet (`table.rt`).
-//! - The name of a call over a reader and a writer: a case (`table.rt`).
 //! - `calls`, `serve`, `served`, `woken`, `writes`: the calls over lists (`lists.rt`).
-//! - `body`: what a content part means. `id`: how an id prints. `values`: a message that is cloned, converted and written. `extract`:
+//! - `id`: how an id prints. `values`: a message that is cloned, converted and written. `extract`:
 //!   params that are taken out.
 //! - `queues`, `dispatch`, `link`: calls on a state, as steps. `replay`: all steps of a dispatcher at once.
 //! - `plain`, `typed`: values that are read and written by a type: one of serde's kinds, or of `lsp_types`. `uri`, `path`: a path and its URI. `names`: whether
@@ -15,17 +12,14 @@
 //! - `method`: the acts at a message, by LSP's methods. `configuration`: what is asked of a client, and what it sends.
 //! - `document`: a notification of an open document.
 //!
-//! If an allocation fails, in a call or in the program, the row has a line `refused: ..`, and is run once more; of a case this is so
-//! for the call alone. The program ends with status 1 if that fails too, or if it has no memory for the table or for a line.
+//! If an allocation fails, in a call or in the program, the row has a line `refused: ..`, and is run once more. The program ends with
+//! status 1 if that fails too, or if it has no memory for the table or for a line.
 #![tactic(auto)]
 
 mod boxes;
 mod by_method;
-mod calls;
-mod devices;
 mod dispatching;
 mod documents;
-mod escapes;
 mod links;
 mod lists;
 mod messages;
@@ -36,7 +30,6 @@ mod rows;
 mod said;
 mod servers;
 mod stop;
-mod table;
 mod typed;
 mod types;
 mod uris;

@@ -1,7 +1,5 @@
-// What bytes and trees mean as messages, and what messages become.
+// What trees mean as messages, and what messages become.
 use crate::by_method;
-use crate::calls::say_message;
-use crate::escapes::unescape;
 use crate::said::Said;
 use lsp_message::{Message, RequestId};
 use serde_json::Value;
@@ -69,47 +67,6 @@ pub fn id_text(said: &mut Said, text: &str) {
         Ok(Some(id)) => said.show(id),
         Ok(None) => said.push("no id"),
         Err(_) => said.is_short = true,
-    }
-}
-
-/// What a content part means in a frame, and as a tree if that is something else.
-pub fn meaning(said: &mut Said, escaped: &str) {
-    let mut body = Vec::new(said.alloc);
-    unescape(said, escaped, &mut body);
-    let mut by_tree = Said::new(said.alloc);
-    say_tree(&mut by_tree, body.as_slice());
-    say_frame(said, body.as_slice());
-    drop(body);
-    said.is_short = said.is_short || by_tree.is_short;
-    if said.text != by_tree.text {
-        said.push(", ");
-        said.push(by_tree.text.as_str());
-    }
-    drop(by_tree);
-}
-
-fn say_frame(said: &mut Said, body: &[u8]) {
-    let mut header = Said::new(said.alloc);
-    header.push("Content-Length: ");
-    header.show(body.len());
-    header.push("\r\n\r\n");
-    said.is_short = said.is_short || header.is_short;
-    let mut frame = header.text.into_bytes();
-    said.note(frame.extend_from_slice(body));
-    say_message(said, Message::read(said.alloc, &mut frame.as_slice()));
-}
-
-fn say_tree(said: &mut Said, body: &[u8]) {
-    match Value::from_slice(said.alloc, body) {
-        Ok(tree) => {
-            let read = Message::from_value(said.alloc, &tree);
-            drop(tree);
-            match read {
-                Ok(message) => said.message_or(message, "no message"),
-                Err(_) => said.is_short = true,
-            }
-        }
-        Err(_) => said.push("no message"),
     }
 }
 

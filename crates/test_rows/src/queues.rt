@@ -109,7 +109,7 @@ fn say_registered(said: &mut Said, registered: Result<Request, RegisterFault<cha
     match registered {
         Ok(request) => said.message("sent ", Message::from(request)),
         Err(fault) => {
-            said.is_refused = said.is_refused || verb != "deep";
+            said.is_short = said.is_short || verb != "deep";
             said.debug(fault)
         }
     }

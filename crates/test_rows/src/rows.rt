@@ -1,8 +1,6 @@
 // One row after another.
-use crate::calls::{Run, call_at};
 use crate::documents::Documents;
 use crate::said::Said;
-use crate::table::{Case, Given, case_in};
 use crate::{by_method, dispatching, links, lists, messages, plain, queues, types, uris};
 use std::alloc::Global;
 
@@ -10,16 +8,14 @@ use std::alloc::Global;
 #[derive(Drop)]
 pub struct Rows {
     alloc: Global,
-    given: Given,
     documents: Documents,
 }
 
 impl Rows {
-    /// No bytes, and no documents.
+    /// No documents.
     pub fn new(alloc: Global) -> Rows {
         Rows {
             alloc,
-            given: Given::new(alloc),
             documents: Documents::new(alloc),
         }
     }
@@ -39,23 +35,6 @@ impl Rows {
         let (word, rest) = line.split_once(" ").unwrap_or(("#", ""));
         match word {
             "#" => {}
-            "=" => self.given.begin(said, rest),
-            "+" => self.given.repeat(said, rest),
-            "pauses" => self.given.pause(said, rest),
-            "front"
-            | "read"
-            | "inbox"
-            | "loop"
-            | "write"
-            | "frames"
-            | "outbox"
-            | "session"
-            | "speaks"
-            | "line"
-            | "tolerant" => {
-                let case = case_in(said, word, rest);
-                self.run_case(lines, said, case);
-            }
             _ => self.run_whole(lines, said, word, rest),
         }
     }
@@ -63,19 +42,17 @@ impl Rows {
     /// Runs a row that is run again as a whole if an allocation failed.
     fn run_whole(&mut self, lines: &mut Said, said: &mut Said, word: &str, rest: &str) {
         self.answer(said, word, rest);
-        if said.is_short || said.is_refused {
+        if said.is_short {
             add_line(lines, "refused: ", word);
             said.clear();
             self.answer(said, word, rest);
         }
-        said.is_short = said.is_short || said.is_refused;
         add_line(lines, "", said.text.as_str());
     }
 
     fn answer(&mut self, said: &mut Said, word: &str, rest: &str) {
         match word {
             "document" => self.documents.answer(said, rest),
-            "body" => messages::meaning(said, rest),
             "id" => messages::id_text(said, rest),
             "values" => messages::values(said, rest),
             "extract" => messages::extracted(said, rest),
@@ -98,51 +75,6 @@ impl Rows {
             "writes" => lists::written(said, rest),
             _ => lists::session(said, word, rest),
         }
-    }
-
-    /// Runs a case at each of its places. What came is told if it is another than at the place before.
-    fn run_case(&self, lines: &mut Said, said: &mut Said, case: Case<'_>) {
-        let mut last = String::new(self.alloc);
-        for count in case.from..=case.to {
-            let came = self.run_at(lines, said, case, count);
-            if came != last {
-                lines.push("  ");
-                lines.show(count);
-                lines.push(": ");
-                lines.push(came.as_str());
-                lines.push("\n");
-            }
-            last = came;
-        }
-    }
-
-    /// What comes of a case at one of its places: the same with each size of pieces, or what differs.
-    fn run_at(&self, lines: &mut Said, said: &mut Said, case: Case<'_>, count: usize) -> String {
-        let mut all = Said::new(self.alloc);
-        for word in case.steps.split(',') {
-            let step = said.count_in(word);
-            self.run_once(lines, said, Run { case, step, count });
-            if all.text.is_empty() {
-                all.push(said.text.as_str());
-            } else if all.text != said.text {
-                all.push(", but by ");
-                all.push(word);
-                all.push(": ");
-                all.push(said.text.as_str());
-            }
-        }
-        said.is_short = said.is_short || all.is_short;
-        all.text
-    }
-
-    /// Says what comes of a run, or of the same once more if an allocation failed in the call.
-    fn run_once(&self, lines: &mut Said, said: &mut Said, run: Run<'_>) {
-        call_at(said, run, &self.given);
-        if said.is_refused {
-            add_line(lines, "refused: ", said.text.as_str());
-            call_at(said, run, &self.given);
-        }
-        said.is_short = said.is_short || said.is_refused;
     }
 }
 

@@ -1,5 +1,4 @@
 // What is said of a row.
-use crate::escapes::push_escaped;
 use lsp_message::Message;
 use serde_json::Error;
 use std::alloc::{AllocError, AllocFailed, Global};
@@ -11,9 +10,7 @@ use std::fmt::Write;
 pub struct Said {
     pub alloc: Global,
     pub text: String,
-    /// Whether a call answered that an allocation failed.
-    pub is_refused: bool,
-    /// Whether an allocation of the program failed, so that the text may lack something.
+    /// Whether an allocation failed, in a call or in the program, so that the text may lack something.
     pub is_short: bool,
     /// Whether the row has a word that is not known.
     pub is_unknown: bool,
@@ -27,16 +24,12 @@ pub trait Stepped {
     fn step(&mut self, said: &mut Said, step: &str);
 }
 
-/// How many bytes are shown at most.
-const SHOWN: usize = 1000;
-
 impl Said {
     /// Nothing is said yet.
     pub fn new(alloc: Global) -> Said {
         Said {
             alloc,
             text: String::new(alloc),
-            is_refused: false,
             is_short: false,
             is_unknown: false,
             is_wrong: false,
@@ -46,7 +39,6 @@ impl Said {
     /// Begins anew, for the same row.
     pub fn clear(&mut self) {
         self.text.clear();
-        self.is_refused = false;
         self.is_short = false;
     }
 
@@ -165,15 +157,9 @@ impl Said {
         }
     }
 
-    /// Says these words, and bytes. Of many bytes it is their count and their value as digits of base 31, modulo 2^32.
+    /// Says these words, and bytes.
     pub fn bytes(&mut self, words: &str, bytes: &[u8]) {
         self.push(words);
-        if bytes.len() > SHOWN {
-            self.show(bytes.len());
-            self.push(" bytes of sum ");
-            self.show(sum(bytes));
-            return;
-        }
         for byte in bytes {
             let told = push_escaped(&mut self.text, *byte);
             self.note(told);
@@ -216,10 +202,12 @@ impl Said {
     }
 }
 
-fn sum(bytes: &[u8]) -> u32 {
-    let mut sum: u32 = 0;
-    for byte in bytes {
-        sum = sum.wrapping_mul(31).wrapping_add(u32::from(*byte));
+/// Adds a byte to a text: one that is no visible ASCII character as `\r`, `\n` or `\x` and two digits.
+fn push_escaped(text: &mut String, byte: u8) -> Result<(), AllocError> {
+    match byte {
+        b'\r' => text.push_str("\\r"),
+        b'\n' => text.push_str("\\n"),
+        b'\\' | 0..=31 | 127..=255 => write!(text, "\\x{byte:02x}"),
+        _ => text.push(char::from(byte)),
     }
-    sum
 }

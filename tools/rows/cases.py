@@ -1,16 +1,12 @@
-#!/usr/bin/env python3
-"""Writes the table of rows of crates/test_live, its stdin, and what has to come of it, its stdout.
+"""The rows of crates/test_live: calls over a reader and a writer, on one thread and in threads, and what has to come of them.
 
-What has to come of sessions in threads and of messages passed on is worked out in `rules.py`, of jobs in `jobs.py`, of connections here,
-from the lifecycle of LSP 3.17 and the documents of `Connection`. Nothing comes from the program. `--check` writes nothing, and ends in status 1 where a file is another. `--answers` reads a table and writes what has to come of it.
-`crates/test_live/src/main.rt` has the words of a row.
+What has to come of sessions, of reads and writes and of messages passed on is worked out in `rules.py`, of jobs in `jobs.py`, of connections
+here, from the lifecycle of LSP 3.17, JSON-RPC 2.0, the faults that `ReadFault`, `WriteFault` and `SessionFault` document, and the documents of
+`Connection`. Nothing comes from the program. `crates/test_live/src/main.rt` has the words of a row.
 """
 import json
-import sys
 from pathlib import Path
 
-# What is imported from beside this file is to leave no folder there.
-sys.dont_write_bytecode = True
 from jobs import job_answer, pool_answer
 from rules import (
     AT_END,
@@ -20,6 +16,7 @@ from rules import (
     Unwoken,
     answer,
     beginning,
+    body_answer,
     debug_message,
     escape,
     frame,
@@ -38,7 +35,6 @@ from rules import (
 )
 
 HERE = Path(__file__).resolve().parent
-CRATE = HERE.parent.parent / "crates" / "test_live"
 WHOLE = 65536
 # More than any text of the table has.
 ALL = 1000000
@@ -162,6 +158,7 @@ def turns_answer(_):
 
 
 ROWS = {
+    "body": lambda rest: [body_answer(unescape(rest))],
     "relay": relay_answers,
     "waker": waker_answers,
     "pool": pool_answer,
@@ -173,7 +170,7 @@ ROWS = {
 }
 
 
-# What has to come of a table.
+# Cases.
 
 
 def unescape(text):
@@ -185,43 +182,24 @@ def unescape(text):
 
 
 def case_answers(words, data, pauses):
-    """A case, whose answer is printed where it is another than at the place before."""
-    call, _, steps, device, start, end = words[:6]
+    """A case, whose answer is printed where it is another than at the place before. It is the same in each of the ways in which the call is made."""
+    call, how, steps, device, start, end, *more = words
     shown_at_once = {int(it) >= len(data) for it in steps.split(",")}
     if call in ("pump", "burst") and device == "flushes" and len(shown_at_once) > 1:
-        raise SystemExit(f"tools/rows/live: the flushes of these sizes of pieces are not the same: {words}")
-    last = None
+        raise SystemExit(f"tools/rows/make: the flushes of these sizes of pieces are not the same: {words}")
+    kind, last = [it for it in more if not it.isdigit()], None
     for count in range(int(start), int(end) + 1):
         if call in ("jobs", "many"):
             came = job_answer([*words[:4], count], data, pauses)
         elif call in ("over", "joined", "left", "held", "dropped", "deaf", "stuck"):
-            came = over_answer(call, device, count, data, *words[6:] or [0])
+            came = over_answer(call, device, count, data, *more or [0])
         elif device == "passes":
             came = passes_answer(call, data)
         else:
-            came = answer(call, device, count, data, shown_at_once == {True})
+            came = answer(call, device, count, data, shown_at_once == {True}, *kind)
         if came != last:
             yield f"{count}: {came}"
         last = came
-
-
-def wanted(lines):
-    """These lines, and below each what has to come of it."""
-    data, pauses = b"", []
-    for line in lines:
-        yield line
-        word, _, rest = line.partition(" ")
-        if word == "=":
-            data, pauses = unescape(rest), []
-        elif word == "+":
-            count, _, text = rest.partition(" ")
-            data += int(count) * unescape(text)
-        elif word == "pauses":
-            pauses += [(int(at), signal, int(count)) for at, signal, count in (it.split(":") for it in rest.split(" "))]
-        elif word in ROWS:
-            yield from (f"  {it}" for it in ROWS[word](rest))
-        elif word != "#":
-            yield from (f"  {it}" for it in case_answers(line.split(" "), data, pauses))
 
 
 # The table.
@@ -245,10 +223,14 @@ def about(*parts):
         yield "pauses " + " ".join(pauses)
 
 
-def case(call, device="whole", start=0, end=None, steps=WHOLE, how="threads", written=None):
+# The calls that are made in both ways, and those on one thread alone; all others are made in threads.
+HOW = {"session": "both", "speaks": "both"} | dict.fromkeys("front read inbox loop write frames outbox line tolerant".split(), "alone")
+
+
+def case(call, device="whole", start=0, end=None, steps=WHOLE, how=None, more=None):
     steps = ",".join(map(str, steps)) if isinstance(steps, list) else steps
-    words = [call, how, steps, device, start, start if end is None else end]
-    return " ".join(map(str, [*words, *([] if written is None else [written])]))
+    words = [call, how or HOW.get(call, "threads"), steps, device, start, start if end is None else end]
+    return " ".join(map(str, [*words, *([] if more is None else [more])]))
 
 
 INITIALIZE = frame({"id": 1, "method": "initialize"})
@@ -261,18 +243,23 @@ BEGUN = INITIALIZE + INITIALIZED
 FOUR = BEGUN + SHUTDOWN + EXIT
 SIX = BEGUN + ECHO + UNKNOWN + SHUTDOWN + EXIT
 ASK = frame({"id": "é", "method": "demo/ask", "params": {"b": 1}})
-TALK = BEGUN + ASK + ECHO + frame({"id": 1, "result": [7]}) + SHUTDOWN + EXIT
+REPLY = frame({"id": 1, "result": [7]})
+TALK = BEGUN + ASK + ECHO + REPLY + SHUTDOWN + EXIT
 STRAY = frame({"id": 0, "result": [7]})
 NOTE = frame({"method": "x"})
 BAD = b"Content-Length:2\r\n\r\n{}"
 AT_WRONG_TIMES = [
     BEGUN + SHUTDOWN + ECHO + EXIT,
+    BEGUN + SHUTDOWN + SHUTDOWN + EXIT,
+    BEGUN + SHUTDOWN + INITIALIZED + ECHO,
     BEGUN + SHUTDOWN + NOTE,
-    BEGUN + SHUTDOWN + STRAY + STRAY + EXIT,
+    BEGUN + SHUTDOWN + STRAY + REPLY + EXIT,
     BEGUN + SHUTDOWN + STRAY + NOTE,
+    BEGUN + SHUTDOWN + STRAY,
     BEGUN + ECHO + EXIT + ECHO,
     INITIALIZE + ECHO + INITIALIZED,
     INITIALIZE + EXIT,
+    EXIT + INITIALIZE,
     STRAY + INITIALIZE,
 ]
 
@@ -280,44 +267,61 @@ AT_WRONG_TIMES = [
 def least_session():
     yield "# The four frames of the least session."
     yield from about(FOUR)
-    for call in ["session", "pump", "over"]:
+    for call in ["session", "loop", "pump", "over"]:
         yield case(call, steps=[*STEPS, 100])
         yield case(call, "ends", 0, len(FOUR), [1, 7, WHOLE])
         yield case(call, "breaks", 0, len(FOUR), [7, WHOLE])
-        yield case(call, "fills", 0, written_by("pump" if call == "over" else call, FOUR), 100)
-        if call != "session":
-            yield case(call, "flushes", 1, 1 if call == "over" else 5)
+    yield case("session", "fills", 0, written_by("session", FOUR), [1, 100])
+    yield case("session", "flushes", 1, 5, how="alone")
+    for call, last in [("pump", 5), ("over", 1)]:
+        yield case(call, "fills", 0, written_by("pump", FOUR), 100)
+        yield case(call, "flushes", 1, last)
+    yield case("inbox", "ends", 0, len(FOUR), [7, WHOLE])
+    yield case("front", "ends", 0, len(FOUR))
     yield "# The four frames, where a content part may have so many bytes."
-    for call in ["session", "speaks", "pump", "over"]:
+    for call in ["read", "loop", "session", "speaks", "tolerant", "pump", "over"]:
         yield case(call, "limits", 0, 60)
     yield "# The same, where a header part may have so many bytes, and a text that has no line end."
     for it in [FOUR, b"Content-Length: " + b"9" * 100]:
         yield from about(it)
-        for call in ["speaks", "pump", "over"]:
-            yield case(call, "headers", 0, 30, [1, WHOLE])
+        for call in ["read", "speaks", "tolerant", "pump", "over"]:
+            yield case(call, "headers", 0, 30, [1, 7, WHOLE])
+    yield "# A bad line below the bound has its own fault; two fields; a line that is not shown whole; a text with no line end; and none."
+    fields = b"Content-Type: x\r\nContent-Length: 4\r\n\r\nnull"
+    for it in [BAD, b"x\r\n" + FOUR, b"\r\n" + FOUR, fields, b"Content-Length: 4\n", b"x" * 60, b"Content-Length", b""]:
+        yield from about(it)
+        yield case("read", "headers", 0, min(len(it) + 2, 64), STEPS)
+        yield case("read", steps=STEPS)
 
 
 def longer_sessions():
     yield "# The same with two requests in the middle."
     yield from about(SIX)
     yield case("session", steps=STEPS)
-    yield case("session", "ends", 0, len(SIX), 7)
+    yield case("session", "ends", 0, len(SIX), [2, 7])
     yield case("session", "breaks", 0, len(SIX), 3)
-    yield "# A server that speaks and asks."
+    yield case("session", "flushes", 1, 5, how="alone")
+    yield "# A server that speaks and asks, also over one value that holds the reader and the writer."
     yield from about(TALK)
-    yield case("speaks", steps=STEPS)
-    yield case("speaks", "ends", 0, len(TALK), 7)
-    yield case("speaks", "breaks", 0, len(TALK), 3)
-    yield case("speaks", "fills", 0, written_by("speaks", TALK))
+    for call, step in [("speaks", 7), ("line", WHOLE)]:
+        yield case(call, steps=STEPS)
+        yield case(call, "ends", 0, len(TALK), step)
+        yield case(call, "breaks", 0, len(TALK), 3)
+        yield case(call, "fills", 0, written_by(call, TALK))
+        yield case(call, "flushes", 1, 8, how="alone")
     yield "# Messages at the wrong time: nothing is answered after `shutdown`, and responses to a server that asks are passed over."
     for it in AT_WRONG_TIMES:
         yield from about(it)
-        yield case("session", steps=[1, WHOLE])
-        yield case("speaks", steps=[1, WHOLE])
+        yield case("session", steps=STEPS)
+        yield case("speaks", steps=STEPS)
+        yield case("line")
     yield "# What follows `exit` is not read."
     yield from about(SIX + b"rubbish")
-    for call in ["session", "pump", "over"]:
+    for call in ["session", "loop", "pump", "over"]:
         yield case(call, steps=STEPS)
+    for it in [b"Q", INITIALIZE]:
+        yield from about(FOUR + it)
+        yield case("session", steps=STEPS)
 
 
 def flushes(call, *parts):
@@ -341,17 +345,27 @@ def faults_of_sessions():
     yield "# A bad header behind a reply whose write or flush may fail: the failed write is told."
     yield from about(BEGUN + ECHO + BAD)
     yield case("session", steps=STEPS)
+    yield case("session", "flushes", 1, 4, how="alone")
     yield case("session", "fills", 0, written_by("session", BEGUN + ECHO), 100)
     yield case("pump", "flushes", 1, 4)
     yield "# A bad header after the handshake, and after the message that decided."
     decided = BEGUN + SHUTDOWN + NOTE
     for it in [BEGUN + BAD, decided + BAD, decided + b"Content-Length: 9"]:
         yield from about(it)
-        yield case("session", steps=[1, WHOLE])
+        yield case("session", steps=STEPS)
     yield "# A length that no memory holds."
     for it in [BEGUN, decided]:
         yield from about(it + b"Content-Length: 18446744073709551615\r\n\r\n{}")
-        yield case("session", "huge", steps=[1, WHOLE])
+        yield case("session", "huge", steps=STEPS)
+    yield "# A list in the place of a message."
+    yield from about(framed(b'[1,"initialize"]') + EXIT)
+    yield case("session", steps=STEPS)
+    yield "# Long messages at a wrong time, of which an error shows the beginning: whole characters."
+    for it in [{"id": 1, "method": "m" * 999}, {"id": "a", "method": "é" * 300}, {"id": "ab", "method": "é" * 300}, {"id": 3, "result": "x" * 999}]:
+        yield from about(frame(it))
+        yield case("session")
+    yield from about(BEGUN + SHUTDOWN + frame({"method": "y" * 999}))
+    yield case("session")
 
 
 # Content parts that are no messages: not UTF-8, no JSON, no message, a list.
@@ -363,20 +377,42 @@ def sessions_that_read_on():
     every = b"".join(it + ECHO for it in NO_MESSAGES)
     for it in [BEGUN + every + UNKNOWN + SHUTDOWN + EXIT, BEGUN + NO_MESSAGES[0] + NO_MESSAGES[0], BEGUN + NO_MESSAGES[1] + BAD]:
         yield from about(it)
+        yield case("tolerant", steps=STEPS)
         for call in ["session", "speaks"]:
-            yield case(call, "passes", steps=[1, 7, WHOLE])
+            yield case(call, "passes", steps=[1, 7, WHOLE], how="threads")
             yield case(call)
     for it in [NO_MESSAGES[2] + BEGUN, INITIALIZE + NO_MESSAGES[3] + INITIALIZED, BEGUN + ECHO + SHUTDOWN + NO_MESSAGES[0] + EXIT]:
         yield from about(it)
+        yield case("tolerant", steps=[1, WHOLE])
         for call in ["session", "speaks"]:
-            yield case(call, "passes", steps=[1, WHOLE])
+            yield case(call, "passes", steps=[1, WHOLE], how="threads")
     yield "# The same of a client that waits for each reply: no reply is kept back, and the session ends without it."
     replies = [written_by("session", it) for it in [INITIALIZE, BEGUN + ECHO]]
     waits = [INITIALIZE, {"written": replies[0]}, INITIALIZED + ECHO + NO_MESSAGES[1], {"written": replies[1]}]
     yield from about(*waits, ECHO + SHUTDOWN + EXIT)
-    yield case("session", "passes", steps=[1, WHOLE])
+    yield case("session", "passes", steps=[1, WHOLE], how="threads")
     yield from about(*waits[:2], INITIALIZED + ECHO + NO_MESSAGES[1], {"writes": 1000})
-    yield case("session", steps=[1, WHOLE])
+    yield case("session", steps=[1, WHOLE], how="threads")
+
+
+def tolerant_sessions():
+    yield "# Content parts that are no messages are passed over, by a server that is woken at each: also where a device fails, or there is a limit."
+    every = b"".join(framed(it) for it in [b"\xff", b"{", b"1", b"[]"])
+    around = BEGUN + ECHO + every + ECHO + SHUTDOWN + EXIT
+    yield from about(around)
+    yield case("tolerant", steps=STEPS)
+    yield case("tolerant", "breaks", 0, len(around), 7)
+    yield case("tolerant", "ends", 0, len(around), 7)
+    answered = written_by("tolerant", BEGUN + ECHO)
+    yield case("tolerant", "fills", answered - 1, answered + 60, 100)
+    yield case("tolerant", "limits", 60)
+    held = frame({"id": 7, "method": "demo/hold"})
+    yield from about(BEGUN + held + framed(b"[]") + SHUTDOWN + EXIT)
+    yield case("tolerant", steps=STEPS)
+    yield "# Each other fault ends the session."
+    for it in [b"Content-Length: x\r\n\r\n", b"Content-Length: 61\r\n\r\n"]:
+        yield from about(BEGUN + every + it)
+        yield case("tolerant", "limits", 60)
 
 
 # Messages with fractions, exponents, escapes and names that come twice, and a request `exit`: more may follow each (RFC 8259; JSON-RPC 2.0, section 4).
@@ -414,19 +450,23 @@ def spellings():
 
 
 def sessions_that_wait():
-    yield "# A client that waits for each reply, and 1000 echoes."
-    replies = [written_by("session", it) for it in [INITIALIZE, BEGUN + ECHO, BEGUN + ECHO + SHUTDOWN]]
-    pauses = [{"written": it} for it in replies]
-    yield from about(INITIALIZE, pauses[0], INITIALIZED + ECHO, pauses[1], SHUTDOWN, pauses[2], EXIT)
-    yield case("session", "slow", steps=100)
+    yield "# A client that waits for each reply, which is written and flushed before the next read; and 1000 echoes."
+    replies = [{"written": written_by("session", it)} for it in [INITIALIZE, BEGUN + ECHO, BEGUN + ECHO + SHUTDOWN]]
+    yield from about(INITIALIZE, replies[0], INITIALIZED + ECHO, replies[1], SHUTDOWN, replies[2], EXIT)
+    yield case("session", steps=[*STEPS, 100])
+    yield case("session", "slow", steps=100, how="threads")
+    held = frame({"id": 9, "method": "demo/late"})
+    replies = [{"written": written_by("line", it)} for it in [INITIALIZE, BEGUN, BEGUN + held, BEGUN + held + SHUTDOWN]]
+    yield from about(INITIALIZE, replies[0], INITIALIZED, replies[1], held, replies[2], SHUTDOWN, replies[3], EXIT)
+    yield case("line", steps=[*STEPS, 100])
     yield from about(BEGUN, (1000, ECHO), SHUTDOWN + EXIT)
     yield case("session", steps=100)
     yield "# The same of many at once. A slow handler, behind which fewer than 16 messages wait: all replies before its own are written."
     yield from about(BEGUN, (1000, ECHO), {"messages": 1001}, SHUTDOWN + EXIT)
-    yield case("session", steps=[100, WHOLE])
+    yield case("session", steps=[100, WHOLE], how="threads")
     for count in [1, 14, 1000]:
         yield from about(BEGUN, (count, ECHO), (1, UNKNOWN), (13, ECHO), SHUTDOWN + EXIT)
-        yield case("session", "late", count + 1, steps=[100, WHOLE])
+        yield case("session", "late", count + 1, steps=[100, WHOLE], how="threads")
     yield "# A server that pushes, asks and answers late."
     held, pushes = frame({"id": 2, "method": "demo/hold"}), frame({"method": "b", "params": [3]})
     ended = frame({"id": 3, "method": "shutdown"}) + EXIT
@@ -435,24 +475,45 @@ def sessions_that_wait():
     for it in [late + b"".join(replies[:3]) + ended, late, BEGUN + replies[3] + ended, BEGUN + held + EXIT]:
         yield from about(it)
         yield case("speaks", steps=[100, WHOLE])
+        yield case("line", steps=100)
     yield from about(late + ended)
     pushed = written_by("speaks", BEGUN + held)
     yield case("speaks", "fills", pushed, pushed + 80, 100)
     yield case("speaks", "breaks", 0, len(late + ended), 100)
+    yield "# What it holds at `shutdown` gets an error after its last acts, before the reply. A request under the id of `shutdown` gets that reply alone."
+    keeps = BEGUN + held + frame({"id": "x", "method": "demo/hold"}) + frame({"id": 4, "method": "demo/ask"})
+    yield from about(keeps + ended)
+    yield case("speaks", steps=[100, WHOLE])
+    yield case("line", steps=100)
+    kept, all_sent = written_by("speaks", keeps), written_by("speaks", keeps + ended)
+    for it in [kept + 10, kept + 100, all_sent - 100, all_sent - 10]:
+        yield case("speaks", "fills", it, it, 100)
+    yield from about(keeps + SHUTDOWN + EXIT)
+    yield case("speaks", steps=100)
     yield "# 40 messages at one notification, and a client that waits for all of them."
     holds = BEGUN + b"".join(frame({"id": it, "method": "demo/hold"}) for it in range(10, 48)) + pushes
     yield from about(holds, {"written": written_by("speaks", holds)}, SHUTDOWN + EXIT)
-    yield case("speaks", "slow", steps=100)
+    yield case("speaks", steps=100)
+    yield case("speaks", "slow", steps=100, how="threads")
+    yield case("line", steps=100)
     yield "# Reader, handler and writer wait for each other, so all three have to run at once."
     yield from about(INITIALIZE, {"writes": 1}, INITIALIZED + ECHO, {"requests": 1}, SHUTDOWN + EXIT)
-    yield case("session", "gated", steps=64)
+    yield case("session", "gated", steps=64, how="threads")
     yield "# Threads that are not started: no reader, writer or handler is called, and no thread is left."
     yield from about(INITIALIZE)
     for call, device in [("pump", "no_reader"), ("session", "no_reader"), ("session", "no_writer")]:
-        yield case(call, device, steps=100)
+        yield case(call, device, steps=100, how="threads")
 
 
-# A content part, or a header, behind which a pump answers with this fault.
+def recorded():
+    """What a client sent in a session that was recorded."""
+    yield "# A recorded client. The echo knows none of its methods."
+    bodies = (HERE / "recorded").read_bytes().splitlines()
+    yield from about(b"".join(map(framed, bodies)))
+    yield case("session", steps=STEPS)
+
+
+# A content part, or a header, behind which a pump, or a loop, answers with this fault.
 FAULTS = [
     (2, b"\xff\r\n"),
     (3, b"Content-Length: 9\n\r\n"),
@@ -467,6 +528,98 @@ FAULTS = [
     (12, b"Content-Length: 101\r\n\r\n{}"),
     (13, framed(b'["m"]')),
 ]
+
+
+def loops():
+    one = frame({"method": "a"})
+    yield "# A loop that hands messages on, up to `exit`, a fault or the end, to an outbox with room for so many."
+    others = one + frame({"method": "b"})
+    for it in [b"", EXIT + EXIT, others, one + EXIT + EXIT, others + BAD, frame({"id": 1, "method": "exit"}) + one]:
+        yield from about(it)
+        yield case("loop", "fills", 0, 3, STEPS)
+        yield case("inbox", steps=[1, WHOLE])
+    for number, it in FAULTS:
+        yield from about(one + it)
+        if number == 11:
+            yield case("loop", "huge")
+        elif number == 12:
+            yield case("loop", "limits", 100)
+        else:
+            yield case("loop", steps=[7, WHOLE])
+            yield case("inbox")
+
+
+KINDS = ["BrokenPipe", "OutOfMemory", "Interrupted"]
+
+
+def devices():
+    yield "# A write and a read over a device that fails once. A read that is interrupted goes on, and a write does not."
+    yield from about(EXIT)
+    for kind in [*KINDS, "WriteZero"]:
+        yield case("write", "fills", 0, len(EXIT), [3, WHOLE], more=kind)
+    yield case("write", "flushes", 1, 2)
+    yield from about(EXIT + EXIT)
+    for kind in [*KINDS, "UnexpectedEof"]:
+        yield case("read", "breaks", 0, 2 * len(EXIT), [1, 7, WHOLE], more=kind)
+    yield "# Two frames by one write and one flush."
+    yield case("frames")
+    yield case("frames", "fills", 0, 2 * len(EXIT))
+    yield case("frames", "flushes", 1, 2)
+    yield "# Nothing follows a frame that was not written, or not flushed."
+    yield from about(EXIT + EXIT + NOTE)
+    yield case("outbox", "fills", 0, len(EXIT + EXIT + NOTE))
+    yield case("outbox", "flushes", 0, 4)
+
+
+def fronts():
+    yield "# Each frame alone: no part of it is whole."
+    for it in [INITIALIZE, INITIALIZED, SHUTDOWN, EXIT]:
+        yield from about(it)
+        yield case("front", "ends", 0, len(it))
+
+
+HEADERS = [b"Content-Length: %s\r\nZ" % it for it in [b"", b"-1", b" 2", b"2 ", b"0x2", b"+", b"++2", b"18446744073709551616"]] + [
+    b": \r\n" + EXIT,
+    b"X: y\r\n",
+    BAD,
+    b"Content-Length : 2\r\n\r\n{}",
+    b"content-LENGTH: +002\r\nX: y: z\r\n\r\n{}Q",
+    b"Content-Length: 1\r\nContent-Length: 2\r\n\r\n{}Q",
+    b"Content-Length: 2\r\n",
+    b"Content-Length: 2",
+    b"",
+    b"\r\n",
+    b"Content-Length: 9\n\r\n",
+    b"\xff\r\n",
+]
+
+
+def lists(levels):
+    return framed(b'{"method":"m","params":' + b"[" * levels + b"]" * levels + b"}") + b"Q"
+
+
+BODIES = [
+    EXIT + EXIT,
+    b"Content-Length: 5\r\n\r\n{}",
+    b"Content-Length: 0\r\n\r\n",
+    b"Content-Length: 9\r\n\r\n{}\n",
+    b"Content-Length: 1\r\n\r\n\xffQ",
+    b"Content-Length: 2\r\n\r\n{]Q",
+    b"Content-Length: 2\r\n\r\n{}Q",
+    b"Content-Length: 2\r\n\r\n[]Q",
+    lists(126),
+    lists(127),
+]
+
+
+def reads():
+    for name, texts in [("Headers", HEADERS), ("Content parts", BODIES)]:
+        yield f"# {name}, whole and up to what has come."
+        for it in texts:
+            yield from about(it)
+            yield case("read", steps=STEPS)
+            yield case("front")
+    yield from (HERE / "messages").read_text().split("\n")[:-1]
 
 
 def pumps():
@@ -495,7 +648,7 @@ def pumps():
     yield from about(b"".join(frames))
     at = 0
     for it in [*frames, b""]:
-        yield case("pump", "waits", at, at + max(len(it) - 1, 0), [1, 7, 45, 64, 200, 8192], written=at)
+        yield case("pump", "waits", at, at + max(len(it) - 1, 0), [1, 7, 45, 64, 200, 8192], more=at)
         at += len(it)
     yield "# A reader that shows all at once, and fails when it is asked for more behind a frame."
     yield from about(3 * note)
@@ -1299,12 +1452,12 @@ def unread():
     for it in [b"".join(heavy), b"".join(heavy) + EXIT, b"".join(heavy[:3]) + BAD]:
         yield from about(it)
         for bound, waiting in [(2 * each, 2), (3 * each - 1, 2), (each - 1, 1), (0, 1)]:
-            yield case("held", "bounds", bound, steps=[7, WHOLE], written=waiting)
+            yield case("held", "bounds", bound, steps=[7, WHOLE], more=waiting)
             yield case("over", "bounds", bound)
     yield "# The greatest bound is none: the channel is full then. So is the bound that is there where none is given."
     yield from about(b"".join(heavy))
-    yield case("held", "bounds", 18446744073709551615, written=16)
-    yield case("held", written=16)
+    yield case("held", "bounds", 18446744073709551615, more=16)
+    yield case("held", more=16)
     yield "# Light messages before and behind heavy ones, which pass alone."
     yield from about(NOTE + heavy[0] + NOTE + NOTE + heavy[1] + 4 * NOTE)
     light = weight(NOTE.partition(b"\r\n\r\n")[2])
@@ -1314,7 +1467,7 @@ def unread():
     yield from about(b"".join(heavy))
     for call in ["dropped", "deaf", "stuck"]:
         for bound, waiting in [(2 * each, 2), (each - 1, 1)]:
-            yield case(call, "bounds", bound, steps=[7, WHOLE], written=waiting)
+            yield case(call, "bounds", bound, steps=[7, WHOLE], more=waiting)
 
 
 def table():
@@ -1326,8 +1479,14 @@ def table():
     yield from failed_flushes()
     yield from faults_of_sessions()
     yield from sessions_that_read_on()
+    yield from tolerant_sessions()
     yield from spellings()
     yield from sessions_that_wait()
+    yield from recorded()
+    yield from loops()
+    yield from devices()
+    yield from fronts()
+    yield from reads()
     yield from pumps()
     yield from sessions_with_jobs()
     yield "# Pools by hand."
@@ -1335,28 +1494,3 @@ def table():
     yield from connections()
     yield "# A client that stays and never says `exit`."
     yield "exit"
-
-
-def all_text(lines):
-    return "".join(f"{it}\n" for it in lines).encode()
-
-
-def main():
-    sys.setrecursionlimit(10_000)
-    if sys.argv[1:] == ["--answers"]:
-        sys.stdout.buffer.write(all_text(wanted(sys.stdin.read().splitlines())))
-        return 0
-    lines = list(table())
-    files = {CRATE / "stdin": all_text(lines), CRATE / "stdout": all_text(wanted(lines))}
-    if sys.argv[1:] != ["--check"]:
-        for path, text in files.items():
-            path.write_bytes(text)
-        return 0
-    others = [path for path, text in files.items() if path.read_bytes() != text]
-    for path in others:
-        print(f"tools/rows/live: crates/{path.parent.name}/{path.name} is not what this script writes", file=sys.stderr)
-    return 1 if others else 0
-
-
-if __name__ == "__main__":
-    sys.exit(main())
