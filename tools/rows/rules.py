@@ -373,7 +373,25 @@ def in_order(names):
     return sorted(names, key=lambda it: (isinstance(it, str), it))
 
 
-def misfits_of(params, keys):
+# What has to be in the place of another value.
+WANTED = {
+    **dict.fromkeys(("textDocument", "position"), "an object"),
+    "uri": "a string",
+    "line": "a whole number",
+    "character": "a whole number from 0 to 2^32 - 1",
+}
+
+
+# What `serde` says of the values that do not fit in the rows: its own words, and those of the positions of `lsp_text`.
+BY_SERDE = {
+    "textDocument": "invalid type",
+    "uri": "invalid type",
+    "line": "invalid `line`",
+    "character": "invalid `character`",
+}
+
+
+def misfits_of(params, keys, invalid=lambda key: f"invalid `{key}`, expected {WANTED[key]}"):
     """Why params are refused that lack one of these members, or have another value there."""
     members = {"textDocument": [("uri", str)], "position": [("line", int), ("character", int)]}
     wanted = []
@@ -381,17 +399,18 @@ def misfits_of(params, keys):
         inner = params.get(key) if isinstance(params.get(key), dict) else {}
         wanted += [(params, key, dict), *((inner, name, kind) for name, kind in members[key])]
     return [
-        f"invalid `{key}`" if key in where else f"missing field `{key}`" for where, key, kind in wanted if not isinstance(where.get(key), kind)
+        invalid(key) if key in where else f"missing field `{key}`"
+        for where, key, kind in wanted
+        if not isinstance(where.get(key), kind)
     ]
 
 
 def typed(came):
     """What comes of a message whose params are a place in a document (LSP 3.17, "TextDocumentPositionParams"). Params that lack a key
-    are refused (JSON-RPC 2.0, section 5.1), in the words of the Rust crate `serde_json`, and a value that does not fit by its key
-    (docs/TYPES.md). Types of messages: LSP 3.17, "MessageType"."""
+    are refused (JSON-RPC 2.0, section 5.1), in the words of the Rust crate `serde_json`. Types of messages: LSP 3.17, "MessageType"."""
     params, id = came["params"], came.get("id")
     document, at = (params.get(it) if isinstance(params.get(it), dict) else {} for it in ["textDocument", "position"])
-    misfits = misfits_of(params, ["textDocument", "position"])
+    misfits = misfits_of(params, ["textDocument", "position"], BY_SERDE.get)
     if id is None:
         if misfits:
             return [{"method": "window/logMessage", "params": {"message": f"{came['method']}: {misfits[0]}", "type": 1}}]

@@ -370,6 +370,7 @@ TYPES = {
         "kind?": TEXT,
         "collapsedText?": TEXT,
     },
+    "Note": {"range": "Range", "text": TEXT},
     "SelectionRangeParams": {**DOCUMENT, "positions": some("Position"), **PARTS},
     "LinkedEditingRanges": {"ranges": some("Range"), "wordPattern?": TEXT},
     "Moniker": {"scheme": TEXT, "identifier": TEXT, "unique": TEXT, "kind?": TEXT},
@@ -553,6 +554,8 @@ def rows():
             yield f"typed {name} {ordered(sample(way, ''))}"
         yield f"typed {name} {{}}"
     yield """typed SelectionRange {"ranges": [[1, 2], [0, 9]]}"""
+    yield """typed Note {"range":{"start":{"line":1,"character":2},"end":{"line":3,"character":4}},"text":"a"}"""
+    yield """typed Note {"text":"a"}"""
     yield "# Acts by methods: params that fit, a line of 0, a key that is missing, one of another type, and a method of another kind."
     place = {"textDocument": {"uri": "file:///a"}, "position": {"line": 3, "character": 4}}
     for method in ["textDocument/didClose", *ACTS, "textDocument/rename"]:

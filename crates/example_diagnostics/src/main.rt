@@ -13,11 +13,11 @@ ghost use Rattle.lsp_service.specs.Stated.{unwoken};
 
 use anyhow::{Result as Answer, bail};
 use lsp_documents::{Agreed, Made, NotMade, TextDocuments};
-use lsp_methods::{Configuration, answer, publish, reply};
+use lsp_methods::{Configuration, answer, publish, read, reply};
 use lsp_server::clients::{ClientOptions, serve_clients};
 use lsp_server::{
     Act, EndSession, Notification, Request, ResponseError, Server, SessionEnd, SessionFault,
-    StreamTransport, read_as, session_with_over,
+    StreamTransport, session_with_over,
 };
 use lsp_text::{Text, TextDocument};
 use lsp_types::methods::{DefinitionRequest, HoverRequest};
@@ -68,7 +68,7 @@ impl Server for Checker {
     type Payload = Asked;
 
     fn initialize(&mut self, params: Value) -> Result<Result<Value, ResponseError>, AllocError> {
-        let params = match read_as::<InitializeParams>(self.alloc, params)? {
+        let params = match read::<InitializeParams>(self.alloc, &params)? {
             Ok(params) => params,
             Err(error) => return Ok(Err(error)),
         };
@@ -210,10 +210,13 @@ impl Checker {
 
     fn answer_hover(&self, request: Request) -> Result<Acts, AllocError> {
         let alloc = self.alloc;
-        Act::of_request(alloc, request, |id, params| {
-            let found = self.hover(&params)?;
-            Act::one(alloc, reply::<HoverRequest, _>(alloc, id, &found)?)
-        })
+        match read::<HoverParams>(alloc, &request.params)? {
+            Ok(params) => {
+                let found = self.hover(&params)?;
+                Act::one(alloc, reply::<HoverRequest, _>(alloc, request.id, &found)?)
+            }
+            Err(error) => Act::one(alloc, Act::Reply(request.id, Err(error))),
+        }
     }
 
     /// Tells the client which lines of a document are too long: none, if it is closed or its text is lost.

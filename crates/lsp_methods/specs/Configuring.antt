@@ -1,7 +1,10 @@
--- Whether a client can be asked for its configuration (LSP 3.17, "Configuration Request").
-use Rattle.std.specs.Prelude.{Bool, false, Option, None, Some, codes}
-use Rattle.serde_json.specs.Data.{Data}
+-- Whether a client can be asked for its configuration, and what it is asked (LSP 3.17, "Configuration Request").
+use Rattle.std.specs.Prelude.{Bool, false, List, ℕ, [], ◌∷◌, Option, None, Some, codes}
+use Rattle.serde_json.specs.Data.{Data, array, string}
 use Rattle.serde_json.specs.Find.{as_bool, pointer}
+use Rattle.serde_json.specs.View.{items_of}
+use Rattle.lsp_service.specs.Acts.{Act, asks}
+use Rattle.lsp_types.specs.Json.{object_of}
 
 -- a member that is true
 abbrev pub is_true : Option Bool → Bool
@@ -16,3 +19,11 @@ has_true (Some d) = is_true (as_bool d)
 -- the capabilities of a client that can be asked
 abbrev pub can_be_asked : Data → Bool
 can_be_asked client = has_true (pointer (codes "/workspace/configuration") client)
+
+-- what asks the client for one section, of no document
+abbrev pub asks_for : {P : Type 0} → List ℕ → P → Act P
+asks_for section payload = asks (codes "workspace/configuration") (object_of ((
+  codes "items",
+  Some (array (items_of (
+      object_of ((codes "scopeUri", None) ∷ (codes "section", Some (string section)) ∷ []) ∷ []))),
+) ∷ [])) payload

@@ -1,3 +1,4 @@
 pub mod Answers
 pub mod Configuring
 pub mod Publishing
+pub mod Reads

@@ -1,8 +1,7 @@
 // What the user set for a server.
-ghost use Rattle.std.specs.Prelude.{◌≡◌, ◌≢◌, true, false, None, Ok, IfOk, IfSome, codes};
-ghost use Rattle.serde_json.specs.Data.{Data};
+ghost use Rattle.std.specs.Prelude.{◌≡◌, ◌≢◌, true, false, None, Ok, IfOk, IfSome};
 ghost use Rattle.serde_json.specs.View.{view};
-ghost use Rattle.lsp_service.specs.Acts.{asks};
+ghost use Rattle.lsp_methods.specs.Configuring.{asks_for};
 ghost use Rattle.lsp_service.specs.View.{act_view};
 
 use crate::speaking::{ask, read_result};
@@ -63,8 +62,8 @@ impl<T: DeserializeOwned + Drop> Configuration<T> {
         payload: P,
     ) -> Result<Option<Act<P>>, AllocError>
         ensures none { self.now.is_asked ≡ false → IfOk result (λ asked. asked ≡ None) }
-        ensures act { IfOk result (λ asked. IfSome asked (λ act. (tree : Data)
-            × (act_view P.eq act ≡ asks (codes "workspace/configuration") tree «payload»))) }
+        ensures act { IfOk result (λ asked. IfSome asked (λ act.
+            act_view P.eq act ≡ asks_for self.now.«section».now «payload»)) }
     {
         if !self.is_asked {
             drop(payload);

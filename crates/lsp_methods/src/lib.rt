@@ -2,16 +2,18 @@
 //! that LSP does not have does not compile. That the request at hand has this method is proved where it is called: behind
 //! `HoverRequest::METHOD =>` of a `match` by itself.
 //!
-//! What is sent is what a value stands for (`ToJson`), and the contracts have that tree. For params and results of your own take the calls
-//! of `lsp_service` and `lsp_message`.
+//! What is sent is what a value stands for (`ToJson`), and what comes is read as its type says (`FromJson`): the contracts have both. For
+//! params and results of your own by `serde` take the calls of `lsp_service` and `lsp_message`.
 #![tactic(auto)]
 
 mod configuration;
 mod hearing;
+mod params;
 mod publishing;
 mod speaking;
 
 pub use configuration::Configuration;
 pub use hearing::{answer, on_notification, on_request, read_params, try_answer};
+pub use params::read;
 pub use publishing::publish;
 pub use speaking::{ask, read_result, reply, tell};

@@ -1,15 +1,14 @@
 // What a server tells, asks and answers.
-ghost use Rattle.std.specs.Prelude.{◌≡◌, Err, IfErr, IfOk, MatchResult, Ok};
-ghost use Rattle.lsp_message.specs.Converted.{IsFault};
-ghost use Rattle.lsp_message.specs.View.{error_view};
-ghost use Rattle.lsp_message.specs.declared.msg.code.ErrorCode.TheVariants.{InvalidParams};
+ghost use Rattle.std.specs.Prelude.{◌≡◌, Err, IfOk, MatchResult, Ok};
 ghost use Rattle.lsp_service.specs.Acts.{asks, replies, tells};
 ghost use Rattle.lsp_service.specs.View.{act_view};
+ghost use Rattle.lsp_methods.specs.Reads.{IsReadOf};
+ghost use Rattle.serde_json.specs.View.{view};
 
-use lsp_message::{Notification, RequestId, ResponseError, read_as};
+use crate::params::read;
+use lsp_message::{Notification, RequestId, ResponseError};
 use lsp_service::Act;
-use lsp_types::{NotificationToClient, RequestToClient, RequestToServer, ToJson};
-use serde::DeserializeOwned;
+use lsp_types::{FromJson, NotificationToClient, RequestToClient, RequestToServer, ToJson};
 use serde_json::Value;
 use std::alloc::{AllocError, Global};
 
@@ -62,12 +61,12 @@ pub fn read_result<M: RequestToClient>(
     outcome: Result<Value, ResponseError>,
 ) -> Result<Result<M::Result, ResponseError>, AllocError>
 where
-    M::Result: DeserializeOwned,
-    ensures { IfOk result (λ read. MatchResult outcome
-        (λ _. IfErr read (λ e. IsFault InvalidParams (error_view e))) (λ told. read ≡ Err told)) }
+    M::Result: FromJson,
+    ensures { IfOk result (λ found. MatchResult outcome
+        (λ value. IsReadOf M.Result.reads (view value) found) (λ told. found ≡ Err told)) }
 {
     match outcome {
-        Ok(value) => read_as(alloc, value),
+        Ok(value) => read(alloc, &value),
         Err(error) => Ok(Err(error)),
     }
 }

@@ -1,3 +1,4 @@
 mod FileUriLemmas
 mod FolderLemmas
 pub mod JsonLemmas
+pub mod ReadLemmas

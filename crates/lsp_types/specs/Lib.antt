@@ -1,5 +1,6 @@
 pub mod FileUris
 pub mod Folders
 pub mod Json
+pub mod Reads
 pub mod Tokens
 pub mod Written

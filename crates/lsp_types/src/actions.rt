@@ -3,17 +3,15 @@
 ghost use Rattle.std.specs.Prelude.{◌∷◌, [], Some, codes, option_map};
 ghost use Rattle.serde_json.specs.Data.{number, unsigned};
 ghost use Rattle.lsp_types.specs.Json.{object_of};
+ghost use Rattle.lsp_types.specs.Reads.{IfFits, IsObject, IsWithin, Optional, Required, ThoseThatFit};
 
 use crate::diagnostics::Diagnostic;
 use crate::documents::TextDocumentIdentifier;
 use crate::edits::WorkspaceEdit;
-use crate::json::{
-    Keyed, Object, ReadMembers, Source, ToJson, if_fits, number_within, read_object, those_that_fit,
-};
+use crate::json::{FromJson, Members, Misfit, Object, ToJson, number_within};
 use crate::progress::ProgressToken;
 use crate::workspace::Command;
 use lsp_text::Range;
-use serde::{Deserialize, DeserializeOwned, Deserializer, Format};
 use serde_json::Value;
 use std::alloc::{AllocError, Global};
 
@@ -51,34 +49,38 @@ impl ToJson for CodeActionParams {
     }
 }
 
-impl Keyed for CodeActionParams {
-    const KEYS: &'static [&'static str] = &[
-        "textDocument",
-        "range",
-        "context",
-        "workDoneToken",
-        "partialResultToken",
-    ];
-}
+impl FromJson for CodeActionParams {
+    ghost reads = { λ json it. IsObject json
+        × Required ⟦<TextDocumentIdentifier as FromJson>⟧.reads (codes "textDocument") json it.text_document
+        × Required ⟦<Range as FromJson>⟧.reads (codes "range") json it.range
+        × Required ⟦<CodeActionContext as FromJson>⟧.reads (codes "context") json it.context
+        × IfFits ⟦<ProgressToken as FromJson>⟧.reads (codes "workDoneToken") json it.work_done_token
+        × IfFits ⟦<ProgressToken as FromJson>⟧.reads (codes "partialResultToken") json it.partial_result_token };
 
-impl ReadMembers for CodeActionParams {
-    fn read<S: Source>(members: &mut S) -> CodeActionParams {
-        CodeActionParams {
-            text_document: members.required(),
-            range: members.required(),
-            context: members.required(),
-            work_done_token: if_fits(members),
-            partial_result_token: if_fits(members),
+    fn from_json(alloc: Global, value: &Value) -> Result<CodeActionParams, Misfit> {
+        let read = Members::new(alloc, value)
+            .required("textDocument")
+            .required("range")
+            .required("context")
+            .if_fits("workDoneToken")
+            .if_fits("partialResultToken")
+            .end();
+        match read {
+            Ok(read) => {
+                let (
+                    (((((), text_document), range), context), work_done_token),
+                    partial_result_token,
+                ) = read;
+                Ok(CodeActionParams {
+                    text_document,
+                    range,
+                    context,
+                    work_done_token,
+                    partial_result_token,
+                })
+            }
+            Err(misfit) => Err(misfit),
         }
-    }
-}
-
-impl DeserializeOwned for CodeActionParams {
-    fn deserialize_owned<F: Format>(
-        alloc: Global,
-        from: &mut Deserializer<'_, '_, F>,
-    ) -> Result<CodeActionParams, F::Error> {
-        read_object(alloc, from)
     }
 }
 
@@ -108,35 +110,29 @@ impl ToJson for CodeActionContext {
     }
 }
 
-impl Keyed for CodeActionContext {
-    const KEYS: &'static [&'static str] = &["diagnostics", "only", "triggerKind"];
-}
+impl FromJson for CodeActionContext {
+    ghost reads = { λ json it. IsObject json
+        × ThoseThatFit ⟦<Diagnostic as FromJson>⟧.reads (codes "diagnostics") json it.diagnostics.items
+        × Optional ⟦<Vec<String> as FromJson>⟧.reads (codes "only") json it.only
+        × IfFits ⟦<CodeActionTriggerKind as FromJson>⟧.reads (codes "triggerKind") json it.trigger_kind };
 
-impl ReadMembers for CodeActionContext {
-    fn read<S: Source>(members: &mut S) -> CodeActionContext {
-        CodeActionContext {
-            diagnostics: those_that_fit(members),
-            only: members.optional(),
-            trigger_kind: if_fits(members),
+    fn from_json(alloc: Global, value: &Value) -> Result<CodeActionContext, Misfit> {
+        let read = Members::new(alloc, value)
+            .those_that_fit("diagnostics")
+            .optional("only")
+            .if_fits("triggerKind")
+            .end();
+        match read {
+            Ok(read) => {
+                let ((((), diagnostics), only), trigger_kind) = read;
+                Ok(CodeActionContext {
+                    diagnostics,
+                    only,
+                    trigger_kind,
+                })
+            }
+            Err(misfit) => Err(misfit),
         }
-    }
-}
-
-impl<'de> Deserialize<'de> for CodeActionContext {
-    fn deserialize<F: Format>(
-        alloc: Global,
-        from: &mut Deserializer<'de, '_, F>,
-    ) -> Result<CodeActionContext, F::Error> {
-        read_object(alloc, from)
-    }
-}
-
-impl DeserializeOwned for CodeActionContext {
-    fn deserialize_owned<F: Format>(
-        alloc: Global,
-        from: &mut Deserializer<'_, '_, F>,
-    ) -> Result<CodeActionContext, F::Error> {
-        read_object(alloc, from)
     }
 }
 
@@ -159,24 +155,14 @@ impl ToJson for CodeActionTriggerKind {
     }
 }
 
-impl<'de> Deserialize<'de> for CodeActionTriggerKind {
-    fn deserialize<F: Format>(
-        alloc: Global,
-        from: &mut Deserializer<'de, '_, F>,
-    ) -> Result<CodeActionTriggerKind, F::Error> {
-        match number_within(alloc, from, 1, 2) {
-            Ok(number) => Ok(CodeActionTriggerKind(number)),
-            Err(failed) => Err(failed),
-        }
-    }
-}
+impl FromJson for CodeActionTriggerKind {
+    ghost reads = { λ json it. IsWithin 1 2 json it.0 };
 
-impl DeserializeOwned for CodeActionTriggerKind {
-    fn deserialize_owned<F: Format>(
-        alloc: Global,
-        from: &mut Deserializer<'_, '_, F>,
-    ) -> Result<CodeActionTriggerKind, F::Error> {
-        CodeActionTriggerKind::deserialize(alloc, from)
+    fn from_json(alloc: Global, value: &Value) -> Result<CodeActionTriggerKind, Misfit> {
+        match number_within(alloc, value, 1, 2) {
+            Ok(number) => Ok(CodeActionTriggerKind(number)),
+            Err(misfit) => Err(misfit),
+        }
     }
 }
 
@@ -196,24 +182,19 @@ impl ToJson for CodeActionDisabled {
     }
 }
 
-impl Keyed for CodeActionDisabled {
-    const KEYS: &'static [&'static str] = &["reason"];
-}
+impl FromJson for CodeActionDisabled {
+    ghost reads = { λ json it. IsObject json
+        × Required ⟦<String as FromJson>⟧.reads (codes "reason") json it.reason };
 
-impl ReadMembers for CodeActionDisabled {
-    fn read<S: Source>(members: &mut S) -> CodeActionDisabled {
-        CodeActionDisabled {
-            reason: members.required(),
+    fn from_json(alloc: Global, value: &Value) -> Result<CodeActionDisabled, Misfit> {
+        let read = Members::new(alloc, value).required("reason").end();
+        match read {
+            Ok(read) => {
+                let ((), reason) = read;
+                Ok(CodeActionDisabled { reason })
+            }
+            Err(misfit) => Err(misfit),
         }
-    }
-}
-
-impl DeserializeOwned for CodeActionDisabled {
-    fn deserialize_owned<F: Format>(
-        alloc: Global,
-        from: &mut Deserializer<'_, '_, F>,
-    ) -> Result<CodeActionDisabled, F::Error> {
-        read_object(alloc, from)
     }
 }
 
@@ -292,39 +273,49 @@ impl ToJson for CodeAction {
     }
 }
 
-impl Keyed for CodeAction {
-    const KEYS: &'static [&'static str] = &[
-        "title",
-        "kind",
-        "diagnostics",
-        "isPreferred",
-        "disabled",
-        "edit",
-        "command",
-        "data",
-    ];
-}
+impl FromJson for CodeAction {
+    ghost reads = { λ json it. IsObject json
+        × Required ⟦<String as FromJson>⟧.reads (codes "title") json it.title
+        × Optional ⟦<String as FromJson>⟧.reads (codes "kind") json it.kind
+        × Optional ⟦<Vec<Diagnostic> as FromJson>⟧.reads (codes "diagnostics") json it.diagnostics
+        × Optional ⟦<bool as FromJson>⟧.reads (codes "isPreferred") json it.is_preferred
+        × Optional ⟦<CodeActionDisabled as FromJson>⟧.reads (codes "disabled") json it.disabled
+        × Optional ⟦<WorkspaceEdit as FromJson>⟧.reads (codes "edit") json it.edit
+        × Optional ⟦<Command as FromJson>⟧.reads (codes "command") json it.command
+        × Optional ⟦<Value as FromJson>⟧.reads (codes "data") json it.«data» };
 
-impl ReadMembers for CodeAction {
-    fn read<S: Source>(members: &mut S) -> CodeAction {
-        CodeAction {
-            title: members.required(),
-            kind: members.optional(),
-            diagnostics: members.optional(),
-            is_preferred: members.optional(),
-            disabled: members.optional(),
-            edit: members.optional(),
-            command: members.optional(),
-            data: members.optional(),
+    fn from_json(alloc: Global, value: &Value) -> Result<CodeAction, Misfit> {
+        let read = Members::new(alloc, value)
+            .required("title")
+            .optional("kind")
+            .optional("diagnostics")
+            .optional("isPreferred")
+            .optional("disabled")
+            .optional("edit")
+            .optional("command")
+            .optional("data")
+            .end();
+        match read {
+            Ok(read) => {
+                let (
+                    (
+                        (((((((), title), kind), diagnostics), is_preferred), disabled), edit),
+                        command,
+                    ),
+                    data,
+                ) = read;
+                Ok(CodeAction {
+                    title,
+                    kind,
+                    diagnostics,
+                    is_preferred,
+                    disabled,
+                    edit,
+                    command,
+                    data,
+                })
+            }
+            Err(misfit) => Err(misfit),
         }
-    }
-}
-
-impl DeserializeOwned for CodeAction {
-    fn deserialize_owned<F: Format>(
-        alloc: Global,
-        from: &mut Deserializer<'_, '_, F>,
-    ) -> Result<CodeAction, F::Error> {
-        read_object(alloc, from)
     }
 }

@@ -1,10 +1,10 @@
 //! Values of which there are several kinds.
-ghost use Rattle.std.specs.Prelude.{codes, string_bytes};
+ghost use Rattle.std.specs.Prelude.{◌≡◌, Some, codes, string_bytes};
 ghost use Rattle.serde_json.specs.Data.{number, string};
-ghost use Rattle.serde_json.specs.Find.{of_integer};
+ghost use Rattle.serde_json.specs.Find.{as_str, of_integer};
+ghost use Rattle.lsp_types.specs.Reads.{IsInt};
 
-use crate::json::ToJson;
-use serde::{Deserialize, DeserializeOwned, Deserializer, Format, Kind, Name};
+use crate::json::{FromJson, Misfit, ToJson, fitting};
 use serde_json::Value;
 use std::alloc::{AllocError, Global};
 
@@ -30,32 +30,19 @@ impl ToJson for NumberOrString {
     }
 }
 
-impl<'de> Deserialize<'de> for NumberOrString {
-    fn deserialize<F: Format>(
-        alloc: Global,
-        from: &mut Deserializer<'de, '_, F>,
-    ) -> Result<NumberOrString, F::Error> {
-        let kind = from.peek()?;
-        if matches!(kind, Kind::Str) {
-            match from.string(alloc) {
-                Ok(text) => Ok(NumberOrString::String(text)),
-                Err(failed) => Err(failed),
-            }
-        } else {
-            match i32::deserialize(alloc, from) {
-                Ok(number) => Ok(NumberOrString::Number(number)),
-                Err(failed) => Err(failed),
-            }
-        }
-    }
-}
+impl FromJson for NumberOrString {
+    ghost use Rattle.lsp_types.specs.declared.choices.NumberOrString.TheVariants.{Number, String};
 
-impl DeserializeOwned for NumberOrString {
-    fn deserialize_owned<F: Format>(
-        alloc: Global,
-        from: &mut Deserializer<'_, '_, F>,
-    ) -> Result<NumberOrString, F::Error> {
-        NumberOrString::deserialize(alloc, from)
+    ghost reads = { λ json. elim [ Number z ↦ IsInt json z | String text ↦ as_str json ≡ Some (string_bytes text) ] };
+
+    fn from_json(alloc: Global, value: &Value) -> Result<NumberOrString, Misfit> {
+        if let Some(text) = fitting(alloc, value)? {
+            return Ok(NumberOrString::String(text));
+        }
+        match fitting(alloc, value)? {
+            Some(number) => Ok(NumberOrString::Number(number)),
+            None => Err(Misfit::Wanted("a whole number of 32 bits or a string")),
+        }
     }
 }
 
@@ -81,24 +68,19 @@ impl ToJson for MarkupKind {
     }
 }
 
-impl<'de> Deserialize<'de> for MarkupKind {
-    fn deserialize<F: Format>(
-        _alloc: Global,
-        from: &mut Deserializer<'de, '_, F>,
-    ) -> Result<MarkupKind, F::Error> {
-        match from.variant(&[Name::exact("plaintext"), Name::exact("markdown")])? {
-            0 => Ok(MarkupKind::PlainText),
-            1 => Ok(MarkupKind::Markdown),
-            _ => Err(from.unknown_variant()),
-        }
-    }
-}
+impl FromJson for MarkupKind {
+    ghost use Rattle.lsp_types.specs.declared.choices.MarkupKind.TheVariants.{Markdown, PlainText};
 
-impl DeserializeOwned for MarkupKind {
-    fn deserialize_owned<F: Format>(
-        alloc: Global,
-        from: &mut Deserializer<'_, '_, F>,
-    ) -> Result<MarkupKind, F::Error> {
-        MarkupKind::deserialize(alloc, from)
+    ghost reads = { λ json. elim [
+      | PlainText ↦ as_str json ≡ Some (codes "plaintext")
+      | Markdown ↦ as_str json ≡ Some (codes "markdown")
+    ] };
+
+    fn from_json(_alloc: Global, value: &Value) -> Result<MarkupKind, Misfit> {
+        match value.as_str() {
+            Some("plaintext") => Ok(MarkupKind::PlainText),
+            Some("markdown") => Ok(MarkupKind::Markdown),
+            _ => Err(Misfit::Wanted("`plaintext` or `markdown`")),
+        }
     }
 }

@@ -3,17 +3,15 @@
 ghost use Rattle.std.specs.Prelude.{◌∷◌, [], Some, codes, option_map};
 ghost use Rattle.serde_json.specs.Data.{number, unsigned};
 ghost use Rattle.lsp_types.specs.Json.{object_of};
+ghost use Rattle.lsp_types.specs.Reads.{IfFits, IsObject, IsWithin, Optional, Required};
 
 use crate::documents::TextDocumentIdentifier;
 use crate::edits::TextEdit;
 use crate::hovers::MarkupContent;
-use crate::json::{
-    Blank, Keyed, Object, ReadMembers, Source, ToJson, if_fits, number_within, read_object,
-};
+use crate::json::{FromJson, Members, Misfit, Object, ToJson, number_within};
 use crate::progress::ProgressToken;
 use crate::workspace::Command;
 use lsp_text::{Position, Range};
-use serde::{Deserialize, DeserializeOwned, Deserializer, Format};
 use serde_json::Value;
 use std::alloc::{AllocError, Global};
 
@@ -82,24 +80,14 @@ impl ToJson for CompletionItemKind {
     }
 }
 
-impl<'de> Deserialize<'de> for CompletionItemKind {
-    fn deserialize<F: Format>(
-        alloc: Global,
-        from: &mut Deserializer<'de, '_, F>,
-    ) -> Result<CompletionItemKind, F::Error> {
-        match number_within(alloc, from, 1, 25) {
-            Ok(number) => Ok(CompletionItemKind(number)),
-            Err(failed) => Err(failed),
-        }
-    }
-}
+impl FromJson for CompletionItemKind {
+    ghost reads = { λ json it. IsWithin 1 25 json it.0 };
 
-impl DeserializeOwned for CompletionItemKind {
-    fn deserialize_owned<F: Format>(
-        alloc: Global,
-        from: &mut Deserializer<'_, '_, F>,
-    ) -> Result<CompletionItemKind, F::Error> {
-        CompletionItemKind::deserialize(alloc, from)
+    fn from_json(alloc: Global, value: &Value) -> Result<CompletionItemKind, Misfit> {
+        match number_within(alloc, value, 1, 25) {
+            Ok(number) => Ok(CompletionItemKind(number)),
+            Err(misfit) => Err(misfit),
+        }
     }
 }
 
@@ -122,24 +110,14 @@ impl ToJson for InsertTextFormat {
     }
 }
 
-impl<'de> Deserialize<'de> for InsertTextFormat {
-    fn deserialize<F: Format>(
-        alloc: Global,
-        from: &mut Deserializer<'de, '_, F>,
-    ) -> Result<InsertTextFormat, F::Error> {
-        match number_within(alloc, from, 1, 2) {
-            Ok(number) => Ok(InsertTextFormat(number)),
-            Err(failed) => Err(failed),
-        }
-    }
-}
+impl FromJson for InsertTextFormat {
+    ghost reads = { λ json it. IsWithin 1 2 json it.0 };
 
-impl DeserializeOwned for InsertTextFormat {
-    fn deserialize_owned<F: Format>(
-        alloc: Global,
-        from: &mut Deserializer<'_, '_, F>,
-    ) -> Result<InsertTextFormat, F::Error> {
-        InsertTextFormat::deserialize(alloc, from)
+    fn from_json(alloc: Global, value: &Value) -> Result<InsertTextFormat, Misfit> {
+        match number_within(alloc, value, 1, 2) {
+            Ok(number) => Ok(InsertTextFormat(number)),
+            Err(misfit) => Err(misfit),
+        }
     }
 }
 
@@ -160,24 +138,14 @@ impl ToJson for CompletionItemTag {
     }
 }
 
-impl<'de> Deserialize<'de> for CompletionItemTag {
-    fn deserialize<F: Format>(
-        alloc: Global,
-        from: &mut Deserializer<'de, '_, F>,
-    ) -> Result<CompletionItemTag, F::Error> {
-        match number_within(alloc, from, 1, 1) {
-            Ok(number) => Ok(CompletionItemTag(number)),
-            Err(failed) => Err(failed),
-        }
-    }
-}
+impl FromJson for CompletionItemTag {
+    ghost reads = { λ json it. IsWithin 1 1 json it.0 };
 
-impl DeserializeOwned for CompletionItemTag {
-    fn deserialize_owned<F: Format>(
-        alloc: Global,
-        from: &mut Deserializer<'_, '_, F>,
-    ) -> Result<CompletionItemTag, F::Error> {
-        CompletionItemTag::deserialize(alloc, from)
+    fn from_json(alloc: Global, value: &Value) -> Result<CompletionItemTag, Misfit> {
+        match number_within(alloc, value, 1, 1) {
+            Ok(number) => Ok(CompletionItemTag(number)),
+            Err(misfit) => Err(misfit),
+        }
     }
 }
 
@@ -201,24 +169,14 @@ impl ToJson for InsertTextMode {
     }
 }
 
-impl<'de> Deserialize<'de> for InsertTextMode {
-    fn deserialize<F: Format>(
-        alloc: Global,
-        from: &mut Deserializer<'de, '_, F>,
-    ) -> Result<InsertTextMode, F::Error> {
-        match number_within(alloc, from, 1, 2) {
-            Ok(number) => Ok(InsertTextMode(number)),
-            Err(failed) => Err(failed),
-        }
-    }
-}
+impl FromJson for InsertTextMode {
+    ghost reads = { λ json it. IsWithin 1 2 json it.0 };
 
-impl DeserializeOwned for InsertTextMode {
-    fn deserialize_owned<F: Format>(
-        alloc: Global,
-        from: &mut Deserializer<'_, '_, F>,
-    ) -> Result<InsertTextMode, F::Error> {
-        InsertTextMode::deserialize(alloc, from)
+    fn from_json(alloc: Global, value: &Value) -> Result<InsertTextMode, Misfit> {
+        match number_within(alloc, value, 1, 2) {
+            Ok(number) => Ok(InsertTextMode(number)),
+            Err(misfit) => Err(misfit),
+        }
     }
 }
 
@@ -261,25 +219,26 @@ impl ToJson for CompletionItemLabelDetails {
     }
 }
 
-impl Keyed for CompletionItemLabelDetails {
-    const KEYS: &'static [&'static str] = &["detail", "description"];
-}
+impl FromJson for CompletionItemLabelDetails {
+    ghost reads = { λ json it. IsObject json
+        × Optional ⟦<String as FromJson>⟧.reads (codes "detail") json it.detail
+        × Optional ⟦<String as FromJson>⟧.reads (codes "description") json it.description };
 
-impl ReadMembers for CompletionItemLabelDetails {
-    fn read<S: Source>(members: &mut S) -> CompletionItemLabelDetails {
-        CompletionItemLabelDetails {
-            detail: members.optional(),
-            description: members.optional(),
+    fn from_json(alloc: Global, value: &Value) -> Result<CompletionItemLabelDetails, Misfit> {
+        let read = Members::new(alloc, value)
+            .optional("detail")
+            .optional("description")
+            .end();
+        match read {
+            Ok(read) => {
+                let (((), detail), description) = read;
+                Ok(CompletionItemLabelDetails {
+                    detail,
+                    description,
+                })
+            }
+            Err(misfit) => Err(misfit),
         }
-    }
-}
-
-impl DeserializeOwned for CompletionItemLabelDetails {
-    fn deserialize_owned<F: Format>(
-        alloc: Global,
-        from: &mut Deserializer<'_, '_, F>,
-    ) -> Result<CompletionItemLabelDetails, F::Error> {
-        read_object(alloc, from)
     }
 }
 
@@ -424,71 +383,131 @@ impl ToJson for CompletionItem {
     }
 }
 
-impl Keyed for CompletionItem {
-    const KEYS: &'static [&'static str] = &[
-        "label",
-        "labelDetails",
-        "kind",
-        "tags",
-        "detail",
-        "documentation",
-        "deprecated",
-        "preselect",
-        "sortText",
-        "filterText",
-        "insertText",
-        "insertTextFormat",
-        "insertTextMode",
-        "textEdit",
-        "textEditText",
-        "additionalTextEdits",
-        "commitCharacters",
-        "command",
-        "data",
-    ];
-}
+impl FromJson for CompletionItem {
+    ghost reads = { λ json it. IsObject json
+        × Required ⟦<String as FromJson>⟧.reads (codes "label") json it.label
+        × Optional ⟦<CompletionItemLabelDetails as FromJson>⟧.reads (codes "labelDetails") json it.label_details
+        × Optional ⟦<CompletionItemKind as FromJson>⟧.reads (codes "kind") json it.kind
+        × Optional ⟦<Vec<CompletionItemTag> as FromJson>⟧.reads (codes "tags") json it.tags
+        × Optional ⟦<String as FromJson>⟧.reads (codes "detail") json it.detail
+        × Optional ⟦<MarkupContent as FromJson>⟧.reads (codes "documentation") json it.documentation
+        × Optional ⟦<bool as FromJson>⟧.reads (codes "deprecated") json it.deprecated
+        × Optional ⟦<bool as FromJson>⟧.reads (codes "preselect") json it.preselect
+        × Optional ⟦<String as FromJson>⟧.reads (codes "sortText") json it.sort_text
+        × Optional ⟦<String as FromJson>⟧.reads (codes "filterText") json it.filter_text
+        × Optional ⟦<String as FromJson>⟧.reads (codes "insertText") json it.insert_text
+        × Optional ⟦<InsertTextFormat as FromJson>⟧.reads (codes "insertTextFormat") json it.insert_text_format
+        × Optional ⟦<InsertTextMode as FromJson>⟧.reads (codes "insertTextMode") json it.insert_text_mode
+        × Optional ⟦<TextEdit as FromJson>⟧.reads (codes "textEdit") json it.text_edit
+        × Optional ⟦<String as FromJson>⟧.reads (codes "textEditText") json it.text_edit_text
+        × Optional ⟦<Vec<TextEdit> as FromJson>⟧.reads (codes "additionalTextEdits") json it.additional_text_edits
+        × Optional ⟦<Vec<String> as FromJson>⟧.reads (codes "commitCharacters") json it.commit_characters
+        × Optional ⟦<Command as FromJson>⟧.reads (codes "command") json it.command
+        × Optional ⟦<Value as FromJson>⟧.reads (codes "data") json it.«data» };
 
-impl ReadMembers for CompletionItem {
-    fn read<S: Source>(members: &mut S) -> CompletionItem {
-        CompletionItem {
-            label: members.required(),
-            label_details: members.optional(),
-            kind: members.optional(),
-            tags: members.optional(),
-            detail: members.optional(),
-            documentation: members.optional(),
-            deprecated: members.optional(),
-            preselect: members.optional(),
-            sort_text: members.optional(),
-            filter_text: members.optional(),
-            insert_text: members.optional(),
-            insert_text_format: members.optional(),
-            insert_text_mode: members.optional(),
-            text_edit: members.optional(),
-            text_edit_text: members.optional(),
-            additional_text_edits: members.optional(),
-            commit_characters: members.optional(),
-            command: members.optional(),
-            data: members.optional(),
+    fn from_json(alloc: Global, value: &Value) -> Result<CompletionItem, Misfit> {
+        let read = Members::new(alloc, value)
+            .required("label")
+            .optional("labelDetails")
+            .optional("kind")
+            .optional("tags")
+            .optional("detail")
+            .optional("documentation")
+            .optional("deprecated")
+            .optional("preselect")
+            .optional("sortText")
+            .optional("filterText")
+            .optional("insertText")
+            .optional("insertTextFormat")
+            .optional("insertTextMode")
+            .optional("textEdit")
+            .optional("textEditText")
+            .optional("additionalTextEdits")
+            .optional("commitCharacters")
+            .optional("command")
+            .optional("data")
+            .end();
+        match read {
+            Ok(read) => {
+                let (
+                    (
+                        (
+                            (
+                                (
+                                    (
+                                        (
+                                            (
+                                                (
+                                                    (
+                                                        (
+                                                            (
+                                                                (
+                                                                    (
+                                                                        (
+                                                                            (
+                                                                                (
+                                                                                    (
+                                                                                        ((), label),
+                                                                                        label_details,
+                                                                                    ),
+                                                                                    kind,
+                                                                                ),
+                                                                                tags,
+                                                                            ),
+                                                                            detail,
+                                                                        ),
+                                                                        documentation,
+                                                                    ),
+                                                                    deprecated,
+                                                                ),
+                                                                preselect,
+                                                            ),
+                                                            sort_text,
+                                                        ),
+                                                        filter_text,
+                                                    ),
+                                                    insert_text,
+                                                ),
+                                                insert_text_format,
+                                            ),
+                                            insert_text_mode,
+                                        ),
+                                        text_edit,
+                                    ),
+                                    text_edit_text,
+                                ),
+                                additional_text_edits,
+                            ),
+                            commit_characters,
+                        ),
+                        command,
+                    ),
+                    data,
+                ) = read;
+                Ok(CompletionItem {
+                    label,
+                    label_details,
+                    kind,
+                    tags,
+                    detail,
+                    documentation,
+                    deprecated,
+                    preselect,
+                    sort_text,
+                    filter_text,
+                    insert_text,
+                    insert_text_format,
+                    insert_text_mode,
+                    text_edit,
+                    text_edit_text,
+                    additional_text_edits,
+                    commit_characters,
+                    command,
+                    data,
+                })
+            }
+            Err(misfit) => Err(misfit),
         }
-    }
-}
-
-impl<'de> Deserialize<'de> for CompletionItem {
-    fn deserialize<F: Format>(
-        alloc: Global,
-        from: &mut Deserializer<'de, '_, F>,
-    ) -> Result<CompletionItem, F::Error> {
-        read_object(alloc, from)
-    }
-}
-
-impl DeserializeOwned for CompletionItem {
-    fn deserialize_owned<F: Format>(
-        alloc: Global,
-        from: &mut Deserializer<'_, '_, F>,
-    ) -> Result<CompletionItem, F::Error> {
-        read_object(alloc, from)
     }
 }
 
@@ -549,34 +568,38 @@ impl ToJson for CompletionItemDefaults {
     }
 }
 
-impl Keyed for CompletionItemDefaults {
-    const KEYS: &'static [&'static str] = &[
-        "commitCharacters",
-        "editRange",
-        "insertTextFormat",
-        "insertTextMode",
-        "data",
-    ];
-}
+impl FromJson for CompletionItemDefaults {
+    ghost reads = { λ json it. IsObject json
+        × Optional ⟦<Vec<String> as FromJson>⟧.reads (codes "commitCharacters") json it.commit_characters
+        × Optional ⟦<Range as FromJson>⟧.reads (codes "editRange") json it.edit_range
+        × Optional ⟦<InsertTextFormat as FromJson>⟧.reads (codes "insertTextFormat") json it.insert_text_format
+        × Optional ⟦<InsertTextMode as FromJson>⟧.reads (codes "insertTextMode") json it.insert_text_mode
+        × Optional ⟦<Value as FromJson>⟧.reads (codes "data") json it.«data» };
 
-impl ReadMembers for CompletionItemDefaults {
-    fn read<S: Source>(members: &mut S) -> CompletionItemDefaults {
-        CompletionItemDefaults {
-            commit_characters: members.optional(),
-            edit_range: members.optional(),
-            insert_text_format: members.optional(),
-            insert_text_mode: members.optional(),
-            data: members.optional(),
+    fn from_json(alloc: Global, value: &Value) -> Result<CompletionItemDefaults, Misfit> {
+        let read = Members::new(alloc, value)
+            .optional("commitCharacters")
+            .optional("editRange")
+            .optional("insertTextFormat")
+            .optional("insertTextMode")
+            .optional("data")
+            .end();
+        match read {
+            Ok(read) => {
+                let (
+                    (((((), commit_characters), edit_range), insert_text_format), insert_text_mode),
+                    data,
+                ) = read;
+                Ok(CompletionItemDefaults {
+                    commit_characters,
+                    edit_range,
+                    insert_text_format,
+                    insert_text_mode,
+                    data,
+                })
+            }
+            Err(misfit) => Err(misfit),
         }
-    }
-}
-
-impl DeserializeOwned for CompletionItemDefaults {
-    fn deserialize_owned<F: Format>(
-        alloc: Global,
-        from: &mut Deserializer<'_, '_, F>,
-    ) -> Result<CompletionItemDefaults, F::Error> {
-        read_object(alloc, from)
     }
 }
 
@@ -601,30 +624,14 @@ impl ToJson for CompletionTriggerKind {
     }
 }
 
-impl<'de> Deserialize<'de> for CompletionTriggerKind {
-    fn deserialize<F: Format>(
-        alloc: Global,
-        from: &mut Deserializer<'de, '_, F>,
-    ) -> Result<CompletionTriggerKind, F::Error> {
-        match number_within(alloc, from, 1, 3) {
+impl FromJson for CompletionTriggerKind {
+    ghost reads = { λ json it. IsWithin 1 3 json it.0 };
+
+    fn from_json(alloc: Global, value: &Value) -> Result<CompletionTriggerKind, Misfit> {
+        match number_within(alloc, value, 1, 3) {
             Ok(number) => Ok(CompletionTriggerKind(number)),
-            Err(failed) => Err(failed),
+            Err(misfit) => Err(misfit),
         }
-    }
-}
-
-impl DeserializeOwned for CompletionTriggerKind {
-    fn deserialize_owned<F: Format>(
-        alloc: Global,
-        from: &mut Deserializer<'_, '_, F>,
-    ) -> Result<CompletionTriggerKind, F::Error> {
-        CompletionTriggerKind::deserialize(alloc, from)
-    }
-}
-
-impl Blank for CompletionTriggerKind {
-    fn blank(_alloc: Global) -> CompletionTriggerKind {
-        CompletionTriggerKind::INVOKED
     }
 }
 
@@ -650,25 +657,26 @@ impl ToJson for CompletionContext {
     }
 }
 
-impl Keyed for CompletionContext {
-    const KEYS: &'static [&'static str] = &["triggerKind", "triggerCharacter"];
-}
+impl FromJson for CompletionContext {
+    ghost reads = { λ json it. IsObject json
+        × Required ⟦<CompletionTriggerKind as FromJson>⟧.reads (codes "triggerKind") json it.trigger_kind
+        × Optional ⟦<String as FromJson>⟧.reads (codes "triggerCharacter") json it.trigger_character };
 
-impl ReadMembers for CompletionContext {
-    fn read<S: Source>(members: &mut S) -> CompletionContext {
-        CompletionContext {
-            trigger_kind: members.required(),
-            trigger_character: members.optional(),
+    fn from_json(alloc: Global, value: &Value) -> Result<CompletionContext, Misfit> {
+        let read = Members::new(alloc, value)
+            .required("triggerKind")
+            .optional("triggerCharacter")
+            .end();
+        match read {
+            Ok(read) => {
+                let (((), trigger_kind), trigger_character) = read;
+                Ok(CompletionContext {
+                    trigger_kind,
+                    trigger_character,
+                })
+            }
+            Err(misfit) => Err(misfit),
         }
-    }
-}
-
-impl DeserializeOwned for CompletionContext {
-    fn deserialize_owned<F: Format>(
-        alloc: Global,
-        from: &mut Deserializer<'_, '_, F>,
-    ) -> Result<CompletionContext, F::Error> {
-        read_object(alloc, from)
     }
 }
 
@@ -706,34 +714,38 @@ impl ToJson for CompletionParams {
     }
 }
 
-impl Keyed for CompletionParams {
-    const KEYS: &'static [&'static str] = &[
-        "textDocument",
-        "position",
-        "context",
-        "workDoneToken",
-        "partialResultToken",
-    ];
-}
+impl FromJson for CompletionParams {
+    ghost reads = { λ json it. IsObject json
+        × Required ⟦<TextDocumentIdentifier as FromJson>⟧.reads (codes "textDocument") json it.text_document
+        × Required ⟦<Position as FromJson>⟧.reads (codes "position") json it.position
+        × IfFits ⟦<CompletionContext as FromJson>⟧.reads (codes "context") json it.context
+        × IfFits ⟦<ProgressToken as FromJson>⟧.reads (codes "workDoneToken") json it.work_done_token
+        × IfFits ⟦<ProgressToken as FromJson>⟧.reads (codes "partialResultToken") json it.partial_result_token };
 
-impl ReadMembers for CompletionParams {
-    fn read<S: Source>(members: &mut S) -> CompletionParams {
-        CompletionParams {
-            text_document: members.required(),
-            position: members.required(),
-            context: if_fits(members),
-            work_done_token: if_fits(members),
-            partial_result_token: if_fits(members),
+    fn from_json(alloc: Global, value: &Value) -> Result<CompletionParams, Misfit> {
+        let read = Members::new(alloc, value)
+            .required("textDocument")
+            .required("position")
+            .if_fits("context")
+            .if_fits("workDoneToken")
+            .if_fits("partialResultToken")
+            .end();
+        match read {
+            Ok(read) => {
+                let (
+                    (((((), text_document), position), context), work_done_token),
+                    partial_result_token,
+                ) = read;
+                Ok(CompletionParams {
+                    text_document,
+                    position,
+                    context,
+                    work_done_token,
+                    partial_result_token,
+                })
+            }
+            Err(misfit) => Err(misfit),
         }
-    }
-}
-
-impl DeserializeOwned for CompletionParams {
-    fn deserialize_owned<F: Format>(
-        alloc: Global,
-        from: &mut Deserializer<'_, '_, F>,
-    ) -> Result<CompletionParams, F::Error> {
-        read_object(alloc, from)
     }
 }
 
@@ -782,25 +794,28 @@ impl ToJson for CompletionList {
     }
 }
 
-impl Keyed for CompletionList {
-    const KEYS: &'static [&'static str] = &["isIncomplete", "itemDefaults", "items"];
-}
+impl FromJson for CompletionList {
+    ghost reads = { λ json it. IsObject json
+        × Required ⟦<bool as FromJson>⟧.reads (codes "isIncomplete") json it.is_incomplete
+        × Optional ⟦<CompletionItemDefaults as FromJson>⟧.reads (codes "itemDefaults") json it.item_defaults
+        × Required ⟦<Vec<CompletionItem> as FromJson>⟧.reads (codes "items") json it.items };
 
-impl ReadMembers for CompletionList {
-    fn read<S: Source>(members: &mut S) -> CompletionList {
-        CompletionList {
-            is_incomplete: members.required(),
-            item_defaults: members.optional(),
-            items: members.required(),
+    fn from_json(alloc: Global, value: &Value) -> Result<CompletionList, Misfit> {
+        let read = Members::new(alloc, value)
+            .required("isIncomplete")
+            .optional("itemDefaults")
+            .required("items")
+            .end();
+        match read {
+            Ok(read) => {
+                let ((((), is_incomplete), item_defaults), items) = read;
+                Ok(CompletionList {
+                    is_incomplete,
+                    item_defaults,
+                    items,
+                })
+            }
+            Err(misfit) => Err(misfit),
         }
-    }
-}
-
-impl DeserializeOwned for CompletionList {
-    fn deserialize_owned<F: Format>(
-        alloc: Global,
-        from: &mut Deserializer<'_, '_, F>,
-    ) -> Result<CompletionList, F::Error> {
-        read_object(alloc, from)
     }
 }

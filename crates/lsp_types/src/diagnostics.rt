@@ -3,12 +3,12 @@
 ghost use Rattle.std.specs.Prelude.{◌∷◌, [], Some, codes, option_map};
 ghost use Rattle.serde_json.specs.Data.{number, unsigned};
 ghost use Rattle.lsp_types.specs.Json.{object_of};
+ghost use Rattle.lsp_types.specs.Reads.{IsObject, IsWithin, Optional, Required};
 
 use crate::choices::NumberOrString;
 use crate::documents::Location;
-use crate::json::{Keyed, Object, ReadMembers, Source, ToJson, number_within, read_object};
+use crate::json::{FromJson, Members, Misfit, Object, ToJson, number_within};
 use lsp_text::Range;
-use serde::{Deserialize, DeserializeOwned, Deserializer, Format};
 use serde_json::Value;
 use std::alloc::{AllocError, Global};
 
@@ -35,24 +35,14 @@ impl ToJson for DiagnosticSeverity {
     }
 }
 
-impl<'de> Deserialize<'de> for DiagnosticSeverity {
-    fn deserialize<F: Format>(
-        alloc: Global,
-        from: &mut Deserializer<'de, '_, F>,
-    ) -> Result<DiagnosticSeverity, F::Error> {
-        match number_within(alloc, from, 1, 4) {
-            Ok(number) => Ok(DiagnosticSeverity(number)),
-            Err(failed) => Err(failed),
-        }
-    }
-}
+impl FromJson for DiagnosticSeverity {
+    ghost reads = { λ json it. IsWithin 1 4 json it.0 };
 
-impl DeserializeOwned for DiagnosticSeverity {
-    fn deserialize_owned<F: Format>(
-        alloc: Global,
-        from: &mut Deserializer<'_, '_, F>,
-    ) -> Result<DiagnosticSeverity, F::Error> {
-        DiagnosticSeverity::deserialize(alloc, from)
+    fn from_json(alloc: Global, value: &Value) -> Result<DiagnosticSeverity, Misfit> {
+        match number_within(alloc, value, 1, 4) {
+            Ok(number) => Ok(DiagnosticSeverity(number)),
+            Err(misfit) => Err(misfit),
+        }
     }
 }
 
@@ -75,24 +65,14 @@ impl ToJson for DiagnosticTag {
     }
 }
 
-impl<'de> Deserialize<'de> for DiagnosticTag {
-    fn deserialize<F: Format>(
-        alloc: Global,
-        from: &mut Deserializer<'de, '_, F>,
-    ) -> Result<DiagnosticTag, F::Error> {
-        match number_within(alloc, from, 1, 2) {
-            Ok(number) => Ok(DiagnosticTag(number)),
-            Err(failed) => Err(failed),
-        }
-    }
-}
+impl FromJson for DiagnosticTag {
+    ghost reads = { λ json it. IsWithin 1 2 json it.0 };
 
-impl DeserializeOwned for DiagnosticTag {
-    fn deserialize_owned<F: Format>(
-        alloc: Global,
-        from: &mut Deserializer<'_, '_, F>,
-    ) -> Result<DiagnosticTag, F::Error> {
-        DiagnosticTag::deserialize(alloc, from)
+    fn from_json(alloc: Global, value: &Value) -> Result<DiagnosticTag, Misfit> {
+        match number_within(alloc, value, 1, 2) {
+            Ok(number) => Ok(DiagnosticTag(number)),
+            Err(misfit) => Err(misfit),
+        }
     }
 }
 
@@ -118,34 +98,23 @@ impl ToJson for DiagnosticRelatedInformation {
     }
 }
 
-impl Keyed for DiagnosticRelatedInformation {
-    const KEYS: &'static [&'static str] = &["location", "message"];
-}
+impl FromJson for DiagnosticRelatedInformation {
+    ghost reads = { λ json it. IsObject json
+        × Required ⟦<Location as FromJson>⟧.reads (codes "location") json it.location
+        × Required ⟦<String as FromJson>⟧.reads (codes "message") json it.message };
 
-impl ReadMembers for DiagnosticRelatedInformation {
-    fn read<S: Source>(members: &mut S) -> DiagnosticRelatedInformation {
-        DiagnosticRelatedInformation {
-            location: members.required(),
-            message: members.required(),
+    fn from_json(alloc: Global, value: &Value) -> Result<DiagnosticRelatedInformation, Misfit> {
+        let read = Members::new(alloc, value)
+            .required("location")
+            .required("message")
+            .end();
+        match read {
+            Ok(read) => {
+                let (((), location), message) = read;
+                Ok(DiagnosticRelatedInformation { location, message })
+            }
+            Err(misfit) => Err(misfit),
         }
-    }
-}
-
-impl<'de> Deserialize<'de> for DiagnosticRelatedInformation {
-    fn deserialize<F: Format>(
-        alloc: Global,
-        from: &mut Deserializer<'de, '_, F>,
-    ) -> Result<DiagnosticRelatedInformation, F::Error> {
-        read_object(alloc, from)
-    }
-}
-
-impl DeserializeOwned for DiagnosticRelatedInformation {
-    fn deserialize_owned<F: Format>(
-        alloc: Global,
-        from: &mut Deserializer<'_, '_, F>,
-    ) -> Result<DiagnosticRelatedInformation, F::Error> {
-        read_object(alloc, from)
     }
 }
 
@@ -165,24 +134,19 @@ impl ToJson for CodeDescription {
     }
 }
 
-impl Keyed for CodeDescription {
-    const KEYS: &'static [&'static str] = &["href"];
-}
+impl FromJson for CodeDescription {
+    ghost reads = { λ json it. IsObject json
+        × Required ⟦<String as FromJson>⟧.reads (codes "href") json it.href };
 
-impl ReadMembers for CodeDescription {
-    fn read<S: Source>(members: &mut S) -> CodeDescription {
-        CodeDescription {
-            href: members.required(),
+    fn from_json(alloc: Global, value: &Value) -> Result<CodeDescription, Misfit> {
+        let read = Members::new(alloc, value).required("href").end();
+        match read {
+            Ok(read) => {
+                let ((), href) = read;
+                Ok(CodeDescription { href })
+            }
+            Err(misfit) => Err(misfit),
         }
-    }
-}
-
-impl DeserializeOwned for CodeDescription {
-    fn deserialize_owned<F: Format>(
-        alloc: Global,
-        from: &mut Deserializer<'_, '_, F>,
-    ) -> Result<CodeDescription, F::Error> {
-        read_object(alloc, from)
     }
 }
 
@@ -267,51 +231,59 @@ impl ToJson for Diagnostic {
     }
 }
 
-impl Keyed for Diagnostic {
-    const KEYS: &'static [&'static str] = &[
-        "range",
-        "severity",
-        "code",
-        "codeDescription",
-        "source",
-        "message",
-        "tags",
-        "relatedInformation",
-        "data",
-    ];
-}
+impl FromJson for Diagnostic {
+    ghost reads = { λ json it. IsObject json
+        × Required ⟦<Range as FromJson>⟧.reads (codes "range") json it.range
+        × Optional ⟦<DiagnosticSeverity as FromJson>⟧.reads (codes "severity") json it.severity
+        × Optional ⟦<NumberOrString as FromJson>⟧.reads (codes "code") json it.code
+        × Optional ⟦<CodeDescription as FromJson>⟧.reads (codes "codeDescription") json it.code_description
+        × Optional ⟦<String as FromJson>⟧.reads (codes "source") json it.source
+        × Required ⟦<String as FromJson>⟧.reads (codes "message") json it.message
+        × Optional ⟦<Vec<DiagnosticTag> as FromJson>⟧.reads (codes "tags") json it.tags
+        × Optional ⟦<Vec<DiagnosticRelatedInformation> as FromJson>⟧.reads (codes "relatedInformation") json it.related_information
+        × Optional ⟦<Value as FromJson>⟧.reads (codes "data") json it.«data» };
 
-impl ReadMembers for Diagnostic {
-    fn read<S: Source>(members: &mut S) -> Diagnostic {
-        Diagnostic {
-            range: members.required(),
-            severity: members.optional(),
-            code: members.optional(),
-            code_description: members.optional(),
-            source: members.optional(),
-            message: members.required(),
-            tags: members.optional(),
-            related_information: members.optional(),
-            data: members.optional(),
+    fn from_json(alloc: Global, value: &Value) -> Result<Diagnostic, Misfit> {
+        let read = Members::new(alloc, value)
+            .required("range")
+            .optional("severity")
+            .optional("code")
+            .optional("codeDescription")
+            .optional("source")
+            .required("message")
+            .optional("tags")
+            .optional("relatedInformation")
+            .optional("data")
+            .end();
+        match read {
+            Ok(read) => {
+                let (
+                    (
+                        (
+                            (
+                                ((((((), range), severity), code), code_description), source),
+                                message,
+                            ),
+                            tags,
+                        ),
+                        related_information,
+                    ),
+                    data,
+                ) = read;
+                Ok(Diagnostic {
+                    range,
+                    severity,
+                    code,
+                    code_description,
+                    source,
+                    message,
+                    tags,
+                    related_information,
+                    data,
+                })
+            }
+            Err(misfit) => Err(misfit),
         }
-    }
-}
-
-impl<'de> Deserialize<'de> for Diagnostic {
-    fn deserialize<F: Format>(
-        alloc: Global,
-        from: &mut Deserializer<'de, '_, F>,
-    ) -> Result<Diagnostic, F::Error> {
-        read_object(alloc, from)
-    }
-}
-
-impl DeserializeOwned for Diagnostic {
-    fn deserialize_owned<F: Format>(
-        alloc: Global,
-        from: &mut Deserializer<'_, '_, F>,
-    ) -> Result<Diagnostic, F::Error> {
-        read_object(alloc, from)
     }
 }
 
@@ -360,25 +332,28 @@ impl ToJson for PublishDiagnosticsParams {
     }
 }
 
-impl Keyed for PublishDiagnosticsParams {
-    const KEYS: &'static [&'static str] = &["uri", "version", "diagnostics"];
-}
+impl FromJson for PublishDiagnosticsParams {
+    ghost reads = { λ json it. IsObject json
+        × Required ⟦<String as FromJson>⟧.reads (codes "uri") json it.uri
+        × Optional ⟦<i32 as FromJson>⟧.reads (codes "version") json it.version
+        × Required ⟦<Vec<Diagnostic> as FromJson>⟧.reads (codes "diagnostics") json it.diagnostics };
 
-impl ReadMembers for PublishDiagnosticsParams {
-    fn read<S: Source>(members: &mut S) -> PublishDiagnosticsParams {
-        PublishDiagnosticsParams {
-            uri: members.required(),
-            version: members.optional(),
-            diagnostics: members.required(),
+    fn from_json(alloc: Global, value: &Value) -> Result<PublishDiagnosticsParams, Misfit> {
+        let read = Members::new(alloc, value)
+            .required("uri")
+            .optional("version")
+            .required("diagnostics")
+            .end();
+        match read {
+            Ok(read) => {
+                let ((((), uri), version), diagnostics) = read;
+                Ok(PublishDiagnosticsParams {
+                    uri,
+                    version,
+                    diagnostics,
+                })
+            }
+            Err(misfit) => Err(misfit),
         }
-    }
-}
-
-impl DeserializeOwned for PublishDiagnosticsParams {
-    fn deserialize_owned<F: Format>(
-        alloc: Global,
-        from: &mut Deserializer<'_, '_, F>,
-    ) -> Result<PublishDiagnosticsParams, F::Error> {
-        read_object(alloc, from)
     }
 }

@@ -1,13 +1,12 @@
 // Which way a method goes, and what goes with it.
 ghost use Rattle.std.specs.Prelude.{◌≡◌, List, ℕ};
 
-use crate::json::ToJson;
-use serde::DeserializeOwned;
+use crate::json::{FromJson, ToJson};
 
 /// A request that a client sends and a server answers (LSP 3.17, "Request Message").
 pub trait RequestToServer {
     /// Its params.
-    type Params: DeserializeOwned;
+    type Params: FromJson;
 
     /// Its result.
     type Result: ToJson + Drop;
@@ -19,7 +18,7 @@ pub trait RequestToServer {
 /// A notification that a client sends and a server hears (LSP 3.17, "Notification Message").
 pub trait NotificationToServer {
     /// Its params.
-    type Params: DeserializeOwned;
+    type Params: FromJson;
 
     // Its method.
     ghost method: { List ℕ };

@@ -3,14 +3,11 @@
 ghost use Rattle.std.specs.Prelude.{◌∷◌, [], Some, codes, option_map};
 ghost use Rattle.serde_json.specs.Data.{number, unsigned};
 ghost use Rattle.lsp_types.specs.Json.{object_of};
+ghost use Rattle.lsp_types.specs.Reads.{IfFits, IsObject, IsWithin, NoneReads, Optional, Required, TextOrEmpty};
 
-use crate::json::{
-    Blank, Changes, Keyed, Object, ReadMembers, Source, ToJson, if_fits, number_within,
-    read_if_fits, read_object, text_or_empty,
-};
+use crate::json::{FromJson, Members, Misfit, Object, ToJson, fitting, number_within};
 use crate::progress::ProgressToken;
 use lsp_text::{ContentChange, Position, Range};
-use serde::{Deserialize, DeserializeOwned, Deserializer, Format};
 use serde_json::Value;
 use std::alloc::{AllocError, Global};
 
@@ -36,34 +33,23 @@ impl ToJson for Location {
     }
 }
 
-impl Keyed for Location {
-    const KEYS: &'static [&'static str] = &["uri", "range"];
-}
+impl FromJson for Location {
+    ghost reads = { λ json it. IsObject json
+        × Required ⟦<String as FromJson>⟧.reads (codes "uri") json it.uri
+        × Required ⟦<Range as FromJson>⟧.reads (codes "range") json it.range };
 
-impl ReadMembers for Location {
-    fn read<S: Source>(members: &mut S) -> Location {
-        Location {
-            uri: members.required(),
-            range: members.required(),
+    fn from_json(alloc: Global, value: &Value) -> Result<Location, Misfit> {
+        let read = Members::new(alloc, value)
+            .required("uri")
+            .required("range")
+            .end();
+        match read {
+            Ok(read) => {
+                let (((), uri), range) = read;
+                Ok(Location { uri, range })
+            }
+            Err(misfit) => Err(misfit),
         }
-    }
-}
-
-impl<'de> Deserialize<'de> for Location {
-    fn deserialize<F: Format>(
-        alloc: Global,
-        from: &mut Deserializer<'de, '_, F>,
-    ) -> Result<Location, F::Error> {
-        read_object(alloc, from)
-    }
-}
-
-impl DeserializeOwned for Location {
-    fn deserialize_owned<F: Format>(
-        alloc: Global,
-        from: &mut Deserializer<'_, '_, F>,
-    ) -> Result<Location, F::Error> {
-        read_object(alloc, from)
     }
 }
 
@@ -122,32 +108,35 @@ impl ToJson for LocationLink {
     }
 }
 
-impl Keyed for LocationLink {
-    const KEYS: &'static [&'static str] = &[
-        "originSelectionRange",
-        "targetUri",
-        "targetRange",
-        "targetSelectionRange",
-    ];
-}
+impl FromJson for LocationLink {
+    ghost reads = { λ json it. IsObject json
+        × Optional ⟦<Range as FromJson>⟧.reads (codes "originSelectionRange") json it.origin_selection_range
+        × Required ⟦<String as FromJson>⟧.reads (codes "targetUri") json it.target_uri
+        × Required ⟦<Range as FromJson>⟧.reads (codes "targetRange") json it.target_range
+        × Required ⟦<Range as FromJson>⟧.reads (codes "targetSelectionRange") json it.target_selection_range };
 
-impl ReadMembers for LocationLink {
-    fn read<S: Source>(members: &mut S) -> LocationLink {
-        LocationLink {
-            origin_selection_range: members.optional(),
-            target_uri: members.required(),
-            target_range: members.required(),
-            target_selection_range: members.required(),
+    fn from_json(alloc: Global, value: &Value) -> Result<LocationLink, Misfit> {
+        let read = Members::new(alloc, value)
+            .optional("originSelectionRange")
+            .required("targetUri")
+            .required("targetRange")
+            .required("targetSelectionRange")
+            .end();
+        match read {
+            Ok(read) => {
+                let (
+                    ((((), origin_selection_range), target_uri), target_range),
+                    target_selection_range,
+                ) = read;
+                Ok(LocationLink {
+                    origin_selection_range,
+                    target_uri,
+                    target_range,
+                    target_selection_range,
+                })
+            }
+            Err(misfit) => Err(misfit),
         }
-    }
-}
-
-impl DeserializeOwned for LocationLink {
-    fn deserialize_owned<F: Format>(
-        alloc: Global,
-        from: &mut Deserializer<'_, '_, F>,
-    ) -> Result<LocationLink, F::Error> {
-        read_object(alloc, from)
     }
 }
 
@@ -181,20 +170,25 @@ impl ToJson for DefinitionResult {
     }
 }
 
-impl DeserializeOwned for DefinitionResult {
-    fn deserialize_owned<F: Format>(
-        alloc: Global,
-        from: &mut Deserializer<'_, '_, F>,
-    ) -> Result<DefinitionResult, F::Error> {
-        if let Some(it) = read_if_fits(alloc, from)? {
+impl FromJson for DefinitionResult {
+    ghost use Rattle.lsp_types.specs.declared.documents.DefinitionResult.TheVariants.{One, Several, Links};
+
+    ghost reads = { λ json. elim [
+      | One it ↦ ⟦<Location as FromJson>⟧.reads json it
+      | Several it ↦ NoneReads ⟦<Location as FromJson>⟧.reads json × ⟦<Vec<Location> as FromJson>⟧.reads json it
+      | Links it ↦ NoneReads ⟦<Location as FromJson>⟧.reads json × NoneReads ⟦<Vec<Location> as FromJson>⟧.reads json × ⟦<Vec<LocationLink> as FromJson>⟧.reads json it
+    ] };
+
+    fn from_json(alloc: Global, value: &Value) -> Result<DefinitionResult, Misfit> {
+        if let Some(it) = fitting(alloc, value)? {
             return Ok(DefinitionResult::One(it));
         }
-        if let Some(it) = read_if_fits(alloc, from)? {
+        if let Some(it) = fitting(alloc, value)? {
             return Ok(DefinitionResult::Several(it));
         }
-        match DeserializeOwned::deserialize_owned(alloc, from) {
+        match FromJson::from_json(alloc, value) {
             Ok(it) => Ok(DefinitionResult::Links(it)),
-            Err(failed) => Err(failed),
+            Err(misfit) => Err(misfit),
         }
     }
 }
@@ -215,33 +209,19 @@ impl ToJson for TextDocumentIdentifier {
     }
 }
 
-impl Keyed for TextDocumentIdentifier {
-    const KEYS: &'static [&'static str] = &["uri"];
-}
+impl FromJson for TextDocumentIdentifier {
+    ghost reads = { λ json it. IsObject json
+        × Required ⟦<String as FromJson>⟧.reads (codes "uri") json it.uri };
 
-impl ReadMembers for TextDocumentIdentifier {
-    fn read<S: Source>(members: &mut S) -> TextDocumentIdentifier {
-        TextDocumentIdentifier {
-            uri: members.required(),
+    fn from_json(alloc: Global, value: &Value) -> Result<TextDocumentIdentifier, Misfit> {
+        let read = Members::new(alloc, value).required("uri").end();
+        match read {
+            Ok(read) => {
+                let ((), uri) = read;
+                Ok(TextDocumentIdentifier { uri })
+            }
+            Err(misfit) => Err(misfit),
         }
-    }
-}
-
-impl<'de> Deserialize<'de> for TextDocumentIdentifier {
-    fn deserialize<F: Format>(
-        alloc: Global,
-        from: &mut Deserializer<'de, '_, F>,
-    ) -> Result<TextDocumentIdentifier, F::Error> {
-        read_object(alloc, from)
-    }
-}
-
-impl DeserializeOwned for TextDocumentIdentifier {
-    fn deserialize_owned<F: Format>(
-        alloc: Global,
-        from: &mut Deserializer<'_, '_, F>,
-    ) -> Result<TextDocumentIdentifier, F::Error> {
-        read_object(alloc, from)
     }
 }
 
@@ -267,34 +247,23 @@ impl ToJson for VersionedTextDocumentIdentifier {
     }
 }
 
-impl Keyed for VersionedTextDocumentIdentifier {
-    const KEYS: &'static [&'static str] = &["uri", "version"];
-}
+impl FromJson for VersionedTextDocumentIdentifier {
+    ghost reads = { λ json it. IsObject json
+        × Required ⟦<String as FromJson>⟧.reads (codes "uri") json it.uri
+        × IfFits ⟦<i32 as FromJson>⟧.reads (codes "version") json it.version };
 
-impl ReadMembers for VersionedTextDocumentIdentifier {
-    fn read<S: Source>(members: &mut S) -> VersionedTextDocumentIdentifier {
-        VersionedTextDocumentIdentifier {
-            uri: members.required(),
-            version: if_fits(members),
+    fn from_json(alloc: Global, value: &Value) -> Result<VersionedTextDocumentIdentifier, Misfit> {
+        let read = Members::new(alloc, value)
+            .required("uri")
+            .if_fits("version")
+            .end();
+        match read {
+            Ok(read) => {
+                let (((), uri), version) = read;
+                Ok(VersionedTextDocumentIdentifier { uri, version })
+            }
+            Err(misfit) => Err(misfit),
         }
-    }
-}
-
-impl<'de> Deserialize<'de> for VersionedTextDocumentIdentifier {
-    fn deserialize<F: Format>(
-        alloc: Global,
-        from: &mut Deserializer<'de, '_, F>,
-    ) -> Result<VersionedTextDocumentIdentifier, F::Error> {
-        read_object(alloc, from)
-    }
-}
-
-impl DeserializeOwned for VersionedTextDocumentIdentifier {
-    fn deserialize_owned<F: Format>(
-        alloc: Global,
-        from: &mut Deserializer<'_, '_, F>,
-    ) -> Result<VersionedTextDocumentIdentifier, F::Error> {
-        read_object(alloc, from)
     }
 }
 
@@ -328,36 +297,32 @@ impl ToJson for TextDocumentItem {
     }
 }
 
-impl Keyed for TextDocumentItem {
-    const KEYS: &'static [&'static str] = &["uri", "languageId", "version", "text"];
-}
+impl FromJson for TextDocumentItem {
+    ghost reads = { λ json it. IsObject json
+        × Required ⟦<String as FromJson>⟧.reads (codes "uri") json it.uri
+        × TextOrEmpty (codes "languageId") json it.language_id
+        × IfFits ⟦<i32 as FromJson>⟧.reads (codes "version") json it.version
+        × Required ⟦<String as FromJson>⟧.reads (codes "text") json it.text };
 
-impl ReadMembers for TextDocumentItem {
-    fn read<S: Source>(members: &mut S) -> TextDocumentItem {
-        TextDocumentItem {
-            uri: members.required(),
-            language_id: text_or_empty(members),
-            version: if_fits(members),
-            text: members.required(),
+    fn from_json(alloc: Global, value: &Value) -> Result<TextDocumentItem, Misfit> {
+        let read = Members::new(alloc, value)
+            .required("uri")
+            .text_or_empty("languageId")
+            .if_fits("version")
+            .required("text")
+            .end();
+        match read {
+            Ok(read) => {
+                let (((((), uri), language_id), version), text) = read;
+                Ok(TextDocumentItem {
+                    uri,
+                    language_id,
+                    version,
+                    text,
+                })
+            }
+            Err(misfit) => Err(misfit),
         }
-    }
-}
-
-impl<'de> Deserialize<'de> for TextDocumentItem {
-    fn deserialize<F: Format>(
-        alloc: Global,
-        from: &mut Deserializer<'de, '_, F>,
-    ) -> Result<TextDocumentItem, F::Error> {
-        read_object(alloc, from)
-    }
-}
-
-impl DeserializeOwned for TextDocumentItem {
-    fn deserialize_owned<F: Format>(
-        alloc: Global,
-        from: &mut Deserializer<'_, '_, F>,
-    ) -> Result<TextDocumentItem, F::Error> {
-        read_object(alloc, from)
     }
 }
 
@@ -379,24 +344,19 @@ impl ToJson for DidOpenTextDocumentParams {
     }
 }
 
-impl Keyed for DidOpenTextDocumentParams {
-    const KEYS: &'static [&'static str] = &["textDocument"];
-}
+impl FromJson for DidOpenTextDocumentParams {
+    ghost reads = { λ json it. IsObject json
+        × Required ⟦<TextDocumentItem as FromJson>⟧.reads (codes "textDocument") json it.text_document };
 
-impl ReadMembers for DidOpenTextDocumentParams {
-    fn read<S: Source>(members: &mut S) -> DidOpenTextDocumentParams {
-        DidOpenTextDocumentParams {
-            text_document: members.required(),
+    fn from_json(alloc: Global, value: &Value) -> Result<DidOpenTextDocumentParams, Misfit> {
+        let read = Members::new(alloc, value).required("textDocument").end();
+        match read {
+            Ok(read) => {
+                let ((), text_document) = read;
+                Ok(DidOpenTextDocumentParams { text_document })
+            }
+            Err(misfit) => Err(misfit),
         }
-    }
-}
-
-impl DeserializeOwned for DidOpenTextDocumentParams {
-    fn deserialize_owned<F: Format>(
-        alloc: Global,
-        from: &mut Deserializer<'_, '_, F>,
-    ) -> Result<DidOpenTextDocumentParams, F::Error> {
-        read_object(alloc, from)
     }
 }
 
@@ -422,25 +382,26 @@ impl ToJson for DidChangeTextDocumentParams {
     }
 }
 
-impl Keyed for DidChangeTextDocumentParams {
-    const KEYS: &'static [&'static str] = &["textDocument", "contentChanges"];
-}
+impl FromJson for DidChangeTextDocumentParams {
+    ghost reads = { λ json it. IsObject json
+        × Required ⟦<VersionedTextDocumentIdentifier as FromJson>⟧.reads (codes "textDocument") json it.text_document
+        × Required ⟦<Vec<ContentChange> as FromJson>⟧.reads (codes "contentChanges") json it.content_changes };
 
-impl ReadMembers for DidChangeTextDocumentParams {
-    fn read<S: Source>(members: &mut S) -> DidChangeTextDocumentParams {
-        DidChangeTextDocumentParams {
-            text_document: members.required(),
-            content_changes: members.required::<Changes>().0,
+    fn from_json(alloc: Global, value: &Value) -> Result<DidChangeTextDocumentParams, Misfit> {
+        let read = Members::new(alloc, value)
+            .required("textDocument")
+            .required("contentChanges")
+            .end();
+        match read {
+            Ok(read) => {
+                let (((), text_document), content_changes) = read;
+                Ok(DidChangeTextDocumentParams {
+                    text_document,
+                    content_changes,
+                })
+            }
+            Err(misfit) => Err(misfit),
         }
-    }
-}
-
-impl DeserializeOwned for DidChangeTextDocumentParams {
-    fn deserialize_owned<F: Format>(
-        alloc: Global,
-        from: &mut Deserializer<'_, '_, F>,
-    ) -> Result<DidChangeTextDocumentParams, F::Error> {
-        read_object(alloc, from)
     }
 }
 
@@ -466,25 +427,26 @@ impl ToJson for DidSaveTextDocumentParams {
     }
 }
 
-impl Keyed for DidSaveTextDocumentParams {
-    const KEYS: &'static [&'static str] = &["textDocument", "text"];
-}
+impl FromJson for DidSaveTextDocumentParams {
+    ghost reads = { λ json it. IsObject json
+        × Required ⟦<TextDocumentIdentifier as FromJson>⟧.reads (codes "textDocument") json it.text_document
+        × Optional ⟦<String as FromJson>⟧.reads (codes "text") json it.text };
 
-impl ReadMembers for DidSaveTextDocumentParams {
-    fn read<S: Source>(members: &mut S) -> DidSaveTextDocumentParams {
-        DidSaveTextDocumentParams {
-            text_document: members.required(),
-            text: members.optional(),
+    fn from_json(alloc: Global, value: &Value) -> Result<DidSaveTextDocumentParams, Misfit> {
+        let read = Members::new(alloc, value)
+            .required("textDocument")
+            .optional("text")
+            .end();
+        match read {
+            Ok(read) => {
+                let (((), text_document), text) = read;
+                Ok(DidSaveTextDocumentParams {
+                    text_document,
+                    text,
+                })
+            }
+            Err(misfit) => Err(misfit),
         }
-    }
-}
-
-impl DeserializeOwned for DidSaveTextDocumentParams {
-    fn deserialize_owned<F: Format>(
-        alloc: Global,
-        from: &mut Deserializer<'_, '_, F>,
-    ) -> Result<DidSaveTextDocumentParams, F::Error> {
-        read_object(alloc, from)
     }
 }
 
@@ -511,25 +473,26 @@ impl ToJson for WillSaveTextDocumentParams {
     }
 }
 
-impl Keyed for WillSaveTextDocumentParams {
-    const KEYS: &'static [&'static str] = &["textDocument", "reason"];
-}
+impl FromJson for WillSaveTextDocumentParams {
+    ghost reads = { λ json it. IsObject json
+        × Required ⟦<TextDocumentIdentifier as FromJson>⟧.reads (codes "textDocument") json it.text_document
+        × Required ⟦<TextDocumentSaveReason as FromJson>⟧.reads (codes "reason") json it.reason };
 
-impl ReadMembers for WillSaveTextDocumentParams {
-    fn read<S: Source>(members: &mut S) -> WillSaveTextDocumentParams {
-        WillSaveTextDocumentParams {
-            text_document: members.required(),
-            reason: members.required(),
+    fn from_json(alloc: Global, value: &Value) -> Result<WillSaveTextDocumentParams, Misfit> {
+        let read = Members::new(alloc, value)
+            .required("textDocument")
+            .required("reason")
+            .end();
+        match read {
+            Ok(read) => {
+                let (((), text_document), reason) = read;
+                Ok(WillSaveTextDocumentParams {
+                    text_document,
+                    reason,
+                })
+            }
+            Err(misfit) => Err(misfit),
         }
-    }
-}
-
-impl DeserializeOwned for WillSaveTextDocumentParams {
-    fn deserialize_owned<F: Format>(
-        alloc: Global,
-        from: &mut Deserializer<'_, '_, F>,
-    ) -> Result<WillSaveTextDocumentParams, F::Error> {
-        read_object(alloc, from)
     }
 }
 
@@ -554,30 +517,14 @@ impl ToJson for TextDocumentSaveReason {
     }
 }
 
-impl<'de> Deserialize<'de> for TextDocumentSaveReason {
-    fn deserialize<F: Format>(
-        alloc: Global,
-        from: &mut Deserializer<'de, '_, F>,
-    ) -> Result<TextDocumentSaveReason, F::Error> {
-        match number_within(alloc, from, 1, 3) {
+impl FromJson for TextDocumentSaveReason {
+    ghost reads = { λ json it. IsWithin 1 3 json it.0 };
+
+    fn from_json(alloc: Global, value: &Value) -> Result<TextDocumentSaveReason, Misfit> {
+        match number_within(alloc, value, 1, 3) {
             Ok(number) => Ok(TextDocumentSaveReason(number)),
-            Err(failed) => Err(failed),
+            Err(misfit) => Err(misfit),
         }
-    }
-}
-
-impl DeserializeOwned for TextDocumentSaveReason {
-    fn deserialize_owned<F: Format>(
-        alloc: Global,
-        from: &mut Deserializer<'_, '_, F>,
-    ) -> Result<TextDocumentSaveReason, F::Error> {
-        TextDocumentSaveReason::deserialize(alloc, from)
-    }
-}
-
-impl Blank for TextDocumentSaveReason {
-    fn blank(_alloc: Global) -> TextDocumentSaveReason {
-        TextDocumentSaveReason::MANUAL
     }
 }
 
@@ -599,24 +546,19 @@ impl ToJson for DidCloseTextDocumentParams {
     }
 }
 
-impl Keyed for DidCloseTextDocumentParams {
-    const KEYS: &'static [&'static str] = &["textDocument"];
-}
+impl FromJson for DidCloseTextDocumentParams {
+    ghost reads = { λ json it. IsObject json
+        × Required ⟦<TextDocumentIdentifier as FromJson>⟧.reads (codes "textDocument") json it.text_document };
 
-impl ReadMembers for DidCloseTextDocumentParams {
-    fn read<S: Source>(members: &mut S) -> DidCloseTextDocumentParams {
-        DidCloseTextDocumentParams {
-            text_document: members.required(),
+    fn from_json(alloc: Global, value: &Value) -> Result<DidCloseTextDocumentParams, Misfit> {
+        let read = Members::new(alloc, value).required("textDocument").end();
+        match read {
+            Ok(read) => {
+                let ((), text_document) = read;
+                Ok(DidCloseTextDocumentParams { text_document })
+            }
+            Err(misfit) => Err(misfit),
         }
-    }
-}
-
-impl DeserializeOwned for DidCloseTextDocumentParams {
-    fn deserialize_owned<F: Format>(
-        alloc: Global,
-        from: &mut Deserializer<'_, '_, F>,
-    ) -> Result<DidCloseTextDocumentParams, F::Error> {
-        read_object(alloc, from)
     }
 }
 
@@ -646,26 +588,29 @@ impl ToJson for DocumentSymbolParams {
     }
 }
 
-impl Keyed for DocumentSymbolParams {
-    const KEYS: &'static [&'static str] = &["textDocument", "workDoneToken", "partialResultToken"];
-}
+impl FromJson for DocumentSymbolParams {
+    ghost reads = { λ json it. IsObject json
+        × Required ⟦<TextDocumentIdentifier as FromJson>⟧.reads (codes "textDocument") json it.text_document
+        × IfFits ⟦<ProgressToken as FromJson>⟧.reads (codes "workDoneToken") json it.work_done_token
+        × IfFits ⟦<ProgressToken as FromJson>⟧.reads (codes "partialResultToken") json it.partial_result_token };
 
-impl ReadMembers for DocumentSymbolParams {
-    fn read<S: Source>(members: &mut S) -> DocumentSymbolParams {
-        DocumentSymbolParams {
-            text_document: members.required(),
-            work_done_token: if_fits(members),
-            partial_result_token: if_fits(members),
+    fn from_json(alloc: Global, value: &Value) -> Result<DocumentSymbolParams, Misfit> {
+        let read = Members::new(alloc, value)
+            .required("textDocument")
+            .if_fits("workDoneToken")
+            .if_fits("partialResultToken")
+            .end();
+        match read {
+            Ok(read) => {
+                let ((((), text_document), work_done_token), partial_result_token) = read;
+                Ok(DocumentSymbolParams {
+                    text_document,
+                    work_done_token,
+                    partial_result_token,
+                })
+            }
+            Err(misfit) => Err(misfit),
         }
-    }
-}
-
-impl DeserializeOwned for DocumentSymbolParams {
-    fn deserialize_owned<F: Format>(
-        alloc: Global,
-        from: &mut Deserializer<'_, '_, F>,
-    ) -> Result<DocumentSymbolParams, F::Error> {
-        read_object(alloc, from)
     }
 }
 
@@ -697,25 +642,26 @@ impl ToJson for TextDocumentPositionParams {
     }
 }
 
-impl Keyed for TextDocumentPositionParams {
-    const KEYS: &'static [&'static str] = &["textDocument", "position"];
-}
+impl FromJson for TextDocumentPositionParams {
+    ghost reads = { λ json it. IsObject json
+        × Required ⟦<TextDocumentIdentifier as FromJson>⟧.reads (codes "textDocument") json it.text_document
+        × Required ⟦<Position as FromJson>⟧.reads (codes "position") json it.position };
 
-impl ReadMembers for TextDocumentPositionParams {
-    fn read<S: Source>(members: &mut S) -> TextDocumentPositionParams {
-        TextDocumentPositionParams {
-            text_document: members.required(),
-            position: members.required(),
+    fn from_json(alloc: Global, value: &Value) -> Result<TextDocumentPositionParams, Misfit> {
+        let read = Members::new(alloc, value)
+            .required("textDocument")
+            .required("position")
+            .end();
+        match read {
+            Ok(read) => {
+                let (((), text_document), position) = read;
+                Ok(TextDocumentPositionParams {
+                    text_document,
+                    position,
+                })
+            }
+            Err(misfit) => Err(misfit),
         }
-    }
-}
-
-impl DeserializeOwned for TextDocumentPositionParams {
-    fn deserialize_owned<F: Format>(
-        alloc: Global,
-        from: &mut Deserializer<'_, '_, F>,
-    ) -> Result<TextDocumentPositionParams, F::Error> {
-        read_object(alloc, from)
     }
 }
 
@@ -745,26 +691,29 @@ impl ToJson for HoverParams {
     }
 }
 
-impl Keyed for HoverParams {
-    const KEYS: &'static [&'static str] = &["textDocument", "position", "workDoneToken"];
-}
+impl FromJson for HoverParams {
+    ghost reads = { λ json it. IsObject json
+        × Required ⟦<TextDocumentIdentifier as FromJson>⟧.reads (codes "textDocument") json it.text_document
+        × Required ⟦<Position as FromJson>⟧.reads (codes "position") json it.position
+        × IfFits ⟦<ProgressToken as FromJson>⟧.reads (codes "workDoneToken") json it.work_done_token };
 
-impl ReadMembers for HoverParams {
-    fn read<S: Source>(members: &mut S) -> HoverParams {
-        HoverParams {
-            text_document: members.required(),
-            position: members.required(),
-            work_done_token: if_fits(members),
+    fn from_json(alloc: Global, value: &Value) -> Result<HoverParams, Misfit> {
+        let read = Members::new(alloc, value)
+            .required("textDocument")
+            .required("position")
+            .if_fits("workDoneToken")
+            .end();
+        match read {
+            Ok(read) => {
+                let ((((), text_document), position), work_done_token) = read;
+                Ok(HoverParams {
+                    text_document,
+                    position,
+                    work_done_token,
+                })
+            }
+            Err(misfit) => Err(misfit),
         }
-    }
-}
-
-impl DeserializeOwned for HoverParams {
-    fn deserialize_owned<F: Format>(
-        alloc: Global,
-        from: &mut Deserializer<'_, '_, F>,
-    ) -> Result<HoverParams, F::Error> {
-        read_object(alloc, from)
     }
 }
 
@@ -801,32 +750,33 @@ impl ToJson for DefinitionParams {
     }
 }
 
-impl Keyed for DefinitionParams {
-    const KEYS: &'static [&'static str] = &[
-        "textDocument",
-        "position",
-        "workDoneToken",
-        "partialResultToken",
-    ];
-}
+impl FromJson for DefinitionParams {
+    ghost reads = { λ json it. IsObject json
+        × Required ⟦<TextDocumentIdentifier as FromJson>⟧.reads (codes "textDocument") json it.text_document
+        × Required ⟦<Position as FromJson>⟧.reads (codes "position") json it.position
+        × IfFits ⟦<ProgressToken as FromJson>⟧.reads (codes "workDoneToken") json it.work_done_token
+        × IfFits ⟦<ProgressToken as FromJson>⟧.reads (codes "partialResultToken") json it.partial_result_token };
 
-impl ReadMembers for DefinitionParams {
-    fn read<S: Source>(members: &mut S) -> DefinitionParams {
-        DefinitionParams {
-            text_document: members.required(),
-            position: members.required(),
-            work_done_token: if_fits(members),
-            partial_result_token: if_fits(members),
+    fn from_json(alloc: Global, value: &Value) -> Result<DefinitionParams, Misfit> {
+        let read = Members::new(alloc, value)
+            .required("textDocument")
+            .required("position")
+            .if_fits("workDoneToken")
+            .if_fits("partialResultToken")
+            .end();
+        match read {
+            Ok(read) => {
+                let (((((), text_document), position), work_done_token), partial_result_token) =
+                    read;
+                Ok(DefinitionParams {
+                    text_document,
+                    position,
+                    work_done_token,
+                    partial_result_token,
+                })
+            }
+            Err(misfit) => Err(misfit),
         }
-    }
-}
-
-impl DeserializeOwned for DefinitionParams {
-    fn deserialize_owned<F: Format>(
-        alloc: Global,
-        from: &mut Deserializer<'_, '_, F>,
-    ) -> Result<DefinitionParams, F::Error> {
-        read_object(alloc, from)
     }
 }
 
@@ -865,26 +815,29 @@ impl ToJson for InlayHintParams {
     }
 }
 
-impl Keyed for InlayHintParams {
-    const KEYS: &'static [&'static str] = &["textDocument", "range", "workDoneToken"];
-}
+impl FromJson for InlayHintParams {
+    ghost reads = { λ json it. IsObject json
+        × Required ⟦<TextDocumentIdentifier as FromJson>⟧.reads (codes "textDocument") json it.text_document
+        × Required ⟦<Range as FromJson>⟧.reads (codes "range") json it.range
+        × IfFits ⟦<ProgressToken as FromJson>⟧.reads (codes "workDoneToken") json it.work_done_token };
 
-impl ReadMembers for InlayHintParams {
-    fn read<S: Source>(members: &mut S) -> InlayHintParams {
-        InlayHintParams {
-            text_document: members.required(),
-            range: members.required(),
-            work_done_token: if_fits(members),
+    fn from_json(alloc: Global, value: &Value) -> Result<InlayHintParams, Misfit> {
+        let read = Members::new(alloc, value)
+            .required("textDocument")
+            .required("range")
+            .if_fits("workDoneToken")
+            .end();
+        match read {
+            Ok(read) => {
+                let ((((), text_document), range), work_done_token) = read;
+                Ok(InlayHintParams {
+                    text_document,
+                    range,
+                    work_done_token,
+                })
+            }
+            Err(misfit) => Err(misfit),
         }
-    }
-}
-
-impl DeserializeOwned for InlayHintParams {
-    fn deserialize_owned<F: Format>(
-        alloc: Global,
-        from: &mut Deserializer<'_, '_, F>,
-    ) -> Result<InlayHintParams, F::Error> {
-        read_object(alloc, from)
     }
 }
 
@@ -918,32 +871,32 @@ impl ToJson for SemanticTokensRangeParams {
     }
 }
 
-impl Keyed for SemanticTokensRangeParams {
-    const KEYS: &'static [&'static str] = &[
-        "textDocument",
-        "range",
-        "workDoneToken",
-        "partialResultToken",
-    ];
-}
+impl FromJson for SemanticTokensRangeParams {
+    ghost reads = { λ json it. IsObject json
+        × Required ⟦<TextDocumentIdentifier as FromJson>⟧.reads (codes "textDocument") json it.text_document
+        × Required ⟦<Range as FromJson>⟧.reads (codes "range") json it.range
+        × IfFits ⟦<ProgressToken as FromJson>⟧.reads (codes "workDoneToken") json it.work_done_token
+        × IfFits ⟦<ProgressToken as FromJson>⟧.reads (codes "partialResultToken") json it.partial_result_token };
 
-impl ReadMembers for SemanticTokensRangeParams {
-    fn read<S: Source>(members: &mut S) -> SemanticTokensRangeParams {
-        SemanticTokensRangeParams {
-            text_document: members.required(),
-            range: members.required(),
-            work_done_token: if_fits(members),
-            partial_result_token: if_fits(members),
+    fn from_json(alloc: Global, value: &Value) -> Result<SemanticTokensRangeParams, Misfit> {
+        let read = Members::new(alloc, value)
+            .required("textDocument")
+            .required("range")
+            .if_fits("workDoneToken")
+            .if_fits("partialResultToken")
+            .end();
+        match read {
+            Ok(read) => {
+                let (((((), text_document), range), work_done_token), partial_result_token) = read;
+                Ok(SemanticTokensRangeParams {
+                    text_document,
+                    range,
+                    work_done_token,
+                    partial_result_token,
+                })
+            }
+            Err(misfit) => Err(misfit),
         }
-    }
-}
-
-impl DeserializeOwned for SemanticTokensRangeParams {
-    fn deserialize_owned<F: Format>(
-        alloc: Global,
-        from: &mut Deserializer<'_, '_, F>,
-    ) -> Result<SemanticTokensRangeParams, F::Error> {
-        read_object(alloc, from)
     }
 }
 
@@ -984,34 +937,38 @@ impl ToJson for ReferenceParams {
     }
 }
 
-impl Keyed for ReferenceParams {
-    const KEYS: &'static [&'static str] = &[
-        "textDocument",
-        "position",
-        "context",
-        "workDoneToken",
-        "partialResultToken",
-    ];
-}
+impl FromJson for ReferenceParams {
+    ghost reads = { λ json it. IsObject json
+        × Required ⟦<TextDocumentIdentifier as FromJson>⟧.reads (codes "textDocument") json it.text_document
+        × Required ⟦<Position as FromJson>⟧.reads (codes "position") json it.position
+        × Required ⟦<ReferenceContext as FromJson>⟧.reads (codes "context") json it.context
+        × IfFits ⟦<ProgressToken as FromJson>⟧.reads (codes "workDoneToken") json it.work_done_token
+        × IfFits ⟦<ProgressToken as FromJson>⟧.reads (codes "partialResultToken") json it.partial_result_token };
 
-impl ReadMembers for ReferenceParams {
-    fn read<S: Source>(members: &mut S) -> ReferenceParams {
-        ReferenceParams {
-            text_document: members.required(),
-            position: members.required(),
-            context: members.required(),
-            work_done_token: if_fits(members),
-            partial_result_token: if_fits(members),
+    fn from_json(alloc: Global, value: &Value) -> Result<ReferenceParams, Misfit> {
+        let read = Members::new(alloc, value)
+            .required("textDocument")
+            .required("position")
+            .required("context")
+            .if_fits("workDoneToken")
+            .if_fits("partialResultToken")
+            .end();
+        match read {
+            Ok(read) => {
+                let (
+                    (((((), text_document), position), context), work_done_token),
+                    partial_result_token,
+                ) = read;
+                Ok(ReferenceParams {
+                    text_document,
+                    position,
+                    context,
+                    work_done_token,
+                    partial_result_token,
+                })
+            }
+            Err(misfit) => Err(misfit),
         }
-    }
-}
-
-impl DeserializeOwned for ReferenceParams {
-    fn deserialize_owned<F: Format>(
-        alloc: Global,
-        from: &mut Deserializer<'_, '_, F>,
-    ) -> Result<ReferenceParams, F::Error> {
-        read_object(alloc, from)
     }
 }
 
@@ -1033,32 +990,22 @@ impl ToJson for ReferenceContext {
     }
 }
 
-impl Keyed for ReferenceContext {
-    const KEYS: &'static [&'static str] = &["includeDeclaration"];
-}
+impl FromJson for ReferenceContext {
+    ghost reads = { λ json it. IsObject json
+        × Required ⟦<bool as FromJson>⟧.reads (codes "includeDeclaration") json it.include_declaration };
 
-impl ReadMembers for ReferenceContext {
-    fn read<S: Source>(members: &mut S) -> ReferenceContext {
-        ReferenceContext {
-            include_declaration: members.required(),
+    fn from_json(alloc: Global, value: &Value) -> Result<ReferenceContext, Misfit> {
+        let read = Members::new(alloc, value)
+            .required("includeDeclaration")
+            .end();
+        match read {
+            Ok(read) => {
+                let ((), include_declaration) = read;
+                Ok(ReferenceContext {
+                    include_declaration,
+                })
+            }
+            Err(misfit) => Err(misfit),
         }
-    }
-}
-
-impl<'de> Deserialize<'de> for ReferenceContext {
-    fn deserialize<F: Format>(
-        alloc: Global,
-        from: &mut Deserializer<'de, '_, F>,
-    ) -> Result<ReferenceContext, F::Error> {
-        read_object(alloc, from)
-    }
-}
-
-impl DeserializeOwned for ReferenceContext {
-    fn deserialize_owned<F: Format>(
-        alloc: Global,
-        from: &mut Deserializer<'_, '_, F>,
-    ) -> Result<ReferenceContext, F::Error> {
-        read_object(alloc, from)
     }
 }

@@ -2,12 +2,12 @@
 // `tools/types` wrote this file from `types.txt`: change that.
 ghost use Rattle.std.specs.Prelude.{◌∷◌, [], Some, codes, option_map};
 ghost use Rattle.lsp_types.specs.Json.{object_of};
+ghost use Rattle.lsp_types.specs.Reads.{IfFits, IsObject, Optional, Required};
 
 use crate::documents::TextDocumentIdentifier;
-use crate::json::{Keyed, Object, ReadMembers, Source, ToJson, if_fits, read_object};
+use crate::json::{FromJson, Members, Misfit, Object, ToJson};
 use crate::progress::ProgressToken;
 use lsp_text::{Position, Range};
-use serde::{Deserialize, DeserializeOwned, Deserializer, Format};
 use serde_json::Value;
 use std::alloc::{AllocError, Global};
 use std::collections::BTreeMap;
@@ -34,34 +34,23 @@ impl ToJson for TextEdit {
     }
 }
 
-impl Keyed for TextEdit {
-    const KEYS: &'static [&'static str] = &["range", "newText"];
-}
+impl FromJson for TextEdit {
+    ghost reads = { λ json it. IsObject json
+        × Required ⟦<Range as FromJson>⟧.reads (codes "range") json it.range
+        × Required ⟦<String as FromJson>⟧.reads (codes "newText") json it.new_text };
 
-impl ReadMembers for TextEdit {
-    fn read<S: Source>(members: &mut S) -> TextEdit {
-        TextEdit {
-            range: members.required(),
-            new_text: members.required(),
+    fn from_json(alloc: Global, value: &Value) -> Result<TextEdit, Misfit> {
+        let read = Members::new(alloc, value)
+            .required("range")
+            .required("newText")
+            .end();
+        match read {
+            Ok(read) => {
+                let (((), range), new_text) = read;
+                Ok(TextEdit { range, new_text })
+            }
+            Err(misfit) => Err(misfit),
         }
-    }
-}
-
-impl<'de> Deserialize<'de> for TextEdit {
-    fn deserialize<F: Format>(
-        alloc: Global,
-        from: &mut Deserializer<'de, '_, F>,
-    ) -> Result<TextEdit, F::Error> {
-        read_object(alloc, from)
-    }
-}
-
-impl DeserializeOwned for TextEdit {
-    fn deserialize_owned<F: Format>(
-        alloc: Global,
-        from: &mut Deserializer<'_, '_, F>,
-    ) -> Result<TextEdit, F::Error> {
-        read_object(alloc, from)
     }
 }
 
@@ -87,34 +76,26 @@ impl ToJson for OptionalVersionedTextDocumentIdentifier {
     }
 }
 
-impl Keyed for OptionalVersionedTextDocumentIdentifier {
-    const KEYS: &'static [&'static str] = &["uri", "version"];
-}
+impl FromJson for OptionalVersionedTextDocumentIdentifier {
+    ghost reads = { λ json it. IsObject json
+        × Required ⟦<String as FromJson>⟧.reads (codes "uri") json it.uri
+        × Optional ⟦<i32 as FromJson>⟧.reads (codes "version") json it.version };
 
-impl ReadMembers for OptionalVersionedTextDocumentIdentifier {
-    fn read<S: Source>(members: &mut S) -> OptionalVersionedTextDocumentIdentifier {
-        OptionalVersionedTextDocumentIdentifier {
-            uri: members.required(),
-            version: members.optional(),
+    fn from_json(
+        alloc: Global,
+        value: &Value,
+    ) -> Result<OptionalVersionedTextDocumentIdentifier, Misfit> {
+        let read = Members::new(alloc, value)
+            .required("uri")
+            .optional("version")
+            .end();
+        match read {
+            Ok(read) => {
+                let (((), uri), version) = read;
+                Ok(OptionalVersionedTextDocumentIdentifier { uri, version })
+            }
+            Err(misfit) => Err(misfit),
         }
-    }
-}
-
-impl<'de> Deserialize<'de> for OptionalVersionedTextDocumentIdentifier {
-    fn deserialize<F: Format>(
-        alloc: Global,
-        from: &mut Deserializer<'de, '_, F>,
-    ) -> Result<OptionalVersionedTextDocumentIdentifier, F::Error> {
-        read_object(alloc, from)
-    }
-}
-
-impl DeserializeOwned for OptionalVersionedTextDocumentIdentifier {
-    fn deserialize_owned<F: Format>(
-        alloc: Global,
-        from: &mut Deserializer<'_, '_, F>,
-    ) -> Result<OptionalVersionedTextDocumentIdentifier, F::Error> {
-        read_object(alloc, from)
     }
 }
 
@@ -140,34 +121,26 @@ impl ToJson for TextDocumentEdit {
     }
 }
 
-impl Keyed for TextDocumentEdit {
-    const KEYS: &'static [&'static str] = &["textDocument", "edits"];
-}
+impl FromJson for TextDocumentEdit {
+    ghost reads = { λ json it. IsObject json
+        × Required ⟦<OptionalVersionedTextDocumentIdentifier as FromJson>⟧.reads (codes "textDocument") json it.text_document
+        × Required ⟦<Vec<TextEdit> as FromJson>⟧.reads (codes "edits") json it.edits };
 
-impl ReadMembers for TextDocumentEdit {
-    fn read<S: Source>(members: &mut S) -> TextDocumentEdit {
-        TextDocumentEdit {
-            text_document: members.required(),
-            edits: members.required(),
+    fn from_json(alloc: Global, value: &Value) -> Result<TextDocumentEdit, Misfit> {
+        let read = Members::new(alloc, value)
+            .required("textDocument")
+            .required("edits")
+            .end();
+        match read {
+            Ok(read) => {
+                let (((), text_document), edits) = read;
+                Ok(TextDocumentEdit {
+                    text_document,
+                    edits,
+                })
+            }
+            Err(misfit) => Err(misfit),
         }
-    }
-}
-
-impl<'de> Deserialize<'de> for TextDocumentEdit {
-    fn deserialize<F: Format>(
-        alloc: Global,
-        from: &mut Deserializer<'de, '_, F>,
-    ) -> Result<TextDocumentEdit, F::Error> {
-        read_object(alloc, from)
-    }
-}
-
-impl DeserializeOwned for TextDocumentEdit {
-    fn deserialize_owned<F: Format>(
-        alloc: Global,
-        from: &mut Deserializer<'_, '_, F>,
-    ) -> Result<TextDocumentEdit, F::Error> {
-        read_object(alloc, from)
     }
 }
 
@@ -217,35 +190,29 @@ impl ToJson for WorkspaceEdit {
     }
 }
 
-impl Keyed for WorkspaceEdit {
-    const KEYS: &'static [&'static str] = &["changes", "documentChanges", "changeAnnotations"];
-}
+impl FromJson for WorkspaceEdit {
+    ghost reads = { λ json it. IsObject json
+        × Optional ⟦<BTreeMap<String, Vec<TextEdit>> as FromJson>⟧.reads (codes "changes") json it.changes
+        × Optional ⟦<Vec<TextDocumentEdit> as FromJson>⟧.reads (codes "documentChanges") json it.document_changes
+        × Optional ⟦<BTreeMap<String, ChangeAnnotation> as FromJson>⟧.reads (codes "changeAnnotations") json it.change_annotations };
 
-impl ReadMembers for WorkspaceEdit {
-    fn read<S: Source>(members: &mut S) -> WorkspaceEdit {
-        WorkspaceEdit {
-            changes: members.optional(),
-            document_changes: members.optional(),
-            change_annotations: members.optional(),
+    fn from_json(alloc: Global, value: &Value) -> Result<WorkspaceEdit, Misfit> {
+        let read = Members::new(alloc, value)
+            .optional("changes")
+            .optional("documentChanges")
+            .optional("changeAnnotations")
+            .end();
+        match read {
+            Ok(read) => {
+                let ((((), changes), document_changes), change_annotations) = read;
+                Ok(WorkspaceEdit {
+                    changes,
+                    document_changes,
+                    change_annotations,
+                })
+            }
+            Err(misfit) => Err(misfit),
         }
-    }
-}
-
-impl<'de> Deserialize<'de> for WorkspaceEdit {
-    fn deserialize<F: Format>(
-        alloc: Global,
-        from: &mut Deserializer<'de, '_, F>,
-    ) -> Result<WorkspaceEdit, F::Error> {
-        read_object(alloc, from)
-    }
-}
-
-impl DeserializeOwned for WorkspaceEdit {
-    fn deserialize_owned<F: Format>(
-        alloc: Global,
-        from: &mut Deserializer<'_, '_, F>,
-    ) -> Result<WorkspaceEdit, F::Error> {
-        read_object(alloc, from)
     }
 }
 
@@ -294,26 +261,29 @@ impl ToJson for ChangeAnnotation {
     }
 }
 
-impl Keyed for ChangeAnnotation {
-    const KEYS: &'static [&'static str] = &["label", "needsConfirmation", "description"];
-}
+impl FromJson for ChangeAnnotation {
+    ghost reads = { λ json it. IsObject json
+        × Required ⟦<String as FromJson>⟧.reads (codes "label") json it.label
+        × Optional ⟦<bool as FromJson>⟧.reads (codes "needsConfirmation") json it.needs_confirmation
+        × Optional ⟦<String as FromJson>⟧.reads (codes "description") json it.description };
 
-impl ReadMembers for ChangeAnnotation {
-    fn read<S: Source>(members: &mut S) -> ChangeAnnotation {
-        ChangeAnnotation {
-            label: members.required(),
-            needs_confirmation: members.optional(),
-            description: members.optional(),
+    fn from_json(alloc: Global, value: &Value) -> Result<ChangeAnnotation, Misfit> {
+        let read = Members::new(alloc, value)
+            .required("label")
+            .optional("needsConfirmation")
+            .optional("description")
+            .end();
+        match read {
+            Ok(read) => {
+                let ((((), label), needs_confirmation), description) = read;
+                Ok(ChangeAnnotation {
+                    label,
+                    needs_confirmation,
+                    description,
+                })
+            }
+            Err(misfit) => Err(misfit),
         }
-    }
-}
-
-impl DeserializeOwned for ChangeAnnotation {
-    fn deserialize_owned<F: Format>(
-        alloc: Global,
-        from: &mut Deserializer<'_, '_, F>,
-    ) -> Result<ChangeAnnotation, F::Error> {
-        read_object(alloc, from)
     }
 }
 
@@ -347,27 +317,32 @@ impl ToJson for RenameParams {
     }
 }
 
-impl Keyed for RenameParams {
-    const KEYS: &'static [&'static str] = &["textDocument", "position", "newName", "workDoneToken"];
-}
+impl FromJson for RenameParams {
+    ghost reads = { λ json it. IsObject json
+        × Required ⟦<TextDocumentIdentifier as FromJson>⟧.reads (codes "textDocument") json it.text_document
+        × Required ⟦<Position as FromJson>⟧.reads (codes "position") json it.position
+        × Required ⟦<String as FromJson>⟧.reads (codes "newName") json it.new_name
+        × IfFits ⟦<ProgressToken as FromJson>⟧.reads (codes "workDoneToken") json it.work_done_token };
 
-impl ReadMembers for RenameParams {
-    fn read<S: Source>(members: &mut S) -> RenameParams {
-        RenameParams {
-            text_document: members.required(),
-            position: members.required(),
-            new_name: members.required(),
-            work_done_token: if_fits(members),
+    fn from_json(alloc: Global, value: &Value) -> Result<RenameParams, Misfit> {
+        let read = Members::new(alloc, value)
+            .required("textDocument")
+            .required("position")
+            .required("newName")
+            .if_fits("workDoneToken")
+            .end();
+        match read {
+            Ok(read) => {
+                let (((((), text_document), position), new_name), work_done_token) = read;
+                Ok(RenameParams {
+                    text_document,
+                    position,
+                    new_name,
+                    work_done_token,
+                })
+            }
+            Err(misfit) => Err(misfit),
         }
-    }
-}
-
-impl DeserializeOwned for RenameParams {
-    fn deserialize_owned<F: Format>(
-        alloc: Global,
-        from: &mut Deserializer<'_, '_, F>,
-    ) -> Result<RenameParams, F::Error> {
-        read_object(alloc, from)
     }
 }
 
@@ -393,25 +368,23 @@ impl ToJson for PrepareRenameResult {
     }
 }
 
-impl Keyed for PrepareRenameResult {
-    const KEYS: &'static [&'static str] = &["range", "placeholder"];
-}
+impl FromJson for PrepareRenameResult {
+    ghost reads = { λ json it. IsObject json
+        × Required ⟦<Range as FromJson>⟧.reads (codes "range") json it.range
+        × Required ⟦<String as FromJson>⟧.reads (codes "placeholder") json it.placeholder };
 
-impl ReadMembers for PrepareRenameResult {
-    fn read<S: Source>(members: &mut S) -> PrepareRenameResult {
-        PrepareRenameResult {
-            range: members.required(),
-            placeholder: members.required(),
+    fn from_json(alloc: Global, value: &Value) -> Result<PrepareRenameResult, Misfit> {
+        let read = Members::new(alloc, value)
+            .required("range")
+            .required("placeholder")
+            .end();
+        match read {
+            Ok(read) => {
+                let (((), range), placeholder) = read;
+                Ok(PrepareRenameResult { range, placeholder })
+            }
+            Err(misfit) => Err(misfit),
         }
-    }
-}
-
-impl DeserializeOwned for PrepareRenameResult {
-    fn deserialize_owned<F: Format>(
-        alloc: Global,
-        from: &mut Deserializer<'_, '_, F>,
-    ) -> Result<PrepareRenameResult, F::Error> {
-        read_object(alloc, from)
     }
 }
 
@@ -449,43 +422,41 @@ impl ToJson for FormattingOptions {
     }
 }
 
-impl Keyed for FormattingOptions {
-    const KEYS: &'static [&'static str] = &[
-        "tabSize",
-        "insertSpaces",
-        "trimTrailingWhitespace",
-        "insertFinalNewline",
-        "trimFinalNewlines",
-    ];
-}
+impl FromJson for FormattingOptions {
+    ghost reads = { λ json it. IsObject json
+        × Required ⟦<u32 as FromJson>⟧.reads (codes "tabSize") json it.tab_size
+        × Required ⟦<bool as FromJson>⟧.reads (codes "insertSpaces") json it.insert_spaces
+        × Optional ⟦<bool as FromJson>⟧.reads (codes "trimTrailingWhitespace") json it.trim_trailing_whitespace
+        × Optional ⟦<bool as FromJson>⟧.reads (codes "insertFinalNewline") json it.insert_final_newline
+        × Optional ⟦<bool as FromJson>⟧.reads (codes "trimFinalNewlines") json it.trim_final_newlines };
 
-impl ReadMembers for FormattingOptions {
-    fn read<S: Source>(members: &mut S) -> FormattingOptions {
-        FormattingOptions {
-            tab_size: members.required(),
-            insert_spaces: members.required(),
-            trim_trailing_whitespace: members.optional(),
-            insert_final_newline: members.optional(),
-            trim_final_newlines: members.optional(),
+    fn from_json(alloc: Global, value: &Value) -> Result<FormattingOptions, Misfit> {
+        let read = Members::new(alloc, value)
+            .required("tabSize")
+            .required("insertSpaces")
+            .optional("trimTrailingWhitespace")
+            .optional("insertFinalNewline")
+            .optional("trimFinalNewlines")
+            .end();
+        match read {
+            Ok(read) => {
+                let (
+                    (
+                        ((((), tab_size), insert_spaces), trim_trailing_whitespace),
+                        insert_final_newline,
+                    ),
+                    trim_final_newlines,
+                ) = read;
+                Ok(FormattingOptions {
+                    tab_size,
+                    insert_spaces,
+                    trim_trailing_whitespace,
+                    insert_final_newline,
+                    trim_final_newlines,
+                })
+            }
+            Err(misfit) => Err(misfit),
         }
-    }
-}
-
-impl<'de> Deserialize<'de> for FormattingOptions {
-    fn deserialize<F: Format>(
-        alloc: Global,
-        from: &mut Deserializer<'de, '_, F>,
-    ) -> Result<FormattingOptions, F::Error> {
-        read_object(alloc, from)
-    }
-}
-
-impl DeserializeOwned for FormattingOptions {
-    fn deserialize_owned<F: Format>(
-        alloc: Global,
-        from: &mut Deserializer<'_, '_, F>,
-    ) -> Result<FormattingOptions, F::Error> {
-        read_object(alloc, from)
     }
 }
 
@@ -515,26 +486,29 @@ impl ToJson for DocumentFormattingParams {
     }
 }
 
-impl Keyed for DocumentFormattingParams {
-    const KEYS: &'static [&'static str] = &["textDocument", "options", "workDoneToken"];
-}
+impl FromJson for DocumentFormattingParams {
+    ghost reads = { λ json it. IsObject json
+        × Required ⟦<TextDocumentIdentifier as FromJson>⟧.reads (codes "textDocument") json it.text_document
+        × Required ⟦<FormattingOptions as FromJson>⟧.reads (codes "options") json it.options
+        × IfFits ⟦<ProgressToken as FromJson>⟧.reads (codes "workDoneToken") json it.work_done_token };
 
-impl ReadMembers for DocumentFormattingParams {
-    fn read<S: Source>(members: &mut S) -> DocumentFormattingParams {
-        DocumentFormattingParams {
-            text_document: members.required(),
-            options: members.required(),
-            work_done_token: if_fits(members),
+    fn from_json(alloc: Global, value: &Value) -> Result<DocumentFormattingParams, Misfit> {
+        let read = Members::new(alloc, value)
+            .required("textDocument")
+            .required("options")
+            .if_fits("workDoneToken")
+            .end();
+        match read {
+            Ok(read) => {
+                let ((((), text_document), options), work_done_token) = read;
+                Ok(DocumentFormattingParams {
+                    text_document,
+                    options,
+                    work_done_token,
+                })
+            }
+            Err(misfit) => Err(misfit),
         }
-    }
-}
-
-impl DeserializeOwned for DocumentFormattingParams {
-    fn deserialize_owned<F: Format>(
-        alloc: Global,
-        from: &mut Deserializer<'_, '_, F>,
-    ) -> Result<DocumentFormattingParams, F::Error> {
-        read_object(alloc, from)
     }
 }
 
@@ -569,27 +543,32 @@ impl ToJson for DocumentRangeFormattingParams {
     }
 }
 
-impl Keyed for DocumentRangeFormattingParams {
-    const KEYS: &'static [&'static str] = &["textDocument", "range", "options", "workDoneToken"];
-}
+impl FromJson for DocumentRangeFormattingParams {
+    ghost reads = { λ json it. IsObject json
+        × Required ⟦<TextDocumentIdentifier as FromJson>⟧.reads (codes "textDocument") json it.text_document
+        × Required ⟦<Range as FromJson>⟧.reads (codes "range") json it.range
+        × Required ⟦<FormattingOptions as FromJson>⟧.reads (codes "options") json it.options
+        × IfFits ⟦<ProgressToken as FromJson>⟧.reads (codes "workDoneToken") json it.work_done_token };
 
-impl ReadMembers for DocumentRangeFormattingParams {
-    fn read<S: Source>(members: &mut S) -> DocumentRangeFormattingParams {
-        DocumentRangeFormattingParams {
-            text_document: members.required(),
-            range: members.required(),
-            options: members.required(),
-            work_done_token: if_fits(members),
+    fn from_json(alloc: Global, value: &Value) -> Result<DocumentRangeFormattingParams, Misfit> {
+        let read = Members::new(alloc, value)
+            .required("textDocument")
+            .required("range")
+            .required("options")
+            .if_fits("workDoneToken")
+            .end();
+        match read {
+            Ok(read) => {
+                let (((((), text_document), range), options), work_done_token) = read;
+                Ok(DocumentRangeFormattingParams {
+                    text_document,
+                    range,
+                    options,
+                    work_done_token,
+                })
+            }
+            Err(misfit) => Err(misfit),
         }
-    }
-}
-
-impl DeserializeOwned for DocumentRangeFormattingParams {
-    fn deserialize_owned<F: Format>(
-        alloc: Global,
-        from: &mut Deserializer<'_, '_, F>,
-    ) -> Result<DocumentRangeFormattingParams, F::Error> {
-        read_object(alloc, from)
     }
 }
 
@@ -624,26 +603,31 @@ impl ToJson for DocumentOnTypeFormattingParams {
     }
 }
 
-impl Keyed for DocumentOnTypeFormattingParams {
-    const KEYS: &'static [&'static str] = &["textDocument", "position", "ch", "options"];
-}
+impl FromJson for DocumentOnTypeFormattingParams {
+    ghost reads = { λ json it. IsObject json
+        × Required ⟦<TextDocumentIdentifier as FromJson>⟧.reads (codes "textDocument") json it.text_document
+        × Required ⟦<Position as FromJson>⟧.reads (codes "position") json it.position
+        × Required ⟦<String as FromJson>⟧.reads (codes "ch") json it.ch
+        × Required ⟦<FormattingOptions as FromJson>⟧.reads (codes "options") json it.options };
 
-impl ReadMembers for DocumentOnTypeFormattingParams {
-    fn read<S: Source>(members: &mut S) -> DocumentOnTypeFormattingParams {
-        DocumentOnTypeFormattingParams {
-            text_document: members.required(),
-            position: members.required(),
-            ch: members.required(),
-            options: members.required(),
+    fn from_json(alloc: Global, value: &Value) -> Result<DocumentOnTypeFormattingParams, Misfit> {
+        let read = Members::new(alloc, value)
+            .required("textDocument")
+            .required("position")
+            .required("ch")
+            .required("options")
+            .end();
+        match read {
+            Ok(read) => {
+                let (((((), text_document), position), ch), options) = read;
+                Ok(DocumentOnTypeFormattingParams {
+                    text_document,
+                    position,
+                    ch,
+                    options,
+                })
+            }
+            Err(misfit) => Err(misfit),
         }
-    }
-}
-
-impl DeserializeOwned for DocumentOnTypeFormattingParams {
-    fn deserialize_owned<F: Format>(
-        alloc: Global,
-        from: &mut Deserializer<'_, '_, F>,
-    ) -> Result<DocumentOnTypeFormattingParams, F::Error> {
-        read_object(alloc, from)
     }
 }

@@ -3,11 +3,11 @@
 ghost use Rattle.std.specs.Prelude.{◌∷◌, [], Some, codes, option_map};
 ghost use Rattle.serde_json.specs.Data.{number, unsigned};
 ghost use Rattle.lsp_types.specs.Json.{object_of};
+ghost use Rattle.lsp_types.specs.Reads.{IsObject, IsWithin, Optional, Required};
 
 use crate::edits::TextEdit;
-use crate::json::{Keyed, Object, ReadMembers, Source, ToJson, number_within, read_object};
+use crate::json::{FromJson, Members, Misfit, Object, ToJson, number_within};
 use lsp_text::Position;
-use serde::{Deserialize, DeserializeOwned, Deserializer, Format};
 use serde_json::Value;
 use std::alloc::{AllocError, Global};
 
@@ -30,24 +30,14 @@ impl ToJson for InlayHintKind {
     }
 }
 
-impl<'de> Deserialize<'de> for InlayHintKind {
-    fn deserialize<F: Format>(
-        alloc: Global,
-        from: &mut Deserializer<'de, '_, F>,
-    ) -> Result<InlayHintKind, F::Error> {
-        match number_within(alloc, from, 1, 2) {
-            Ok(number) => Ok(InlayHintKind(number)),
-            Err(failed) => Err(failed),
-        }
-    }
-}
+impl FromJson for InlayHintKind {
+    ghost reads = { λ json it. IsWithin 1 2 json it.0 };
 
-impl DeserializeOwned for InlayHintKind {
-    fn deserialize_owned<F: Format>(
-        alloc: Global,
-        from: &mut Deserializer<'_, '_, F>,
-    ) -> Result<InlayHintKind, F::Error> {
-        InlayHintKind::deserialize(alloc, from)
+    fn from_json(alloc: Global, value: &Value) -> Result<InlayHintKind, Misfit> {
+        match number_within(alloc, value, 1, 2) {
+            Ok(number) => Ok(InlayHintKind(number)),
+            Err(misfit) => Err(misfit),
+        }
     }
 }
 
@@ -126,39 +116,49 @@ impl ToJson for InlayHint {
     }
 }
 
-impl Keyed for InlayHint {
-    const KEYS: &'static [&'static str] = &[
-        "position",
-        "label",
-        "kind",
-        "textEdits",
-        "tooltip",
-        "paddingLeft",
-        "paddingRight",
-        "data",
-    ];
-}
+impl FromJson for InlayHint {
+    ghost reads = { λ json it. IsObject json
+        × Required ⟦<Position as FromJson>⟧.reads (codes "position") json it.position
+        × Required ⟦<String as FromJson>⟧.reads (codes "label") json it.label
+        × Optional ⟦<InlayHintKind as FromJson>⟧.reads (codes "kind") json it.kind
+        × Optional ⟦<Vec<TextEdit> as FromJson>⟧.reads (codes "textEdits") json it.text_edits
+        × Optional ⟦<String as FromJson>⟧.reads (codes "tooltip") json it.tooltip
+        × Optional ⟦<bool as FromJson>⟧.reads (codes "paddingLeft") json it.padding_left
+        × Optional ⟦<bool as FromJson>⟧.reads (codes "paddingRight") json it.padding_right
+        × Optional ⟦<Value as FromJson>⟧.reads (codes "data") json it.«data» };
 
-impl ReadMembers for InlayHint {
-    fn read<S: Source>(members: &mut S) -> InlayHint {
-        InlayHint {
-            position: members.required(),
-            label: members.required(),
-            kind: members.optional(),
-            text_edits: members.optional(),
-            tooltip: members.optional(),
-            padding_left: members.optional(),
-            padding_right: members.optional(),
-            data: members.optional(),
+    fn from_json(alloc: Global, value: &Value) -> Result<InlayHint, Misfit> {
+        let read = Members::new(alloc, value)
+            .required("position")
+            .required("label")
+            .optional("kind")
+            .optional("textEdits")
+            .optional("tooltip")
+            .optional("paddingLeft")
+            .optional("paddingRight")
+            .optional("data")
+            .end();
+        match read {
+            Ok(read) => {
+                let (
+                    (
+                        (((((((), position), label), kind), text_edits), tooltip), padding_left),
+                        padding_right,
+                    ),
+                    data,
+                ) = read;
+                Ok(InlayHint {
+                    position,
+                    label,
+                    kind,
+                    text_edits,
+                    tooltip,
+                    padding_left,
+                    padding_right,
+                    data,
+                })
+            }
+            Err(misfit) => Err(misfit),
         }
-    }
-}
-
-impl DeserializeOwned for InlayHint {
-    fn deserialize_owned<F: Format>(
-        alloc: Global,
-        from: &mut Deserializer<'_, '_, F>,
-    ) -> Result<InlayHint, F::Error> {
-        read_object(alloc, from)
     }
 }

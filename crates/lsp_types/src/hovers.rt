@@ -2,11 +2,11 @@
 // `tools/types` wrote this file from `types.txt`: change that.
 ghost use Rattle.std.specs.Prelude.{◌∷◌, [], Some, codes, option_map};
 ghost use Rattle.lsp_types.specs.Json.{object_of};
+ghost use Rattle.lsp_types.specs.Reads.{IsObject, Optional, Required};
 
 use crate::choices::MarkupKind;
-use crate::json::{Keyed, Object, ReadMembers, Source, ToJson, read_object};
+use crate::json::{FromJson, Members, Misfit, Object, ToJson};
 use lsp_text::Range;
-use serde::{Deserialize, DeserializeOwned, Deserializer, Format};
 use serde_json::Value;
 use std::alloc::{AllocError, Global};
 
@@ -32,34 +32,23 @@ impl ToJson for MarkupContent {
     }
 }
 
-impl Keyed for MarkupContent {
-    const KEYS: &'static [&'static str] = &["kind", "value"];
-}
+impl FromJson for MarkupContent {
+    ghost reads = { λ json it. IsObject json
+        × Required ⟦<MarkupKind as FromJson>⟧.reads (codes "kind") json it.kind
+        × Required ⟦<String as FromJson>⟧.reads (codes "value") json it.value };
 
-impl ReadMembers for MarkupContent {
-    fn read<S: Source>(members: &mut S) -> MarkupContent {
-        MarkupContent {
-            kind: members.required(),
-            value: members.required(),
+    fn from_json(alloc: Global, value: &Value) -> Result<MarkupContent, Misfit> {
+        let read = Members::new(alloc, value)
+            .required("kind")
+            .required("value")
+            .end();
+        match read {
+            Ok(read) => {
+                let (((), kind), value) = read;
+                Ok(MarkupContent { kind, value })
+            }
+            Err(misfit) => Err(misfit),
         }
-    }
-}
-
-impl<'de> Deserialize<'de> for MarkupContent {
-    fn deserialize<F: Format>(
-        alloc: Global,
-        from: &mut Deserializer<'de, '_, F>,
-    ) -> Result<MarkupContent, F::Error> {
-        read_object(alloc, from)
-    }
-}
-
-impl DeserializeOwned for MarkupContent {
-    fn deserialize_owned<F: Format>(
-        alloc: Global,
-        from: &mut Deserializer<'_, '_, F>,
-    ) -> Result<MarkupContent, F::Error> {
-        read_object(alloc, from)
     }
 }
 
@@ -85,24 +74,22 @@ impl ToJson for Hover {
     }
 }
 
-impl Keyed for Hover {
-    const KEYS: &'static [&'static str] = &["contents", "range"];
-}
+impl FromJson for Hover {
+    ghost reads = { λ json it. IsObject json
+        × Required ⟦<MarkupContent as FromJson>⟧.reads (codes "contents") json it.contents
+        × Optional ⟦<Range as FromJson>⟧.reads (codes "range") json it.range };
 
-impl ReadMembers for Hover {
-    fn read<S: Source>(members: &mut S) -> Hover {
-        Hover {
-            contents: members.required(),
-            range: members.optional(),
+    fn from_json(alloc: Global, value: &Value) -> Result<Hover, Misfit> {
+        let read = Members::new(alloc, value)
+            .required("contents")
+            .optional("range")
+            .end();
+        match read {
+            Ok(read) => {
+                let (((), contents), range) = read;
+                Ok(Hover { contents, range })
+            }
+            Err(misfit) => Err(misfit),
         }
-    }
-}
-
-impl DeserializeOwned for Hover {
-    fn deserialize_owned<F: Format>(
-        alloc: Global,
-        from: &mut Deserializer<'_, '_, F>,
-    ) -> Result<Hover, F::Error> {
-        read_object(alloc, from)
     }
 }

@@ -1,5 +1,5 @@
-//! Types of LSP 3.17 that most servers use, under the standard's names. What a client sends is read (`Request::params_as`), and what
-//! a server sends is written (`ToJson`, by the calls of `lsp_methods`). Nearly all types go both ways. Only written are
+//! Types of LSP 3.17 that most servers use, under the standard's names. What a client sends is read (`FromJson`), and what a server
+//! sends is written (`ToJson`), both by the calls of `lsp_methods`. Nearly all types go both ways. Only written are
 //! `ServerCapabilities` with its options, `InitializeResult`, `DocumentSymbol` and `ProgressParams`.
 //!
 //! On reading, members that a type lacks are passed over, and a member that may be missing may be null. It is an error if a
@@ -9,8 +9,8 @@
 //! `Position`, `Range` and `TextDocumentContentChangeEvent` are types of `lsp_text`, so `Text::offset_at` takes a position that was
 //! read, and `TextDocuments::change` of `lsp_documents` the changes.
 //!
-//! Each is safe and each call returns. The tree that a value is written as is proved: its `stands` has each key. That the keys are the
-//! standard's, and what is read, is tested and not proved. Take the crate beside `lsp_server`, or copy the types that you need.
+//! Each is safe and each call returns. What a tree is read as and the tree that a value is written as are proved: `reads` and `stands` have
+//! each key. That the keys are the standard's is tested and not proved. Take the crate beside `lsp_server`, or copy the types that you need.
 #![tactic(auto)]
 
 mod actions;
@@ -133,6 +133,7 @@ pub use hints::InlayHint;
 pub use hints::InlayHintKind;
 pub use hovers::Hover;
 pub use hovers::MarkupContent;
+pub use json::FromJson;
 pub use json::ToJson;
 pub use lifecycle::CancelParams;
 pub use lifecycle::ClientInfo;

@@ -2,13 +2,13 @@
 // `tools/types` wrote this file from `types.txt`: change that.
 ghost use Rattle.std.specs.Prelude.{◌∷◌, [], Some, codes, option_map};
 ghost use Rattle.lsp_types.specs.Json.{object_of};
+ghost use Rattle.lsp_types.specs.Reads.{IfFits, IsObject, Optional, Required};
 
 use crate::capabilities::ServerCapabilities;
 use crate::choices::NumberOrString;
-use crate::json::{Keyed, Object, ReadMembers, Source, ToJson, if_fits, read_object};
+use crate::json::{FromJson, Members, Misfit, Object, ToJson};
 use crate::progress::ProgressToken;
 use crate::workspace::WorkspaceFolder;
-use serde::{Deserialize, DeserializeOwned, Deserializer, Format};
 use serde_json::Value;
 use std::alloc::{AllocError, Global};
 
@@ -66,44 +66,68 @@ impl ToJson for InitializeParams {
     }
 }
 
-impl Keyed for InitializeParams {
-    const KEYS: &'static [&'static str] = &[
-        "processId",
-        "clientInfo",
-        "locale",
-        "rootPath",
-        "rootUri",
-        "workspaceFolders",
-        "initializationOptions",
-        "capabilities",
-        "trace",
-        "workDoneToken",
-    ];
-}
+impl FromJson for InitializeParams {
+    ghost reads = { λ json it. IsObject json
+        × IfFits ⟦<i32 as FromJson>⟧.reads (codes "processId") json it.process_id
+        × IfFits ⟦<ClientInfo as FromJson>⟧.reads (codes "clientInfo") json it.client_info
+        × IfFits ⟦<String as FromJson>⟧.reads (codes "locale") json it.locale
+        × IfFits ⟦<String as FromJson>⟧.reads (codes "rootPath") json it.root_path
+        × Optional ⟦<String as FromJson>⟧.reads (codes "rootUri") json it.root_uri
+        × Optional ⟦<Vec<WorkspaceFolder> as FromJson>⟧.reads (codes "workspaceFolders") json it.workspace_folders
+        × Optional ⟦<Value as FromJson>⟧.reads (codes "initializationOptions") json it.initialization_options
+        × Required ⟦<Value as FromJson>⟧.reads (codes "capabilities") json it.capabilities
+        × IfFits ⟦<String as FromJson>⟧.reads (codes "trace") json it.trace
+        × IfFits ⟦<ProgressToken as FromJson>⟧.reads (codes "workDoneToken") json it.work_done_token };
 
-impl ReadMembers for InitializeParams {
-    fn read<S: Source>(members: &mut S) -> InitializeParams {
-        InitializeParams {
-            process_id: if_fits(members),
-            client_info: if_fits(members),
-            locale: if_fits(members),
-            root_path: if_fits(members),
-            root_uri: members.optional(),
-            workspace_folders: members.optional(),
-            initialization_options: members.optional(),
-            capabilities: members.required(),
-            trace: if_fits(members),
-            work_done_token: if_fits(members),
+    fn from_json(alloc: Global, value: &Value) -> Result<InitializeParams, Misfit> {
+        let read = Members::new(alloc, value)
+            .if_fits("processId")
+            .if_fits("clientInfo")
+            .if_fits("locale")
+            .if_fits("rootPath")
+            .optional("rootUri")
+            .optional("workspaceFolders")
+            .optional("initializationOptions")
+            .required("capabilities")
+            .if_fits("trace")
+            .if_fits("workDoneToken")
+            .end();
+        match read {
+            Ok(read) => {
+                let (
+                    (
+                        (
+                            (
+                                (
+                                    (
+                                        (((((), process_id), client_info), locale), root_path),
+                                        root_uri,
+                                    ),
+                                    workspace_folders,
+                                ),
+                                initialization_options,
+                            ),
+                            capabilities,
+                        ),
+                        trace,
+                    ),
+                    work_done_token,
+                ) = read;
+                Ok(InitializeParams {
+                    process_id,
+                    client_info,
+                    locale,
+                    root_path,
+                    root_uri,
+                    workspace_folders,
+                    initialization_options,
+                    capabilities,
+                    trace,
+                    work_done_token,
+                })
+            }
+            Err(misfit) => Err(misfit),
         }
-    }
-}
-
-impl DeserializeOwned for InitializeParams {
-    fn deserialize_owned<F: Format>(
-        alloc: Global,
-        from: &mut Deserializer<'_, '_, F>,
-    ) -> Result<InitializeParams, F::Error> {
-        read_object(alloc, from)
     }
 }
 
@@ -146,34 +170,23 @@ impl ToJson for ServerInfo {
     }
 }
 
-impl Keyed for ServerInfo {
-    const KEYS: &'static [&'static str] = &["name", "version"];
-}
+impl FromJson for ServerInfo {
+    ghost reads = { λ json it. IsObject json
+        × Required ⟦<String as FromJson>⟧.reads (codes "name") json it.name
+        × Optional ⟦<String as FromJson>⟧.reads (codes "version") json it.version };
 
-impl ReadMembers for ServerInfo {
-    fn read<S: Source>(members: &mut S) -> ServerInfo {
-        ServerInfo {
-            name: members.required(),
-            version: members.optional(),
+    fn from_json(alloc: Global, value: &Value) -> Result<ServerInfo, Misfit> {
+        let read = Members::new(alloc, value)
+            .required("name")
+            .optional("version")
+            .end();
+        match read {
+            Ok(read) => {
+                let (((), name), version) = read;
+                Ok(ServerInfo { name, version })
+            }
+            Err(misfit) => Err(misfit),
         }
-    }
-}
-
-impl<'de> Deserialize<'de> for ServerInfo {
-    fn deserialize<F: Format>(
-        alloc: Global,
-        from: &mut Deserializer<'de, '_, F>,
-    ) -> Result<ServerInfo, F::Error> {
-        read_object(alloc, from)
-    }
-}
-
-impl DeserializeOwned for ServerInfo {
-    fn deserialize_owned<F: Format>(
-        alloc: Global,
-        from: &mut Deserializer<'_, '_, F>,
-    ) -> Result<ServerInfo, F::Error> {
-        read_object(alloc, from)
     }
 }
 
@@ -218,24 +231,19 @@ impl ToJson for SetTraceParams {
     }
 }
 
-impl Keyed for SetTraceParams {
-    const KEYS: &'static [&'static str] = &["value"];
-}
+impl FromJson for SetTraceParams {
+    ghost reads = { λ json it. IsObject json
+        × Required ⟦<String as FromJson>⟧.reads (codes "value") json it.value };
 
-impl ReadMembers for SetTraceParams {
-    fn read<S: Source>(members: &mut S) -> SetTraceParams {
-        SetTraceParams {
-            value: members.required(),
+    fn from_json(alloc: Global, value: &Value) -> Result<SetTraceParams, Misfit> {
+        let read = Members::new(alloc, value).required("value").end();
+        match read {
+            Ok(read) => {
+                let ((), value) = read;
+                Ok(SetTraceParams { value })
+            }
+            Err(misfit) => Err(misfit),
         }
-    }
-}
-
-impl DeserializeOwned for SetTraceParams {
-    fn deserialize_owned<F: Format>(
-        alloc: Global,
-        from: &mut Deserializer<'_, '_, F>,
-    ) -> Result<SetTraceParams, F::Error> {
-        read_object(alloc, from)
     }
 }
 
@@ -278,25 +286,23 @@ impl ToJson for LogTraceParams {
     }
 }
 
-impl Keyed for LogTraceParams {
-    const KEYS: &'static [&'static str] = &["message", "verbose"];
-}
+impl FromJson for LogTraceParams {
+    ghost reads = { λ json it. IsObject json
+        × Required ⟦<String as FromJson>⟧.reads (codes "message") json it.message
+        × Optional ⟦<String as FromJson>⟧.reads (codes "verbose") json it.verbose };
 
-impl ReadMembers for LogTraceParams {
-    fn read<S: Source>(members: &mut S) -> LogTraceParams {
-        LogTraceParams {
-            message: members.required(),
-            verbose: members.optional(),
+    fn from_json(alloc: Global, value: &Value) -> Result<LogTraceParams, Misfit> {
+        let read = Members::new(alloc, value)
+            .required("message")
+            .optional("verbose")
+            .end();
+        match read {
+            Ok(read) => {
+                let (((), message), verbose) = read;
+                Ok(LogTraceParams { message, verbose })
+            }
+            Err(misfit) => Err(misfit),
         }
-    }
-}
-
-impl DeserializeOwned for LogTraceParams {
-    fn deserialize_owned<F: Format>(
-        alloc: Global,
-        from: &mut Deserializer<'_, '_, F>,
-    ) -> Result<LogTraceParams, F::Error> {
-        read_object(alloc, from)
     }
 }
 
@@ -316,24 +322,19 @@ impl ToJson for CancelParams {
     }
 }
 
-impl Keyed for CancelParams {
-    const KEYS: &'static [&'static str] = &["id"];
-}
+impl FromJson for CancelParams {
+    ghost reads = { λ json it. IsObject json
+        × Required ⟦<NumberOrString as FromJson>⟧.reads (codes "id") json it.id };
 
-impl ReadMembers for CancelParams {
-    fn read<S: Source>(members: &mut S) -> CancelParams {
-        CancelParams {
-            id: members.required(),
+    fn from_json(alloc: Global, value: &Value) -> Result<CancelParams, Misfit> {
+        let read = Members::new(alloc, value).required("id").end();
+        match read {
+            Ok(read) => {
+                let ((), id) = read;
+                Ok(CancelParams { id })
+            }
+            Err(misfit) => Err(misfit),
         }
-    }
-}
-
-impl DeserializeOwned for CancelParams {
-    fn deserialize_owned<F: Format>(
-        alloc: Global,
-        from: &mut Deserializer<'_, '_, F>,
-    ) -> Result<CancelParams, F::Error> {
-        read_object(alloc, from)
     }
 }
 
@@ -382,26 +383,29 @@ impl ToJson for Registration {
     }
 }
 
-impl Keyed for Registration {
-    const KEYS: &'static [&'static str] = &["id", "method", "registerOptions"];
-}
+impl FromJson for Registration {
+    ghost reads = { λ json it. IsObject json
+        × Required ⟦<String as FromJson>⟧.reads (codes "id") json it.id
+        × Required ⟦<String as FromJson>⟧.reads (codes "method") json it.method
+        × Optional ⟦<Value as FromJson>⟧.reads (codes "registerOptions") json it.register_options };
 
-impl ReadMembers for Registration {
-    fn read<S: Source>(members: &mut S) -> Registration {
-        Registration {
-            id: members.required(),
-            method: members.required(),
-            register_options: members.optional(),
+    fn from_json(alloc: Global, value: &Value) -> Result<Registration, Misfit> {
+        let read = Members::new(alloc, value)
+            .required("id")
+            .required("method")
+            .optional("registerOptions")
+            .end();
+        match read {
+            Ok(read) => {
+                let ((((), id), method), register_options) = read;
+                Ok(Registration {
+                    id,
+                    method,
+                    register_options,
+                })
+            }
+            Err(misfit) => Err(misfit),
         }
-    }
-}
-
-impl DeserializeOwned for Registration {
-    fn deserialize_owned<F: Format>(
-        alloc: Global,
-        from: &mut Deserializer<'_, '_, F>,
-    ) -> Result<Registration, F::Error> {
-        read_object(alloc, from)
     }
 }
 
@@ -423,24 +427,19 @@ impl ToJson for RegistrationParams {
     }
 }
 
-impl Keyed for RegistrationParams {
-    const KEYS: &'static [&'static str] = &["registrations"];
-}
+impl FromJson for RegistrationParams {
+    ghost reads = { λ json it. IsObject json
+        × Required ⟦<Vec<Registration> as FromJson>⟧.reads (codes "registrations") json it.registrations };
 
-impl ReadMembers for RegistrationParams {
-    fn read<S: Source>(members: &mut S) -> RegistrationParams {
-        RegistrationParams {
-            registrations: members.required(),
+    fn from_json(alloc: Global, value: &Value) -> Result<RegistrationParams, Misfit> {
+        let read = Members::new(alloc, value).required("registrations").end();
+        match read {
+            Ok(read) => {
+                let ((), registrations) = read;
+                Ok(RegistrationParams { registrations })
+            }
+            Err(misfit) => Err(misfit),
         }
-    }
-}
-
-impl DeserializeOwned for RegistrationParams {
-    fn deserialize_owned<F: Format>(
-        alloc: Global,
-        from: &mut Deserializer<'_, '_, F>,
-    ) -> Result<RegistrationParams, F::Error> {
-        read_object(alloc, from)
     }
 }
 
@@ -466,25 +465,23 @@ impl ToJson for Unregistration {
     }
 }
 
-impl Keyed for Unregistration {
-    const KEYS: &'static [&'static str] = &["id", "method"];
-}
+impl FromJson for Unregistration {
+    ghost reads = { λ json it. IsObject json
+        × Required ⟦<String as FromJson>⟧.reads (codes "id") json it.id
+        × Required ⟦<String as FromJson>⟧.reads (codes "method") json it.method };
 
-impl ReadMembers for Unregistration {
-    fn read<S: Source>(members: &mut S) -> Unregistration {
-        Unregistration {
-            id: members.required(),
-            method: members.required(),
+    fn from_json(alloc: Global, value: &Value) -> Result<Unregistration, Misfit> {
+        let read = Members::new(alloc, value)
+            .required("id")
+            .required("method")
+            .end();
+        match read {
+            Ok(read) => {
+                let (((), id), method) = read;
+                Ok(Unregistration { id, method })
+            }
+            Err(misfit) => Err(misfit),
         }
-    }
-}
-
-impl DeserializeOwned for Unregistration {
-    fn deserialize_owned<F: Format>(
-        alloc: Global,
-        from: &mut Deserializer<'_, '_, F>,
-    ) -> Result<Unregistration, F::Error> {
-        read_object(alloc, from)
     }
 }
 
@@ -506,23 +503,20 @@ impl ToJson for UnregistrationParams {
     }
 }
 
-impl Keyed for UnregistrationParams {
-    const KEYS: &'static [&'static str] = &["unregisterations"];
-}
+impl FromJson for UnregistrationParams {
+    ghost reads = { λ json it. IsObject json
+        × Required ⟦<Vec<Unregistration> as FromJson>⟧.reads (codes "unregisterations") json it.unregisterations };
 
-impl ReadMembers for UnregistrationParams {
-    fn read<S: Source>(members: &mut S) -> UnregistrationParams {
-        UnregistrationParams {
-            unregisterations: members.required(),
+    fn from_json(alloc: Global, value: &Value) -> Result<UnregistrationParams, Misfit> {
+        let read = Members::new(alloc, value)
+            .required("unregisterations")
+            .end();
+        match read {
+            Ok(read) => {
+                let ((), unregisterations) = read;
+                Ok(UnregistrationParams { unregisterations })
+            }
+            Err(misfit) => Err(misfit),
         }
-    }
-}
-
-impl DeserializeOwned for UnregistrationParams {
-    fn deserialize_owned<F: Format>(
-        alloc: Global,
-        from: &mut Deserializer<'_, '_, F>,
-    ) -> Result<UnregistrationParams, F::Error> {
-        read_object(alloc, from)
     }
 }

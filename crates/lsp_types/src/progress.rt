@@ -3,10 +3,10 @@
 ghost use Rattle.std.specs.Prelude.{◌∷◌, [], Some, codes, option_map};
 ghost use Rattle.serde_json.specs.Data.{string};
 ghost use Rattle.lsp_types.specs.Json.{object_of};
+ghost use Rattle.lsp_types.specs.Reads.{IsObject, Named, Optional, Required};
 
 use crate::choices::NumberOrString;
-use crate::json::{Keyed, Object, ReadMembers, Source, ToJson, read_object};
-use serde::{DeserializeOwned, Deserializer, Format};
+use crate::json::{FromJson, Members, Misfit, Object, ToJson};
 use serde_json::Value;
 use std::alloc::{AllocError, Global};
 
@@ -32,24 +32,19 @@ impl ToJson for WorkDoneProgressParams {
     }
 }
 
-impl Keyed for WorkDoneProgressParams {
-    const KEYS: &'static [&'static str] = &["workDoneToken"];
-}
+impl FromJson for WorkDoneProgressParams {
+    ghost reads = { λ json it. IsObject json
+        × Optional ⟦<ProgressToken as FromJson>⟧.reads (codes "workDoneToken") json it.work_done_token };
 
-impl ReadMembers for WorkDoneProgressParams {
-    fn read<S: Source>(members: &mut S) -> WorkDoneProgressParams {
-        WorkDoneProgressParams {
-            work_done_token: members.optional(),
+    fn from_json(alloc: Global, value: &Value) -> Result<WorkDoneProgressParams, Misfit> {
+        let read = Members::new(alloc, value).optional("workDoneToken").end();
+        match read {
+            Ok(read) => {
+                let ((), work_done_token) = read;
+                Ok(WorkDoneProgressParams { work_done_token })
+            }
+            Err(misfit) => Err(misfit),
         }
-    }
-}
-
-impl DeserializeOwned for WorkDoneProgressParams {
-    fn deserialize_owned<F: Format>(
-        alloc: Global,
-        from: &mut Deserializer<'_, '_, F>,
-    ) -> Result<WorkDoneProgressParams, F::Error> {
-        read_object(alloc, from)
     }
 }
 
@@ -69,24 +64,19 @@ impl ToJson for WorkDoneProgressCreateParams {
     }
 }
 
-impl Keyed for WorkDoneProgressCreateParams {
-    const KEYS: &'static [&'static str] = &["token"];
-}
+impl FromJson for WorkDoneProgressCreateParams {
+    ghost reads = { λ json it. IsObject json
+        × Required ⟦<ProgressToken as FromJson>⟧.reads (codes "token") json it.token };
 
-impl ReadMembers for WorkDoneProgressCreateParams {
-    fn read<S: Source>(members: &mut S) -> WorkDoneProgressCreateParams {
-        WorkDoneProgressCreateParams {
-            token: members.required(),
+    fn from_json(alloc: Global, value: &Value) -> Result<WorkDoneProgressCreateParams, Misfit> {
+        let read = Members::new(alloc, value).required("token").end();
+        match read {
+            Ok(read) => {
+                let ((), token) = read;
+                Ok(WorkDoneProgressCreateParams { token })
+            }
+            Err(misfit) => Err(misfit),
         }
-    }
-}
-
-impl DeserializeOwned for WorkDoneProgressCreateParams {
-    fn deserialize_owned<F: Format>(
-        alloc: Global,
-        from: &mut Deserializer<'_, '_, F>,
-    ) -> Result<WorkDoneProgressCreateParams, F::Error> {
-        read_object(alloc, from)
     }
 }
 
@@ -169,34 +159,34 @@ impl ToJson for WorkDoneProgressBegin {
     }
 }
 
-impl Keyed for WorkDoneProgressBegin {
-    const KEYS: &'static [&'static str] = &[
-        "kind",
-        "title",
-        "cancellable",
-        "message",
-        "percentage",
-    ];
-}
+impl FromJson for WorkDoneProgressBegin {
+    ghost reads = { λ json it. IsObject json
+        × Named (codes "kind") (codes "begin") json
+        × Required ⟦<String as FromJson>⟧.reads (codes "title") json it.title
+        × Optional ⟦<bool as FromJson>⟧.reads (codes "cancellable") json it.cancellable
+        × Optional ⟦<String as FromJson>⟧.reads (codes "message") json it.message
+        × Optional ⟦<u32 as FromJson>⟧.reads (codes "percentage") json it.percentage };
 
-impl ReadMembers for WorkDoneProgressBegin {
-    fn read<S: Source>(members: &mut S) -> WorkDoneProgressBegin {
-        members.named("begin");
-        WorkDoneProgressBegin {
-            title: members.required(),
-            cancellable: members.optional(),
-            message: members.optional(),
-            percentage: members.optional(),
+    fn from_json(alloc: Global, value: &Value) -> Result<WorkDoneProgressBegin, Misfit> {
+        let read = Members::new(alloc, value)
+            .named("kind", "begin")
+            .required("title")
+            .optional("cancellable")
+            .optional("message")
+            .optional("percentage")
+            .end();
+        match read {
+            Ok(read) => {
+                let ((((((), ()), title), cancellable), message), percentage) = read;
+                Ok(WorkDoneProgressBegin {
+                    title,
+                    cancellable,
+                    message,
+                    percentage,
+                })
+            }
+            Err(misfit) => Err(misfit),
         }
-    }
-}
-
-impl DeserializeOwned for WorkDoneProgressBegin {
-    fn deserialize_owned<F: Format>(
-        alloc: Global,
-        from: &mut Deserializer<'_, '_, F>,
-    ) -> Result<WorkDoneProgressBegin, F::Error> {
-        read_object(alloc, from)
     }
 }
 
@@ -247,27 +237,31 @@ impl ToJson for WorkDoneProgressReport {
     }
 }
 
-impl Keyed for WorkDoneProgressReport {
-    const KEYS: &'static [&'static str] = &["kind", "cancellable", "message", "percentage"];
-}
+impl FromJson for WorkDoneProgressReport {
+    ghost reads = { λ json it. IsObject json
+        × Named (codes "kind") (codes "report") json
+        × Optional ⟦<bool as FromJson>⟧.reads (codes "cancellable") json it.cancellable
+        × Optional ⟦<String as FromJson>⟧.reads (codes "message") json it.message
+        × Optional ⟦<u32 as FromJson>⟧.reads (codes "percentage") json it.percentage };
 
-impl ReadMembers for WorkDoneProgressReport {
-    fn read<S: Source>(members: &mut S) -> WorkDoneProgressReport {
-        members.named("report");
-        WorkDoneProgressReport {
-            cancellable: members.optional(),
-            message: members.optional(),
-            percentage: members.optional(),
+    fn from_json(alloc: Global, value: &Value) -> Result<WorkDoneProgressReport, Misfit> {
+        let read = Members::new(alloc, value)
+            .named("kind", "report")
+            .optional("cancellable")
+            .optional("message")
+            .optional("percentage")
+            .end();
+        match read {
+            Ok(read) => {
+                let (((((), ()), cancellable), message), percentage) = read;
+                Ok(WorkDoneProgressReport {
+                    cancellable,
+                    message,
+                    percentage,
+                })
+            }
+            Err(misfit) => Err(misfit),
         }
-    }
-}
-
-impl DeserializeOwned for WorkDoneProgressReport {
-    fn deserialize_owned<F: Format>(
-        alloc: Global,
-        from: &mut Deserializer<'_, '_, F>,
-    ) -> Result<WorkDoneProgressReport, F::Error> {
-        read_object(alloc, from)
     }
 }
 
@@ -304,24 +298,22 @@ impl ToJson for WorkDoneProgressEnd {
     }
 }
 
-impl Keyed for WorkDoneProgressEnd {
-    const KEYS: &'static [&'static str] = &["kind", "message"];
-}
+impl FromJson for WorkDoneProgressEnd {
+    ghost reads = { λ json it. IsObject json
+        × Named (codes "kind") (codes "end") json
+        × Optional ⟦<String as FromJson>⟧.reads (codes "message") json it.message };
 
-impl ReadMembers for WorkDoneProgressEnd {
-    fn read<S: Source>(members: &mut S) -> WorkDoneProgressEnd {
-        members.named("end");
-        WorkDoneProgressEnd {
-            message: members.optional(),
+    fn from_json(alloc: Global, value: &Value) -> Result<WorkDoneProgressEnd, Misfit> {
+        let read = Members::new(alloc, value)
+            .named("kind", "end")
+            .optional("message")
+            .end();
+        match read {
+            Ok(read) => {
+                let (((), ()), message) = read;
+                Ok(WorkDoneProgressEnd { message })
+            }
+            Err(misfit) => Err(misfit),
         }
-    }
-}
-
-impl DeserializeOwned for WorkDoneProgressEnd {
-    fn deserialize_owned<F: Format>(
-        alloc: Global,
-        from: &mut Deserializer<'_, '_, F>,
-    ) -> Result<WorkDoneProgressEnd, F::Error> {
-        read_object(alloc, from)
     }
 }

@@ -2,9 +2,9 @@
 // `tools/types` wrote this file from `types.txt`: change that.
 ghost use Rattle.std.specs.Prelude.{◌∷◌, [], Some, codes, option_map};
 ghost use Rattle.lsp_types.specs.Json.{object_of};
+ghost use Rattle.lsp_types.specs.Reads.{IsObject, Optional, Required};
 
-use crate::json::{Keyed, Object, ReadMembers, Source, ToJson, read_object};
-use serde::{DeserializeOwned, Deserializer, Format};
+use crate::json::{FromJson, Members, Misfit, Object, ToJson};
 use serde_json::Value;
 use std::alloc::{AllocError, Global};
 
@@ -30,24 +30,22 @@ impl ToJson for SemanticTokens {
     }
 }
 
-impl Keyed for SemanticTokens {
-    const KEYS: &'static [&'static str] = &["resultId", "data"];
-}
+impl FromJson for SemanticTokens {
+    ghost reads = { λ json it. IsObject json
+        × Optional ⟦<String as FromJson>⟧.reads (codes "resultId") json it.result_id
+        × Required ⟦<Vec<u32> as FromJson>⟧.reads (codes "data") json it.«data» };
 
-impl ReadMembers for SemanticTokens {
-    fn read<S: Source>(members: &mut S) -> SemanticTokens {
-        SemanticTokens {
-            result_id: members.optional(),
-            data: members.required(),
+    fn from_json(alloc: Global, value: &Value) -> Result<SemanticTokens, Misfit> {
+        let read = Members::new(alloc, value)
+            .optional("resultId")
+            .required("data")
+            .end();
+        match read {
+            Ok(read) => {
+                let (((), result_id), data) = read;
+                Ok(SemanticTokens { result_id, data })
+            }
+            Err(misfit) => Err(misfit),
         }
-    }
-}
-
-impl DeserializeOwned for SemanticTokens {
-    fn deserialize_owned<F: Format>(
-        alloc: Global,
-        from: &mut Deserializer<'_, '_, F>,
-    ) -> Result<SemanticTokens, F::Error> {
-        read_object(alloc, from)
     }
 }

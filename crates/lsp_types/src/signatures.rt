@@ -3,15 +3,13 @@
 ghost use Rattle.std.specs.Prelude.{◌∷◌, [], Some, codes, option_map};
 ghost use Rattle.serde_json.specs.Data.{number, unsigned};
 ghost use Rattle.lsp_types.specs.Json.{object_of};
+ghost use Rattle.lsp_types.specs.Reads.{IfFits, IsObject, IsWithin, Optional, Required};
 
 use crate::documents::TextDocumentIdentifier;
 use crate::hovers::MarkupContent;
-use crate::json::{
-    Blank, Keyed, Object, ReadMembers, Source, ToJson, if_fits, number_within, read_object,
-};
+use crate::json::{FromJson, Members, Misfit, Object, ToJson, number_within};
 use crate::progress::ProgressToken;
 use lsp_text::Position;
-use serde::{Deserialize, DeserializeOwned, Deserializer, Format};
 use serde_json::Value;
 use std::alloc::{AllocError, Global};
 
@@ -60,26 +58,29 @@ impl ToJson for SignatureHelp {
     }
 }
 
-impl Keyed for SignatureHelp {
-    const KEYS: &'static [&'static str] = &["signatures", "activeSignature", "activeParameter"];
-}
+impl FromJson for SignatureHelp {
+    ghost reads = { λ json it. IsObject json
+        × Required ⟦<Vec<SignatureInformation> as FromJson>⟧.reads (codes "signatures") json it.signatures
+        × Optional ⟦<u32 as FromJson>⟧.reads (codes "activeSignature") json it.active_signature
+        × Optional ⟦<u32 as FromJson>⟧.reads (codes "activeParameter") json it.active_parameter };
 
-impl ReadMembers for SignatureHelp {
-    fn read<S: Source>(members: &mut S) -> SignatureHelp {
-        SignatureHelp {
-            signatures: members.required(),
-            active_signature: members.optional(),
-            active_parameter: members.optional(),
+    fn from_json(alloc: Global, value: &Value) -> Result<SignatureHelp, Misfit> {
+        let read = Members::new(alloc, value)
+            .required("signatures")
+            .optional("activeSignature")
+            .optional("activeParameter")
+            .end();
+        match read {
+            Ok(read) => {
+                let ((((), signatures), active_signature), active_parameter) = read;
+                Ok(SignatureHelp {
+                    signatures,
+                    active_signature,
+                    active_parameter,
+                })
+            }
+            Err(misfit) => Err(misfit),
         }
-    }
-}
-
-impl DeserializeOwned for SignatureHelp {
-    fn deserialize_owned<F: Format>(
-        alloc: Global,
-        from: &mut Deserializer<'_, '_, F>,
-    ) -> Result<SignatureHelp, F::Error> {
-        read_object(alloc, from)
     }
 }
 
@@ -134,41 +135,32 @@ impl ToJson for SignatureInformation {
     }
 }
 
-impl Keyed for SignatureInformation {
-    const KEYS: &'static [&'static str] = &[
-        "label",
-        "documentation",
-        "parameters",
-        "activeParameter",
-    ];
-}
+impl FromJson for SignatureInformation {
+    ghost reads = { λ json it. IsObject json
+        × Required ⟦<String as FromJson>⟧.reads (codes "label") json it.label
+        × Optional ⟦<MarkupContent as FromJson>⟧.reads (codes "documentation") json it.documentation
+        × Optional ⟦<Vec<ParameterInformation> as FromJson>⟧.reads (codes "parameters") json it.parameters
+        × Optional ⟦<u32 as FromJson>⟧.reads (codes "activeParameter") json it.active_parameter };
 
-impl ReadMembers for SignatureInformation {
-    fn read<S: Source>(members: &mut S) -> SignatureInformation {
-        SignatureInformation {
-            label: members.required(),
-            documentation: members.optional(),
-            parameters: members.optional(),
-            active_parameter: members.optional(),
+    fn from_json(alloc: Global, value: &Value) -> Result<SignatureInformation, Misfit> {
+        let read = Members::new(alloc, value)
+            .required("label")
+            .optional("documentation")
+            .optional("parameters")
+            .optional("activeParameter")
+            .end();
+        match read {
+            Ok(read) => {
+                let (((((), label), documentation), parameters), active_parameter) = read;
+                Ok(SignatureInformation {
+                    label,
+                    documentation,
+                    parameters,
+                    active_parameter,
+                })
+            }
+            Err(misfit) => Err(misfit),
         }
-    }
-}
-
-impl<'de> Deserialize<'de> for SignatureInformation {
-    fn deserialize<F: Format>(
-        alloc: Global,
-        from: &mut Deserializer<'de, '_, F>,
-    ) -> Result<SignatureInformation, F::Error> {
-        read_object(alloc, from)
-    }
-}
-
-impl DeserializeOwned for SignatureInformation {
-    fn deserialize_owned<F: Format>(
-        alloc: Global,
-        from: &mut Deserializer<'_, '_, F>,
-    ) -> Result<SignatureInformation, F::Error> {
-        read_object(alloc, from)
     }
 }
 
@@ -211,34 +203,26 @@ impl ToJson for ParameterInformation {
     }
 }
 
-impl Keyed for ParameterInformation {
-    const KEYS: &'static [&'static str] = &["label", "documentation"];
-}
+impl FromJson for ParameterInformation {
+    ghost reads = { λ json it. IsObject json
+        × Required ⟦<String as FromJson>⟧.reads (codes "label") json it.label
+        × Optional ⟦<MarkupContent as FromJson>⟧.reads (codes "documentation") json it.documentation };
 
-impl ReadMembers for ParameterInformation {
-    fn read<S: Source>(members: &mut S) -> ParameterInformation {
-        ParameterInformation {
-            label: members.required(),
-            documentation: members.optional(),
+    fn from_json(alloc: Global, value: &Value) -> Result<ParameterInformation, Misfit> {
+        let read = Members::new(alloc, value)
+            .required("label")
+            .optional("documentation")
+            .end();
+        match read {
+            Ok(read) => {
+                let (((), label), documentation) = read;
+                Ok(ParameterInformation {
+                    label,
+                    documentation,
+                })
+            }
+            Err(misfit) => Err(misfit),
         }
-    }
-}
-
-impl<'de> Deserialize<'de> for ParameterInformation {
-    fn deserialize<F: Format>(
-        alloc: Global,
-        from: &mut Deserializer<'de, '_, F>,
-    ) -> Result<ParameterInformation, F::Error> {
-        read_object(alloc, from)
-    }
-}
-
-impl DeserializeOwned for ParameterInformation {
-    fn deserialize_owned<F: Format>(
-        alloc: Global,
-        from: &mut Deserializer<'_, '_, F>,
-    ) -> Result<ParameterInformation, F::Error> {
-        read_object(alloc, from)
     }
 }
 
@@ -263,30 +247,14 @@ impl ToJson for SignatureHelpTriggerKind {
     }
 }
 
-impl<'de> Deserialize<'de> for SignatureHelpTriggerKind {
-    fn deserialize<F: Format>(
-        alloc: Global,
-        from: &mut Deserializer<'de, '_, F>,
-    ) -> Result<SignatureHelpTriggerKind, F::Error> {
-        match number_within(alloc, from, 1, 3) {
+impl FromJson for SignatureHelpTriggerKind {
+    ghost reads = { λ json it. IsWithin 1 3 json it.0 };
+
+    fn from_json(alloc: Global, value: &Value) -> Result<SignatureHelpTriggerKind, Misfit> {
+        match number_within(alloc, value, 1, 3) {
             Ok(number) => Ok(SignatureHelpTriggerKind(number)),
-            Err(failed) => Err(failed),
+            Err(misfit) => Err(misfit),
         }
-    }
-}
-
-impl DeserializeOwned for SignatureHelpTriggerKind {
-    fn deserialize_owned<F: Format>(
-        alloc: Global,
-        from: &mut Deserializer<'_, '_, F>,
-    ) -> Result<SignatureHelpTriggerKind, F::Error> {
-        SignatureHelpTriggerKind::deserialize(alloc, from)
-    }
-}
-
-impl Blank for SignatureHelpTriggerKind {
-    fn blank(_alloc: Global) -> SignatureHelpTriggerKind {
-        SignatureHelpTriggerKind::INVOKED
     }
 }
 
@@ -320,32 +288,35 @@ impl ToJson for SignatureHelpContext {
     }
 }
 
-impl Keyed for SignatureHelpContext {
-    const KEYS: &'static [&'static str] = &[
-        "triggerKind",
-        "triggerCharacter",
-        "isRetrigger",
-        "activeSignatureHelp",
-    ];
-}
+impl FromJson for SignatureHelpContext {
+    ghost reads = { λ json it. IsObject json
+        × Required ⟦<SignatureHelpTriggerKind as FromJson>⟧.reads (codes "triggerKind") json it.trigger_kind
+        × Optional ⟦<String as FromJson>⟧.reads (codes "triggerCharacter") json it.trigger_character
+        × Required ⟦<bool as FromJson>⟧.reads (codes "isRetrigger") json it.is_retrigger
+        × Optional ⟦<SignatureHelp as FromJson>⟧.reads (codes "activeSignatureHelp") json it.active_signature_help };
 
-impl ReadMembers for SignatureHelpContext {
-    fn read<S: Source>(members: &mut S) -> SignatureHelpContext {
-        SignatureHelpContext {
-            trigger_kind: members.required(),
-            trigger_character: members.optional(),
-            is_retrigger: members.required(),
-            active_signature_help: members.optional(),
+    fn from_json(alloc: Global, value: &Value) -> Result<SignatureHelpContext, Misfit> {
+        let read = Members::new(alloc, value)
+            .required("triggerKind")
+            .optional("triggerCharacter")
+            .required("isRetrigger")
+            .optional("activeSignatureHelp")
+            .end();
+        match read {
+            Ok(read) => {
+                let (
+                    ((((), trigger_kind), trigger_character), is_retrigger),
+                    active_signature_help,
+                ) = read;
+                Ok(SignatureHelpContext {
+                    trigger_kind,
+                    trigger_character,
+                    is_retrigger,
+                    active_signature_help,
+                })
+            }
+            Err(misfit) => Err(misfit),
         }
-    }
-}
-
-impl DeserializeOwned for SignatureHelpContext {
-    fn deserialize_owned<F: Format>(
-        alloc: Global,
-        from: &mut Deserializer<'_, '_, F>,
-    ) -> Result<SignatureHelpContext, F::Error> {
-        read_object(alloc, from)
     }
 }
 
@@ -379,26 +350,31 @@ impl ToJson for SignatureHelpParams {
     }
 }
 
-impl Keyed for SignatureHelpParams {
-    const KEYS: &'static [&'static str] = &["textDocument", "position", "context", "workDoneToken"];
-}
+impl FromJson for SignatureHelpParams {
+    ghost reads = { λ json it. IsObject json
+        × Required ⟦<TextDocumentIdentifier as FromJson>⟧.reads (codes "textDocument") json it.text_document
+        × Required ⟦<Position as FromJson>⟧.reads (codes "position") json it.position
+        × IfFits ⟦<SignatureHelpContext as FromJson>⟧.reads (codes "context") json it.context
+        × IfFits ⟦<ProgressToken as FromJson>⟧.reads (codes "workDoneToken") json it.work_done_token };
 
-impl ReadMembers for SignatureHelpParams {
-    fn read<S: Source>(members: &mut S) -> SignatureHelpParams {
-        SignatureHelpParams {
-            text_document: members.required(),
-            position: members.required(),
-            context: if_fits(members),
-            work_done_token: if_fits(members),
+    fn from_json(alloc: Global, value: &Value) -> Result<SignatureHelpParams, Misfit> {
+        let read = Members::new(alloc, value)
+            .required("textDocument")
+            .required("position")
+            .if_fits("context")
+            .if_fits("workDoneToken")
+            .end();
+        match read {
+            Ok(read) => {
+                let (((((), text_document), position), context), work_done_token) = read;
+                Ok(SignatureHelpParams {
+                    text_document,
+                    position,
+                    context,
+                    work_done_token,
+                })
+            }
+            Err(misfit) => Err(misfit),
         }
-    }
-}
-
-impl DeserializeOwned for SignatureHelpParams {
-    fn deserialize_owned<F: Format>(
-        alloc: Global,
-        from: &mut Deserializer<'_, '_, F>,
-    ) -> Result<SignatureHelpParams, F::Error> {
-        read_object(alloc, from)
     }
 }

@@ -3,14 +3,12 @@
 ghost use Rattle.std.specs.Prelude.{◌∷◌, [], Some, codes, option_map};
 ghost use Rattle.serde_json.specs.Data.{number, unsigned};
 ghost use Rattle.lsp_types.specs.Json.{object_of};
+ghost use Rattle.lsp_types.specs.Reads.{IfFits, IsObject, IsWithin, Optional, Required};
 
 use crate::documents::Location;
-use crate::json::{
-    Blank, Keyed, Object, ReadMembers, Source, ToJson, if_fits, number_within, read_object,
-};
+use crate::json::{FromJson, Members, Misfit, Object, ToJson, number_within};
 use crate::progress::ProgressToken;
 use lsp_text::Range;
-use serde::{Deserialize, DeserializeOwned, Deserializer, Format};
 use serde_json::Value;
 use std::alloc::{AllocError, Global};
 
@@ -81,30 +79,14 @@ impl ToJson for SymbolKind {
     }
 }
 
-impl<'de> Deserialize<'de> for SymbolKind {
-    fn deserialize<F: Format>(
-        alloc: Global,
-        from: &mut Deserializer<'de, '_, F>,
-    ) -> Result<SymbolKind, F::Error> {
-        match number_within(alloc, from, 1, 26) {
+impl FromJson for SymbolKind {
+    ghost reads = { λ json it. IsWithin 1 26 json it.0 };
+
+    fn from_json(alloc: Global, value: &Value) -> Result<SymbolKind, Misfit> {
+        match number_within(alloc, value, 1, 26) {
             Ok(number) => Ok(SymbolKind(number)),
-            Err(failed) => Err(failed),
+            Err(misfit) => Err(misfit),
         }
-    }
-}
-
-impl DeserializeOwned for SymbolKind {
-    fn deserialize_owned<F: Format>(
-        alloc: Global,
-        from: &mut Deserializer<'_, '_, F>,
-    ) -> Result<SymbolKind, F::Error> {
-        SymbolKind::deserialize(alloc, from)
-    }
-}
-
-impl Blank for SymbolKind {
-    fn blank(_alloc: Global) -> SymbolKind {
-        SymbolKind::FILE
     }
 }
 
@@ -125,24 +107,14 @@ impl ToJson for SymbolTag {
     }
 }
 
-impl<'de> Deserialize<'de> for SymbolTag {
-    fn deserialize<F: Format>(
-        alloc: Global,
-        from: &mut Deserializer<'de, '_, F>,
-    ) -> Result<SymbolTag, F::Error> {
-        match number_within(alloc, from, 1, 1) {
-            Ok(number) => Ok(SymbolTag(number)),
-            Err(failed) => Err(failed),
-        }
-    }
-}
+impl FromJson for SymbolTag {
+    ghost reads = { λ json it. IsWithin 1 1 json it.0 };
 
-impl DeserializeOwned for SymbolTag {
-    fn deserialize_owned<F: Format>(
-        alloc: Global,
-        from: &mut Deserializer<'_, '_, F>,
-    ) -> Result<SymbolTag, F::Error> {
-        SymbolTag::deserialize(alloc, from)
+    fn from_json(alloc: Global, value: &Value) -> Result<SymbolTag, Misfit> {
+        match number_within(alloc, value, 1, 1) {
+            Ok(number) => Ok(SymbolTag(number)),
+            Err(misfit) => Err(misfit),
+        }
     }
 }
 
@@ -229,26 +201,29 @@ impl ToJson for WorkspaceSymbolParams {
     }
 }
 
-impl Keyed for WorkspaceSymbolParams {
-    const KEYS: &'static [&'static str] = &["query", "workDoneToken", "partialResultToken"];
-}
+impl FromJson for WorkspaceSymbolParams {
+    ghost reads = { λ json it. IsObject json
+        × Required ⟦<String as FromJson>⟧.reads (codes "query") json it.query
+        × IfFits ⟦<ProgressToken as FromJson>⟧.reads (codes "workDoneToken") json it.work_done_token
+        × IfFits ⟦<ProgressToken as FromJson>⟧.reads (codes "partialResultToken") json it.partial_result_token };
 
-impl ReadMembers for WorkspaceSymbolParams {
-    fn read<S: Source>(members: &mut S) -> WorkspaceSymbolParams {
-        WorkspaceSymbolParams {
-            query: members.required(),
-            work_done_token: if_fits(members),
-            partial_result_token: if_fits(members),
+    fn from_json(alloc: Global, value: &Value) -> Result<WorkspaceSymbolParams, Misfit> {
+        let read = Members::new(alloc, value)
+            .required("query")
+            .if_fits("workDoneToken")
+            .if_fits("partialResultToken")
+            .end();
+        match read {
+            Ok(read) => {
+                let ((((), query), work_done_token), partial_result_token) = read;
+                Ok(WorkspaceSymbolParams {
+                    query,
+                    work_done_token,
+                    partial_result_token,
+                })
+            }
+            Err(misfit) => Err(misfit),
         }
-    }
-}
-
-impl DeserializeOwned for WorkspaceSymbolParams {
-    fn deserialize_owned<F: Format>(
-        alloc: Global,
-        from: &mut Deserializer<'_, '_, F>,
-    ) -> Result<WorkspaceSymbolParams, F::Error> {
-        read_object(alloc, from)
     }
 }
 
@@ -315,35 +290,37 @@ impl ToJson for WorkspaceSymbol {
     }
 }
 
-impl Keyed for WorkspaceSymbol {
-    const KEYS: &'static [&'static str] = &[
-        "name",
-        "kind",
-        "tags",
-        "containerName",
-        "location",
-        "data",
-    ];
-}
+impl FromJson for WorkspaceSymbol {
+    ghost reads = { λ json it. IsObject json
+        × Required ⟦<String as FromJson>⟧.reads (codes "name") json it.name
+        × Required ⟦<SymbolKind as FromJson>⟧.reads (codes "kind") json it.kind
+        × Optional ⟦<Vec<SymbolTag> as FromJson>⟧.reads (codes "tags") json it.tags
+        × Optional ⟦<String as FromJson>⟧.reads (codes "containerName") json it.container_name
+        × Required ⟦<Location as FromJson>⟧.reads (codes "location") json it.location
+        × Optional ⟦<Value as FromJson>⟧.reads (codes "data") json it.«data» };
 
-impl ReadMembers for WorkspaceSymbol {
-    fn read<S: Source>(members: &mut S) -> WorkspaceSymbol {
-        WorkspaceSymbol {
-            name: members.required(),
-            kind: members.required(),
-            tags: members.optional(),
-            container_name: members.optional(),
-            location: members.required(),
-            data: members.optional(),
+    fn from_json(alloc: Global, value: &Value) -> Result<WorkspaceSymbol, Misfit> {
+        let read = Members::new(alloc, value)
+            .required("name")
+            .required("kind")
+            .optional("tags")
+            .optional("containerName")
+            .required("location")
+            .optional("data")
+            .end();
+        match read {
+            Ok(read) => {
+                let (((((((), name), kind), tags), container_name), location), data) = read;
+                Ok(WorkspaceSymbol {
+                    name,
+                    kind,
+                    tags,
+                    container_name,
+                    location,
+                    data,
+                })
+            }
+            Err(misfit) => Err(misfit),
         }
-    }
-}
-
-impl DeserializeOwned for WorkspaceSymbol {
-    fn deserialize_owned<F: Format>(
-        alloc: Global,
-        from: &mut Deserializer<'_, '_, F>,
-    ) -> Result<WorkspaceSymbol, F::Error> {
-        read_object(alloc, from)
     }
 }

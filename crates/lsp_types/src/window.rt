@@ -3,10 +3,10 @@
 ghost use Rattle.std.specs.Prelude.{◌∷◌, [], Some, codes, option_map};
 ghost use Rattle.serde_json.specs.Data.{number, unsigned};
 ghost use Rattle.lsp_types.specs.Json.{object_of};
+ghost use Rattle.lsp_types.specs.Reads.{IsObject, IsWithin, Optional, Required};
 
-use crate::json::{Blank, Keyed, Object, ReadMembers, Source, ToJson, number_within, read_object};
+use crate::json::{FromJson, Members, Misfit, Object, ToJson, number_within};
 use lsp_text::Range;
-use serde::{Deserialize, DeserializeOwned, Deserializer, Format};
 use serde_json::Value;
 use std::alloc::{AllocError, Global};
 
@@ -33,30 +33,14 @@ impl ToJson for MessageType {
     }
 }
 
-impl<'de> Deserialize<'de> for MessageType {
-    fn deserialize<F: Format>(
-        alloc: Global,
-        from: &mut Deserializer<'de, '_, F>,
-    ) -> Result<MessageType, F::Error> {
-        match number_within(alloc, from, 1, 4) {
+impl FromJson for MessageType {
+    ghost reads = { λ json it. IsWithin 1 4 json it.0 };
+
+    fn from_json(alloc: Global, value: &Value) -> Result<MessageType, Misfit> {
+        match number_within(alloc, value, 1, 4) {
             Ok(number) => Ok(MessageType(number)),
-            Err(failed) => Err(failed),
+            Err(misfit) => Err(misfit),
         }
-    }
-}
-
-impl DeserializeOwned for MessageType {
-    fn deserialize_owned<F: Format>(
-        alloc: Global,
-        from: &mut Deserializer<'_, '_, F>,
-    ) -> Result<MessageType, F::Error> {
-        MessageType::deserialize(alloc, from)
-    }
-}
-
-impl Blank for MessageType {
-    fn blank(_alloc: Global) -> MessageType {
-        MessageType::ERROR
     }
 }
 
@@ -82,25 +66,23 @@ impl ToJson for ShowMessageParams {
     }
 }
 
-impl Keyed for ShowMessageParams {
-    const KEYS: &'static [&'static str] = &["type", "message"];
-}
+impl FromJson for ShowMessageParams {
+    ghost reads = { λ json it. IsObject json
+        × Required ⟦<MessageType as FromJson>⟧.reads (codes "type") json it.typ
+        × Required ⟦<String as FromJson>⟧.reads (codes "message") json it.message };
 
-impl ReadMembers for ShowMessageParams {
-    fn read<S: Source>(members: &mut S) -> ShowMessageParams {
-        ShowMessageParams {
-            typ: members.required(),
-            message: members.required(),
+    fn from_json(alloc: Global, value: &Value) -> Result<ShowMessageParams, Misfit> {
+        let read = Members::new(alloc, value)
+            .required("type")
+            .required("message")
+            .end();
+        match read {
+            Ok(read) => {
+                let (((), typ), message) = read;
+                Ok(ShowMessageParams { typ, message })
+            }
+            Err(misfit) => Err(misfit),
         }
-    }
-}
-
-impl DeserializeOwned for ShowMessageParams {
-    fn deserialize_owned<F: Format>(
-        alloc: Global,
-        from: &mut Deserializer<'_, '_, F>,
-    ) -> Result<ShowMessageParams, F::Error> {
-        read_object(alloc, from)
     }
 }
 
@@ -150,26 +132,29 @@ impl ToJson for ShowMessageRequestParams {
     }
 }
 
-impl Keyed for ShowMessageRequestParams {
-    const KEYS: &'static [&'static str] = &["type", "message", "actions"];
-}
+impl FromJson for ShowMessageRequestParams {
+    ghost reads = { λ json it. IsObject json
+        × Required ⟦<MessageType as FromJson>⟧.reads (codes "type") json it.typ
+        × Required ⟦<String as FromJson>⟧.reads (codes "message") json it.message
+        × Optional ⟦<Vec<MessageActionItem> as FromJson>⟧.reads (codes "actions") json it.actions };
 
-impl ReadMembers for ShowMessageRequestParams {
-    fn read<S: Source>(members: &mut S) -> ShowMessageRequestParams {
-        ShowMessageRequestParams {
-            typ: members.required(),
-            message: members.required(),
-            actions: members.optional(),
+    fn from_json(alloc: Global, value: &Value) -> Result<ShowMessageRequestParams, Misfit> {
+        let read = Members::new(alloc, value)
+            .required("type")
+            .required("message")
+            .optional("actions")
+            .end();
+        match read {
+            Ok(read) => {
+                let ((((), typ), message), actions) = read;
+                Ok(ShowMessageRequestParams {
+                    typ,
+                    message,
+                    actions,
+                })
+            }
+            Err(misfit) => Err(misfit),
         }
-    }
-}
-
-impl DeserializeOwned for ShowMessageRequestParams {
-    fn deserialize_owned<F: Format>(
-        alloc: Global,
-        from: &mut Deserializer<'_, '_, F>,
-    ) -> Result<ShowMessageRequestParams, F::Error> {
-        read_object(alloc, from)
     }
 }
 
@@ -189,24 +174,19 @@ impl ToJson for MessageActionItem {
     }
 }
 
-impl Keyed for MessageActionItem {
-    const KEYS: &'static [&'static str] = &["title"];
-}
+impl FromJson for MessageActionItem {
+    ghost reads = { λ json it. IsObject json
+        × Required ⟦<String as FromJson>⟧.reads (codes "title") json it.title };
 
-impl ReadMembers for MessageActionItem {
-    fn read<S: Source>(members: &mut S) -> MessageActionItem {
-        MessageActionItem {
-            title: members.required(),
+    fn from_json(alloc: Global, value: &Value) -> Result<MessageActionItem, Misfit> {
+        let read = Members::new(alloc, value).required("title").end();
+        match read {
+            Ok(read) => {
+                let ((), title) = read;
+                Ok(MessageActionItem { title })
+            }
+            Err(misfit) => Err(misfit),
         }
-    }
-}
-
-impl DeserializeOwned for MessageActionItem {
-    fn deserialize_owned<F: Format>(
-        alloc: Global,
-        from: &mut Deserializer<'_, '_, F>,
-    ) -> Result<MessageActionItem, F::Error> {
-        read_object(alloc, from)
     }
 }
 
@@ -261,27 +241,32 @@ impl ToJson for ShowDocumentParams {
     }
 }
 
-impl Keyed for ShowDocumentParams {
-    const KEYS: &'static [&'static str] = &["uri", "external", "takeFocus", "selection"];
-}
+impl FromJson for ShowDocumentParams {
+    ghost reads = { λ json it. IsObject json
+        × Required ⟦<String as FromJson>⟧.reads (codes "uri") json it.uri
+        × Optional ⟦<bool as FromJson>⟧.reads (codes "external") json it.external
+        × Optional ⟦<bool as FromJson>⟧.reads (codes "takeFocus") json it.take_focus
+        × Optional ⟦<Range as FromJson>⟧.reads (codes "selection") json it.selection };
 
-impl ReadMembers for ShowDocumentParams {
-    fn read<S: Source>(members: &mut S) -> ShowDocumentParams {
-        ShowDocumentParams {
-            uri: members.required(),
-            external: members.optional(),
-            take_focus: members.optional(),
-            selection: members.optional(),
+    fn from_json(alloc: Global, value: &Value) -> Result<ShowDocumentParams, Misfit> {
+        let read = Members::new(alloc, value)
+            .required("uri")
+            .optional("external")
+            .optional("takeFocus")
+            .optional("selection")
+            .end();
+        match read {
+            Ok(read) => {
+                let (((((), uri), external), take_focus), selection) = read;
+                Ok(ShowDocumentParams {
+                    uri,
+                    external,
+                    take_focus,
+                    selection,
+                })
+            }
+            Err(misfit) => Err(misfit),
         }
-    }
-}
-
-impl DeserializeOwned for ShowDocumentParams {
-    fn deserialize_owned<F: Format>(
-        alloc: Global,
-        from: &mut Deserializer<'_, '_, F>,
-    ) -> Result<ShowDocumentParams, F::Error> {
-        read_object(alloc, from)
     }
 }
 
@@ -301,24 +286,19 @@ impl ToJson for ShowDocumentResult {
     }
 }
 
-impl Keyed for ShowDocumentResult {
-    const KEYS: &'static [&'static str] = &["success"];
-}
+impl FromJson for ShowDocumentResult {
+    ghost reads = { λ json it. IsObject json
+        × Required ⟦<bool as FromJson>⟧.reads (codes "success") json it.success };
 
-impl ReadMembers for ShowDocumentResult {
-    fn read<S: Source>(members: &mut S) -> ShowDocumentResult {
-        ShowDocumentResult {
-            success: members.required(),
+    fn from_json(alloc: Global, value: &Value) -> Result<ShowDocumentResult, Misfit> {
+        let read = Members::new(alloc, value).required("success").end();
+        match read {
+            Ok(read) => {
+                let ((), success) = read;
+                Ok(ShowDocumentResult { success })
+            }
+            Err(misfit) => Err(misfit),
         }
-    }
-}
-
-impl DeserializeOwned for ShowDocumentResult {
-    fn deserialize_owned<F: Format>(
-        alloc: Global,
-        from: &mut Deserializer<'_, '_, F>,
-    ) -> Result<ShowDocumentResult, F::Error> {
-        read_object(alloc, from)
     }
 }
 

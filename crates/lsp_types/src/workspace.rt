@@ -3,13 +3,11 @@
 ghost use Rattle.std.specs.Prelude.{◌∷◌, [], Some, codes, option_map};
 ghost use Rattle.serde_json.specs.Data.{number, unsigned};
 ghost use Rattle.lsp_types.specs.Json.{object_of};
+ghost use Rattle.lsp_types.specs.Reads.{IfFits, IsObject, IsWithin, Optional, Required};
 
 use crate::edits::WorkspaceEdit;
-use crate::json::{
-    Blank, Keyed, Object, ReadMembers, Source, ToJson, if_fits, number_within, read_object,
-};
+use crate::json::{FromJson, Members, Misfit, Object, ToJson, number_within};
 use crate::progress::ProgressToken;
-use serde::{Deserialize, DeserializeOwned, Deserializer, Format};
 use serde_json::Value;
 use std::alloc::{AllocError, Global};
 
@@ -35,34 +33,23 @@ impl ToJson for WorkspaceFolder {
     }
 }
 
-impl Keyed for WorkspaceFolder {
-    const KEYS: &'static [&'static str] = &["uri", "name"];
-}
+impl FromJson for WorkspaceFolder {
+    ghost reads = { λ json it. IsObject json
+        × Required ⟦<String as FromJson>⟧.reads (codes "uri") json it.uri
+        × IfFits ⟦<String as FromJson>⟧.reads (codes "name") json it.name };
 
-impl ReadMembers for WorkspaceFolder {
-    fn read<S: Source>(members: &mut S) -> WorkspaceFolder {
-        WorkspaceFolder {
-            uri: members.required(),
-            name: if_fits(members),
+    fn from_json(alloc: Global, value: &Value) -> Result<WorkspaceFolder, Misfit> {
+        let read = Members::new(alloc, value)
+            .required("uri")
+            .if_fits("name")
+            .end();
+        match read {
+            Ok(read) => {
+                let (((), uri), name) = read;
+                Ok(WorkspaceFolder { uri, name })
+            }
+            Err(misfit) => Err(misfit),
         }
-    }
-}
-
-impl<'de> Deserialize<'de> for WorkspaceFolder {
-    fn deserialize<F: Format>(
-        alloc: Global,
-        from: &mut Deserializer<'de, '_, F>,
-    ) -> Result<WorkspaceFolder, F::Error> {
-        read_object(alloc, from)
-    }
-}
-
-impl DeserializeOwned for WorkspaceFolder {
-    fn deserialize_owned<F: Format>(
-        alloc: Global,
-        from: &mut Deserializer<'_, '_, F>,
-    ) -> Result<WorkspaceFolder, F::Error> {
-        read_object(alloc, from)
     }
 }
 
@@ -82,24 +69,19 @@ impl ToJson for DidChangeWorkspaceFoldersParams {
     }
 }
 
-impl Keyed for DidChangeWorkspaceFoldersParams {
-    const KEYS: &'static [&'static str] = &["event"];
-}
+impl FromJson for DidChangeWorkspaceFoldersParams {
+    ghost reads = { λ json it. IsObject json
+        × Required ⟦<WorkspaceFoldersChangeEvent as FromJson>⟧.reads (codes "event") json it.event };
 
-impl ReadMembers for DidChangeWorkspaceFoldersParams {
-    fn read<S: Source>(members: &mut S) -> DidChangeWorkspaceFoldersParams {
-        DidChangeWorkspaceFoldersParams {
-            event: members.required(),
+    fn from_json(alloc: Global, value: &Value) -> Result<DidChangeWorkspaceFoldersParams, Misfit> {
+        let read = Members::new(alloc, value).required("event").end();
+        match read {
+            Ok(read) => {
+                let ((), event) = read;
+                Ok(DidChangeWorkspaceFoldersParams { event })
+            }
+            Err(misfit) => Err(misfit),
         }
-    }
-}
-
-impl DeserializeOwned for DidChangeWorkspaceFoldersParams {
-    fn deserialize_owned<F: Format>(
-        alloc: Global,
-        from: &mut Deserializer<'_, '_, F>,
-    ) -> Result<DidChangeWorkspaceFoldersParams, F::Error> {
-        read_object(alloc, from)
     }
 }
 
@@ -125,25 +107,23 @@ impl ToJson for WorkspaceFoldersChangeEvent {
     }
 }
 
-impl Keyed for WorkspaceFoldersChangeEvent {
-    const KEYS: &'static [&'static str] = &["added", "removed"];
-}
+impl FromJson for WorkspaceFoldersChangeEvent {
+    ghost reads = { λ json it. IsObject json
+        × Required ⟦<Vec<WorkspaceFolder> as FromJson>⟧.reads (codes "added") json it.added
+        × Required ⟦<Vec<WorkspaceFolder> as FromJson>⟧.reads (codes "removed") json it.removed };
 
-impl ReadMembers for WorkspaceFoldersChangeEvent {
-    fn read<S: Source>(members: &mut S) -> WorkspaceFoldersChangeEvent {
-        WorkspaceFoldersChangeEvent {
-            added: members.required(),
-            removed: members.required(),
+    fn from_json(alloc: Global, value: &Value) -> Result<WorkspaceFoldersChangeEvent, Misfit> {
+        let read = Members::new(alloc, value)
+            .required("added")
+            .required("removed")
+            .end();
+        match read {
+            Ok(read) => {
+                let (((), added), removed) = read;
+                Ok(WorkspaceFoldersChangeEvent { added, removed })
+            }
+            Err(misfit) => Err(misfit),
         }
-    }
-}
-
-impl DeserializeOwned for WorkspaceFoldersChangeEvent {
-    fn deserialize_owned<F: Format>(
-        alloc: Global,
-        from: &mut Deserializer<'_, '_, F>,
-    ) -> Result<WorkspaceFoldersChangeEvent, F::Error> {
-        read_object(alloc, from)
     }
 }
 
@@ -163,24 +143,19 @@ impl ToJson for DidChangeConfigurationParams {
     }
 }
 
-impl Keyed for DidChangeConfigurationParams {
-    const KEYS: &'static [&'static str] = &["settings"];
-}
+impl FromJson for DidChangeConfigurationParams {
+    ghost reads = { λ json it. IsObject json
+        × Required ⟦<Value as FromJson>⟧.reads (codes "settings") json it.settings };
 
-impl ReadMembers for DidChangeConfigurationParams {
-    fn read<S: Source>(members: &mut S) -> DidChangeConfigurationParams {
-        DidChangeConfigurationParams {
-            settings: members.required(),
+    fn from_json(alloc: Global, value: &Value) -> Result<DidChangeConfigurationParams, Misfit> {
+        let read = Members::new(alloc, value).required("settings").end();
+        match read {
+            Ok(read) => {
+                let ((), settings) = read;
+                Ok(DidChangeConfigurationParams { settings })
+            }
+            Err(misfit) => Err(misfit),
         }
-    }
-}
-
-impl DeserializeOwned for DidChangeConfigurationParams {
-    fn deserialize_owned<F: Format>(
-        alloc: Global,
-        from: &mut Deserializer<'_, '_, F>,
-    ) -> Result<DidChangeConfigurationParams, F::Error> {
-        read_object(alloc, from)
     }
 }
 
@@ -205,30 +180,14 @@ impl ToJson for FileChangeType {
     }
 }
 
-impl<'de> Deserialize<'de> for FileChangeType {
-    fn deserialize<F: Format>(
-        alloc: Global,
-        from: &mut Deserializer<'de, '_, F>,
-    ) -> Result<FileChangeType, F::Error> {
-        match number_within(alloc, from, 1, 3) {
+impl FromJson for FileChangeType {
+    ghost reads = { λ json it. IsWithin 1 3 json it.0 };
+
+    fn from_json(alloc: Global, value: &Value) -> Result<FileChangeType, Misfit> {
+        match number_within(alloc, value, 1, 3) {
             Ok(number) => Ok(FileChangeType(number)),
-            Err(failed) => Err(failed),
+            Err(misfit) => Err(misfit),
         }
-    }
-}
-
-impl DeserializeOwned for FileChangeType {
-    fn deserialize_owned<F: Format>(
-        alloc: Global,
-        from: &mut Deserializer<'_, '_, F>,
-    ) -> Result<FileChangeType, F::Error> {
-        FileChangeType::deserialize(alloc, from)
-    }
-}
-
-impl Blank for FileChangeType {
-    fn blank(_alloc: Global) -> FileChangeType {
-        FileChangeType::CREATED
     }
 }
 
@@ -254,25 +213,23 @@ impl ToJson for FileEvent {
     }
 }
 
-impl Keyed for FileEvent {
-    const KEYS: &'static [&'static str] = &["uri", "type"];
-}
+impl FromJson for FileEvent {
+    ghost reads = { λ json it. IsObject json
+        × Required ⟦<String as FromJson>⟧.reads (codes "uri") json it.uri
+        × Required ⟦<FileChangeType as FromJson>⟧.reads (codes "type") json it.typ };
 
-impl ReadMembers for FileEvent {
-    fn read<S: Source>(members: &mut S) -> FileEvent {
-        FileEvent {
-            uri: members.required(),
-            typ: members.required(),
+    fn from_json(alloc: Global, value: &Value) -> Result<FileEvent, Misfit> {
+        let read = Members::new(alloc, value)
+            .required("uri")
+            .required("type")
+            .end();
+        match read {
+            Ok(read) => {
+                let (((), uri), typ) = read;
+                Ok(FileEvent { uri, typ })
+            }
+            Err(misfit) => Err(misfit),
         }
-    }
-}
-
-impl DeserializeOwned for FileEvent {
-    fn deserialize_owned<F: Format>(
-        alloc: Global,
-        from: &mut Deserializer<'_, '_, F>,
-    ) -> Result<FileEvent, F::Error> {
-        read_object(alloc, from)
     }
 }
 
@@ -292,24 +249,19 @@ impl ToJson for DidChangeWatchedFilesParams {
     }
 }
 
-impl Keyed for DidChangeWatchedFilesParams {
-    const KEYS: &'static [&'static str] = &["changes"];
-}
+impl FromJson for DidChangeWatchedFilesParams {
+    ghost reads = { λ json it. IsObject json
+        × Required ⟦<Vec<FileEvent> as FromJson>⟧.reads (codes "changes") json it.changes };
 
-impl ReadMembers for DidChangeWatchedFilesParams {
-    fn read<S: Source>(members: &mut S) -> DidChangeWatchedFilesParams {
-        DidChangeWatchedFilesParams {
-            changes: members.required(),
+    fn from_json(alloc: Global, value: &Value) -> Result<DidChangeWatchedFilesParams, Misfit> {
+        let read = Members::new(alloc, value).required("changes").end();
+        match read {
+            Ok(read) => {
+                let ((), changes) = read;
+                Ok(DidChangeWatchedFilesParams { changes })
+            }
+            Err(misfit) => Err(misfit),
         }
-    }
-}
-
-impl DeserializeOwned for DidChangeWatchedFilesParams {
-    fn deserialize_owned<F: Format>(
-        alloc: Global,
-        from: &mut Deserializer<'_, '_, F>,
-    ) -> Result<DidChangeWatchedFilesParams, F::Error> {
-        read_object(alloc, from)
     }
 }
 
@@ -329,24 +281,19 @@ impl ToJson for ConfigurationParams {
     }
 }
 
-impl Keyed for ConfigurationParams {
-    const KEYS: &'static [&'static str] = &["items"];
-}
+impl FromJson for ConfigurationParams {
+    ghost reads = { λ json it. IsObject json
+        × Required ⟦<Vec<ConfigurationItem> as FromJson>⟧.reads (codes "items") json it.items };
 
-impl ReadMembers for ConfigurationParams {
-    fn read<S: Source>(members: &mut S) -> ConfigurationParams {
-        ConfigurationParams {
-            items: members.required(),
+    fn from_json(alloc: Global, value: &Value) -> Result<ConfigurationParams, Misfit> {
+        let read = Members::new(alloc, value).required("items").end();
+        match read {
+            Ok(read) => {
+                let ((), items) = read;
+                Ok(ConfigurationParams { items })
+            }
+            Err(misfit) => Err(misfit),
         }
-    }
-}
-
-impl DeserializeOwned for ConfigurationParams {
-    fn deserialize_owned<F: Format>(
-        alloc: Global,
-        from: &mut Deserializer<'_, '_, F>,
-    ) -> Result<ConfigurationParams, F::Error> {
-        read_object(alloc, from)
     }
 }
 
@@ -389,34 +336,23 @@ impl ToJson for ConfigurationItem {
     }
 }
 
-impl Keyed for ConfigurationItem {
-    const KEYS: &'static [&'static str] = &["scopeUri", "section"];
-}
+impl FromJson for ConfigurationItem {
+    ghost reads = { λ json it. IsObject json
+        × Optional ⟦<String as FromJson>⟧.reads (codes "scopeUri") json it.scope_uri
+        × Optional ⟦<String as FromJson>⟧.reads (codes "section") json it.section };
 
-impl ReadMembers for ConfigurationItem {
-    fn read<S: Source>(members: &mut S) -> ConfigurationItem {
-        ConfigurationItem {
-            scope_uri: members.optional(),
-            section: members.optional(),
+    fn from_json(alloc: Global, value: &Value) -> Result<ConfigurationItem, Misfit> {
+        let read = Members::new(alloc, value)
+            .optional("scopeUri")
+            .optional("section")
+            .end();
+        match read {
+            Ok(read) => {
+                let (((), scope_uri), section) = read;
+                Ok(ConfigurationItem { scope_uri, section })
+            }
+            Err(misfit) => Err(misfit),
         }
-    }
-}
-
-impl<'de> Deserialize<'de> for ConfigurationItem {
-    fn deserialize<F: Format>(
-        alloc: Global,
-        from: &mut Deserializer<'de, '_, F>,
-    ) -> Result<ConfigurationItem, F::Error> {
-        read_object(alloc, from)
-    }
-}
-
-impl DeserializeOwned for ConfigurationItem {
-    fn deserialize_owned<F: Format>(
-        alloc: Global,
-        from: &mut Deserializer<'_, '_, F>,
-    ) -> Result<ConfigurationItem, F::Error> {
-        read_object(alloc, from)
     }
 }
 
@@ -465,35 +401,29 @@ impl ToJson for Command {
     }
 }
 
-impl Keyed for Command {
-    const KEYS: &'static [&'static str] = &["title", "command", "arguments"];
-}
+impl FromJson for Command {
+    ghost reads = { λ json it. IsObject json
+        × Required ⟦<String as FromJson>⟧.reads (codes "title") json it.title
+        × Required ⟦<String as FromJson>⟧.reads (codes "command") json it.command
+        × Optional ⟦<Vec<Value> as FromJson>⟧.reads (codes "arguments") json it.arguments };
 
-impl ReadMembers for Command {
-    fn read<S: Source>(members: &mut S) -> Command {
-        Command {
-            title: members.required(),
-            command: members.required(),
-            arguments: members.optional(),
+    fn from_json(alloc: Global, value: &Value) -> Result<Command, Misfit> {
+        let read = Members::new(alloc, value)
+            .required("title")
+            .required("command")
+            .optional("arguments")
+            .end();
+        match read {
+            Ok(read) => {
+                let ((((), title), command), arguments) = read;
+                Ok(Command {
+                    title,
+                    command,
+                    arguments,
+                })
+            }
+            Err(misfit) => Err(misfit),
         }
-    }
-}
-
-impl<'de> Deserialize<'de> for Command {
-    fn deserialize<F: Format>(
-        alloc: Global,
-        from: &mut Deserializer<'de, '_, F>,
-    ) -> Result<Command, F::Error> {
-        read_object(alloc, from)
-    }
-}
-
-impl DeserializeOwned for Command {
-    fn deserialize_owned<F: Format>(
-        alloc: Global,
-        from: &mut Deserializer<'_, '_, F>,
-    ) -> Result<Command, F::Error> {
-        read_object(alloc, from)
     }
 }
 
@@ -523,26 +453,29 @@ impl ToJson for ExecuteCommandParams {
     }
 }
 
-impl Keyed for ExecuteCommandParams {
-    const KEYS: &'static [&'static str] = &["command", "arguments", "workDoneToken"];
-}
+impl FromJson for ExecuteCommandParams {
+    ghost reads = { λ json it. IsObject json
+        × Required ⟦<String as FromJson>⟧.reads (codes "command") json it.command
+        × Optional ⟦<Vec<Value> as FromJson>⟧.reads (codes "arguments") json it.arguments
+        × IfFits ⟦<ProgressToken as FromJson>⟧.reads (codes "workDoneToken") json it.work_done_token };
 
-impl ReadMembers for ExecuteCommandParams {
-    fn read<S: Source>(members: &mut S) -> ExecuteCommandParams {
-        ExecuteCommandParams {
-            command: members.required(),
-            arguments: members.optional(),
-            work_done_token: if_fits(members),
+    fn from_json(alloc: Global, value: &Value) -> Result<ExecuteCommandParams, Misfit> {
+        let read = Members::new(alloc, value)
+            .required("command")
+            .optional("arguments")
+            .if_fits("workDoneToken")
+            .end();
+        match read {
+            Ok(read) => {
+                let ((((), command), arguments), work_done_token) = read;
+                Ok(ExecuteCommandParams {
+                    command,
+                    arguments,
+                    work_done_token,
+                })
+            }
+            Err(misfit) => Err(misfit),
         }
-    }
-}
-
-impl DeserializeOwned for ExecuteCommandParams {
-    fn deserialize_owned<F: Format>(
-        alloc: Global,
-        from: &mut Deserializer<'_, '_, F>,
-    ) -> Result<ExecuteCommandParams, F::Error> {
-        read_object(alloc, from)
     }
 }
 
@@ -582,25 +515,23 @@ impl ToJson for ApplyWorkspaceEditParams {
     }
 }
 
-impl Keyed for ApplyWorkspaceEditParams {
-    const KEYS: &'static [&'static str] = &["label", "edit"];
-}
+impl FromJson for ApplyWorkspaceEditParams {
+    ghost reads = { λ json it. IsObject json
+        × Optional ⟦<String as FromJson>⟧.reads (codes "label") json it.label
+        × Required ⟦<WorkspaceEdit as FromJson>⟧.reads (codes "edit") json it.edit };
 
-impl ReadMembers for ApplyWorkspaceEditParams {
-    fn read<S: Source>(members: &mut S) -> ApplyWorkspaceEditParams {
-        ApplyWorkspaceEditParams {
-            label: members.optional(),
-            edit: members.required(),
+    fn from_json(alloc: Global, value: &Value) -> Result<ApplyWorkspaceEditParams, Misfit> {
+        let read = Members::new(alloc, value)
+            .optional("label")
+            .required("edit")
+            .end();
+        match read {
+            Ok(read) => {
+                let (((), label), edit) = read;
+                Ok(ApplyWorkspaceEditParams { label, edit })
+            }
+            Err(misfit) => Err(misfit),
         }
-    }
-}
-
-impl DeserializeOwned for ApplyWorkspaceEditParams {
-    fn deserialize_owned<F: Format>(
-        alloc: Global,
-        from: &mut Deserializer<'_, '_, F>,
-    ) -> Result<ApplyWorkspaceEditParams, F::Error> {
-        read_object(alloc, from)
     }
 }
 
@@ -630,25 +561,28 @@ impl ToJson for ApplyWorkspaceEditResult {
     }
 }
 
-impl Keyed for ApplyWorkspaceEditResult {
-    const KEYS: &'static [&'static str] = &["applied", "failureReason", "failedChange"];
-}
+impl FromJson for ApplyWorkspaceEditResult {
+    ghost reads = { λ json it. IsObject json
+        × Required ⟦<bool as FromJson>⟧.reads (codes "applied") json it.applied
+        × Optional ⟦<String as FromJson>⟧.reads (codes "failureReason") json it.failure_reason
+        × Optional ⟦<u32 as FromJson>⟧.reads (codes "failedChange") json it.failed_change };
 
-impl ReadMembers for ApplyWorkspaceEditResult {
-    fn read<S: Source>(members: &mut S) -> ApplyWorkspaceEditResult {
-        ApplyWorkspaceEditResult {
-            applied: members.required(),
-            failure_reason: members.optional(),
-            failed_change: members.optional(),
+    fn from_json(alloc: Global, value: &Value) -> Result<ApplyWorkspaceEditResult, Misfit> {
+        let read = Members::new(alloc, value)
+            .required("applied")
+            .optional("failureReason")
+            .optional("failedChange")
+            .end();
+        match read {
+            Ok(read) => {
+                let ((((), applied), failure_reason), failed_change) = read;
+                Ok(ApplyWorkspaceEditResult {
+                    applied,
+                    failure_reason,
+                    failed_change,
+                })
+            }
+            Err(misfit) => Err(misfit),
         }
-    }
-}
-
-impl DeserializeOwned for ApplyWorkspaceEditResult {
-    fn deserialize_owned<F: Format>(
-        alloc: Global,
-        from: &mut Deserializer<'_, '_, F>,
-    ) -> Result<ApplyWorkspaceEditResult, F::Error> {
-        read_object(alloc, from)
     }
 }

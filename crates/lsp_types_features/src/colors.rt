@@ -2,11 +2,11 @@
 // `tools/types` wrote this file from `types.txt`: change that.
 ghost use Rattle.std.specs.Prelude.{◌∷◌, [], Some, codes, option_map};
 ghost use Rattle.lsp_types.specs.Json.{object_of};
+ghost use Rattle.lsp_types.specs.Reads.{IfFits, IsObject, Optional, Required};
 
 use lsp_text::Range;
-use lsp_types::json::{Keyed, Object, ReadMembers, Source, ToJson, if_fits, read_object};
+use lsp_types::json::{FromJson, Members, Misfit, Object, ToJson};
 use lsp_types::{DocumentSymbolParams, ProgressToken, TextDocumentIdentifier, TextEdit};
-use serde::{DeserializeOwned, Deserializer, Format};
 use serde_json::Value;
 use std::alloc::{AllocError, Global};
 
@@ -43,27 +43,32 @@ impl ToJson for Color {
     }
 }
 
-impl Keyed for Color {
-    const KEYS: &'static [&'static str] = &["red", "green", "blue", "alpha"];
-}
+impl FromJson for Color {
+    ghost reads = { λ json it. IsObject json
+        × Required ⟦<f64 as FromJson>⟧.reads (codes "red") json it.red
+        × Required ⟦<f64 as FromJson>⟧.reads (codes "green") json it.green
+        × Required ⟦<f64 as FromJson>⟧.reads (codes "blue") json it.blue
+        × Required ⟦<f64 as FromJson>⟧.reads (codes "alpha") json it.alpha };
 
-impl ReadMembers for Color {
-    fn read<S: Source>(members: &mut S) -> Color {
-        Color {
-            red: members.required(),
-            green: members.required(),
-            blue: members.required(),
-            alpha: members.required(),
+    fn from_json(alloc: Global, value: &Value) -> Result<Color, Misfit> {
+        let read = Members::new(alloc, value)
+            .required("red")
+            .required("green")
+            .required("blue")
+            .required("alpha")
+            .end();
+        match read {
+            Ok(read) => {
+                let (((((), red), green), blue), alpha) = read;
+                Ok(Color {
+                    red,
+                    green,
+                    blue,
+                    alpha,
+                })
+            }
+            Err(misfit) => Err(misfit),
         }
-    }
-}
-
-impl DeserializeOwned for Color {
-    fn deserialize_owned<F: Format>(
-        alloc: Global,
-        from: &mut Deserializer<'_, '_, F>,
-    ) -> Result<Color, F::Error> {
-        read_object(alloc, from)
     }
 }
 
@@ -89,25 +94,23 @@ impl ToJson for ColorInformation {
     }
 }
 
-impl Keyed for ColorInformation {
-    const KEYS: &'static [&'static str] = &["range", "color"];
-}
+impl FromJson for ColorInformation {
+    ghost reads = { λ json it. IsObject json
+        × Required ⟦<Range as FromJson>⟧.reads (codes "range") json it.range
+        × Required ⟦<Color as FromJson>⟧.reads (codes "color") json it.color };
 
-impl ReadMembers for ColorInformation {
-    fn read<S: Source>(members: &mut S) -> ColorInformation {
-        ColorInformation {
-            range: members.required(),
-            color: members.required(),
+    fn from_json(alloc: Global, value: &Value) -> Result<ColorInformation, Misfit> {
+        let read = Members::new(alloc, value)
+            .required("range")
+            .required("color")
+            .end();
+        match read {
+            Ok(read) => {
+                let (((), range), color) = read;
+                Ok(ColorInformation { range, color })
+            }
+            Err(misfit) => Err(misfit),
         }
-    }
-}
-
-impl DeserializeOwned for ColorInformation {
-    fn deserialize_owned<F: Format>(
-        alloc: Global,
-        from: &mut Deserializer<'_, '_, F>,
-    ) -> Result<ColorInformation, F::Error> {
-        read_object(alloc, from)
     }
 }
 
@@ -146,34 +149,38 @@ impl ToJson for ColorPresentationParams {
     }
 }
 
-impl Keyed for ColorPresentationParams {
-    const KEYS: &'static [&'static str] = &[
-        "textDocument",
-        "color",
-        "range",
-        "workDoneToken",
-        "partialResultToken",
-    ];
-}
+impl FromJson for ColorPresentationParams {
+    ghost reads = { λ json it. IsObject json
+        × Required ⟦<TextDocumentIdentifier as FromJson>⟧.reads (codes "textDocument") json it.text_document
+        × Required ⟦<Color as FromJson>⟧.reads (codes "color") json it.color
+        × Required ⟦<Range as FromJson>⟧.reads (codes "range") json it.range
+        × IfFits ⟦<ProgressToken as FromJson>⟧.reads (codes "workDoneToken") json it.work_done_token
+        × IfFits ⟦<ProgressToken as FromJson>⟧.reads (codes "partialResultToken") json it.partial_result_token };
 
-impl ReadMembers for ColorPresentationParams {
-    fn read<S: Source>(members: &mut S) -> ColorPresentationParams {
-        ColorPresentationParams {
-            text_document: members.required(),
-            color: members.required(),
-            range: members.required(),
-            work_done_token: if_fits(members),
-            partial_result_token: if_fits(members),
+    fn from_json(alloc: Global, value: &Value) -> Result<ColorPresentationParams, Misfit> {
+        let read = Members::new(alloc, value)
+            .required("textDocument")
+            .required("color")
+            .required("range")
+            .if_fits("workDoneToken")
+            .if_fits("partialResultToken")
+            .end();
+        match read {
+            Ok(read) => {
+                let (
+                    (((((), text_document), color), range), work_done_token),
+                    partial_result_token,
+                ) = read;
+                Ok(ColorPresentationParams {
+                    text_document,
+                    color,
+                    range,
+                    work_done_token,
+                    partial_result_token,
+                })
+            }
+            Err(misfit) => Err(misfit),
         }
-    }
-}
-
-impl DeserializeOwned for ColorPresentationParams {
-    fn deserialize_owned<F: Format>(
-        alloc: Global,
-        from: &mut Deserializer<'_, '_, F>,
-    ) -> Result<ColorPresentationParams, F::Error> {
-        read_object(alloc, from)
     }
 }
 
@@ -222,25 +229,28 @@ impl ToJson for ColorPresentation {
     }
 }
 
-impl Keyed for ColorPresentation {
-    const KEYS: &'static [&'static str] = &["label", "textEdit", "additionalTextEdits"];
-}
+impl FromJson for ColorPresentation {
+    ghost reads = { λ json it. IsObject json
+        × Required ⟦<String as FromJson>⟧.reads (codes "label") json it.label
+        × Optional ⟦<TextEdit as FromJson>⟧.reads (codes "textEdit") json it.text_edit
+        × Optional ⟦<Vec<TextEdit> as FromJson>⟧.reads (codes "additionalTextEdits") json it.additional_text_edits };
 
-impl ReadMembers for ColorPresentation {
-    fn read<S: Source>(members: &mut S) -> ColorPresentation {
-        ColorPresentation {
-            label: members.required(),
-            text_edit: members.optional(),
-            additional_text_edits: members.optional(),
+    fn from_json(alloc: Global, value: &Value) -> Result<ColorPresentation, Misfit> {
+        let read = Members::new(alloc, value)
+            .required("label")
+            .optional("textEdit")
+            .optional("additionalTextEdits")
+            .end();
+        match read {
+            Ok(read) => {
+                let ((((), label), text_edit), additional_text_edits) = read;
+                Ok(ColorPresentation {
+                    label,
+                    text_edit,
+                    additional_text_edits,
+                })
+            }
+            Err(misfit) => Err(misfit),
         }
-    }
-}
-
-impl DeserializeOwned for ColorPresentation {
-    fn deserialize_owned<F: Format>(
-        alloc: Global,
-        from: &mut Deserializer<'_, '_, F>,
-    ) -> Result<ColorPresentation, F::Error> {
-        read_object(alloc, from)
     }
 }

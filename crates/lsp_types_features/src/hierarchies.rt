@@ -2,11 +2,11 @@
 // `tools/types` wrote this file from `types.txt`: change that.
 ghost use Rattle.std.specs.Prelude.{◌∷◌, [], Some, codes, option_map};
 ghost use Rattle.lsp_types.specs.Json.{object_of};
+ghost use Rattle.lsp_types.specs.Reads.{IfFits, IsObject, Optional, Required};
 
 use lsp_text::Range;
-use lsp_types::json::{Keyed, Object, ReadMembers, Source, ToJson, if_fits, read_object};
+use lsp_types::json::{FromJson, Members, Misfit, Object, ToJson};
 use lsp_types::{HoverParams, ProgressToken, SymbolKind, SymbolTag};
-use serde::{DeserializeOwned, Deserializer, Format};
 use serde_json::Value;
 use std::alloc::{AllocError, Global};
 
@@ -95,40 +95,47 @@ impl ToJson for CallHierarchyItem {
     }
 }
 
-impl Keyed for CallHierarchyItem {
-    const KEYS: &'static [&'static str] = &[
-        "name",
-        "kind",
-        "tags",
-        "detail",
-        "uri",
-        "range",
-        "selectionRange",
-        "data",
-    ];
-}
+impl FromJson for CallHierarchyItem {
+    ghost reads = { λ json it. IsObject json
+        × Required ⟦<String as FromJson>⟧.reads (codes "name") json it.name
+        × Required ⟦<SymbolKind as FromJson>⟧.reads (codes "kind") json it.kind
+        × Optional ⟦<Vec<SymbolTag> as FromJson>⟧.reads (codes "tags") json it.tags
+        × Optional ⟦<String as FromJson>⟧.reads (codes "detail") json it.detail
+        × Required ⟦<String as FromJson>⟧.reads (codes "uri") json it.uri
+        × Required ⟦<Range as FromJson>⟧.reads (codes "range") json it.range
+        × Required ⟦<Range as FromJson>⟧.reads (codes "selectionRange") json it.selection_range
+        × Optional ⟦<Value as FromJson>⟧.reads (codes "data") json it.«data» };
 
-impl ReadMembers for CallHierarchyItem {
-    fn read<S: Source>(members: &mut S) -> CallHierarchyItem {
-        CallHierarchyItem {
-            name: members.required(),
-            kind: members.required(),
-            tags: members.optional(),
-            detail: members.optional(),
-            uri: members.required(),
-            range: members.required(),
-            selection_range: members.required(),
-            data: members.optional(),
+    fn from_json(alloc: Global, value: &Value) -> Result<CallHierarchyItem, Misfit> {
+        let read = Members::new(alloc, value)
+            .required("name")
+            .required("kind")
+            .optional("tags")
+            .optional("detail")
+            .required("uri")
+            .required("range")
+            .required("selectionRange")
+            .optional("data")
+            .end();
+        match read {
+            Ok(read) => {
+                let (
+                    ((((((((), name), kind), tags), detail), uri), range), selection_range),
+                    data,
+                ) = read;
+                Ok(CallHierarchyItem {
+                    name,
+                    kind,
+                    tags,
+                    detail,
+                    uri,
+                    range,
+                    selection_range,
+                    data,
+                })
+            }
+            Err(misfit) => Err(misfit),
         }
-    }
-}
-
-impl DeserializeOwned for CallHierarchyItem {
-    fn deserialize_owned<F: Format>(
-        alloc: Global,
-        from: &mut Deserializer<'_, '_, F>,
-    ) -> Result<CallHierarchyItem, F::Error> {
-        read_object(alloc, from)
     }
 }
 
@@ -159,26 +166,29 @@ impl ToJson for CallHierarchyIncomingCallsParams {
     }
 }
 
-impl Keyed for CallHierarchyIncomingCallsParams {
-    const KEYS: &'static [&'static str] = &["item", "workDoneToken", "partialResultToken"];
-}
+impl FromJson for CallHierarchyIncomingCallsParams {
+    ghost reads = { λ json it. IsObject json
+        × Required ⟦<CallHierarchyItem as FromJson>⟧.reads (codes "item") json it.item
+        × IfFits ⟦<ProgressToken as FromJson>⟧.reads (codes "workDoneToken") json it.work_done_token
+        × IfFits ⟦<ProgressToken as FromJson>⟧.reads (codes "partialResultToken") json it.partial_result_token };
 
-impl ReadMembers for CallHierarchyIncomingCallsParams {
-    fn read<S: Source>(members: &mut S) -> CallHierarchyIncomingCallsParams {
-        CallHierarchyIncomingCallsParams {
-            item: members.required(),
-            work_done_token: if_fits(members),
-            partial_result_token: if_fits(members),
+    fn from_json(alloc: Global, value: &Value) -> Result<CallHierarchyIncomingCallsParams, Misfit> {
+        let read = Members::new(alloc, value)
+            .required("item")
+            .if_fits("workDoneToken")
+            .if_fits("partialResultToken")
+            .end();
+        match read {
+            Ok(read) => {
+                let ((((), item), work_done_token), partial_result_token) = read;
+                Ok(CallHierarchyIncomingCallsParams {
+                    item,
+                    work_done_token,
+                    partial_result_token,
+                })
+            }
+            Err(misfit) => Err(misfit),
         }
-    }
-}
-
-impl DeserializeOwned for CallHierarchyIncomingCallsParams {
-    fn deserialize_owned<F: Format>(
-        alloc: Global,
-        from: &mut Deserializer<'_, '_, F>,
-    ) -> Result<CallHierarchyIncomingCallsParams, F::Error> {
-        read_object(alloc, from)
     }
 }
 
@@ -204,25 +214,23 @@ impl ToJson for CallHierarchyIncomingCall {
     }
 }
 
-impl Keyed for CallHierarchyIncomingCall {
-    const KEYS: &'static [&'static str] = &["from", "fromRanges"];
-}
+impl FromJson for CallHierarchyIncomingCall {
+    ghost reads = { λ json it. IsObject json
+        × Required ⟦<CallHierarchyItem as FromJson>⟧.reads (codes "from") json it.from
+        × Required ⟦<Vec<Range> as FromJson>⟧.reads (codes "fromRanges") json it.from_ranges };
 
-impl ReadMembers for CallHierarchyIncomingCall {
-    fn read<S: Source>(members: &mut S) -> CallHierarchyIncomingCall {
-        CallHierarchyIncomingCall {
-            from: members.required(),
-            from_ranges: members.required(),
+    fn from_json(alloc: Global, value: &Value) -> Result<CallHierarchyIncomingCall, Misfit> {
+        let read = Members::new(alloc, value)
+            .required("from")
+            .required("fromRanges")
+            .end();
+        match read {
+            Ok(read) => {
+                let (((), from), from_ranges) = read;
+                Ok(CallHierarchyIncomingCall { from, from_ranges })
+            }
+            Err(misfit) => Err(misfit),
         }
-    }
-}
-
-impl DeserializeOwned for CallHierarchyIncomingCall {
-    fn deserialize_owned<F: Format>(
-        alloc: Global,
-        from: &mut Deserializer<'_, '_, F>,
-    ) -> Result<CallHierarchyIncomingCall, F::Error> {
-        read_object(alloc, from)
     }
 }
 
@@ -252,25 +260,23 @@ impl ToJson for CallHierarchyOutgoingCall {
     }
 }
 
-impl Keyed for CallHierarchyOutgoingCall {
-    const KEYS: &'static [&'static str] = &["to", "fromRanges"];
-}
+impl FromJson for CallHierarchyOutgoingCall {
+    ghost reads = { λ json it. IsObject json
+        × Required ⟦<CallHierarchyItem as FromJson>⟧.reads (codes "to") json it.to
+        × Required ⟦<Vec<Range> as FromJson>⟧.reads (codes "fromRanges") json it.from_ranges };
 
-impl ReadMembers for CallHierarchyOutgoingCall {
-    fn read<S: Source>(members: &mut S) -> CallHierarchyOutgoingCall {
-        CallHierarchyOutgoingCall {
-            to: members.required(),
-            from_ranges: members.required(),
+    fn from_json(alloc: Global, value: &Value) -> Result<CallHierarchyOutgoingCall, Misfit> {
+        let read = Members::new(alloc, value)
+            .required("to")
+            .required("fromRanges")
+            .end();
+        match read {
+            Ok(read) => {
+                let (((), to), from_ranges) = read;
+                Ok(CallHierarchyOutgoingCall { to, from_ranges })
+            }
+            Err(misfit) => Err(misfit),
         }
-    }
-}
-
-impl DeserializeOwned for CallHierarchyOutgoingCall {
-    fn deserialize_owned<F: Format>(
-        alloc: Global,
-        from: &mut Deserializer<'_, '_, F>,
-    ) -> Result<CallHierarchyOutgoingCall, F::Error> {
-        read_object(alloc, from)
     }
 }
 

@@ -2,13 +2,11 @@
 // `tools/types` wrote this file from `types.txt`: change that.
 ghost use Rattle.std.specs.Prelude.{◌∷◌, [], Some, codes, option_map};
 ghost use Rattle.lsp_types.specs.Json.{object_of};
+ghost use Rattle.lsp_types.specs.Reads.{IfFits, IsObject, NoneReads, Optional, Required};
 
 use lsp_text::Range;
-use lsp_types::json::{
-    Keyed, Object, ReadMembers, Source, ToJson, if_fits, read_if_fits, read_object,
-};
+use lsp_types::json::{FromJson, Members, Misfit, Object, ToJson, fitting};
 use lsp_types::{ProgressToken, TextDocumentIdentifier};
-use serde::{DeserializeOwned, Deserializer, Format};
 use serde_json::Value;
 use std::alloc::{AllocError, Global};
 
@@ -42,27 +40,32 @@ impl ToJson for InlineValueParams {
     }
 }
 
-impl Keyed for InlineValueParams {
-    const KEYS: &'static [&'static str] = &["textDocument", "range", "context", "workDoneToken"];
-}
+impl FromJson for InlineValueParams {
+    ghost reads = { λ json it. IsObject json
+        × Required ⟦<TextDocumentIdentifier as FromJson>⟧.reads (codes "textDocument") json it.text_document
+        × Required ⟦<Range as FromJson>⟧.reads (codes "range") json it.range
+        × Required ⟦<InlineValueContext as FromJson>⟧.reads (codes "context") json it.context
+        × IfFits ⟦<ProgressToken as FromJson>⟧.reads (codes "workDoneToken") json it.work_done_token };
 
-impl ReadMembers for InlineValueParams {
-    fn read<S: Source>(members: &mut S) -> InlineValueParams {
-        InlineValueParams {
-            text_document: members.required(),
-            range: members.required(),
-            context: members.required(),
-            work_done_token: if_fits(members),
+    fn from_json(alloc: Global, value: &Value) -> Result<InlineValueParams, Misfit> {
+        let read = Members::new(alloc, value)
+            .required("textDocument")
+            .required("range")
+            .required("context")
+            .if_fits("workDoneToken")
+            .end();
+        match read {
+            Ok(read) => {
+                let (((((), text_document), range), context), work_done_token) = read;
+                Ok(InlineValueParams {
+                    text_document,
+                    range,
+                    context,
+                    work_done_token,
+                })
+            }
+            Err(misfit) => Err(misfit),
         }
-    }
-}
-
-impl DeserializeOwned for InlineValueParams {
-    fn deserialize_owned<F: Format>(
-        alloc: Global,
-        from: &mut Deserializer<'_, '_, F>,
-    ) -> Result<InlineValueParams, F::Error> {
-        read_object(alloc, from)
     }
 }
 
@@ -88,25 +91,26 @@ impl ToJson for InlineValueContext {
     }
 }
 
-impl Keyed for InlineValueContext {
-    const KEYS: &'static [&'static str] = &["frameId", "stoppedLocation"];
-}
+impl FromJson for InlineValueContext {
+    ghost reads = { λ json it. IsObject json
+        × Required ⟦<i32 as FromJson>⟧.reads (codes "frameId") json it.frame_id
+        × Required ⟦<Range as FromJson>⟧.reads (codes "stoppedLocation") json it.stopped_location };
 
-impl ReadMembers for InlineValueContext {
-    fn read<S: Source>(members: &mut S) -> InlineValueContext {
-        InlineValueContext {
-            frame_id: members.required(),
-            stopped_location: members.required(),
+    fn from_json(alloc: Global, value: &Value) -> Result<InlineValueContext, Misfit> {
+        let read = Members::new(alloc, value)
+            .required("frameId")
+            .required("stoppedLocation")
+            .end();
+        match read {
+            Ok(read) => {
+                let (((), frame_id), stopped_location) = read;
+                Ok(InlineValueContext {
+                    frame_id,
+                    stopped_location,
+                })
+            }
+            Err(misfit) => Err(misfit),
         }
-    }
-}
-
-impl DeserializeOwned for InlineValueContext {
-    fn deserialize_owned<F: Format>(
-        alloc: Global,
-        from: &mut Deserializer<'_, '_, F>,
-    ) -> Result<InlineValueContext, F::Error> {
-        read_object(alloc, from)
     }
 }
 
@@ -132,25 +136,23 @@ impl ToJson for InlineValueText {
     }
 }
 
-impl Keyed for InlineValueText {
-    const KEYS: &'static [&'static str] = &["range", "text"];
-}
+impl FromJson for InlineValueText {
+    ghost reads = { λ json it. IsObject json
+        × Required ⟦<Range as FromJson>⟧.reads (codes "range") json it.range
+        × Required ⟦<String as FromJson>⟧.reads (codes "text") json it.text };
 
-impl ReadMembers for InlineValueText {
-    fn read<S: Source>(members: &mut S) -> InlineValueText {
-        InlineValueText {
-            range: members.required(),
-            text: members.required(),
+    fn from_json(alloc: Global, value: &Value) -> Result<InlineValueText, Misfit> {
+        let read = Members::new(alloc, value)
+            .required("range")
+            .required("text")
+            .end();
+        match read {
+            Ok(read) => {
+                let (((), range), text) = read;
+                Ok(InlineValueText { range, text })
+            }
+            Err(misfit) => Err(misfit),
         }
-    }
-}
-
-impl DeserializeOwned for InlineValueText {
-    fn deserialize_owned<F: Format>(
-        alloc: Global,
-        from: &mut Deserializer<'_, '_, F>,
-    ) -> Result<InlineValueText, F::Error> {
-        read_object(alloc, from)
     }
 }
 
@@ -199,26 +201,29 @@ impl ToJson for InlineValueVariableLookup {
     }
 }
 
-impl Keyed for InlineValueVariableLookup {
-    const KEYS: &'static [&'static str] = &["range", "variableName", "caseSensitiveLookup"];
-}
+impl FromJson for InlineValueVariableLookup {
+    ghost reads = { λ json it. IsObject json
+        × Required ⟦<Range as FromJson>⟧.reads (codes "range") json it.range
+        × Optional ⟦<String as FromJson>⟧.reads (codes "variableName") json it.variable_name
+        × Required ⟦<bool as FromJson>⟧.reads (codes "caseSensitiveLookup") json it.case_sensitive_lookup };
 
-impl ReadMembers for InlineValueVariableLookup {
-    fn read<S: Source>(members: &mut S) -> InlineValueVariableLookup {
-        InlineValueVariableLookup {
-            range: members.required(),
-            variable_name: members.optional(),
-            case_sensitive_lookup: members.required(),
+    fn from_json(alloc: Global, value: &Value) -> Result<InlineValueVariableLookup, Misfit> {
+        let read = Members::new(alloc, value)
+            .required("range")
+            .optional("variableName")
+            .required("caseSensitiveLookup")
+            .end();
+        match read {
+            Ok(read) => {
+                let ((((), range), variable_name), case_sensitive_lookup) = read;
+                Ok(InlineValueVariableLookup {
+                    range,
+                    variable_name,
+                    case_sensitive_lookup,
+                })
+            }
+            Err(misfit) => Err(misfit),
         }
-    }
-}
-
-impl DeserializeOwned for InlineValueVariableLookup {
-    fn deserialize_owned<F: Format>(
-        alloc: Global,
-        from: &mut Deserializer<'_, '_, F>,
-    ) -> Result<InlineValueVariableLookup, F::Error> {
-        read_object(alloc, from)
     }
 }
 
@@ -261,25 +266,23 @@ impl ToJson for InlineValueEvaluatableExpression {
     }
 }
 
-impl Keyed for InlineValueEvaluatableExpression {
-    const KEYS: &'static [&'static str] = &["range", "expression"];
-}
+impl FromJson for InlineValueEvaluatableExpression {
+    ghost reads = { λ json it. IsObject json
+        × Required ⟦<Range as FromJson>⟧.reads (codes "range") json it.range
+        × Optional ⟦<String as FromJson>⟧.reads (codes "expression") json it.expression };
 
-impl ReadMembers for InlineValueEvaluatableExpression {
-    fn read<S: Source>(members: &mut S) -> InlineValueEvaluatableExpression {
-        InlineValueEvaluatableExpression {
-            range: members.required(),
-            expression: members.optional(),
+    fn from_json(alloc: Global, value: &Value) -> Result<InlineValueEvaluatableExpression, Misfit> {
+        let read = Members::new(alloc, value)
+            .required("range")
+            .optional("expression")
+            .end();
+        match read {
+            Ok(read) => {
+                let (((), range), expression) = read;
+                Ok(InlineValueEvaluatableExpression { range, expression })
+            }
+            Err(misfit) => Err(misfit),
         }
-    }
-}
-
-impl DeserializeOwned for InlineValueEvaluatableExpression {
-    fn deserialize_owned<F: Format>(
-        alloc: Global,
-        from: &mut Deserializer<'_, '_, F>,
-    ) -> Result<InlineValueEvaluatableExpression, F::Error> {
-        read_object(alloc, from)
     }
 }
 
@@ -312,20 +315,25 @@ impl ToJson for InlineValue {
     }
 }
 
-impl DeserializeOwned for InlineValue {
-    fn deserialize_owned<F: Format>(
-        alloc: Global,
-        from: &mut Deserializer<'_, '_, F>,
-    ) -> Result<InlineValue, F::Error> {
-        if let Some(it) = read_if_fits(alloc, from)? {
+impl FromJson for InlineValue {
+    ghost use Rattle.lsp_types_features.specs.declared.inline_values.InlineValue.TheVariants.{Text, Lookup, Expression};
+
+    ghost reads = { λ json. elim [
+      | Text it ↦ ⟦<InlineValueText as FromJson>⟧.reads json it
+      | Lookup it ↦ NoneReads ⟦<InlineValueText as FromJson>⟧.reads json × ⟦<InlineValueVariableLookup as FromJson>⟧.reads json it
+      | Expression it ↦ NoneReads ⟦<InlineValueText as FromJson>⟧.reads json × NoneReads ⟦<InlineValueVariableLookup as FromJson>⟧.reads json × ⟦<InlineValueEvaluatableExpression as FromJson>⟧.reads json it
+    ] };
+
+    fn from_json(alloc: Global, value: &Value) -> Result<InlineValue, Misfit> {
+        if let Some(it) = fitting(alloc, value)? {
             return Ok(InlineValue::Text(it));
         }
-        if let Some(it) = read_if_fits(alloc, from)? {
+        if let Some(it) = fitting(alloc, value)? {
             return Ok(InlineValue::Lookup(it));
         }
-        match DeserializeOwned::deserialize_owned(alloc, from) {
+        match FromJson::from_json(alloc, value) {
             Ok(it) => Ok(InlineValue::Expression(it)),
-            Err(failed) => Err(failed),
+            Err(misfit) => Err(misfit),
         }
     }
 }

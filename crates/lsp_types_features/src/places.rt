@@ -3,16 +3,14 @@
 ghost use Rattle.std.specs.Prelude.{◌∷◌, [], Some, codes, option_map};
 ghost use Rattle.serde_json.specs.Data.{number, unsigned};
 ghost use Rattle.lsp_types.specs.Json.{object_of};
+ghost use Rattle.lsp_types.specs.Reads.{IfFits, IsObject, IsWithin, Optional, Required};
 
 use lsp_text::{Position, Range};
-use lsp_types::json::{
-    Keyed, Object, ReadMembers, Source, ToJson, if_fits, number_within, read_object,
-};
+use lsp_types::json::{FromJson, Members, Misfit, Object, ToJson, number_within};
 use lsp_types::{
     Command, DefinitionParams, DocumentSymbolParams, HoverParams, ProgressToken,
     TextDocumentIdentifier,
 };
-use serde::{Deserialize, DeserializeOwned, Deserializer, Format};
 use serde_json::Value;
 use std::alloc::{AllocError, Global};
 
@@ -52,25 +50,23 @@ impl ToJson for DocumentHighlight {
     }
 }
 
-impl Keyed for DocumentHighlight {
-    const KEYS: &'static [&'static str] = &["range", "kind"];
-}
+impl FromJson for DocumentHighlight {
+    ghost reads = { λ json it. IsObject json
+        × Required ⟦<Range as FromJson>⟧.reads (codes "range") json it.range
+        × Optional ⟦<DocumentHighlightKind as FromJson>⟧.reads (codes "kind") json it.kind };
 
-impl ReadMembers for DocumentHighlight {
-    fn read<S: Source>(members: &mut S) -> DocumentHighlight {
-        DocumentHighlight {
-            range: members.required(),
-            kind: members.optional(),
+    fn from_json(alloc: Global, value: &Value) -> Result<DocumentHighlight, Misfit> {
+        let read = Members::new(alloc, value)
+            .required("range")
+            .optional("kind")
+            .end();
+        match read {
+            Ok(read) => {
+                let (((), range), kind) = read;
+                Ok(DocumentHighlight { range, kind })
+            }
+            Err(misfit) => Err(misfit),
         }
-    }
-}
-
-impl DeserializeOwned for DocumentHighlight {
-    fn deserialize_owned<F: Format>(
-        alloc: Global,
-        from: &mut Deserializer<'_, '_, F>,
-    ) -> Result<DocumentHighlight, F::Error> {
-        read_object(alloc, from)
     }
 }
 
@@ -95,24 +91,14 @@ impl ToJson for DocumentHighlightKind {
     }
 }
 
-impl<'de> Deserialize<'de> for DocumentHighlightKind {
-    fn deserialize<F: Format>(
-        alloc: Global,
-        from: &mut Deserializer<'de, '_, F>,
-    ) -> Result<DocumentHighlightKind, F::Error> {
-        match number_within(alloc, from, 1, 3) {
-            Ok(number) => Ok(DocumentHighlightKind(number)),
-            Err(failed) => Err(failed),
-        }
-    }
-}
+impl FromJson for DocumentHighlightKind {
+    ghost reads = { λ json it. IsWithin 1 3 json it.0 };
 
-impl DeserializeOwned for DocumentHighlightKind {
-    fn deserialize_owned<F: Format>(
-        alloc: Global,
-        from: &mut Deserializer<'_, '_, F>,
-    ) -> Result<DocumentHighlightKind, F::Error> {
-        DocumentHighlightKind::deserialize(alloc, from)
+    fn from_json(alloc: Global, value: &Value) -> Result<DocumentHighlightKind, Misfit> {
+        match number_within(alloc, value, 1, 3) {
+            Ok(number) => Ok(DocumentHighlightKind(number)),
+            Err(misfit) => Err(misfit),
+        }
     }
 }
 
@@ -186,36 +172,41 @@ impl ToJson for FoldingRange {
     }
 }
 
-impl Keyed for FoldingRange {
-    const KEYS: &'static [&'static str] = &[
-        "startLine",
-        "startCharacter",
-        "endLine",
-        "endCharacter",
-        "kind",
-        "collapsedText",
-    ];
-}
+impl FromJson for FoldingRange {
+    ghost reads = { λ json it. IsObject json
+        × Required ⟦<u32 as FromJson>⟧.reads (codes "startLine") json it.start_line
+        × Optional ⟦<u32 as FromJson>⟧.reads (codes "startCharacter") json it.start_character
+        × Required ⟦<u32 as FromJson>⟧.reads (codes "endLine") json it.end_line
+        × Optional ⟦<u32 as FromJson>⟧.reads (codes "endCharacter") json it.end_character
+        × Optional ⟦<String as FromJson>⟧.reads (codes "kind") json it.kind
+        × Optional ⟦<String as FromJson>⟧.reads (codes "collapsedText") json it.collapsed_text };
 
-impl ReadMembers for FoldingRange {
-    fn read<S: Source>(members: &mut S) -> FoldingRange {
-        FoldingRange {
-            start_line: members.required(),
-            start_character: members.optional(),
-            end_line: members.required(),
-            end_character: members.optional(),
-            kind: members.optional(),
-            collapsed_text: members.optional(),
+    fn from_json(alloc: Global, value: &Value) -> Result<FoldingRange, Misfit> {
+        let read = Members::new(alloc, value)
+            .required("startLine")
+            .optional("startCharacter")
+            .required("endLine")
+            .optional("endCharacter")
+            .optional("kind")
+            .optional("collapsedText")
+            .end();
+        match read {
+            Ok(read) => {
+                let (
+                    ((((((), start_line), start_character), end_line), end_character), kind),
+                    collapsed_text,
+                ) = read;
+                Ok(FoldingRange {
+                    start_line,
+                    start_character,
+                    end_line,
+                    end_character,
+                    kind,
+                    collapsed_text,
+                })
+            }
+            Err(misfit) => Err(misfit),
         }
-    }
-}
-
-impl DeserializeOwned for FoldingRange {
-    fn deserialize_owned<F: Format>(
-        alloc: Global,
-        from: &mut Deserializer<'_, '_, F>,
-    ) -> Result<FoldingRange, F::Error> {
-        read_object(alloc, from)
     }
 }
 
@@ -250,32 +241,33 @@ impl ToJson for SelectionRangeParams {
     }
 }
 
-impl Keyed for SelectionRangeParams {
-    const KEYS: &'static [&'static str] = &[
-        "textDocument",
-        "positions",
-        "workDoneToken",
-        "partialResultToken",
-    ];
-}
+impl FromJson for SelectionRangeParams {
+    ghost reads = { λ json it. IsObject json
+        × Required ⟦<TextDocumentIdentifier as FromJson>⟧.reads (codes "textDocument") json it.text_document
+        × Required ⟦<Vec<Position> as FromJson>⟧.reads (codes "positions") json it.positions
+        × IfFits ⟦<ProgressToken as FromJson>⟧.reads (codes "workDoneToken") json it.work_done_token
+        × IfFits ⟦<ProgressToken as FromJson>⟧.reads (codes "partialResultToken") json it.partial_result_token };
 
-impl ReadMembers for SelectionRangeParams {
-    fn read<S: Source>(members: &mut S) -> SelectionRangeParams {
-        SelectionRangeParams {
-            text_document: members.required(),
-            positions: members.required(),
-            work_done_token: if_fits(members),
-            partial_result_token: if_fits(members),
+    fn from_json(alloc: Global, value: &Value) -> Result<SelectionRangeParams, Misfit> {
+        let read = Members::new(alloc, value)
+            .required("textDocument")
+            .required("positions")
+            .if_fits("workDoneToken")
+            .if_fits("partialResultToken")
+            .end();
+        match read {
+            Ok(read) => {
+                let (((((), text_document), positions), work_done_token), partial_result_token) =
+                    read;
+                Ok(SelectionRangeParams {
+                    text_document,
+                    positions,
+                    work_done_token,
+                    partial_result_token,
+                })
+            }
+            Err(misfit) => Err(misfit),
         }
-    }
-}
-
-impl DeserializeOwned for SelectionRangeParams {
-    fn deserialize_owned<F: Format>(
-        alloc: Global,
-        from: &mut Deserializer<'_, '_, F>,
-    ) -> Result<SelectionRangeParams, F::Error> {
-        read_object(alloc, from)
     }
 }
 
@@ -331,25 +323,26 @@ impl ToJson for LinkedEditingRanges {
     }
 }
 
-impl Keyed for LinkedEditingRanges {
-    const KEYS: &'static [&'static str] = &["ranges", "wordPattern"];
-}
+impl FromJson for LinkedEditingRanges {
+    ghost reads = { λ json it. IsObject json
+        × Required ⟦<Vec<Range> as FromJson>⟧.reads (codes "ranges") json it.ranges
+        × Optional ⟦<String as FromJson>⟧.reads (codes "wordPattern") json it.word_pattern };
 
-impl ReadMembers for LinkedEditingRanges {
-    fn read<S: Source>(members: &mut S) -> LinkedEditingRanges {
-        LinkedEditingRanges {
-            ranges: members.required(),
-            word_pattern: members.optional(),
+    fn from_json(alloc: Global, value: &Value) -> Result<LinkedEditingRanges, Misfit> {
+        let read = Members::new(alloc, value)
+            .required("ranges")
+            .optional("wordPattern")
+            .end();
+        match read {
+            Ok(read) => {
+                let (((), ranges), word_pattern) = read;
+                Ok(LinkedEditingRanges {
+                    ranges,
+                    word_pattern,
+                })
+            }
+            Err(misfit) => Err(misfit),
         }
-    }
-}
-
-impl DeserializeOwned for LinkedEditingRanges {
-    fn deserialize_owned<F: Format>(
-        alloc: Global,
-        from: &mut Deserializer<'_, '_, F>,
-    ) -> Result<LinkedEditingRanges, F::Error> {
-        read_object(alloc, from)
     }
 }
 
@@ -407,27 +400,32 @@ impl ToJson for Moniker {
     }
 }
 
-impl Keyed for Moniker {
-    const KEYS: &'static [&'static str] = &["scheme", "identifier", "unique", "kind"];
-}
+impl FromJson for Moniker {
+    ghost reads = { λ json it. IsObject json
+        × Required ⟦<String as FromJson>⟧.reads (codes "scheme") json it.scheme
+        × Required ⟦<String as FromJson>⟧.reads (codes "identifier") json it.identifier
+        × Required ⟦<String as FromJson>⟧.reads (codes "unique") json it.unique
+        × Optional ⟦<String as FromJson>⟧.reads (codes "kind") json it.kind };
 
-impl ReadMembers for Moniker {
-    fn read<S: Source>(members: &mut S) -> Moniker {
-        Moniker {
-            scheme: members.required(),
-            identifier: members.required(),
-            unique: members.required(),
-            kind: members.optional(),
+    fn from_json(alloc: Global, value: &Value) -> Result<Moniker, Misfit> {
+        let read = Members::new(alloc, value)
+            .required("scheme")
+            .required("identifier")
+            .required("unique")
+            .optional("kind")
+            .end();
+        match read {
+            Ok(read) => {
+                let (((((), scheme), identifier), unique), kind) = read;
+                Ok(Moniker {
+                    scheme,
+                    identifier,
+                    unique,
+                    kind,
+                })
+            }
+            Err(misfit) => Err(misfit),
         }
-    }
-}
-
-impl DeserializeOwned for Moniker {
-    fn deserialize_owned<F: Format>(
-        alloc: Global,
-        from: &mut Deserializer<'_, '_, F>,
-    ) -> Result<Moniker, F::Error> {
-        read_object(alloc, from)
     }
 }
 
@@ -479,26 +477,29 @@ impl ToJson for CodeLens {
     }
 }
 
-impl Keyed for CodeLens {
-    const KEYS: &'static [&'static str] = &["range", "command", "data"];
-}
+impl FromJson for CodeLens {
+    ghost reads = { λ json it. IsObject json
+        × Required ⟦<Range as FromJson>⟧.reads (codes "range") json it.range
+        × Optional ⟦<Command as FromJson>⟧.reads (codes "command") json it.command
+        × Optional ⟦<Value as FromJson>⟧.reads (codes "data") json it.«data» };
 
-impl ReadMembers for CodeLens {
-    fn read<S: Source>(members: &mut S) -> CodeLens {
-        CodeLens {
-            range: members.required(),
-            command: members.optional(),
-            data: members.optional(),
+    fn from_json(alloc: Global, value: &Value) -> Result<CodeLens, Misfit> {
+        let read = Members::new(alloc, value)
+            .required("range")
+            .optional("command")
+            .optional("data")
+            .end();
+        match read {
+            Ok(read) => {
+                let ((((), range), command), data) = read;
+                Ok(CodeLens {
+                    range,
+                    command,
+                    data,
+                })
+            }
+            Err(misfit) => Err(misfit),
         }
-    }
-}
-
-impl DeserializeOwned for CodeLens {
-    fn deserialize_owned<F: Format>(
-        alloc: Global,
-        from: &mut Deserializer<'_, '_, F>,
-    ) -> Result<CodeLens, F::Error> {
-        read_object(alloc, from)
     }
 }
 
@@ -556,26 +557,31 @@ impl ToJson for DocumentLink {
     }
 }
 
-impl Keyed for DocumentLink {
-    const KEYS: &'static [&'static str] = &["range", "target", "tooltip", "data"];
-}
+impl FromJson for DocumentLink {
+    ghost reads = { λ json it. IsObject json
+        × Required ⟦<Range as FromJson>⟧.reads (codes "range") json it.range
+        × Optional ⟦<String as FromJson>⟧.reads (codes "target") json it.target
+        × Optional ⟦<String as FromJson>⟧.reads (codes "tooltip") json it.tooltip
+        × Optional ⟦<Value as FromJson>⟧.reads (codes "data") json it.«data» };
 
-impl ReadMembers for DocumentLink {
-    fn read<S: Source>(members: &mut S) -> DocumentLink {
-        DocumentLink {
-            range: members.required(),
-            target: members.optional(),
-            tooltip: members.optional(),
-            data: members.optional(),
+    fn from_json(alloc: Global, value: &Value) -> Result<DocumentLink, Misfit> {
+        let read = Members::new(alloc, value)
+            .required("range")
+            .optional("target")
+            .optional("tooltip")
+            .optional("data")
+            .end();
+        match read {
+            Ok(read) => {
+                let (((((), range), target), tooltip), data) = read;
+                Ok(DocumentLink {
+                    range,
+                    target,
+                    tooltip,
+                    data,
+                })
+            }
+            Err(misfit) => Err(misfit),
         }
-    }
-}
-
-impl DeserializeOwned for DocumentLink {
-    fn deserialize_owned<F: Format>(
-        alloc: Global,
-        from: &mut Deserializer<'_, '_, F>,
-    ) -> Result<DocumentLink, F::Error> {
-        read_object(alloc, from)
     }
 }

@@ -3,12 +3,10 @@
 ghost use Rattle.std.specs.Prelude.{◌∷◌, [], Some, codes, option_map};
 ghost use Rattle.serde_json.specs.Data.{string};
 ghost use Rattle.lsp_types.specs.Json.{object_of};
+ghost use Rattle.lsp_types.specs.Reads.{IfFits, IsObject, Named, NoneReads, Optional, Required};
 
-use lsp_types::json::{
-    Keyed, Object, ReadMembers, Source, ToJson, if_fits, read_if_fits, read_object,
-};
+use lsp_types::json::{FromJson, Members, Misfit, Object, ToJson, fitting};
 use lsp_types::{Diagnostic, ProgressToken, TextDocumentIdentifier};
-use serde::{DeserializeOwned, Deserializer, Format};
 use serde_json::Value;
 use std::alloc::{AllocError, Global};
 use std::collections::BTreeMap;
@@ -47,34 +45,38 @@ impl ToJson for DocumentDiagnosticParams {
     }
 }
 
-impl Keyed for DocumentDiagnosticParams {
-    const KEYS: &'static [&'static str] = &[
-        "textDocument",
-        "identifier",
-        "previousResultId",
-        "workDoneToken",
-        "partialResultToken",
-    ];
-}
+impl FromJson for DocumentDiagnosticParams {
+    ghost reads = { λ json it. IsObject json
+        × Required ⟦<TextDocumentIdentifier as FromJson>⟧.reads (codes "textDocument") json it.text_document
+        × Optional ⟦<String as FromJson>⟧.reads (codes "identifier") json it.identifier
+        × Optional ⟦<String as FromJson>⟧.reads (codes "previousResultId") json it.previous_result_id
+        × IfFits ⟦<ProgressToken as FromJson>⟧.reads (codes "workDoneToken") json it.work_done_token
+        × IfFits ⟦<ProgressToken as FromJson>⟧.reads (codes "partialResultToken") json it.partial_result_token };
 
-impl ReadMembers for DocumentDiagnosticParams {
-    fn read<S: Source>(members: &mut S) -> DocumentDiagnosticParams {
-        DocumentDiagnosticParams {
-            text_document: members.required(),
-            identifier: members.optional(),
-            previous_result_id: members.optional(),
-            work_done_token: if_fits(members),
-            partial_result_token: if_fits(members),
+    fn from_json(alloc: Global, value: &Value) -> Result<DocumentDiagnosticParams, Misfit> {
+        let read = Members::new(alloc, value)
+            .required("textDocument")
+            .optional("identifier")
+            .optional("previousResultId")
+            .if_fits("workDoneToken")
+            .if_fits("partialResultToken")
+            .end();
+        match read {
+            Ok(read) => {
+                let (
+                    (((((), text_document), identifier), previous_result_id), work_done_token),
+                    partial_result_token,
+                ) = read;
+                Ok(DocumentDiagnosticParams {
+                    text_document,
+                    identifier,
+                    previous_result_id,
+                    work_done_token,
+                    partial_result_token,
+                })
+            }
+            Err(misfit) => Err(misfit),
         }
-    }
-}
-
-impl DeserializeOwned for DocumentDiagnosticParams {
-    fn deserialize_owned<F: Format>(
-        alloc: Global,
-        from: &mut Deserializer<'_, '_, F>,
-    ) -> Result<DocumentDiagnosticParams, F::Error> {
-        read_object(alloc, from)
     }
 }
 
@@ -119,26 +121,25 @@ impl ToJson for FullDocumentDiagnosticReport {
     }
 }
 
-impl Keyed for FullDocumentDiagnosticReport {
-    const KEYS: &'static [&'static str] = &["kind", "resultId", "items"];
-}
+impl FromJson for FullDocumentDiagnosticReport {
+    ghost reads = { λ json it. IsObject json
+        × Named (codes "kind") (codes "full") json
+        × Optional ⟦<String as FromJson>⟧.reads (codes "resultId") json it.result_id
+        × Required ⟦<Vec<Diagnostic> as FromJson>⟧.reads (codes "items") json it.items };
 
-impl ReadMembers for FullDocumentDiagnosticReport {
-    fn read<S: Source>(members: &mut S) -> FullDocumentDiagnosticReport {
-        members.named("full");
-        FullDocumentDiagnosticReport {
-            result_id: members.optional(),
-            items: members.required(),
+    fn from_json(alloc: Global, value: &Value) -> Result<FullDocumentDiagnosticReport, Misfit> {
+        let read = Members::new(alloc, value)
+            .named("kind", "full")
+            .optional("resultId")
+            .required("items")
+            .end();
+        match read {
+            Ok(read) => {
+                let ((((), ()), result_id), items) = read;
+                Ok(FullDocumentDiagnosticReport { result_id, items })
+            }
+            Err(misfit) => Err(misfit),
         }
-    }
-}
-
-impl DeserializeOwned for FullDocumentDiagnosticReport {
-    fn deserialize_owned<F: Format>(
-        alloc: Global,
-        from: &mut Deserializer<'_, '_, F>,
-    ) -> Result<FullDocumentDiagnosticReport, F::Error> {
-        read_object(alloc, from)
     }
 }
 
@@ -162,25 +163,26 @@ impl ToJson for UnchangedDocumentDiagnosticReport {
     }
 }
 
-impl Keyed for UnchangedDocumentDiagnosticReport {
-    const KEYS: &'static [&'static str] = &["kind", "resultId"];
-}
+impl FromJson for UnchangedDocumentDiagnosticReport {
+    ghost reads = { λ json it. IsObject json
+        × Named (codes "kind") (codes "unchanged") json
+        × Required ⟦<String as FromJson>⟧.reads (codes "resultId") json it.result_id };
 
-impl ReadMembers for UnchangedDocumentDiagnosticReport {
-    fn read<S: Source>(members: &mut S) -> UnchangedDocumentDiagnosticReport {
-        members.named("unchanged");
-        UnchangedDocumentDiagnosticReport {
-            result_id: members.required(),
-        }
-    }
-}
-
-impl DeserializeOwned for UnchangedDocumentDiagnosticReport {
-    fn deserialize_owned<F: Format>(
+    fn from_json(
         alloc: Global,
-        from: &mut Deserializer<'_, '_, F>,
-    ) -> Result<UnchangedDocumentDiagnosticReport, F::Error> {
-        read_object(alloc, from)
+        value: &Value,
+    ) -> Result<UnchangedDocumentDiagnosticReport, Misfit> {
+        let read = Members::new(alloc, value)
+            .named("kind", "unchanged")
+            .required("resultId")
+            .end();
+        match read {
+            Ok(read) => {
+                let (((), ()), result_id) = read;
+                Ok(UnchangedDocumentDiagnosticReport { result_id })
+            }
+            Err(misfit) => Err(misfit),
+        }
     }
 }
 
@@ -209,17 +211,21 @@ impl ToJson for RelatedReport {
     }
 }
 
-impl DeserializeOwned for RelatedReport {
-    fn deserialize_owned<F: Format>(
-        alloc: Global,
-        from: &mut Deserializer<'_, '_, F>,
-    ) -> Result<RelatedReport, F::Error> {
-        if let Some(it) = read_if_fits(alloc, from)? {
+impl FromJson for RelatedReport {
+    ghost use Rattle.lsp_types_features.specs.declared.reports.RelatedReport.TheVariants.{Full, Unchanged};
+
+    ghost reads = { λ json. elim [
+      | Full it ↦ ⟦<FullDocumentDiagnosticReport as FromJson>⟧.reads json it
+      | Unchanged it ↦ NoneReads ⟦<FullDocumentDiagnosticReport as FromJson>⟧.reads json × ⟦<UnchangedDocumentDiagnosticReport as FromJson>⟧.reads json it
+    ] };
+
+    fn from_json(alloc: Global, value: &Value) -> Result<RelatedReport, Misfit> {
+        if let Some(it) = fitting(alloc, value)? {
             return Ok(RelatedReport::Full(it));
         }
-        match DeserializeOwned::deserialize_owned(alloc, from) {
+        match FromJson::from_json(alloc, value) {
             Ok(it) => Ok(RelatedReport::Unchanged(it)),
-            Err(failed) => Err(failed),
+            Err(misfit) => Err(misfit),
         }
     }
 }
@@ -271,27 +277,34 @@ impl ToJson for RelatedFullDocumentDiagnosticReport {
     }
 }
 
-impl Keyed for RelatedFullDocumentDiagnosticReport {
-    const KEYS: &'static [&'static str] = &["kind", "resultId", "items", "relatedDocuments"];
-}
+impl FromJson for RelatedFullDocumentDiagnosticReport {
+    ghost reads = { λ json it. IsObject json
+        × Named (codes "kind") (codes "full") json
+        × Optional ⟦<String as FromJson>⟧.reads (codes "resultId") json it.result_id
+        × Required ⟦<Vec<Diagnostic> as FromJson>⟧.reads (codes "items") json it.items
+        × Optional ⟦<BTreeMap<String, RelatedReport> as FromJson>⟧.reads (codes "relatedDocuments") json it.related_documents };
 
-impl ReadMembers for RelatedFullDocumentDiagnosticReport {
-    fn read<S: Source>(members: &mut S) -> RelatedFullDocumentDiagnosticReport {
-        members.named("full");
-        RelatedFullDocumentDiagnosticReport {
-            result_id: members.optional(),
-            items: members.required(),
-            related_documents: members.optional(),
-        }
-    }
-}
-
-impl DeserializeOwned for RelatedFullDocumentDiagnosticReport {
-    fn deserialize_owned<F: Format>(
+    fn from_json(
         alloc: Global,
-        from: &mut Deserializer<'_, '_, F>,
-    ) -> Result<RelatedFullDocumentDiagnosticReport, F::Error> {
-        read_object(alloc, from)
+        value: &Value,
+    ) -> Result<RelatedFullDocumentDiagnosticReport, Misfit> {
+        let read = Members::new(alloc, value)
+            .named("kind", "full")
+            .optional("resultId")
+            .required("items")
+            .optional("relatedDocuments")
+            .end();
+        match read {
+            Ok(read) => {
+                let (((((), ()), result_id), items), related_documents) = read;
+                Ok(RelatedFullDocumentDiagnosticReport {
+                    result_id,
+                    items,
+                    related_documents,
+                })
+            }
+            Err(misfit) => Err(misfit),
+        }
     }
 }
 
@@ -336,26 +349,31 @@ impl ToJson for RelatedUnchangedDocumentDiagnosticReport {
     }
 }
 
-impl Keyed for RelatedUnchangedDocumentDiagnosticReport {
-    const KEYS: &'static [&'static str] = &["kind", "resultId", "relatedDocuments"];
-}
+impl FromJson for RelatedUnchangedDocumentDiagnosticReport {
+    ghost reads = { λ json it. IsObject json
+        × Named (codes "kind") (codes "unchanged") json
+        × Required ⟦<String as FromJson>⟧.reads (codes "resultId") json it.result_id
+        × Optional ⟦<BTreeMap<String, RelatedReport> as FromJson>⟧.reads (codes "relatedDocuments") json it.related_documents };
 
-impl ReadMembers for RelatedUnchangedDocumentDiagnosticReport {
-    fn read<S: Source>(members: &mut S) -> RelatedUnchangedDocumentDiagnosticReport {
-        members.named("unchanged");
-        RelatedUnchangedDocumentDiagnosticReport {
-            result_id: members.required(),
-            related_documents: members.optional(),
-        }
-    }
-}
-
-impl DeserializeOwned for RelatedUnchangedDocumentDiagnosticReport {
-    fn deserialize_owned<F: Format>(
+    fn from_json(
         alloc: Global,
-        from: &mut Deserializer<'_, '_, F>,
-    ) -> Result<RelatedUnchangedDocumentDiagnosticReport, F::Error> {
-        read_object(alloc, from)
+        value: &Value,
+    ) -> Result<RelatedUnchangedDocumentDiagnosticReport, Misfit> {
+        let read = Members::new(alloc, value)
+            .named("kind", "unchanged")
+            .required("resultId")
+            .optional("relatedDocuments")
+            .end();
+        match read {
+            Ok(read) => {
+                let ((((), ()), result_id), related_documents) = read;
+                Ok(RelatedUnchangedDocumentDiagnosticReport {
+                    result_id,
+                    related_documents,
+                })
+            }
+            Err(misfit) => Err(misfit),
+        }
     }
 }
 
@@ -384,17 +402,21 @@ impl ToJson for DocumentDiagnosticReport {
     }
 }
 
-impl DeserializeOwned for DocumentDiagnosticReport {
-    fn deserialize_owned<F: Format>(
-        alloc: Global,
-        from: &mut Deserializer<'_, '_, F>,
-    ) -> Result<DocumentDiagnosticReport, F::Error> {
-        if let Some(it) = read_if_fits(alloc, from)? {
+impl FromJson for DocumentDiagnosticReport {
+    ghost use Rattle.lsp_types_features.specs.declared.reports.DocumentDiagnosticReport.TheVariants.{Full, Unchanged};
+
+    ghost reads = { λ json. elim [
+      | Full it ↦ ⟦<RelatedFullDocumentDiagnosticReport as FromJson>⟧.reads json it
+      | Unchanged it ↦ NoneReads ⟦<RelatedFullDocumentDiagnosticReport as FromJson>⟧.reads json × ⟦<RelatedUnchangedDocumentDiagnosticReport as FromJson>⟧.reads json it
+    ] };
+
+    fn from_json(alloc: Global, value: &Value) -> Result<DocumentDiagnosticReport, Misfit> {
+        if let Some(it) = fitting(alloc, value)? {
             return Ok(DocumentDiagnosticReport::Full(it));
         }
-        match DeserializeOwned::deserialize_owned(alloc, from) {
+        match FromJson::from_json(alloc, value) {
             Ok(it) => Ok(DocumentDiagnosticReport::Unchanged(it)),
-            Err(failed) => Err(failed),
+            Err(misfit) => Err(misfit),
         }
     }
 }
@@ -421,25 +443,23 @@ impl ToJson for PreviousResultId {
     }
 }
 
-impl Keyed for PreviousResultId {
-    const KEYS: &'static [&'static str] = &["uri", "value"];
-}
+impl FromJson for PreviousResultId {
+    ghost reads = { λ json it. IsObject json
+        × Required ⟦<String as FromJson>⟧.reads (codes "uri") json it.uri
+        × Required ⟦<String as FromJson>⟧.reads (codes "value") json it.value };
 
-impl ReadMembers for PreviousResultId {
-    fn read<S: Source>(members: &mut S) -> PreviousResultId {
-        PreviousResultId {
-            uri: members.required(),
-            value: members.required(),
+    fn from_json(alloc: Global, value: &Value) -> Result<PreviousResultId, Misfit> {
+        let read = Members::new(alloc, value)
+            .required("uri")
+            .required("value")
+            .end();
+        match read {
+            Ok(read) => {
+                let (((), uri), value) = read;
+                Ok(PreviousResultId { uri, value })
+            }
+            Err(misfit) => Err(misfit),
         }
-    }
-}
-
-impl DeserializeOwned for PreviousResultId {
-    fn deserialize_owned<F: Format>(
-        alloc: Global,
-        from: &mut Deserializer<'_, '_, F>,
-    ) -> Result<PreviousResultId, F::Error> {
-        read_object(alloc, from)
     }
 }
 
@@ -473,32 +493,35 @@ impl ToJson for WorkspaceDiagnosticParams {
     }
 }
 
-impl Keyed for WorkspaceDiagnosticParams {
-    const KEYS: &'static [&'static str] = &[
-        "identifier",
-        "previousResultIds",
-        "workDoneToken",
-        "partialResultToken",
-    ];
-}
+impl FromJson for WorkspaceDiagnosticParams {
+    ghost reads = { λ json it. IsObject json
+        × Optional ⟦<String as FromJson>⟧.reads (codes "identifier") json it.identifier
+        × Required ⟦<Vec<PreviousResultId> as FromJson>⟧.reads (codes "previousResultIds") json it.previous_result_ids
+        × IfFits ⟦<ProgressToken as FromJson>⟧.reads (codes "workDoneToken") json it.work_done_token
+        × IfFits ⟦<ProgressToken as FromJson>⟧.reads (codes "partialResultToken") json it.partial_result_token };
 
-impl ReadMembers for WorkspaceDiagnosticParams {
-    fn read<S: Source>(members: &mut S) -> WorkspaceDiagnosticParams {
-        WorkspaceDiagnosticParams {
-            identifier: members.optional(),
-            previous_result_ids: members.required(),
-            work_done_token: if_fits(members),
-            partial_result_token: if_fits(members),
+    fn from_json(alloc: Global, value: &Value) -> Result<WorkspaceDiagnosticParams, Misfit> {
+        let read = Members::new(alloc, value)
+            .optional("identifier")
+            .required("previousResultIds")
+            .if_fits("workDoneToken")
+            .if_fits("partialResultToken")
+            .end();
+        match read {
+            Ok(read) => {
+                let (
+                    ((((), identifier), previous_result_ids), work_done_token),
+                    partial_result_token,
+                ) = read;
+                Ok(WorkspaceDiagnosticParams {
+                    identifier,
+                    previous_result_ids,
+                    work_done_token,
+                    partial_result_token,
+                })
+            }
+            Err(misfit) => Err(misfit),
         }
-    }
-}
-
-impl DeserializeOwned for WorkspaceDiagnosticParams {
-    fn deserialize_owned<F: Format>(
-        alloc: Global,
-        from: &mut Deserializer<'_, '_, F>,
-    ) -> Result<WorkspaceDiagnosticParams, F::Error> {
-        read_object(alloc, from)
     }
 }
 
@@ -555,28 +578,37 @@ impl ToJson for WorkspaceFullDocumentDiagnosticReport {
     }
 }
 
-impl Keyed for WorkspaceFullDocumentDiagnosticReport {
-    const KEYS: &'static [&'static str] = &["kind", "resultId", "items", "uri", "version"];
-}
+impl FromJson for WorkspaceFullDocumentDiagnosticReport {
+    ghost reads = { λ json it. IsObject json
+        × Named (codes "kind") (codes "full") json
+        × Optional ⟦<String as FromJson>⟧.reads (codes "resultId") json it.result_id
+        × Required ⟦<Vec<Diagnostic> as FromJson>⟧.reads (codes "items") json it.items
+        × Required ⟦<String as FromJson>⟧.reads (codes "uri") json it.uri
+        × Optional ⟦<i32 as FromJson>⟧.reads (codes "version") json it.version };
 
-impl ReadMembers for WorkspaceFullDocumentDiagnosticReport {
-    fn read<S: Source>(members: &mut S) -> WorkspaceFullDocumentDiagnosticReport {
-        members.named("full");
-        WorkspaceFullDocumentDiagnosticReport {
-            result_id: members.optional(),
-            items: members.required(),
-            uri: members.required(),
-            version: members.optional(),
-        }
-    }
-}
-
-impl DeserializeOwned for WorkspaceFullDocumentDiagnosticReport {
-    fn deserialize_owned<F: Format>(
+    fn from_json(
         alloc: Global,
-        from: &mut Deserializer<'_, '_, F>,
-    ) -> Result<WorkspaceFullDocumentDiagnosticReport, F::Error> {
-        read_object(alloc, from)
+        value: &Value,
+    ) -> Result<WorkspaceFullDocumentDiagnosticReport, Misfit> {
+        let read = Members::new(alloc, value)
+            .named("kind", "full")
+            .optional("resultId")
+            .required("items")
+            .required("uri")
+            .optional("version")
+            .end();
+        match read {
+            Ok(read) => {
+                let ((((((), ()), result_id), items), uri), version) = read;
+                Ok(WorkspaceFullDocumentDiagnosticReport {
+                    result_id,
+                    items,
+                    uri,
+                    version,
+                })
+            }
+            Err(misfit) => Err(misfit),
+        }
     }
 }
 
@@ -627,27 +659,34 @@ impl ToJson for WorkspaceUnchangedDocumentDiagnosticReport {
     }
 }
 
-impl Keyed for WorkspaceUnchangedDocumentDiagnosticReport {
-    const KEYS: &'static [&'static str] = &["kind", "resultId", "uri", "version"];
-}
+impl FromJson for WorkspaceUnchangedDocumentDiagnosticReport {
+    ghost reads = { λ json it. IsObject json
+        × Named (codes "kind") (codes "unchanged") json
+        × Required ⟦<String as FromJson>⟧.reads (codes "resultId") json it.result_id
+        × Required ⟦<String as FromJson>⟧.reads (codes "uri") json it.uri
+        × Optional ⟦<i32 as FromJson>⟧.reads (codes "version") json it.version };
 
-impl ReadMembers for WorkspaceUnchangedDocumentDiagnosticReport {
-    fn read<S: Source>(members: &mut S) -> WorkspaceUnchangedDocumentDiagnosticReport {
-        members.named("unchanged");
-        WorkspaceUnchangedDocumentDiagnosticReport {
-            result_id: members.required(),
-            uri: members.required(),
-            version: members.optional(),
-        }
-    }
-}
-
-impl DeserializeOwned for WorkspaceUnchangedDocumentDiagnosticReport {
-    fn deserialize_owned<F: Format>(
+    fn from_json(
         alloc: Global,
-        from: &mut Deserializer<'_, '_, F>,
-    ) -> Result<WorkspaceUnchangedDocumentDiagnosticReport, F::Error> {
-        read_object(alloc, from)
+        value: &Value,
+    ) -> Result<WorkspaceUnchangedDocumentDiagnosticReport, Misfit> {
+        let read = Members::new(alloc, value)
+            .named("kind", "unchanged")
+            .required("resultId")
+            .required("uri")
+            .optional("version")
+            .end();
+        match read {
+            Ok(read) => {
+                let (((((), ()), result_id), uri), version) = read;
+                Ok(WorkspaceUnchangedDocumentDiagnosticReport {
+                    result_id,
+                    uri,
+                    version,
+                })
+            }
+            Err(misfit) => Err(misfit),
+        }
     }
 }
 
@@ -676,17 +715,24 @@ impl ToJson for WorkspaceDocumentDiagnosticReport {
     }
 }
 
-impl DeserializeOwned for WorkspaceDocumentDiagnosticReport {
-    fn deserialize_owned<F: Format>(
+impl FromJson for WorkspaceDocumentDiagnosticReport {
+    ghost use Rattle.lsp_types_features.specs.declared.reports.WorkspaceDocumentDiagnosticReport.TheVariants.{Full, Unchanged};
+
+    ghost reads = { λ json. elim [
+      | Full it ↦ ⟦<WorkspaceFullDocumentDiagnosticReport as FromJson>⟧.reads json it
+      | Unchanged it ↦ NoneReads ⟦<WorkspaceFullDocumentDiagnosticReport as FromJson>⟧.reads json × ⟦<WorkspaceUnchangedDocumentDiagnosticReport as FromJson>⟧.reads json it
+    ] };
+
+    fn from_json(
         alloc: Global,
-        from: &mut Deserializer<'_, '_, F>,
-    ) -> Result<WorkspaceDocumentDiagnosticReport, F::Error> {
-        if let Some(it) = read_if_fits(alloc, from)? {
+        value: &Value,
+    ) -> Result<WorkspaceDocumentDiagnosticReport, Misfit> {
+        if let Some(it) = fitting(alloc, value)? {
             return Ok(WorkspaceDocumentDiagnosticReport::Full(it));
         }
-        match DeserializeOwned::deserialize_owned(alloc, from) {
+        match FromJson::from_json(alloc, value) {
             Ok(it) => Ok(WorkspaceDocumentDiagnosticReport::Unchanged(it)),
-            Err(failed) => Err(failed),
+            Err(misfit) => Err(misfit),
         }
     }
 }
@@ -707,24 +753,19 @@ impl ToJson for WorkspaceDiagnosticReport {
     }
 }
 
-impl Keyed for WorkspaceDiagnosticReport {
-    const KEYS: &'static [&'static str] = &["items"];
-}
+impl FromJson for WorkspaceDiagnosticReport {
+    ghost reads = { λ json it. IsObject json
+        × Required ⟦<Vec<WorkspaceDocumentDiagnosticReport> as FromJson>⟧.reads (codes "items") json it.items };
 
-impl ReadMembers for WorkspaceDiagnosticReport {
-    fn read<S: Source>(members: &mut S) -> WorkspaceDiagnosticReport {
-        WorkspaceDiagnosticReport {
-            items: members.required(),
+    fn from_json(alloc: Global, value: &Value) -> Result<WorkspaceDiagnosticReport, Misfit> {
+        let read = Members::new(alloc, value).required("items").end();
+        match read {
+            Ok(read) => {
+                let ((), items) = read;
+                Ok(WorkspaceDiagnosticReport { items })
+            }
+            Err(misfit) => Err(misfit),
         }
-    }
-}
-
-impl DeserializeOwned for WorkspaceDiagnosticReport {
-    fn deserialize_owned<F: Format>(
-        alloc: Global,
-        from: &mut Deserializer<'_, '_, F>,
-    ) -> Result<WorkspaceDiagnosticReport, F::Error> {
-        read_object(alloc, from)
     }
 }
 
@@ -746,23 +787,20 @@ impl ToJson for DiagnosticServerCancellationData {
     }
 }
 
-impl Keyed for DiagnosticServerCancellationData {
-    const KEYS: &'static [&'static str] = &["retriggerRequest"];
-}
+impl FromJson for DiagnosticServerCancellationData {
+    ghost reads = { λ json it. IsObject json
+        × Required ⟦<bool as FromJson>⟧.reads (codes "retriggerRequest") json it.retrigger_request };
 
-impl ReadMembers for DiagnosticServerCancellationData {
-    fn read<S: Source>(members: &mut S) -> DiagnosticServerCancellationData {
-        DiagnosticServerCancellationData {
-            retrigger_request: members.required(),
+    fn from_json(alloc: Global, value: &Value) -> Result<DiagnosticServerCancellationData, Misfit> {
+        let read = Members::new(alloc, value)
+            .required("retriggerRequest")
+            .end();
+        match read {
+            Ok(read) => {
+                let ((), retrigger_request) = read;
+                Ok(DiagnosticServerCancellationData { retrigger_request })
+            }
+            Err(misfit) => Err(misfit),
         }
-    }
-}
-
-impl DeserializeOwned for DiagnosticServerCancellationData {
-    fn deserialize_owned<F: Format>(
-        alloc: Global,
-        from: &mut Deserializer<'_, '_, F>,
-    ) -> Result<DiagnosticServerCancellationData, F::Error> {
-        read_object(alloc, from)
     }
 }

@@ -2,12 +2,10 @@
 // `tools/types` wrote this file from `types.txt`: change that.
 ghost use Rattle.std.specs.Prelude.{◌∷◌, [], Some, codes, option_map};
 ghost use Rattle.lsp_types.specs.Json.{object_of};
+ghost use Rattle.lsp_types.specs.Reads.{IfFits, IsObject, NoneReads, Optional, Required};
 
-use lsp_types::json::{
-    Keyed, Object, ReadMembers, Source, ToJson, if_fits, read_if_fits, read_object,
-};
+use lsp_types::json::{FromJson, Members, Misfit, Object, ToJson, fitting};
 use lsp_types::{ProgressToken, SemanticTokens, TextDocumentIdentifier};
-use serde::{DeserializeOwned, Deserializer, Format};
 use serde_json::Value;
 use std::alloc::{AllocError, Global};
 
@@ -41,32 +39,35 @@ impl ToJson for SemanticTokensDeltaParams {
     }
 }
 
-impl Keyed for SemanticTokensDeltaParams {
-    const KEYS: &'static [&'static str] = &[
-        "textDocument",
-        "previousResultId",
-        "workDoneToken",
-        "partialResultToken",
-    ];
-}
+impl FromJson for SemanticTokensDeltaParams {
+    ghost reads = { λ json it. IsObject json
+        × Required ⟦<TextDocumentIdentifier as FromJson>⟧.reads (codes "textDocument") json it.text_document
+        × Required ⟦<String as FromJson>⟧.reads (codes "previousResultId") json it.previous_result_id
+        × IfFits ⟦<ProgressToken as FromJson>⟧.reads (codes "workDoneToken") json it.work_done_token
+        × IfFits ⟦<ProgressToken as FromJson>⟧.reads (codes "partialResultToken") json it.partial_result_token };
 
-impl ReadMembers for SemanticTokensDeltaParams {
-    fn read<S: Source>(members: &mut S) -> SemanticTokensDeltaParams {
-        SemanticTokensDeltaParams {
-            text_document: members.required(),
-            previous_result_id: members.required(),
-            work_done_token: if_fits(members),
-            partial_result_token: if_fits(members),
+    fn from_json(alloc: Global, value: &Value) -> Result<SemanticTokensDeltaParams, Misfit> {
+        let read = Members::new(alloc, value)
+            .required("textDocument")
+            .required("previousResultId")
+            .if_fits("workDoneToken")
+            .if_fits("partialResultToken")
+            .end();
+        match read {
+            Ok(read) => {
+                let (
+                    ((((), text_document), previous_result_id), work_done_token),
+                    partial_result_token,
+                ) = read;
+                Ok(SemanticTokensDeltaParams {
+                    text_document,
+                    previous_result_id,
+                    work_done_token,
+                    partial_result_token,
+                })
+            }
+            Err(misfit) => Err(misfit),
         }
-    }
-}
-
-impl DeserializeOwned for SemanticTokensDeltaParams {
-    fn deserialize_owned<F: Format>(
-        alloc: Global,
-        from: &mut Deserializer<'_, '_, F>,
-    ) -> Result<SemanticTokensDeltaParams, F::Error> {
-        read_object(alloc, from)
     }
 }
 
@@ -115,26 +116,29 @@ impl ToJson for SemanticTokensEdit {
     }
 }
 
-impl Keyed for SemanticTokensEdit {
-    const KEYS: &'static [&'static str] = &["start", "deleteCount", "data"];
-}
+impl FromJson for SemanticTokensEdit {
+    ghost reads = { λ json it. IsObject json
+        × Required ⟦<u32 as FromJson>⟧.reads (codes "start") json it.start
+        × Required ⟦<u32 as FromJson>⟧.reads (codes "deleteCount") json it.delete_count
+        × Optional ⟦<Vec<u32> as FromJson>⟧.reads (codes "data") json it.«data» };
 
-impl ReadMembers for SemanticTokensEdit {
-    fn read<S: Source>(members: &mut S) -> SemanticTokensEdit {
-        SemanticTokensEdit {
-            start: members.required(),
-            delete_count: members.required(),
-            data: members.optional(),
+    fn from_json(alloc: Global, value: &Value) -> Result<SemanticTokensEdit, Misfit> {
+        let read = Members::new(alloc, value)
+            .required("start")
+            .required("deleteCount")
+            .optional("data")
+            .end();
+        match read {
+            Ok(read) => {
+                let ((((), start), delete_count), data) = read;
+                Ok(SemanticTokensEdit {
+                    start,
+                    delete_count,
+                    data,
+                })
+            }
+            Err(misfit) => Err(misfit),
         }
-    }
-}
-
-impl DeserializeOwned for SemanticTokensEdit {
-    fn deserialize_owned<F: Format>(
-        alloc: Global,
-        from: &mut Deserializer<'_, '_, F>,
-    ) -> Result<SemanticTokensEdit, F::Error> {
-        read_object(alloc, from)
     }
 }
 
@@ -177,25 +181,23 @@ impl ToJson for SemanticTokensDelta {
     }
 }
 
-impl Keyed for SemanticTokensDelta {
-    const KEYS: &'static [&'static str] = &["resultId", "edits"];
-}
+impl FromJson for SemanticTokensDelta {
+    ghost reads = { λ json it. IsObject json
+        × Optional ⟦<String as FromJson>⟧.reads (codes "resultId") json it.result_id
+        × Required ⟦<Vec<SemanticTokensEdit> as FromJson>⟧.reads (codes "edits") json it.edits };
 
-impl ReadMembers for SemanticTokensDelta {
-    fn read<S: Source>(members: &mut S) -> SemanticTokensDelta {
-        SemanticTokensDelta {
-            result_id: members.optional(),
-            edits: members.required(),
+    fn from_json(alloc: Global, value: &Value) -> Result<SemanticTokensDelta, Misfit> {
+        let read = Members::new(alloc, value)
+            .optional("resultId")
+            .required("edits")
+            .end();
+        match read {
+            Ok(read) => {
+                let (((), result_id), edits) = read;
+                Ok(SemanticTokensDelta { result_id, edits })
+            }
+            Err(misfit) => Err(misfit),
         }
-    }
-}
-
-impl DeserializeOwned for SemanticTokensDelta {
-    fn deserialize_owned<F: Format>(
-        alloc: Global,
-        from: &mut Deserializer<'_, '_, F>,
-    ) -> Result<SemanticTokensDelta, F::Error> {
-        read_object(alloc, from)
     }
 }
 
@@ -224,17 +226,21 @@ impl ToJson for SemanticTokensDeltaResult {
     }
 }
 
-impl DeserializeOwned for SemanticTokensDeltaResult {
-    fn deserialize_owned<F: Format>(
-        alloc: Global,
-        from: &mut Deserializer<'_, '_, F>,
-    ) -> Result<SemanticTokensDeltaResult, F::Error> {
-        if let Some(it) = read_if_fits(alloc, from)? {
+impl FromJson for SemanticTokensDeltaResult {
+    ghost use Rattle.lsp_types_features.specs.declared.token_changes.SemanticTokensDeltaResult.TheVariants.{Delta, Tokens};
+
+    ghost reads = { λ json. elim [
+      | Delta it ↦ ⟦<SemanticTokensDelta as FromJson>⟧.reads json it
+      | Tokens it ↦ NoneReads ⟦<SemanticTokensDelta as FromJson>⟧.reads json × ⟦<SemanticTokens as FromJson>⟧.reads json it
+    ] };
+
+    fn from_json(alloc: Global, value: &Value) -> Result<SemanticTokensDeltaResult, Misfit> {
+        if let Some(it) = fitting(alloc, value)? {
             return Ok(SemanticTokensDeltaResult::Delta(it));
         }
-        match DeserializeOwned::deserialize_owned(alloc, from) {
+        match FromJson::from_json(alloc, value) {
             Ok(it) => Ok(SemanticTokensDeltaResult::Tokens(it)),
-            Err(failed) => Err(failed),
+            Err(misfit) => Err(misfit),
         }
     }
 }

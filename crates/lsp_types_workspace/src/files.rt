@@ -2,11 +2,9 @@
 // `tools/types` wrote this file from `types.txt`: change that.
 ghost use Rattle.std.specs.Prelude.{◌∷◌, [], Some, codes, option_map};
 ghost use Rattle.lsp_types.specs.Json.{object_of};
+ghost use Rattle.lsp_types.specs.Reads.{IsObject, NoneReads, Optional, Required};
 
-use lsp_types::json::{
-    Blank, Keyed, Object, ReadMembers, Source, ToJson, read_if_fits, read_object,
-};
-use serde::{DeserializeOwned, Deserializer, Format};
+use lsp_types::json::{FromJson, Members, Misfit, Object, ToJson, fitting};
 use serde_json::Value;
 use std::alloc::{AllocError, Global};
 
@@ -26,24 +24,19 @@ impl ToJson for FileCreate {
     }
 }
 
-impl Keyed for FileCreate {
-    const KEYS: &'static [&'static str] = &["uri"];
-}
+impl FromJson for FileCreate {
+    ghost reads = { λ json it. IsObject json
+        × Required ⟦<String as FromJson>⟧.reads (codes "uri") json it.uri };
 
-impl ReadMembers for FileCreate {
-    fn read<S: Source>(members: &mut S) -> FileCreate {
-        FileCreate {
-            uri: members.required(),
+    fn from_json(alloc: Global, value: &Value) -> Result<FileCreate, Misfit> {
+        let read = Members::new(alloc, value).required("uri").end();
+        match read {
+            Ok(read) => {
+                let ((), uri) = read;
+                Ok(FileCreate { uri })
+            }
+            Err(misfit) => Err(misfit),
         }
-    }
-}
-
-impl DeserializeOwned for FileCreate {
-    fn deserialize_owned<F: Format>(
-        alloc: Global,
-        from: &mut Deserializer<'_, '_, F>,
-    ) -> Result<FileCreate, F::Error> {
-        read_object(alloc, from)
     }
 }
 
@@ -64,24 +57,19 @@ impl ToJson for CreateFilesParams {
     }
 }
 
-impl Keyed for CreateFilesParams {
-    const KEYS: &'static [&'static str] = &["files"];
-}
+impl FromJson for CreateFilesParams {
+    ghost reads = { λ json it. IsObject json
+        × Required ⟦<Vec<FileCreate> as FromJson>⟧.reads (codes "files") json it.files };
 
-impl ReadMembers for CreateFilesParams {
-    fn read<S: Source>(members: &mut S) -> CreateFilesParams {
-        CreateFilesParams {
-            files: members.required(),
+    fn from_json(alloc: Global, value: &Value) -> Result<CreateFilesParams, Misfit> {
+        let read = Members::new(alloc, value).required("files").end();
+        match read {
+            Ok(read) => {
+                let ((), files) = read;
+                Ok(CreateFilesParams { files })
+            }
+            Err(misfit) => Err(misfit),
         }
-    }
-}
-
-impl DeserializeOwned for CreateFilesParams {
-    fn deserialize_owned<F: Format>(
-        alloc: Global,
-        from: &mut Deserializer<'_, '_, F>,
-    ) -> Result<CreateFilesParams, F::Error> {
-        read_object(alloc, from)
     }
 }
 
@@ -114,25 +102,23 @@ impl ToJson for FileRename {
     }
 }
 
-impl Keyed for FileRename {
-    const KEYS: &'static [&'static str] = &["oldUri", "newUri"];
-}
+impl FromJson for FileRename {
+    ghost reads = { λ json it. IsObject json
+        × Required ⟦<String as FromJson>⟧.reads (codes "oldUri") json it.old_uri
+        × Required ⟦<String as FromJson>⟧.reads (codes "newUri") json it.new_uri };
 
-impl ReadMembers for FileRename {
-    fn read<S: Source>(members: &mut S) -> FileRename {
-        FileRename {
-            old_uri: members.required(),
-            new_uri: members.required(),
+    fn from_json(alloc: Global, value: &Value) -> Result<FileRename, Misfit> {
+        let read = Members::new(alloc, value)
+            .required("oldUri")
+            .required("newUri")
+            .end();
+        match read {
+            Ok(read) => {
+                let (((), old_uri), new_uri) = read;
+                Ok(FileRename { old_uri, new_uri })
+            }
+            Err(misfit) => Err(misfit),
         }
-    }
-}
-
-impl DeserializeOwned for FileRename {
-    fn deserialize_owned<F: Format>(
-        alloc: Global,
-        from: &mut Deserializer<'_, '_, F>,
-    ) -> Result<FileRename, F::Error> {
-        read_object(alloc, from)
     }
 }
 
@@ -153,24 +139,19 @@ impl ToJson for RenameFilesParams {
     }
 }
 
-impl Keyed for RenameFilesParams {
-    const KEYS: &'static [&'static str] = &["files"];
-}
+impl FromJson for RenameFilesParams {
+    ghost reads = { λ json it. IsObject json
+        × Required ⟦<Vec<FileRename> as FromJson>⟧.reads (codes "files") json it.files };
 
-impl ReadMembers for RenameFilesParams {
-    fn read<S: Source>(members: &mut S) -> RenameFilesParams {
-        RenameFilesParams {
-            files: members.required(),
+    fn from_json(alloc: Global, value: &Value) -> Result<RenameFilesParams, Misfit> {
+        let read = Members::new(alloc, value).required("files").end();
+        match read {
+            Ok(read) => {
+                let ((), files) = read;
+                Ok(RenameFilesParams { files })
+            }
+            Err(misfit) => Err(misfit),
         }
-    }
-}
-
-impl DeserializeOwned for RenameFilesParams {
-    fn deserialize_owned<F: Format>(
-        alloc: Global,
-        from: &mut Deserializer<'_, '_, F>,
-    ) -> Result<RenameFilesParams, F::Error> {
-        read_object(alloc, from)
     }
 }
 
@@ -205,24 +186,19 @@ impl ToJson for FileOperationPatternOptions {
     }
 }
 
-impl Keyed for FileOperationPatternOptions {
-    const KEYS: &'static [&'static str] = &["ignoreCase"];
-}
+impl FromJson for FileOperationPatternOptions {
+    ghost reads = { λ json it. IsObject json
+        × Optional ⟦<bool as FromJson>⟧.reads (codes "ignoreCase") json it.ignore_case };
 
-impl ReadMembers for FileOperationPatternOptions {
-    fn read<S: Source>(members: &mut S) -> FileOperationPatternOptions {
-        FileOperationPatternOptions {
-            ignore_case: members.optional(),
+    fn from_json(alloc: Global, value: &Value) -> Result<FileOperationPatternOptions, Misfit> {
+        let read = Members::new(alloc, value).optional("ignoreCase").end();
+        match read {
+            Ok(read) => {
+                let ((), ignore_case) = read;
+                Ok(FileOperationPatternOptions { ignore_case })
+            }
+            Err(misfit) => Err(misfit),
         }
-    }
-}
-
-impl DeserializeOwned for FileOperationPatternOptions {
-    fn deserialize_owned<F: Format>(
-        alloc: Global,
-        from: &mut Deserializer<'_, '_, F>,
-    ) -> Result<FileOperationPatternOptions, F::Error> {
-        read_object(alloc, from)
     }
 }
 
@@ -271,26 +247,29 @@ impl ToJson for FileOperationPattern {
     }
 }
 
-impl Keyed for FileOperationPattern {
-    const KEYS: &'static [&'static str] = &["glob", "matches", "options"];
-}
+impl FromJson for FileOperationPattern {
+    ghost reads = { λ json it. IsObject json
+        × Required ⟦<String as FromJson>⟧.reads (codes "glob") json it.glob
+        × Optional ⟦<String as FromJson>⟧.reads (codes "matches") json it.matches
+        × Optional ⟦<FileOperationPatternOptions as FromJson>⟧.reads (codes "options") json it.options };
 
-impl ReadMembers for FileOperationPattern {
-    fn read<S: Source>(members: &mut S) -> FileOperationPattern {
-        FileOperationPattern {
-            glob: members.required(),
-            matches: members.optional(),
-            options: members.optional(),
+    fn from_json(alloc: Global, value: &Value) -> Result<FileOperationPattern, Misfit> {
+        let read = Members::new(alloc, value)
+            .required("glob")
+            .optional("matches")
+            .optional("options")
+            .end();
+        match read {
+            Ok(read) => {
+                let ((((), glob), matches), options) = read;
+                Ok(FileOperationPattern {
+                    glob,
+                    matches,
+                    options,
+                })
+            }
+            Err(misfit) => Err(misfit),
         }
-    }
-}
-
-impl DeserializeOwned for FileOperationPattern {
-    fn deserialize_owned<F: Format>(
-        alloc: Global,
-        from: &mut Deserializer<'_, '_, F>,
-    ) -> Result<FileOperationPattern, F::Error> {
-        read_object(alloc, from)
     }
 }
 
@@ -333,25 +312,23 @@ impl ToJson for FileOperationFilter {
     }
 }
 
-impl Keyed for FileOperationFilter {
-    const KEYS: &'static [&'static str] = &["scheme", "pattern"];
-}
+impl FromJson for FileOperationFilter {
+    ghost reads = { λ json it. IsObject json
+        × Optional ⟦<String as FromJson>⟧.reads (codes "scheme") json it.scheme
+        × Required ⟦<FileOperationPattern as FromJson>⟧.reads (codes "pattern") json it.pattern };
 
-impl ReadMembers for FileOperationFilter {
-    fn read<S: Source>(members: &mut S) -> FileOperationFilter {
-        FileOperationFilter {
-            scheme: members.optional(),
-            pattern: members.required(),
+    fn from_json(alloc: Global, value: &Value) -> Result<FileOperationFilter, Misfit> {
+        let read = Members::new(alloc, value)
+            .optional("scheme")
+            .required("pattern")
+            .end();
+        match read {
+            Ok(read) => {
+                let (((), scheme), pattern) = read;
+                Ok(FileOperationFilter { scheme, pattern })
+            }
+            Err(misfit) => Err(misfit),
         }
-    }
-}
-
-impl DeserializeOwned for FileOperationFilter {
-    fn deserialize_owned<F: Format>(
-        alloc: Global,
-        from: &mut Deserializer<'_, '_, F>,
-    ) -> Result<FileOperationFilter, F::Error> {
-        read_object(alloc, from)
     }
 }
 
@@ -371,24 +348,19 @@ impl ToJson for FileOperationRegistrationOptions {
     }
 }
 
-impl Keyed for FileOperationRegistrationOptions {
-    const KEYS: &'static [&'static str] = &["filters"];
-}
+impl FromJson for FileOperationRegistrationOptions {
+    ghost reads = { λ json it. IsObject json
+        × Required ⟦<Vec<FileOperationFilter> as FromJson>⟧.reads (codes "filters") json it.filters };
 
-impl ReadMembers for FileOperationRegistrationOptions {
-    fn read<S: Source>(members: &mut S) -> FileOperationRegistrationOptions {
-        FileOperationRegistrationOptions {
-            filters: members.required(),
+    fn from_json(alloc: Global, value: &Value) -> Result<FileOperationRegistrationOptions, Misfit> {
+        let read = Members::new(alloc, value).required("filters").end();
+        match read {
+            Ok(read) => {
+                let ((), filters) = read;
+                Ok(FileOperationRegistrationOptions { filters })
+            }
+            Err(misfit) => Err(misfit),
         }
-    }
-}
-
-impl DeserializeOwned for FileOperationRegistrationOptions {
-    fn deserialize_owned<F: Format>(
-        alloc: Global,
-        from: &mut Deserializer<'_, '_, F>,
-    ) -> Result<FileOperationRegistrationOptions, F::Error> {
-        read_object(alloc, from)
     }
 }
 
@@ -456,36 +428,41 @@ impl ToJson for FileOperationOptions {
     }
 }
 
-impl Keyed for FileOperationOptions {
-    const KEYS: &'static [&'static str] = &[
-        "didCreate",
-        "willCreate",
-        "didRename",
-        "willRename",
-        "didDelete",
-        "willDelete",
-    ];
-}
+impl FromJson for FileOperationOptions {
+    ghost reads = { λ json it. IsObject json
+        × Optional ⟦<FileOperationRegistrationOptions as FromJson>⟧.reads (codes "didCreate") json it.did_create
+        × Optional ⟦<FileOperationRegistrationOptions as FromJson>⟧.reads (codes "willCreate") json it.will_create
+        × Optional ⟦<FileOperationRegistrationOptions as FromJson>⟧.reads (codes "didRename") json it.did_rename
+        × Optional ⟦<FileOperationRegistrationOptions as FromJson>⟧.reads (codes "willRename") json it.will_rename
+        × Optional ⟦<FileOperationRegistrationOptions as FromJson>⟧.reads (codes "didDelete") json it.did_delete
+        × Optional ⟦<FileOperationRegistrationOptions as FromJson>⟧.reads (codes "willDelete") json it.will_delete };
 
-impl ReadMembers for FileOperationOptions {
-    fn read<S: Source>(members: &mut S) -> FileOperationOptions {
-        FileOperationOptions {
-            did_create: members.optional(),
-            will_create: members.optional(),
-            did_rename: members.optional(),
-            will_rename: members.optional(),
-            did_delete: members.optional(),
-            will_delete: members.optional(),
+    fn from_json(alloc: Global, value: &Value) -> Result<FileOperationOptions, Misfit> {
+        let read = Members::new(alloc, value)
+            .optional("didCreate")
+            .optional("willCreate")
+            .optional("didRename")
+            .optional("willRename")
+            .optional("didDelete")
+            .optional("willDelete")
+            .end();
+        match read {
+            Ok(read) => {
+                let (
+                    ((((((), did_create), will_create), did_rename), will_rename), did_delete),
+                    will_delete,
+                ) = read;
+                Ok(FileOperationOptions {
+                    did_create,
+                    will_create,
+                    did_rename,
+                    will_rename,
+                    did_delete,
+                    will_delete,
+                })
+            }
+            Err(misfit) => Err(misfit),
         }
-    }
-}
-
-impl DeserializeOwned for FileOperationOptions {
-    fn deserialize_owned<F: Format>(
-        alloc: Global,
-        from: &mut Deserializer<'_, '_, F>,
-    ) -> Result<FileOperationOptions, F::Error> {
-        read_object(alloc, from)
     }
 }
 
@@ -511,25 +488,23 @@ impl ToJson for RelativePattern {
     }
 }
 
-impl Keyed for RelativePattern {
-    const KEYS: &'static [&'static str] = &["baseUri", "pattern"];
-}
+impl FromJson for RelativePattern {
+    ghost reads = { λ json it. IsObject json
+        × Required ⟦<String as FromJson>⟧.reads (codes "baseUri") json it.base_uri
+        × Required ⟦<String as FromJson>⟧.reads (codes "pattern") json it.pattern };
 
-impl ReadMembers for RelativePattern {
-    fn read<S: Source>(members: &mut S) -> RelativePattern {
-        RelativePattern {
-            base_uri: members.required(),
-            pattern: members.required(),
+    fn from_json(alloc: Global, value: &Value) -> Result<RelativePattern, Misfit> {
+        let read = Members::new(alloc, value)
+            .required("baseUri")
+            .required("pattern")
+            .end();
+        match read {
+            Ok(read) => {
+                let (((), base_uri), pattern) = read;
+                Ok(RelativePattern { base_uri, pattern })
+            }
+            Err(misfit) => Err(misfit),
         }
-    }
-}
-
-impl DeserializeOwned for RelativePattern {
-    fn deserialize_owned<F: Format>(
-        alloc: Global,
-        from: &mut Deserializer<'_, '_, F>,
-    ) -> Result<RelativePattern, F::Error> {
-        read_object(alloc, from)
     }
 }
 
@@ -558,24 +533,22 @@ impl ToJson for GlobPattern {
     }
 }
 
-impl DeserializeOwned for GlobPattern {
-    fn deserialize_owned<F: Format>(
-        alloc: Global,
-        from: &mut Deserializer<'_, '_, F>,
-    ) -> Result<GlobPattern, F::Error> {
-        if let Some(it) = read_if_fits(alloc, from)? {
+impl FromJson for GlobPattern {
+    ghost use Rattle.lsp_types_workspace.specs.declared.files.GlobPattern.TheVariants.{Pattern, Relative};
+
+    ghost reads = { λ json. elim [
+      | Pattern it ↦ ⟦<String as FromJson>⟧.reads json it
+      | Relative it ↦ NoneReads ⟦<String as FromJson>⟧.reads json × ⟦<RelativePattern as FromJson>⟧.reads json it
+    ] };
+
+    fn from_json(alloc: Global, value: &Value) -> Result<GlobPattern, Misfit> {
+        if let Some(it) = fitting(alloc, value)? {
             return Ok(GlobPattern::Pattern(it));
         }
-        match DeserializeOwned::deserialize_owned(alloc, from) {
+        match FromJson::from_json(alloc, value) {
             Ok(it) => Ok(GlobPattern::Relative(it)),
-            Err(failed) => Err(failed),
+            Err(misfit) => Err(misfit),
         }
-    }
-}
-
-impl Blank for GlobPattern {
-    fn blank(alloc: Global) -> GlobPattern {
-        GlobPattern::Pattern(Blank::blank(alloc))
     }
 }
 
@@ -602,25 +575,23 @@ impl ToJson for FileSystemWatcher {
     }
 }
 
-impl Keyed for FileSystemWatcher {
-    const KEYS: &'static [&'static str] = &["globPattern", "kind"];
-}
+impl FromJson for FileSystemWatcher {
+    ghost reads = { λ json it. IsObject json
+        × Required ⟦<GlobPattern as FromJson>⟧.reads (codes "globPattern") json it.glob_pattern
+        × Optional ⟦<u32 as FromJson>⟧.reads (codes "kind") json it.kind };
 
-impl ReadMembers for FileSystemWatcher {
-    fn read<S: Source>(members: &mut S) -> FileSystemWatcher {
-        FileSystemWatcher {
-            glob_pattern: members.required(),
-            kind: members.optional(),
+    fn from_json(alloc: Global, value: &Value) -> Result<FileSystemWatcher, Misfit> {
+        let read = Members::new(alloc, value)
+            .required("globPattern")
+            .optional("kind")
+            .end();
+        match read {
+            Ok(read) => {
+                let (((), glob_pattern), kind) = read;
+                Ok(FileSystemWatcher { glob_pattern, kind })
+            }
+            Err(misfit) => Err(misfit),
         }
-    }
-}
-
-impl DeserializeOwned for FileSystemWatcher {
-    fn deserialize_owned<F: Format>(
-        alloc: Global,
-        from: &mut Deserializer<'_, '_, F>,
-    ) -> Result<FileSystemWatcher, F::Error> {
-        read_object(alloc, from)
     }
 }
 
@@ -641,23 +612,21 @@ impl ToJson for DidChangeWatchedFilesRegistrationOptions {
     }
 }
 
-impl Keyed for DidChangeWatchedFilesRegistrationOptions {
-    const KEYS: &'static [&'static str] = &["watchers"];
-}
+impl FromJson for DidChangeWatchedFilesRegistrationOptions {
+    ghost reads = { λ json it. IsObject json
+        × Required ⟦<Vec<FileSystemWatcher> as FromJson>⟧.reads (codes "watchers") json it.watchers };
 
-impl ReadMembers for DidChangeWatchedFilesRegistrationOptions {
-    fn read<S: Source>(members: &mut S) -> DidChangeWatchedFilesRegistrationOptions {
-        DidChangeWatchedFilesRegistrationOptions {
-            watchers: members.required(),
-        }
-    }
-}
-
-impl DeserializeOwned for DidChangeWatchedFilesRegistrationOptions {
-    fn deserialize_owned<F: Format>(
+    fn from_json(
         alloc: Global,
-        from: &mut Deserializer<'_, '_, F>,
-    ) -> Result<DidChangeWatchedFilesRegistrationOptions, F::Error> {
-        read_object(alloc, from)
+        value: &Value,
+    ) -> Result<DidChangeWatchedFilesRegistrationOptions, Misfit> {
+        let read = Members::new(alloc, value).required("watchers").end();
+        match read {
+            Ok(read) => {
+                let ((), watchers) = read;
+                Ok(DidChangeWatchedFilesRegistrationOptions { watchers })
+            }
+            Err(misfit) => Err(misfit),
+        }
     }
 }

@@ -3,13 +3,11 @@
 ghost use Rattle.std.specs.Prelude.{◌∷◌, [], Some, codes, option_map};
 ghost use Rattle.serde_json.specs.Data.{number, unsigned};
 ghost use Rattle.lsp_types.specs.Json.{object_of};
+ghost use Rattle.lsp_types.specs.Reads.{IsObject, IsWithin, Optional, Required};
 
 use lsp_text::ContentChange;
-use lsp_types::json::{
-    Blank, Changes, Keyed, Object, ReadMembers, Source, ToJson, number_within, read_object,
-};
+use lsp_types::json::{FromJson, Members, Misfit, Object, ToJson, number_within};
 use lsp_types::{TextDocumentIdentifier, TextDocumentItem, VersionedTextDocumentIdentifier};
-use serde::{Deserialize, DeserializeOwned, Deserializer, Format};
 use serde_json::Value;
 use std::alloc::{AllocError, Global};
 
@@ -32,30 +30,14 @@ impl ToJson for NotebookCellKind {
     }
 }
 
-impl<'de> Deserialize<'de> for NotebookCellKind {
-    fn deserialize<F: Format>(
-        alloc: Global,
-        from: &mut Deserializer<'de, '_, F>,
-    ) -> Result<NotebookCellKind, F::Error> {
-        match number_within(alloc, from, 1, 2) {
+impl FromJson for NotebookCellKind {
+    ghost reads = { λ json it. IsWithin 1 2 json it.0 };
+
+    fn from_json(alloc: Global, value: &Value) -> Result<NotebookCellKind, Misfit> {
+        match number_within(alloc, value, 1, 2) {
             Ok(number) => Ok(NotebookCellKind(number)),
-            Err(failed) => Err(failed),
+            Err(misfit) => Err(misfit),
         }
-    }
-}
-
-impl DeserializeOwned for NotebookCellKind {
-    fn deserialize_owned<F: Format>(
-        alloc: Global,
-        from: &mut Deserializer<'_, '_, F>,
-    ) -> Result<NotebookCellKind, F::Error> {
-        NotebookCellKind::deserialize(alloc, from)
-    }
-}
-
-impl Blank for NotebookCellKind {
-    fn blank(_alloc: Global) -> NotebookCellKind {
-        NotebookCellKind::MARKUP
     }
 }
 
@@ -81,25 +63,26 @@ impl ToJson for ExecutionSummary {
     }
 }
 
-impl Keyed for ExecutionSummary {
-    const KEYS: &'static [&'static str] = &["executionOrder", "success"];
-}
+impl FromJson for ExecutionSummary {
+    ghost reads = { λ json it. IsObject json
+        × Required ⟦<u32 as FromJson>⟧.reads (codes "executionOrder") json it.execution_order
+        × Optional ⟦<bool as FromJson>⟧.reads (codes "success") json it.success };
 
-impl ReadMembers for ExecutionSummary {
-    fn read<S: Source>(members: &mut S) -> ExecutionSummary {
-        ExecutionSummary {
-            execution_order: members.required(),
-            success: members.optional(),
+    fn from_json(alloc: Global, value: &Value) -> Result<ExecutionSummary, Misfit> {
+        let read = Members::new(alloc, value)
+            .required("executionOrder")
+            .optional("success")
+            .end();
+        match read {
+            Ok(read) => {
+                let (((), execution_order), success) = read;
+                Ok(ExecutionSummary {
+                    execution_order,
+                    success,
+                })
+            }
+            Err(misfit) => Err(misfit),
         }
-    }
-}
-
-impl DeserializeOwned for ExecutionSummary {
-    fn deserialize_owned<F: Format>(
-        alloc: Global,
-        from: &mut Deserializer<'_, '_, F>,
-    ) -> Result<ExecutionSummary, F::Error> {
-        read_object(alloc, from)
     }
 }
 
@@ -133,27 +116,32 @@ impl ToJson for NotebookCell {
     }
 }
 
-impl Keyed for NotebookCell {
-    const KEYS: &'static [&'static str] = &["kind", "document", "metadata", "executionSummary"];
-}
+impl FromJson for NotebookCell {
+    ghost reads = { λ json it. IsObject json
+        × Required ⟦<NotebookCellKind as FromJson>⟧.reads (codes "kind") json it.kind
+        × Required ⟦<String as FromJson>⟧.reads (codes "document") json it.document
+        × Optional ⟦<Value as FromJson>⟧.reads (codes "metadata") json it.metadata
+        × Optional ⟦<ExecutionSummary as FromJson>⟧.reads (codes "executionSummary") json it.execution_summary };
 
-impl ReadMembers for NotebookCell {
-    fn read<S: Source>(members: &mut S) -> NotebookCell {
-        NotebookCell {
-            kind: members.required(),
-            document: members.required(),
-            metadata: members.optional(),
-            execution_summary: members.optional(),
+    fn from_json(alloc: Global, value: &Value) -> Result<NotebookCell, Misfit> {
+        let read = Members::new(alloc, value)
+            .required("kind")
+            .required("document")
+            .optional("metadata")
+            .optional("executionSummary")
+            .end();
+        match read {
+            Ok(read) => {
+                let (((((), kind), document), metadata), execution_summary) = read;
+                Ok(NotebookCell {
+                    kind,
+                    document,
+                    metadata,
+                    execution_summary,
+                })
+            }
+            Err(misfit) => Err(misfit),
         }
-    }
-}
-
-impl DeserializeOwned for NotebookCell {
-    fn deserialize_owned<F: Format>(
-        alloc: Global,
-        from: &mut Deserializer<'_, '_, F>,
-    ) -> Result<NotebookCell, F::Error> {
-        read_object(alloc, from)
     }
 }
 
@@ -191,28 +179,35 @@ impl ToJson for NotebookDocument {
     }
 }
 
-impl Keyed for NotebookDocument {
-    const KEYS: &'static [&'static str] = &["uri", "notebookType", "version", "metadata", "cells"];
-}
+impl FromJson for NotebookDocument {
+    ghost reads = { λ json it. IsObject json
+        × Required ⟦<String as FromJson>⟧.reads (codes "uri") json it.uri
+        × Required ⟦<String as FromJson>⟧.reads (codes "notebookType") json it.notebook_type
+        × Required ⟦<i32 as FromJson>⟧.reads (codes "version") json it.version
+        × Optional ⟦<Value as FromJson>⟧.reads (codes "metadata") json it.metadata
+        × Required ⟦<Vec<NotebookCell> as FromJson>⟧.reads (codes "cells") json it.cells };
 
-impl ReadMembers for NotebookDocument {
-    fn read<S: Source>(members: &mut S) -> NotebookDocument {
-        NotebookDocument {
-            uri: members.required(),
-            notebook_type: members.required(),
-            version: members.required(),
-            metadata: members.optional(),
-            cells: members.required(),
+    fn from_json(alloc: Global, value: &Value) -> Result<NotebookDocument, Misfit> {
+        let read = Members::new(alloc, value)
+            .required("uri")
+            .required("notebookType")
+            .required("version")
+            .optional("metadata")
+            .required("cells")
+            .end();
+        match read {
+            Ok(read) => {
+                let ((((((), uri), notebook_type), version), metadata), cells) = read;
+                Ok(NotebookDocument {
+                    uri,
+                    notebook_type,
+                    version,
+                    metadata,
+                    cells,
+                })
+            }
+            Err(misfit) => Err(misfit),
         }
-    }
-}
-
-impl DeserializeOwned for NotebookDocument {
-    fn deserialize_owned<F: Format>(
-        alloc: Global,
-        from: &mut Deserializer<'_, '_, F>,
-    ) -> Result<NotebookDocument, F::Error> {
-        read_object(alloc, from)
     }
 }
 
@@ -238,25 +233,26 @@ impl ToJson for DidOpenNotebookDocumentParams {
     }
 }
 
-impl Keyed for DidOpenNotebookDocumentParams {
-    const KEYS: &'static [&'static str] = &["notebookDocument", "cellTextDocuments"];
-}
+impl FromJson for DidOpenNotebookDocumentParams {
+    ghost reads = { λ json it. IsObject json
+        × Required ⟦<NotebookDocument as FromJson>⟧.reads (codes "notebookDocument") json it.notebook_document
+        × Required ⟦<Vec<TextDocumentItem> as FromJson>⟧.reads (codes "cellTextDocuments") json it.cell_text_documents };
 
-impl ReadMembers for DidOpenNotebookDocumentParams {
-    fn read<S: Source>(members: &mut S) -> DidOpenNotebookDocumentParams {
-        DidOpenNotebookDocumentParams {
-            notebook_document: members.required(),
-            cell_text_documents: members.required(),
+    fn from_json(alloc: Global, value: &Value) -> Result<DidOpenNotebookDocumentParams, Misfit> {
+        let read = Members::new(alloc, value)
+            .required("notebookDocument")
+            .required("cellTextDocuments")
+            .end();
+        match read {
+            Ok(read) => {
+                let (((), notebook_document), cell_text_documents) = read;
+                Ok(DidOpenNotebookDocumentParams {
+                    notebook_document,
+                    cell_text_documents,
+                })
+            }
+            Err(misfit) => Err(misfit),
         }
-    }
-}
-
-impl DeserializeOwned for DidOpenNotebookDocumentParams {
-    fn deserialize_owned<F: Format>(
-        alloc: Global,
-        from: &mut Deserializer<'_, '_, F>,
-    ) -> Result<DidOpenNotebookDocumentParams, F::Error> {
-        read_object(alloc, from)
     }
 }
 
@@ -282,25 +278,26 @@ impl ToJson for VersionedNotebookDocumentIdentifier {
     }
 }
 
-impl Keyed for VersionedNotebookDocumentIdentifier {
-    const KEYS: &'static [&'static str] = &["version", "uri"];
-}
+impl FromJson for VersionedNotebookDocumentIdentifier {
+    ghost reads = { λ json it. IsObject json
+        × Required ⟦<i32 as FromJson>⟧.reads (codes "version") json it.version
+        × Required ⟦<String as FromJson>⟧.reads (codes "uri") json it.uri };
 
-impl ReadMembers for VersionedNotebookDocumentIdentifier {
-    fn read<S: Source>(members: &mut S) -> VersionedNotebookDocumentIdentifier {
-        VersionedNotebookDocumentIdentifier {
-            version: members.required(),
-            uri: members.required(),
-        }
-    }
-}
-
-impl DeserializeOwned for VersionedNotebookDocumentIdentifier {
-    fn deserialize_owned<F: Format>(
+    fn from_json(
         alloc: Global,
-        from: &mut Deserializer<'_, '_, F>,
-    ) -> Result<VersionedNotebookDocumentIdentifier, F::Error> {
-        read_object(alloc, from)
+        value: &Value,
+    ) -> Result<VersionedNotebookDocumentIdentifier, Misfit> {
+        let read = Members::new(alloc, value)
+            .required("version")
+            .required("uri")
+            .end();
+        match read {
+            Ok(read) => {
+                let (((), version), uri) = read;
+                Ok(VersionedNotebookDocumentIdentifier { version, uri })
+            }
+            Err(misfit) => Err(misfit),
+        }
     }
 }
 
@@ -330,26 +327,29 @@ impl ToJson for NotebookCellArrayChange {
     }
 }
 
-impl Keyed for NotebookCellArrayChange {
-    const KEYS: &'static [&'static str] = &["start", "deleteCount", "cells"];
-}
+impl FromJson for NotebookCellArrayChange {
+    ghost reads = { λ json it. IsObject json
+        × Required ⟦<u32 as FromJson>⟧.reads (codes "start") json it.start
+        × Required ⟦<u32 as FromJson>⟧.reads (codes "deleteCount") json it.delete_count
+        × Optional ⟦<Vec<NotebookCell> as FromJson>⟧.reads (codes "cells") json it.cells };
 
-impl ReadMembers for NotebookCellArrayChange {
-    fn read<S: Source>(members: &mut S) -> NotebookCellArrayChange {
-        NotebookCellArrayChange {
-            start: members.required(),
-            delete_count: members.required(),
-            cells: members.optional(),
+    fn from_json(alloc: Global, value: &Value) -> Result<NotebookCellArrayChange, Misfit> {
+        let read = Members::new(alloc, value)
+            .required("start")
+            .required("deleteCount")
+            .optional("cells")
+            .end();
+        match read {
+            Ok(read) => {
+                let ((((), start), delete_count), cells) = read;
+                Ok(NotebookCellArrayChange {
+                    start,
+                    delete_count,
+                    cells,
+                })
+            }
+            Err(misfit) => Err(misfit),
         }
-    }
-}
-
-impl DeserializeOwned for NotebookCellArrayChange {
-    fn deserialize_owned<F: Format>(
-        alloc: Global,
-        from: &mut Deserializer<'_, '_, F>,
-    ) -> Result<NotebookCellArrayChange, F::Error> {
-        read_object(alloc, from)
     }
 }
 
@@ -379,26 +379,29 @@ impl ToJson for NotebookCellStructure {
     }
 }
 
-impl Keyed for NotebookCellStructure {
-    const KEYS: &'static [&'static str] = &["array", "didOpen", "didClose"];
-}
+impl FromJson for NotebookCellStructure {
+    ghost reads = { λ json it. IsObject json
+        × Required ⟦<NotebookCellArrayChange as FromJson>⟧.reads (codes "array") json it.array
+        × Optional ⟦<Vec<TextDocumentItem> as FromJson>⟧.reads (codes "didOpen") json it.did_open
+        × Optional ⟦<Vec<TextDocumentIdentifier> as FromJson>⟧.reads (codes "didClose") json it.did_close };
 
-impl ReadMembers for NotebookCellStructure {
-    fn read<S: Source>(members: &mut S) -> NotebookCellStructure {
-        NotebookCellStructure {
-            array: members.required(),
-            did_open: members.optional(),
-            did_close: members.optional(),
+    fn from_json(alloc: Global, value: &Value) -> Result<NotebookCellStructure, Misfit> {
+        let read = Members::new(alloc, value)
+            .required("array")
+            .optional("didOpen")
+            .optional("didClose")
+            .end();
+        match read {
+            Ok(read) => {
+                let ((((), array), did_open), did_close) = read;
+                Ok(NotebookCellStructure {
+                    array,
+                    did_open,
+                    did_close,
+                })
+            }
+            Err(misfit) => Err(misfit),
         }
-    }
-}
-
-impl DeserializeOwned for NotebookCellStructure {
-    fn deserialize_owned<F: Format>(
-        alloc: Global,
-        from: &mut Deserializer<'_, '_, F>,
-    ) -> Result<NotebookCellStructure, F::Error> {
-        read_object(alloc, from)
     }
 }
 
@@ -424,25 +427,23 @@ impl ToJson for NotebookCellTextChange {
     }
 }
 
-impl Keyed for NotebookCellTextChange {
-    const KEYS: &'static [&'static str] = &["document", "changes"];
-}
+impl FromJson for NotebookCellTextChange {
+    ghost reads = { λ json it. IsObject json
+        × Required ⟦<VersionedTextDocumentIdentifier as FromJson>⟧.reads (codes "document") json it.document
+        × Required ⟦<Vec<ContentChange> as FromJson>⟧.reads (codes "changes") json it.changes };
 
-impl ReadMembers for NotebookCellTextChange {
-    fn read<S: Source>(members: &mut S) -> NotebookCellTextChange {
-        NotebookCellTextChange {
-            document: members.required(),
-            changes: members.required::<Changes>().0,
+    fn from_json(alloc: Global, value: &Value) -> Result<NotebookCellTextChange, Misfit> {
+        let read = Members::new(alloc, value)
+            .required("document")
+            .required("changes")
+            .end();
+        match read {
+            Ok(read) => {
+                let (((), document), changes) = read;
+                Ok(NotebookCellTextChange { document, changes })
+            }
+            Err(misfit) => Err(misfit),
         }
-    }
-}
-
-impl DeserializeOwned for NotebookCellTextChange {
-    fn deserialize_owned<F: Format>(
-        alloc: Global,
-        from: &mut Deserializer<'_, '_, F>,
-    ) -> Result<NotebookCellTextChange, F::Error> {
-        read_object(alloc, from)
     }
 }
 
@@ -472,26 +473,29 @@ impl ToJson for NotebookCellChanges {
     }
 }
 
-impl Keyed for NotebookCellChanges {
-    const KEYS: &'static [&'static str] = &["structure", "data", "textContent"];
-}
+impl FromJson for NotebookCellChanges {
+    ghost reads = { λ json it. IsObject json
+        × Optional ⟦<NotebookCellStructure as FromJson>⟧.reads (codes "structure") json it.structure
+        × Optional ⟦<Vec<NotebookCell> as FromJson>⟧.reads (codes "data") json it.«data»
+        × Optional ⟦<Vec<NotebookCellTextChange> as FromJson>⟧.reads (codes "textContent") json it.text_content };
 
-impl ReadMembers for NotebookCellChanges {
-    fn read<S: Source>(members: &mut S) -> NotebookCellChanges {
-        NotebookCellChanges {
-            structure: members.optional(),
-            data: members.optional(),
-            text_content: members.optional(),
+    fn from_json(alloc: Global, value: &Value) -> Result<NotebookCellChanges, Misfit> {
+        let read = Members::new(alloc, value)
+            .optional("structure")
+            .optional("data")
+            .optional("textContent")
+            .end();
+        match read {
+            Ok(read) => {
+                let ((((), structure), data), text_content) = read;
+                Ok(NotebookCellChanges {
+                    structure,
+                    data,
+                    text_content,
+                })
+            }
+            Err(misfit) => Err(misfit),
         }
-    }
-}
-
-impl DeserializeOwned for NotebookCellChanges {
-    fn deserialize_owned<F: Format>(
-        alloc: Global,
-        from: &mut Deserializer<'_, '_, F>,
-    ) -> Result<NotebookCellChanges, F::Error> {
-        read_object(alloc, from)
     }
 }
 
@@ -517,25 +521,23 @@ impl ToJson for NotebookDocumentChangeEvent {
     }
 }
 
-impl Keyed for NotebookDocumentChangeEvent {
-    const KEYS: &'static [&'static str] = &["metadata", "cells"];
-}
+impl FromJson for NotebookDocumentChangeEvent {
+    ghost reads = { λ json it. IsObject json
+        × Optional ⟦<Value as FromJson>⟧.reads (codes "metadata") json it.metadata
+        × Optional ⟦<NotebookCellChanges as FromJson>⟧.reads (codes "cells") json it.cells };
 
-impl ReadMembers for NotebookDocumentChangeEvent {
-    fn read<S: Source>(members: &mut S) -> NotebookDocumentChangeEvent {
-        NotebookDocumentChangeEvent {
-            metadata: members.optional(),
-            cells: members.optional(),
+    fn from_json(alloc: Global, value: &Value) -> Result<NotebookDocumentChangeEvent, Misfit> {
+        let read = Members::new(alloc, value)
+            .optional("metadata")
+            .optional("cells")
+            .end();
+        match read {
+            Ok(read) => {
+                let (((), metadata), cells) = read;
+                Ok(NotebookDocumentChangeEvent { metadata, cells })
+            }
+            Err(misfit) => Err(misfit),
         }
-    }
-}
-
-impl DeserializeOwned for NotebookDocumentChangeEvent {
-    fn deserialize_owned<F: Format>(
-        alloc: Global,
-        from: &mut Deserializer<'_, '_, F>,
-    ) -> Result<NotebookDocumentChangeEvent, F::Error> {
-        read_object(alloc, from)
     }
 }
 
@@ -561,25 +563,26 @@ impl ToJson for DidChangeNotebookDocumentParams {
     }
 }
 
-impl Keyed for DidChangeNotebookDocumentParams {
-    const KEYS: &'static [&'static str] = &["notebookDocument", "change"];
-}
+impl FromJson for DidChangeNotebookDocumentParams {
+    ghost reads = { λ json it. IsObject json
+        × Required ⟦<VersionedNotebookDocumentIdentifier as FromJson>⟧.reads (codes "notebookDocument") json it.notebook_document
+        × Required ⟦<NotebookDocumentChangeEvent as FromJson>⟧.reads (codes "change") json it.change };
 
-impl ReadMembers for DidChangeNotebookDocumentParams {
-    fn read<S: Source>(members: &mut S) -> DidChangeNotebookDocumentParams {
-        DidChangeNotebookDocumentParams {
-            notebook_document: members.required(),
-            change: members.required(),
+    fn from_json(alloc: Global, value: &Value) -> Result<DidChangeNotebookDocumentParams, Misfit> {
+        let read = Members::new(alloc, value)
+            .required("notebookDocument")
+            .required("change")
+            .end();
+        match read {
+            Ok(read) => {
+                let (((), notebook_document), change) = read;
+                Ok(DidChangeNotebookDocumentParams {
+                    notebook_document,
+                    change,
+                })
+            }
+            Err(misfit) => Err(misfit),
         }
-    }
-}
-
-impl DeserializeOwned for DidChangeNotebookDocumentParams {
-    fn deserialize_owned<F: Format>(
-        alloc: Global,
-        from: &mut Deserializer<'_, '_, F>,
-    ) -> Result<DidChangeNotebookDocumentParams, F::Error> {
-        read_object(alloc, from)
     }
 }
 
@@ -604,24 +607,21 @@ impl ToJson for DidSaveNotebookDocumentParams {
     }
 }
 
-impl Keyed for DidSaveNotebookDocumentParams {
-    const KEYS: &'static [&'static str] = &["notebookDocument"];
-}
+impl FromJson for DidSaveNotebookDocumentParams {
+    ghost reads = { λ json it. IsObject json
+        × Required ⟦<NotebookDocumentIdentifier as FromJson>⟧.reads (codes "notebookDocument") json it.notebook_document };
 
-impl ReadMembers for DidSaveNotebookDocumentParams {
-    fn read<S: Source>(members: &mut S) -> DidSaveNotebookDocumentParams {
-        DidSaveNotebookDocumentParams {
-            notebook_document: members.required(),
+    fn from_json(alloc: Global, value: &Value) -> Result<DidSaveNotebookDocumentParams, Misfit> {
+        let read = Members::new(alloc, value)
+            .required("notebookDocument")
+            .end();
+        match read {
+            Ok(read) => {
+                let ((), notebook_document) = read;
+                Ok(DidSaveNotebookDocumentParams { notebook_document })
+            }
+            Err(misfit) => Err(misfit),
         }
-    }
-}
-
-impl DeserializeOwned for DidSaveNotebookDocumentParams {
-    fn deserialize_owned<F: Format>(
-        alloc: Global,
-        from: &mut Deserializer<'_, '_, F>,
-    ) -> Result<DidSaveNotebookDocumentParams, F::Error> {
-        read_object(alloc, from)
     }
 }
 
@@ -647,24 +647,25 @@ impl ToJson for DidCloseNotebookDocumentParams {
     }
 }
 
-impl Keyed for DidCloseNotebookDocumentParams {
-    const KEYS: &'static [&'static str] = &["notebookDocument", "cellTextDocuments"];
-}
+impl FromJson for DidCloseNotebookDocumentParams {
+    ghost reads = { λ json it. IsObject json
+        × Required ⟦<NotebookDocumentIdentifier as FromJson>⟧.reads (codes "notebookDocument") json it.notebook_document
+        × Required ⟦<Vec<TextDocumentIdentifier> as FromJson>⟧.reads (codes "cellTextDocuments") json it.cell_text_documents };
 
-impl ReadMembers for DidCloseNotebookDocumentParams {
-    fn read<S: Source>(members: &mut S) -> DidCloseNotebookDocumentParams {
-        DidCloseNotebookDocumentParams {
-            notebook_document: members.required(),
-            cell_text_documents: members.required(),
+    fn from_json(alloc: Global, value: &Value) -> Result<DidCloseNotebookDocumentParams, Misfit> {
+        let read = Members::new(alloc, value)
+            .required("notebookDocument")
+            .required("cellTextDocuments")
+            .end();
+        match read {
+            Ok(read) => {
+                let (((), notebook_document), cell_text_documents) = read;
+                Ok(DidCloseNotebookDocumentParams {
+                    notebook_document,
+                    cell_text_documents,
+                })
+            }
+            Err(misfit) => Err(misfit),
         }
-    }
-}
-
-impl DeserializeOwned for DidCloseNotebookDocumentParams {
-    fn deserialize_owned<F: Format>(
-        alloc: Global,
-        from: &mut Deserializer<'_, '_, F>,
-    ) -> Result<DidCloseNotebookDocumentParams, F::Error> {
-        read_object(alloc, from)
     }
 }

@@ -24,6 +24,7 @@ mod links;
 mod lists;
 mod messages;
 mod more_types;
+mod own;
 mod plain;
 mod queues;
 mod rows;

@@ -1,4 +1,5 @@
 // Values of the types of `lsp_types_features` and `lsp_types_workspace`.
+use crate::own::Note;
 use crate::said::Said;
 use crate::types::{back, get, of_other, say_json};
 use lsp_types::{Position, Range};
@@ -71,23 +72,26 @@ fn of_file(said: &mut Said, name: &str, text: &str) {
         "DidChangeNotebookDocumentParams" => back::<DidChangeNotebookDocumentParams>(said, text),
         "DidSaveNotebookDocumentParams" => back::<DidSaveNotebookDocumentParams>(said, text),
         "DidCloseNotebookDocumentParams" => back::<DidCloseNotebookDocumentParams>(said, text),
+        "Note" => back::<Note>(said, text),
         _ => of_other(said, name, text),
     }
 }
 
 /// Parts of the first line, each within the next.
 pub fn selection(said: &mut Said, found: &Value) {
-    let ranges: Vec<(u32, u32)> = get(said, found, "ranges", Vec::new(said.alloc));
+    let ranges: Vec<Vec<u32>> = get(said, found, "ranges", Vec::new(said.alloc));
     let mut around = None;
-    for (start, end) in ranges.as_slice().iter().rev() {
-        let range = Range::new(Position::new(0, *start), Position::new(0, *end));
-        around = boxed(
-            said,
-            SelectionRange {
-                range,
-                parent: around,
-            },
-        );
+    for ends in ranges.as_slice().iter().rev() {
+        if let [start, end] = ends.as_slice() {
+            let range = Range::new(Position::new(0, *start), Position::new(0, *end));
+            around = boxed(
+                said,
+                SelectionRange {
+                    range,
+                    parent: around,
+                },
+            );
+        }
     }
     if let Some(selection) = &around {
         say_json(said, &**selection);

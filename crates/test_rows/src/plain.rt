@@ -1,6 +1,6 @@
 // Values that are read by types of serde's own kinds and written again. A row is `plain TYPE: VALUE; VALUE; ..`.
 use crate::said::{Said, Stepped};
-use crate::types::{read_text, read_typed, reason, say_both, text_of};
+use lsp_trees::from_value;
 use serde::{Deserialize, DeserializeOwned, Deserializer, Format, Serialize};
 use serde_json::{Error, Value, to_value};
 use std::alloc::Global;
@@ -95,7 +95,8 @@ impl DeserializeOwned for Empty {
     }
 }
 
-/// As `types::back`, of a type that serde writes.
+/// Says the value that a text of JSON has by a type, as it is written again, or `refused`. It is read straight and through its text; if
+/// the two differ, it says both.
 fn back<T: Serialize + DeserializeOwned + Drop>(said: &mut Said, text: &str) {
     said.is_wrong = false;
     let straight = written(said, read_typed::<T>(said.alloc, text));
@@ -115,6 +116,50 @@ fn written<T: Serialize + Drop>(said: &mut Said, read: Result<T, Error>) -> Stri
             }
         }
         Err(error) => reason(said, error),
+    }
+}
+
+/// Says what was read straight and through its text: once, if the two are the same.
+fn say_both(said: &mut Said, straight: String, by_text: String) {
+    if straight != by_text {
+        said.push(straight.as_str());
+        said.push(", but by its text ");
+        said.push(by_text.as_str());
+    } else if said.is_wrong {
+        said.push("refused");
+    } else {
+        said.push(straight.as_str());
+    }
+    said.is_wrong = false;
+}
+
+/// The value that a text of JSON has by its type, read through the text.
+fn read_text<T: DeserializeOwned>(alloc: Global, text: &str) -> Result<T, Error> {
+    match Value::from_str(alloc, text) {
+        Ok(value) => serde_json::from_value(alloc, value),
+        Err(error) => Err(error),
+    }
+}
+
+/// The text of a tree.
+fn text_of(said: &mut Said, tree: Value) -> String {
+    let told = tree.to_string(said.alloc);
+    drop(tree);
+    said.made(told, String::new(said.alloc))
+}
+
+/// Why a value was not read or written.
+fn reason(said: &mut Said, error: Error) -> String {
+    let told = format!(in said.alloc; "{error}");
+    said.refuse(error);
+    said.made(told, String::new(said.alloc))
+}
+
+/// The value that a text of JSON has by its type, read straight.
+fn read_typed<T: DeserializeOwned>(alloc: Global, text: &str) -> Result<T, Error> {
+    match Value::from_str(alloc, text) {
+        Ok(value) => from_value(alloc, value),
+        Err(error) => Err(error),
     }
 }
 

@@ -1,8 +1,23 @@
-// Acts of the server that speaks, at messages whose params are a place in a document (LSP 3.17, "TextDocumentPositionParams").
+// Acts of the server that speaks, at messages whose params are a place in a document (LSP 3.17, "TextDocumentPositionParams"), read by
+// `serde`.
 use lsp_message::{ErrorCode, Notification, Request, RequestId, ResponseError};
 use lsp_service::Act;
-use lsp_types::{MessageType, Position, TextDocumentPositionParams};
+use lsp_types::{MessageType, Position};
+use serde::Deserialize;
 use std::alloc::{AllocError, AllocFailed, Global};
+
+/// A place in a document.
+#[derive(Drop, Deserialize)]
+struct Place {
+    #[serde(rename = "textDocument")]
+    text_document: Document,
+    position: Position,
+}
+
+#[derive(Drop, Deserialize)]
+struct Document {
+    uri: String,
+}
 
 /// - `typed/uri` gives the document.
 /// - `typed/above` gives the position above, and the error -32803 if there is none.
@@ -14,13 +29,13 @@ pub fn asked<P: Drop + PartialEq>(
     request: Request,
 ) -> Result<Vec<Act<P>>, AllocError> {
     match request.method.as_str() {
-        "typed/uri" => Act::answer(alloc, request, |place: TextDocumentPositionParams| {
+        "typed/uri" => Act::answer(alloc, request, |place: Place| {
             Ok(place.text_document.uri)
         }),
-        "typed/above" => Act::try_answer(alloc, request, |place: TextDocumentPositionParams| {
+        "typed/above" => Act::try_answer(alloc, request, |place: Place| {
             above(alloc, place.position)
         }),
-        "typed/show" => Act::of_request(alloc, request, |id, place: TextDocumentPositionParams| {
+        "typed/show" => Act::of_request(alloc, request, |id, place: Place| {
             drop(place);
             shown(alloc, id)
         }),
@@ -77,7 +92,7 @@ pub fn noticed<P: Drop + PartialEq>(
     alloc: Global,
     notification: Notification,
 ) -> Result<Vec<Act<P>>, AllocError> {
-    Act::of_notification(alloc, notification, |place: TextDocumentPositionParams| {
+    Act::of_notification(alloc, notification, |place: Place| {
         told(alloc, place.position)
     })
 }
@@ -116,7 +131,7 @@ fn shown<P: Drop + PartialEq>(alloc: Global, id: RequestId) -> Result<Vec<Act<P>
 fn marked<P: Drop + PartialEq>(
     alloc: Global,
     id: RequestId,
-    place: TextDocumentPositionParams,
+    place: Place,
 ) -> Result<Vec<Act<P>>, AllocError> {
     let found = [place.position];
     let line = place.position.line;

@@ -3,7 +3,7 @@ use crate::messages::{text_in, value_in};
 use crate::more_types;
 use crate::said::Said;
 use lsp_documents::Agreed;
-use lsp_trees::from_value;
+use lsp_types::json::Misfit;
 use lsp_types::{
     ApplyWorkspaceEditParams, ApplyWorkspaceEditResult, CancelParams, CodeAction,
     CodeActionOptions, CodeActionParams, CodeLensOptions, Command, CompletionItem,
@@ -13,7 +13,7 @@ use lsp_types::{
     DidChangeWorkspaceFoldersParams, DidCloseTextDocumentParams, DidOpenTextDocumentParams,
     DidSaveTextDocumentParams, DocumentFormattingParams, DocumentLinkOptions,
     DocumentOnTypeFormattingOptions, DocumentOnTypeFormattingParams, DocumentRangeFormattingParams,
-    DocumentSymbol, ExecuteCommandOptions, ExecuteCommandParams, Hover, HoverParams,
+    DocumentSymbol, ExecuteCommandOptions, ExecuteCommandParams, FromJson, Hover, HoverParams,
     InitializeParams, InitializeResult, InlayHint, InlayHintParams, Location, LocationLink,
     LogTraceParams, MessageActionItem, NumberOrString, Position, PrepareRenameResult,
     ProgressParams, PublishDiagnosticsParams, Range, ReferenceParams, RegistrationParams,
@@ -27,9 +27,9 @@ use lsp_types::{
     WorkDoneProgressParams, WorkDoneProgressReport, WorkspaceFoldersServerCapabilities,
     WorkspaceOptions, WorkspaceSymbol, WorkspaceSymbolParams,
 };
-use serde::{DeserializeOwned, Serialize};
-use serde_json::{Error, Map, Value, to_value};
-use std::alloc::{AllocError, Global};
+use serde::Serialize;
+use serde_json::{Map, Value, to_value};
+use std::alloc::Global;
 
 /// What comes of a type's name and a value: the value as it is written again, or `refused`.
 pub fn answer(said: &mut Said, row: &str) {
@@ -43,30 +43,42 @@ pub fn answer(said: &mut Said, row: &str) {
 }
 
 /// The value that a text of JSON has by its type.
-pub fn read_typed<T: DeserializeOwned>(alloc: Global, text: &str) -> Result<T, Error> {
-    match Value::from_str(alloc, text) {
-        Ok(value) => from_value(alloc, value),
-        Err(error) => Err(error),
+pub fn read_typed<T: FromJson>(alloc: Global, text: &str) -> Result<T, Misfit> {
+    match value_in(alloc, text) {
+        Ok(value) => {
+            let found = T::from_json(alloc, &value);
+            drop(value);
+            found
+        }
+        Err(_) => Err(Misfit::Memory),
     }
 }
 
 /// The value that a text of JSON has by its type, or another.
-pub fn read<T: DeserializeOwned + Drop>(said: &mut Said, text: &str, otherwise: T) -> T {
+pub fn read<T: FromJson>(said: &mut Said, text: &str, otherwise: T) -> T {
     let found = read_typed(said.alloc, text);
     read_or(said, found, otherwise)
 }
 
 /// The value that was read, or another.
-fn read_or<T: Drop>(said: &mut Said, found: Result<T, Error>, otherwise: T) -> T {
+fn read_or<T: Drop>(said: &mut Said, found: Result<T, Misfit>, otherwise: T) -> T {
     match found {
         Ok(value) => {
             drop(otherwise);
             value
         }
-        Err(error) => {
-            said.refuse(error);
+        Err(misfit) => {
+            unfit(said, misfit);
             otherwise
         }
+    }
+}
+
+/// Remembers why a value was not read.
+pub fn unfit(said: &mut Said, misfit: Misfit) {
+    said.is_wrong = true;
+    if misfit == Misfit::Memory {
+        said.is_short = true;
     }
 }
 
@@ -86,72 +98,15 @@ pub fn say_written<T: Serialize>(said: &mut Said, value: &T) {
     }
 }
 
-/// Says the value that a text of JSON has by a type, as it is written again, or `refused`. It is read straight and through its text; if
-/// the two differ, it says both.
-pub fn back<T: ToJson + DeserializeOwned + Drop>(said: &mut Said, text: &str) {
-    said.is_wrong = false;
-    let straight = written(said, read_typed::<T>(said.alloc, text));
-    let by_text = written(said, read_text::<T>(said.alloc, text));
-    say_both(said, straight, by_text);
-}
-
-/// Says what was read straight and through its text: once, if the two are the same.
-pub fn say_both(said: &mut Said, straight: String, by_text: String) {
-    if straight != by_text {
-        said.push(straight.as_str());
-        said.push(", but by its text ");
-        said.push(by_text.as_str());
-    } else if said.is_wrong {
-        said.push("refused");
-    } else {
-        said.push(straight.as_str());
-    }
-    said.is_wrong = false;
-}
-
-/// The value that a text of JSON has by its type, read through the text.
-pub fn read_text<T: DeserializeOwned>(alloc: Global, text: &str) -> Result<T, Error> {
-    match Value::from_str(alloc, text) {
-        Ok(value) => serde_json::from_value(alloc, value),
-        Err(error) => Err(error),
-    }
-}
-
-/// What was read, as it is written again, or why it was not.
-fn written<T: ToJson + Drop>(said: &mut Said, read: Result<T, Error>) -> String {
-    match read {
+/// Says the value that a text of JSON has by a type, as it is written again, or `refused`.
+pub fn back<T: ToJson + FromJson>(said: &mut Said, text: &str) {
+    match read_typed::<T>(said.alloc, text) {
         Ok(value) => {
-            let told = text_by(said, &value);
+            say_json(said, &value);
             drop(value);
-            told
         }
-        Err(error) => reason(said, error),
+        Err(misfit) => unfit(said, misfit),
     }
-}
-
-/// A value as JSON writes it.
-fn text_by<T: ToJson>(said: &mut Said, value: &T) -> String {
-    match value.to_json(said.alloc) {
-        Ok(tree) => text_of(said, tree),
-        Err(_) => {
-            said.is_short = true;
-            String::new(said.alloc)
-        }
-    }
-}
-
-/// The text of a tree.
-pub fn text_of(said: &mut Said, tree: Value) -> String {
-    let told = tree.to_string(said.alloc);
-    drop(tree);
-    said.made(told, String::new(said.alloc))
-}
-
-/// Why a value was not read or written.
-pub fn reason(said: &mut Said, error: Error) -> String {
-    let told = format!(in said.alloc; "{error}");
-    said.refuse(error);
-    said.made(told, String::new(said.alloc))
 }
 
 fn of_document(said: &mut Said, name: &str, text: &str) {
@@ -314,35 +269,20 @@ fn document_capabilities(said: &mut Said, params: &Value) {
 }
 
 /// A member by its type, null if there is none.
-fn member<T: DeserializeOwned>(alloc: Global, found: &Value, key: &str) -> Result<T, Error> {
-    match copied(found.get(key)) {
-        Ok(value) => from_value(alloc, value),
-        Err(error) => Err(Error::from(error)),
-    }
-}
-
-fn copied(found: Option<&Value>) -> Result<Value, AllocError> {
-    match found {
-        Some(value) => {
-            let copy: Result<Value, AllocError> = value.clone();
-            copy
-        }
-        None => Ok(Value::Null),
+fn member<T: FromJson>(alloc: Global, found: &Value, key: &str) -> Result<T, Misfit> {
+    match found.get(key) {
+        Some(value) => T::from_json(alloc, value),
+        None => T::from_json(alloc, &Value::Null),
     }
 }
 
 /// A member by its type, or another value.
-pub fn get<T: DeserializeOwned + Drop>(
-    said: &mut Said,
-    found: &Value,
-    key: &str,
-    otherwise: T,
-) -> T {
+pub fn get<T: FromJson>(said: &mut Said, found: &Value, key: &str, otherwise: T) -> T {
     let found = member(said.alloc, found, key);
     read_or(said, found, otherwise)
 }
 
-fn progress<T: ToJson + DeserializeOwned + Drop>(said: &mut Said, found: &Value) {
+fn progress<T: ToJson + FromJson>(said: &mut Said, found: &Value) {
     let token = get(said, found, "token", NumberOrString::Number(0));
     match member::<T>(said.alloc, found, "value") {
         Ok(value) => {
@@ -350,9 +290,9 @@ fn progress<T: ToJson + DeserializeOwned + Drop>(said: &mut Said, found: &Value)
             say_json(said, &told);
             drop(told);
         }
-        Err(error) => {
+        Err(misfit) => {
             drop(token);
-            said.refuse(error)
+            unfit(said, misfit)
         }
     }
 }

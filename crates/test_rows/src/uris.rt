@@ -1,6 +1,6 @@
 // Paths and their URIs, the folders that are open, the numbers of semantic tokens, and the place that params ask about.
 use crate::said::Said;
-use crate::types::{read, read_typed, say_json, say_written};
+use crate::types::{read, read_typed, say_json, say_written, unfit};
 use lsp_text::{LineEnds, PositionEncoding, Text};
 use lsp_types::{
     FileUriFault, InitializeParams, Position, SemanticToken, SemanticTokens, names_path,
@@ -34,7 +34,7 @@ pub fn folders(said: &mut Said, text: &str) {
             drop(params);
             say_paths(said, paths)
         }
-        Err(error) => said.refuse(error),
+        Err(misfit) => unfit(said, misfit),
     }
 }
 

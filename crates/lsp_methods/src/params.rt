@@ -1,0 +1,30 @@
+// What params and results are read as.
+ghost use Rattle.std.specs.Prelude.{IfOk};
+ghost use Rattle.serde_json.specs.View.{view};
+ghost use Rattle.lsp_methods.specs.Reads.{IsReadOf};
+
+use lsp_message::{ErrorCode, ResponseError};
+use lsp_types::FromJson;
+use lsp_types::json::Misfit;
+use serde_json::Value;
+use std::alloc::{AllocError, Global};
+
+/// The value of a tree by a type of LSP, or the error -32602 to reply with, whose text names the member that does not fit and what was
+/// wanted there (JSON-RPC 2.0, section 5.1).
+///
+/// `Err(AllocError)` means that an allocation failed.
+pub fn read<T: FromJson>(
+    alloc: Global,
+    value: &Value,
+) -> Result<Result<T, ResponseError>, AllocError>
+    ensures { IfOk result (λ read. IsReadOf T.reads (view value.now) read) }
+{
+    match T::from_json(alloc, value) {
+        Ok(it) => Ok(Ok(it)),
+        Err(Misfit::Memory) => Err(AllocError),
+        Err(misfit) => {
+            let reason = format!(in alloc; "{misfit}")?;
+            Ok(Err(ResponseError::new(alloc, ErrorCode::InvalidParams, reason.as_str())?))
+        }
+    }
+}

@@ -1,0 +1,198 @@
+-- How numbers of lines, lists and maps are read.
+use Rattle.std.proofs.Common.{◌≡◌, ℕ, zero, suc, ◌<◌, List, [], ◌∷◌, ◌++◌, length, get_or, map, arith, sym, ap, ◌∙◌}
+use Rattle.std.proofs.Common.{◌+◌, take, subst, refl, append_assoc, append-nil, inl, inr, ◌⊎◌}
+use Rattle.std.proofs.Common.{Result, Ok, Err, Option, Some, None, ℤ, option_and_then, String, Global, string_bytes}
+use Rattle.std.proofs.Common.{string_cmp, nat_cmp, Ordering, Less, Greater, Equal}
+use Rattle.std.specs.BTreeMap.{insert_entry}
+use Rattle.std.specs.Cmp.Lexicographic.{slice_cmp}
+use Rattle.std.specs.List.{AllByRecursion}
+use Rattle.std.specs.List.Sorted.{IsStrictlySortedBy}
+use Rattle.std.specs.Map.{keys_of}
+use Rattle.std.specs.Ordering.{match_ordering, ordering_reverse}
+use Rattle.std.proofs.lemmas.Option.{none-some}
+use Rattle.std.proofs.Common.{of_z, to_z, w32}
+use Rattle.std.proofs.lemmas.Int.{to_z-of_z}
+use Rattle.std.proofs.lemmas.Cmp.{nat_list_cmp_total}
+use Rattle.std.proofs.lemmas.Grind.{take_at_read}
+use Rattle.std.proofs.lemmas.List.{map-append}
+use Rattle.serde_json.specs.Data.{Data, Num, unsigned, negative, float, Items, no_items, item}
+use Rattle.serde_json.specs.Find.{as_i64, as_u64, get}
+use Rattle.serde_json.specs.View.{items_of, members_view, view}
+use Rattle.serde_json.specs.declared.value.Value.{Value}
+use Rattle.lsp_types.specs.declared.json.reading.Misfit.{Misfit}
+use Rattle.lsp_types.specs.Reads.{Adds, Both, EachItem, EachMember, Fits, FittingItems, IsInt, NoneReads, Puts}
+use Rattle.lsp_types.specs.Reads.{ReadsAs, ReadsSome, Required, line_of}
+
+-- one more of each
+pub item_more : {T : Type 0} (reads : Data → T → Type 0) (ds : List Data) (xs : List T) (d : Data) (x : T)
+    → EachItem reads (items_of ds) xs → reads d x → EachItem reads (items_of (ds ++ d ∷ [])) (xs ++ x ∷ [])
+item_more reads [] [] d x each one = (one, tt)
+item_more reads [] (y ∷ xs) d x each one = absurd each
+item_more reads (c ∷ ds) [] d x each one = absurd each
+item_more reads (c ∷ ds) (y ∷ xs) d x each one = (each.0, item_more reads ds xs d x each.1 one)
+
+-- the value of an item
+pub item_at : {T : Type 0} (reads : Data → T → Type 0) (vs : List Value) (xs : List T) (i : ℕ) (v : Value)
+    → i < length vs → v ≡ get_or vs i v → EachItem reads (items_of (map view vs)) xs → (x : T) × reads (view v) x
+item_at reads [] xs i v within is each = absurd (omega (within, arith))
+item_at reads (w ∷ vs) [] i v within is each = absurd each
+item_at reads (w ∷ vs) (x ∷ xs) zero v within is each = (x, subst (λ u. reads (view u) x) (sym is) each.0)
+item_at reads (w ∷ vs) (x ∷ xs) (suc i) v within is each = item_at reads vs xs i v (omega (within, arith)) is each.1
+
+-- one more that fits
+pub fits_more : {T : Type 0} (reads : Data → T → Type 0) (ds : List Data) (xs : List T) (d : Data) (x : T)
+    → FittingItems reads (items_of ds) xs → reads d x → FittingItems reads (items_of (ds ++ d ∷ [])) (xs ++ x ∷ [])
+fits_more reads [] xs d x fits one = inl (x, [], ap (λ ys. ys ++ x ∷ []) fits, one, refl)
+fits_more reads (c ∷ ds) xs d x (inl some) one =
+    inl (some.0, some.1 ++ x ∷ [], ap (λ ys. ys ++ x ∷ []) some.2, some.3, fits_more reads ds some.1 d x some.4 one)
+fits_more reads (c ∷ ds) xs d x (inr none) one = inr (none.0, fits_more reads ds xs d x none.1 one)
+
+-- one more that does not
+pub fits_not : {T : Type 0} (reads : Data → T → Type 0) (ds : List Data) (xs : List T) (d : Data)
+    → FittingItems reads (items_of ds) xs → NoneReads reads d → FittingItems reads (items_of (ds ++ d ∷ [])) xs
+fits_not reads [] xs d fits unfit = inr (unfit, fits)
+fits_not reads (c ∷ ds) xs d (inl some) unfit =
+    inl (some.0, some.1, some.2, some.3, fits_not reads ds some.1 d some.4 unfit)
+fits_not reads (c ∷ ds) xs d (inr none) unfit = inr (none.0, fits_not reads ds xs d none.1 unfit)
+
+-- the items up to the next
+pub taken : (vs : List Value) (i : ℕ) (v : Value) → i < length vs → v ≡ get_or vs i v
+    → map view (take (i + 1) vs) ≡ map view (take i vs) ++ view v ∷ []
+taken vs i v within is =
+    ap (map view) ((take_at_read vs i v within).1 ∙ ap (λ u. take i vs ++ u ∷ []) (sym is))
+    ∙ map-append view (take i vs) (v ∷ [])
+
+abbrev Entry : Type 0
+Entry = String Global × Value
+
+-- a key is above those before it
+below : (first : Entry) (done : List Entry) (e : Entry) (more : List Entry)
+    → AllByRecursion (λ key. string_cmp first.0 key ≡ Less) (keys_of (done ++ e ∷ more)) → string_cmp first.0 e.0 ≡ Less
+below first [] e more all = all.0
+below first (next ∷ done) e more all = below first done e more all.1
+
+-- one more member, whose key goes last
+pub member_more : {T : Type 0} (reads : Data → T → Type 0) (done : List Entry) (e : Entry) (more : List Entry)
+    (xs : List (String Global × T)) (name : String Global) (x : T)
+    → IsStrictlySortedBy string_cmp (keys_of (done ++ e ∷ more)) → string_bytes name ≡ string_bytes e.0
+    → EachMember reads (members_view done) xs → reads (view e.1) x
+    → EachMember reads (members_view (done ++ e ∷ [])) (insert_entry string_cmp xs name x)
+unfolding IsStrictlySortedBy
+member_more reads [] e more [] name x sorted same each one = (same, one, tt)
+member_more reads [] e more (y ∷ xs) name x sorted same each one = absurd each
+member_more reads (first ∷ done) e more [] name x sorted same each one = absurd each
+member_more reads (first ∷ done) e more (y ∷ xs) name x sorted same each one =
+    let above : slice_cmp nat_cmp (string_bytes name) (string_bytes y.0) ≡ Greater =
+    ap (λ key. slice_cmp nat_cmp key (string_bytes y.0)) same
+    ∙ ap (λ key. slice_cmp nat_cmp (string_bytes e.0) key) each.0
+    ∙ nat_list_cmp_total.antisymm (string_bytes e.0) (string_bytes first.0)
+    ∙ ap ordering_reverse (below first done e more sorted.0) in
+    rw above (each.0, each.1, member_more reads done e more xs name x sorted.1 same each.2 one)
+
+-- the value of a member
+pub member_at : {T : Type 0} (reads : Data → T → Type 0) (done : List Entry) (e : Entry) (more : List Entry)
+    (xs : List (String Global × T)) → EachMember reads (members_view (done ++ e ∷ more)) xs
+    → (x : T) × reads (view e.1) x
+member_at reads [] e more [] each = absurd each
+member_at reads [] e more (y ∷ xs) each = (y.1, each.1)
+member_at reads (first ∷ done) e more [] each = absurd each
+member_at reads (first ∷ done) e more (y ∷ xs) each = member_at reads done e more xs each.2
+
+-- of all members those before the rest are read
+abbrev pub ReadUpTo : {T : Type 0} → (Data → T → Type 0) → List Entry → List Entry → List (String Global × T) → Type 0
+ReadUpTo reads all rest xs = (done : List Entry) × (all ≡ done ++ rest) × EachMember reads (members_view done) xs
+
+pub up_to_more : {T : Type 0} (reads : Data → T → Type 0) (all rest left : List Entry) (e : Entry)
+    (old new : List (String Global × T)) (key : List ℕ) (x : T) → IsStrictlySortedBy string_cmp (keys_of all)
+    → ReadUpTo reads all rest old → rest ≡ e ∷ left → key ≡ string_bytes e.0 → Puts key x old new → reads (view e.1) x
+    → ReadUpTo reads all left new
+up_to_more reads all rest left e old new key x sorted before step named puts one =
+    let parts : all ≡ before.0 ++ e ∷ left = before.1 ∙ ap (λ es. before.0 ++ es) step in (
+      before.0 ++ e ∷ [],
+      parts ∙ sym (append_assoc before.0 (e ∷ []) left),
+      subst (λ es. EachMember reads (members_view (before.0 ++ e ∷ [])) es) (sym puts.2)
+          (member_more reads before.0 e left old puts.0 x
+          (subst (λ es. IsStrictlySortedBy string_cmp (keys_of es)) parts sorted) (puts.1 ∙ named) before.2 one),
+    )
+
+pub up_to_all : {T : Type 0} (reads : Data → T → Type 0) (all rest : List Entry) (xs : List (String Global × T))
+    → ReadUpTo reads all rest xs → rest ≡ [] → EachMember reads (members_view all) xs
+up_to_all reads all rest xs before none =
+    subst (λ es. EachMember reads (members_view es) xs)
+    (sym (before.1 ∙ ap (λ es. before.0 ++ es) none ∙ append-nil before.0)) before.2
+
+pub up_to_unfit : {T : Type 0} (reads : Data → T → Type 0) (all rest left : List Entry) (e : Entry)
+    (old xs : List (String Global × T)) → ReadUpTo reads all rest old → rest ≡ e ∷ left
+    → ((x : T) → ¬ reads (view e.1) x) → ¬ EachMember reads (members_view all) xs
+up_to_unfit reads all rest left e old xs before step unfit each =
+    let found = member_at reads before.0 e left xs (subst (λ es. EachMember reads (members_view es) xs)
+    (before.1 ∙ ap (λ es. before.0 ++ es) step) each) in
+    unfit found.0 found.1
+
+pub whole_line : (n : ℕ) (found : Option Num) → option_and_then as_u64 found ≡ Some n
+    → option_and_then line_of found ≡ Some n
+whole_line n (Some (unsigned m)) is = is
+whole_line n (Some (negative z)) is = absurd (none-some _ is)
+whole_line n (Some (float x)) is = absurd (none-some _ is)
+whole_line n None is = absurd (none-some _ is)
+
+pub negative_line : (z : ℤ) (found : Option Num) → option_and_then as_u64 found ≡ None
+    → option_and_then as_i64 found ≡ Some z → option_and_then line_of found ≡ Some 0
+negative_line z (Some (unsigned m)) none is = absurd (none-some _ (sym none))
+negative_line z (Some (negative y)) none is = refl
+negative_line z (Some (float x)) none is = absurd (none-some _ is)
+negative_line z None none is = absurd (none-some _ is)
+
+pub no_line : (found : Option Num) → option_and_then as_u64 found ≡ None → option_and_then as_i64 found ≡ None
+    → option_and_then line_of found ≡ None
+no_line (Some (unsigned m)) none nor = absurd (none-some _ (sym none))
+no_line (Some (negative y)) none nor = absurd (none-some _ (sym nor))
+no_line (Some (float x)) none nor = refl
+no_line None none nor = refl
+
+more : {A T : Type 0} (reads : A → Type 0) (adds : T → Type 0) (old : Result A Misfit) (new : Result (A × T) Misfit)
+    → ReadsAs reads old → Adds adds old new → ReadsAs (λ both. reads both.0 × adds both.1) new
+more reads adds old (Ok both) read one = (subst (λ r. ReadsAs reads r) one.0 read, one.1)
+more reads adds old (Err misfit) read (inl same) =
+    λ fits both holds. subst (λ r. ReadsAs reads r) same read fits both.0 holds.0
+more reads adds old (Err misfit) read (inr unfit) = λ fits both holds. unfit fits both.1 holds.1
+
+-- what is read after one more step
+pub next : {A T : Type 0} {json before after : Data} (reads : A → Type 0) (adds : Data → T → Type 0)
+    (old : Result A Misfit) (new : Result (A × T) Misfit)
+    → ((json : Data) → before ≡ json → (after ≡ json) × Adds (adds json) old new)
+    → (before ≡ json) × ReadsAs reads old → (after ≡ json) × ReadsAs (λ both. reads both.0 × adds json both.1) new
+next {json = json} reads adds old new step got =
+    ((step json got.0).0, more reads (adds json) old new got.1 (step json got.0).1)
+
+-- what is read at the end
+pub done : {A : Type 0} {json before : Data} (reads : A → Type 0) {read result given : Result A Misfit}
+    → (before ≡ json) × ReadsAs reads read → result ≡ read → result ≡ given → ReadsAs reads given
+done reads got same is = subst (λ r. ReadsAs reads r) (sym same ∙ is) got.1
+
+-- nothing fits where none was found
+unfit : {T : Type 0} (reads : Data → T → Type 0) (json : Data) (found : Option T)
+    → Fits reads json found → found ≡ None → NoneReads reads json
+unfit reads json found fits none = subst (λ found. Fits reads json found) none fits
+
+pub not_read : {T : Type 0} (reads : Data → T → Type 0) (json : Data) (found : Option T)
+    → Fits reads json found → found ≡ None → (it : T) → ¬ reads json it
+unfolding NoneReads
+not_read reads json found fits none = unfit reads json found fits none
+
+pub added : {A T : Type 0} (reads : T → Type 0) (read : Result A Misfit) (more : Result T Misfit)
+    (new : Result (A × T) Misfit) → Both read more new → ReadsAs reads more → Adds reads read new
+added reads read more (Ok both) same is = (same.0, subst (λ r. ReadsAs reads r) same.1 is)
+added reads read more (Err misfit) (inl same) is = inl same
+added reads read more (Err misfit) (inr same) is = inr (subst (λ r. ReadsAs reads r) same is)
+
+kept_some : (found : Option Data) (z : ℤ) → ReadsSome IsInt found (Some z)
+    → ReadsSome IsInt found (Some (to_z w32 (of_z w32 z)))
+kept_some (Some json) z one = subst (λ n. IsInt json n) (sym (to_z-of_z w32 z one.1)) one
+kept_some None z one = absurd one
+
+-- a number of 32 bits is kept as its bits
+pub kept : (key : List ℕ) (json : Data) (z : ℤ) → Required IsInt key json z
+    → Required IsInt key json (to_z w32 (of_z w32 z))
+unfolding Required
+kept key json z one = kept_some (get key json) z one

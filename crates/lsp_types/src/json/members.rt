@@ -1,0 +1,157 @@
+// The members of an object, as they are read.
+ghost use Rattle.std.specs.Prelude.{◌≡◌};
+ghost use Rattle.serde_json.specs.Data.{Data};
+ghost use Rattle.serde_json.specs.View.{view};
+ghost use Rattle.lsp_types.specs.Reads.{
+  Adds,
+  Both,
+  IfFits,
+  IsObject,
+  Named,
+  Optional,
+  ReadsAs,
+  Required,
+  TextOrEmpty,
+  ThoseThatFit,
+};
+
+use crate::json::read_lists::those_that_fit;
+use crate::json::read_values::text_or_empty;
+use crate::json::reading::{if_fits, named};
+use crate::json::{FromJson, Misfit, optional, required};
+use serde_json::Value;
+use std::alloc::Global;
+
+/// The members of an object that are read one after another. The first that does not fit is kept until the end, so that no step can fail.
+#[derive(Drop)]
+pub struct Members<'v, A: Drop> {
+    alloc: Global,
+    value: &'v Value,
+    read: Result<A, Misfit>,
+}
+
+impl<'v> Members<'v, ()> {
+    /// None so far.
+    pub fn new(alloc: Global, value: &'v Value) -> Members<'v, ()>
+        ensures { (view result.value.now ≡ view value.now) × ReadsAs (λ _. IsObject (view value.now)) result.read }
+    {
+        let read = if value.is_object() {
+            Ok(())
+        } else {
+            Err(Misfit::Wanted("an object"))
+        };
+        Members { alloc, value, read }
+    }
+}
+
+impl<'v, A: Drop> Members<'v, A> {
+    /// And one that has to be there.
+    pub fn required<T: FromJson>(self, key: &'static str) -> Members<'v, (A, T)>
+        ensures { (json : Data) → view self.entry.value.now ≡ json → (view result.value.now ≡ json)
+            × Adds (Required T.reads key.now json) self.entry.read result.read }
+    {
+        let Members { alloc, value, read } = self;
+        let more = required(alloc, value, key);
+        Members {
+            alloc,
+            value,
+            read: and(read, more),
+        }
+    }
+
+    /// And one that may be missing or null.
+    pub fn optional<T: FromJson>(self, key: &'static str) -> Members<'v, (A, Option<T>)>
+        ensures { (json : Data) → view self.entry.value.now ≡ json → (view result.value.now ≡ json)
+            × Adds (Optional T.reads key.now json) self.entry.read result.read }
+    {
+        let Members { alloc, value, read } = self;
+        let more = optional(alloc, value, key);
+        Members {
+            alloc,
+            value,
+            read: and(read, more),
+        }
+    }
+
+    /// And one that only informs: none if it is missing, is null or does not fit.
+    pub fn if_fits<T: FromJson>(self, key: &'static str) -> Members<'v, (A, Option<T>)>
+        ensures { (json : Data) → view self.entry.value.now ≡ json → (view result.value.now ≡ json)
+            × Adds (IfFits T.reads key.now json) self.entry.read result.read }
+    {
+        let Members { alloc, value, read } = self;
+        let more = if_fits(alloc, value, key);
+        Members {
+            alloc,
+            value,
+            read: and(read, more),
+        }
+    }
+
+    /// And a list that has to be there, without the items that do not fit.
+    pub fn those_that_fit<T: FromJson>(self, key: &'static str) -> Members<'v, (A, Vec<T>)>
+        ensures { (json : Data) → view self.entry.value.now ≡ json → (view result.value.now ≡ json)
+            × Adds (λ values. ThoseThatFit T.reads key.now json values.items) self.entry.read result.read }
+    {
+        let Members { alloc, value, read } = self;
+        let more = those_that_fit(alloc, value, key);
+        Members {
+            alloc,
+            value,
+            read: and(read, more),
+        }
+    }
+
+    /// And a text that only informs: the empty one if it is missing, is null or is none.
+    pub fn text_or_empty(self, key: &'static str) -> Members<'v, (A, String)>
+        ensures { (json : Data) → view self.entry.value.now ≡ json → (view result.value.now ≡ json)
+            × Adds (TextOrEmpty key.now json) self.entry.read result.read }
+    {
+        let Members { alloc, value, read } = self;
+        let more = text_or_empty(alloc, value, key);
+        Members {
+            alloc,
+            value,
+            read: and(read, more),
+        }
+    }
+
+    /// And one that is this text.
+    pub fn named(self, key: &'static str, name: &'static str) -> Members<'v, (A, ())>
+        ensures { (json : Data) → view self.entry.value.now ≡ json → (view result.value.now ≡ json)
+            × Adds (λ _. Named key.now name.now json) self.entry.read result.read }
+    {
+        let Members { alloc, value, read } = self;
+        let more = named(value, key, name);
+        Members {
+            alloc,
+            value,
+            read: and(read, more),
+        }
+    }
+
+    /// All of them, or the first that does not fit.
+    pub fn end(self) -> Result<A, Misfit>
+        ensures { result ≡ self.entry.read }
+    {
+        self.read
+    }
+}
+
+/// Both, or why not.
+fn and<A: Drop, T: Drop>(read: Result<A, Misfit>, more: Result<T, Misfit>) -> Result<(A, T), Misfit>
+    ensures { Both read more result }
+{
+    match read {
+        Ok(read) => match more {
+            Ok(more) => Ok((read, more)),
+            Err(misfit) => {
+                drop(read);
+                Err(misfit)
+            }
+        },
+        Err(misfit) => {
+            drop(more);
+            Err(misfit)
+        }
+    }
+}

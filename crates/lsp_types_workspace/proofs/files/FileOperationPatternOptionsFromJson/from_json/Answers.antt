@@ -1,0 +1,10 @@
+use Rattle.lsp_types.proofs.ReadLemmas.{done, next}
+use Rattle.lsp_types_workspace.proofs.files.FileOperationPatternOptionsFromJson.from_json.Goals as goal
+
+pub returns-in-Ok : goal.returns-in-Ok
+returns-in-Ok c = let read = done _ (next _ _ _ _ c.optional.ensures c.new.ensures) c.end-read.ensures
+    c.in-Ok.is in (read.0, read.1)
+
+pub returns-in-Err : goal.returns-in-Err
+returns-in-Err c fits it one = done _ (next _ _ _ _ c.optional.ensures c.new.ensures) c.end-read.ensures
+    c.in-Err.is fits (tt, it.ignore_case) (one.0, one.1)

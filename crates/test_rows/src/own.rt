@@ -1,0 +1,51 @@
+// A type of one's own that has one of LSP's in it.
+ghost use Rattle.std.specs.Prelude.{◌∷◌, [], Some, codes};
+ghost use Rattle.lsp_types.specs.Json.{object_of};
+ghost use Rattle.lsp_types.specs.Reads.{IsObject, Required};
+
+use lsp_types::json::{Members, Misfit, Object};
+use lsp_types::{FromJson, Range, ToJson};
+use serde_json::Value;
+use std::alloc::{AllocError, Global};
+
+/// A note on a part of a text.
+#[derive(Drop)]
+pub struct Note {
+    /// The part.
+    pub range: Range,
+    /// What is noted.
+    pub text: String,
+}
+
+impl FromJson for Note {
+    ghost reads = { λ json it. IsObject json
+        × Required ⟦<Range as FromJson>⟧.reads (codes "range") json it.range
+        × Required ⟦<String as FromJson>⟧.reads (codes "text") json it.text };
+
+    fn from_json(alloc: Global, value: &Value) -> Result<Note, Misfit> {
+        let read = Members::new(alloc, value)
+            .required("range")
+            .required("text")
+            .end();
+        match read {
+            Ok(read) => {
+                let (((), range), text) = read;
+                Ok(Note { range, text })
+            }
+            Err(misfit) => Err(misfit),
+        }
+    }
+}
+
+impl ToJson for Note {
+    ghost stands = { λ it. object_of (
+        (codes "range", Some (⟦<Range as ToJson>⟧.stands it.range))
+        ∷ (codes "text", Some (⟦<String as ToJson>⟧.stands it.text)) ∷ []) };
+
+    fn to_json(&self, alloc: Global) -> Result<Value, AllocError> {
+        Object::new(alloc)
+            .member("range", &self.range)
+            .member("text", &self.text)
+            .end()
+    }
+}
