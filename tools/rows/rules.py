@@ -382,7 +382,8 @@ WANTED = {
 }
 
 
-# What `serde` says of the values that do not fit in the rows: its own words, and those of the positions of `lsp_text`.
+# What `serde` says of the values that do not fit in the rows: the words of the toolchain's `serde_json`, which are fewer than those of the
+# Rust crate, and those of the positions of `lsp_text`.
 BY_SERDE = {
     "textDocument": "invalid type",
     "uri": "invalid type",
@@ -407,7 +408,7 @@ def misfits_of(params, keys, invalid=lambda key: f"invalid `{key}`, expected {WA
 
 def typed(came):
     """What comes of a message whose params are a place in a document (LSP 3.17, "TextDocumentPositionParams"). Params that lack a key
-    are refused (JSON-RPC 2.0, section 5.1), in the words of the Rust crate `serde_json`. Types of messages: LSP 3.17, "MessageType"."""
+    are refused (JSON-RPC 2.0, section 5.1), in the words of `BY_SERDE`. Types of messages: LSP 3.17, "MessageType"."""
     params, id = came["params"], came.get("id")
     document, at = (params.get(it) if isinstance(params.get(it), dict) else {} for it in ["textDocument", "position"])
     misfits = misfits_of(params, ["textDocument", "position"], BY_SERDE.get)
