@@ -72,12 +72,9 @@ impl Server for Checker {
             Ok(params) => params,
             Err(error) => return Ok(Err(error)),
         };
-        let can = self.agree(&params);
-        drop(params);
-        let result = InitializeResult::new(self.alloc, can?, "lines")?;
-        let written = result.to_json(self.alloc);
-        drop(result);
-        Ok(Ok(written?))
+        let can = self.agree(&params)?;
+        let result = InitializeResult::new(self.alloc, can, "lines")?;
+        Ok(Ok(result.to_json(self.alloc)?))
     }
 
     fn initialized(&mut self) -> Result<Acts, AllocError> {

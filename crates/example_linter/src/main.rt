@@ -137,8 +137,7 @@ impl JobServer<Analysis> for Linter {
     }
 
     // It is never asked.
-    fn job(&self, request: Request) -> Result<AnsweredBy<Analysis>, AllocError> {
-        drop(request);
+    fn job(&self, _request: Request) -> Result<AnsweredBy<Analysis>, AllocError> {
         Ok(AnsweredBy::Reply(Err(ResponseError::method_not_found(self.alloc)?)))
     }
 }
@@ -232,9 +231,8 @@ impl Server for Linter {
     fn response(
         &mut self,
         _asked: (),
-        outcome: Result<Value, ResponseError>,
+        _outcome: Result<Value, ResponseError>,
     ) -> Result<Acts, AllocError> {
-        drop(outcome);
         Ok(Vec::new(self.alloc))
     }
 
@@ -395,8 +393,7 @@ fn main(rt: HostRuntime) -> Answer<()> {
         words.as_slice(),
         ClientOptions::new(),
         |client| -> Answer<SessionEnd> {
-            let (linter, done) = serve(&rt, alloc, client, Linter::new(alloc), &mut EndSession);
-            drop(linter);
+            let (_linter, done) = serve(&rt, alloc, client, Linter::new(alloc), &mut EndSession);
             Ok(done?.answer?)
         },
     );

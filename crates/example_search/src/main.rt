@@ -54,8 +54,7 @@ fn main(rt: HostRuntime) -> Result<()> {
             let mut passed_over = PassedOver::new(alloc)?;
             let sums = Sums::new(alloc, passed_over.share()?);
             let mut transport = client.transport(alloc, &mut passed_over);
-            let (sums, answer) = serve(alloc, &mut transport, sums);
-            drop(sums);
+            let (_sums, answer) = serve(alloc, &mut transport, sums);
             Ok(answer?)
         }),
     };
@@ -67,7 +66,6 @@ fn main(rt: HostRuntime) -> Result<()> {
 
 /// How a session in threads ended.
 fn end_of<W: Drop>(session: (Sums, Result<Threaded<W>, StartFault>)) -> Result<SessionEnd> {
-    let (sums, done) = session;
-    drop(sums);
+    let (_sums, done) = session;
     Ok(done?.answer?)
 }

@@ -35,13 +35,11 @@ impl JobContext for Silence {
         false
     }
 
-    fn report(&mut self, notification: Notification) -> bool {
-        drop(notification);
+    fn report(&mut self, _notification: Notification) -> bool {
         false
     }
 
-    fn send(&mut self, notification: Notification) -> bool {
-        drop(notification);
+    fn send(&mut self, _notification: Notification) -> bool {
         false
     }
 }
