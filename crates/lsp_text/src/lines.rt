@@ -11,7 +11,7 @@ use std::alloc::{AllocError, Global};
 fn ends_line(ends: LineEnds, byte: u8, next: u8) -> bool
     ensures { result ≡ is_ended ends byte next }
 {
-    byte == b'\n' || ends.has(byte) && next != b'\n'
+    byte <= b'\r' && (byte == b'\n' || ends.has(byte) && next != b'\n')
 }
 
 /// The byte at a place, or another one past the end.
