@@ -1,27 +1,27 @@
 -- How numbers of lines, lists and maps are read.
 use Rattle.std.proofs.Common.{◌≡◌, ℕ, zero, suc, ◌<◌, List, [], ◌∷◌, ◌++◌, length, get_or, map, arith, sym, ap, ◌∙◌}
-use Rattle.std.proofs.Common.{◌+◌, take, subst, refl, append_assoc, append-nil, inl, inr, ◌⊎◌}
+use Rattle.std.proofs.Common.{◌+◌, take, subst, refl, append_assoc, append-nil, inl, inr}
 use Rattle.std.proofs.Common.{Result, Ok, Err, Option, Some, None, ℤ, option_and_then, String, Global, string_bytes}
-use Rattle.std.proofs.Common.{string_cmp, nat_cmp, Ordering, Less, Greater, Equal}
+use Rattle.std.proofs.Common.{string_cmp, nat_cmp, Less, Greater}
 use Rattle.std.specs.BTreeMap.{insert_entry}
 use Rattle.std.specs.Cmp.Lexicographic.{slice_cmp}
 use Rattle.std.specs.List.{AllByRecursion}
 use Rattle.std.specs.List.Sorted.{IsStrictlySortedBy}
 use Rattle.std.specs.Map.{keys_of}
-use Rattle.std.specs.Ordering.{match_ordering, ordering_reverse}
+use Rattle.std.specs.Ordering.{ordering_reverse}
 use Rattle.std.proofs.lemmas.Option.{none-some}
 use Rattle.std.proofs.Common.{of_z, to_z, w32}
 use Rattle.std.proofs.lemmas.Int.{to_z-of_z}
 use Rattle.std.proofs.lemmas.Cmp.{nat_list_cmp_total}
 use Rattle.std.proofs.lemmas.Grind.{take_at_read}
 use Rattle.std.proofs.lemmas.List.{map-append}
-use Rattle.serde_json.specs.Data.{Data, Num, unsigned, negative, float, Items, no_items, item}
+use Rattle.serde_json.specs.Data.{Data, Num, unsigned, negative, float}
 use Rattle.serde_json.specs.Find.{as_i64, as_u64, get}
 use Rattle.serde_json.specs.View.{items_of, members_view, view}
 use Rattle.serde_json.specs.declared.value.Value.{Value}
 use Rattle.lsp_types.specs.declared.json.reading.Misfit.{Misfit}
 use Rattle.lsp_types.specs.Reads.{Adds, Both, EachItem, EachMember, Fits, FittingItems, IsInt, NoneReads, Puts}
-use Rattle.lsp_types.specs.Reads.{ReadsAs, ReadsSome, Required, line_of}
+use Rattle.lsp_types.specs.Reads.{ReadSoFar, ReadsAs, ReadsMore, ReadsSome, Required, line_of}
 
 -- one more of each
 pub item_more : {T : Type 0} (reads : Data → T → Type 0) (ds : List Data) (xs : List T) (d : Data) (x : T)
@@ -157,18 +157,22 @@ more reads adds old (Err misfit) read (inl same) =
     λ fits both holds. subst (λ r. ReadsAs reads r) same read fits both.0 holds.0
 more reads adds old (Err misfit) read (inr unfit) = λ fits both holds. unfit fits both.1 holds.1
 
--- what is read after one more step
-pub next : {A T : Type 0} {json before after : Data} (reads : A → Type 0) (adds : Data → T → Type 0)
-    (old : Result A Misfit) (new : Result (A × T) Misfit)
-    → ((json : Data) → before ≡ json → (after ≡ json) × Adds (adds json) old new)
-    → (before ≡ json) × ReadsAs reads old → (after ≡ json) × ReadsAs (λ both. reads both.0 × adds json both.1) new
-next {json = json} reads adds old new step got =
-    ((step json got.0).0, more reads (adds json) old new got.1 (step json got.0).1)
+infixl 20 ◌then◌
+-- what was read after one member more
+pub ◌then◌ : {A T : Type 0} {json before after : Data} {reads : A → Type 0} {adds : Data → T → Type 0}
+    {old : Result A Misfit} {new : Result (A × T) Misfit}
+    → ReadSoFar json reads before old → ReadsMore adds before old after new
+    → ReadSoFar json (λ both. reads both.0 × adds json both.1) after new
+◌then◌ {reads = reads} {adds = adds} {old = old} {new = new} read step = record {
+  same = step.same ∙ read.same;
+  read_as = more reads _ old new read.read_as (subst (λ json. Adds (adds json) old new) read.same step.adds);
+}
 
--- what is read at the end
-pub done : {A : Type 0} {json before : Data} (reads : A → Type 0) {read result given : Result A Misfit}
-    → (before ≡ json) × ReadsAs reads read → result ≡ read → result ≡ given → ReadsAs reads given
-done reads got same is = subst (λ r. ReadsAs reads r) (sym same ∙ is) got.1
+infixl 20 ◌ends◌
+-- what was read at the end
+pub ◌ends◌ : {A : Type 0} {json object : Data} {reads : A → Type 0} {read result : Result A Misfit}
+    → ReadSoFar json reads object read → result ≡ read → ReadsAs reads result
+◌ends◌ {reads = reads} read same = subst (λ r. ReadsAs reads r) (sym same) read.read_as
 
 -- nothing fits where none was found
 unfit : {T : Type 0} (reads : Data → T → Type 0) (json : Data) (found : Option T)

@@ -1,7 +1,7 @@
 -- What is read of JSON.
 use Rattle.std.specs.Prelude.{◌≡◌, ◌≢◌, ◌≤◌, ◌<◌, ◌^◌, ℕ, ℤ, List, [], ◌∷◌, ⊤, Option, Some, None, Result, Ok, Err}
-use Rattle.std.specs.Prelude.{◌⊎◌, Bool, true, is_some}
-use Rattle.std.specs.Prelude.{String, codes, string_bytes, option_and_then, unwrap_or, FitsSigned}
+use Rattle.std.specs.Prelude.{◌⊎◌, true, is_some}
+use Rattle.std.specs.Prelude.{String, Vec, codes, string_bytes, option_and_then, unwrap_or, FitsSigned}
 use Rattle.std.specs.BTreeMap.{insert_entry}
 use Rattle.std.specs.Int.{w32}
 use Rattle.std.specs.String.{string_cmp}
@@ -14,6 +14,11 @@ use Rattle.lsp_text.specs.declared.position.Position.{Position}
 use Rattle.lsp_text.specs.declared.position.Range.{Range}
 use Rattle.lsp_types.specs.declared.json.reading.Misfit.{Misfit}
 use Rattle.lsp_types.specs.declared.json.reading.Misfit.TheVariants.{Memory}
+
+infixl 20 ◌and◌
+-- both facts
+abbrev pub ◌and◌ : Type 0 → Type 0 → Type 0
+first and second = first × second
 
 -- a value that was read, or why there is none: an allocation failed, or no value fits
 abbrev pub ReadsAs : {T : Type 0} → (T → Type 0) → Result T Misfit → Type 0
@@ -96,9 +101,9 @@ FittingItems {T} reads (item json rest) values =
     ⊎ (NoneReads reads json × FittingItems reads rest values)
 
 -- a member that is a list, without the items that do not fit
-unfoldable pub ThoseThatFit : {T : Type 0} → (Data → T → Type 0) → List ℕ → Data → List T → Type 0
+unfoldable pub ThoseThatFit : {T : Type 0} → (Data → T → Type 0) → List ℕ → Data → Vec T Global → Type 0
 ThoseThatFit reads key json values =
-    InSome (λ items. FittingItems reads items values) (option_and_then as_array (get key json))
+    InSome (λ items. FittingItems reads items values.items) (option_and_then as_array (get key json))
 
 -- each entry has the key and the value of the member at its place
 abbrev pub EachMember : {T : Type 0} → (Data → T → Type 0) → Members → List (String Global × T) → Type 0
@@ -167,3 +172,15 @@ Both read more (Err misfit) = (read ≡ Err misfit) ⊎ (more ≡ Err misfit)
 abbrev pub Adds : {A T : Type 0} → (T → Type 0) → Result A Misfit → Result (A × T) Misfit → Type 0
 Adds reads before (Ok both) = (before ≡ Ok both.0) × reads both.1
 Adds {A} {T} reads before (Err misfit) = (before ≡ Err misfit) ⊎ (misfit ≢ Memory → (it : T) → ¬ reads it)
+
+-- what was read so far of the members of an object, which is this JSON
+pub record ReadSoFar {A : Type 0} (json : Data) (reads : A → Type 0) (object : Data) (read : Result A Misfit)
+    : Type 0 where
+  pub same : object ≡ json
+  pub read_as : ReadsAs reads read
+
+-- a step that reads one member more of the same object
+pub record ReadsMore {A T : Type 0} (reads : Data → T → Type 0) (before : Data) (old : Result A Misfit)
+    (after : Data) (new : Result (A × T) Misfit) : Type 0 where
+  pub same : after ≡ before
+  pub adds : Adds (reads before) old new

@@ -3,7 +3,7 @@
 ghost use Rattle.std.specs.Prelude.{◌∷◌, [], Some, codes, option_map};
 ghost use Rattle.serde_json.specs.Data.{number, unsigned};
 ghost use Rattle.lsp_types.specs.Json.{object_of};
-ghost use Rattle.lsp_types.specs.Reads.{IfFits, IsObject, IsWithin, Optional, Required, ThoseThatFit};
+ghost use Rattle.lsp_types.specs.Reads.{IfFits, IsObject, IsWithin, Optional, Required, ThoseThatFit, ◌and◌};
 
 use crate::diagnostics::Diagnostic;
 use crate::documents::TextDocumentIdentifier;
@@ -51,21 +51,21 @@ impl ToJson for CodeActionParams {
 
 impl FromJson for CodeActionParams {
     ghost reads = { λ json it. IsObject json
-        × Required ⟦<TextDocumentIdentifier as FromJson>⟧.reads (codes "textDocument") json it.text_document
-        × Required ⟦<Range as FromJson>⟧.reads (codes "range") json it.range
-        × Required ⟦<CodeActionContext as FromJson>⟧.reads (codes "context") json it.context
-        × IfFits ⟦<ProgressToken as FromJson>⟧.reads (codes "workDoneToken") json it.work_done_token
-        × IfFits ⟦<ProgressToken as FromJson>⟧.reads (codes "partialResultToken") json it.partial_result_token };
+        and Required ⟦<TextDocumentIdentifier as FromJson>⟧.reads (codes "textDocument") json it.text_document
+        and Required ⟦<Range as FromJson>⟧.reads (codes "range") json it.range
+        and Required ⟦<CodeActionContext as FromJson>⟧.reads (codes "context") json it.context
+        and IfFits ⟦<ProgressToken as FromJson>⟧.reads (codes "workDoneToken") json it.work_done_token
+        and IfFits ⟦<ProgressToken as FromJson>⟧.reads (codes "partialResultToken") json it.partial_result_token };
 
     fn from_json(alloc: Global, value: &Value) -> Result<CodeActionParams, Misfit> {
-        let read = Members::new(alloc, value)
+        match Members::new(alloc, value)
             .required("textDocument")
             .required("range")
             .required("context")
             .if_fits("workDoneToken")
             .if_fits("partialResultToken")
-            .end();
-        match read {
+            .end()
+        {
             Ok(read) => {
                 let (
                     (((((), text_document), range), context), work_done_token),
@@ -112,17 +112,17 @@ impl ToJson for CodeActionContext {
 
 impl FromJson for CodeActionContext {
     ghost reads = { λ json it. IsObject json
-        × ThoseThatFit ⟦<Diagnostic as FromJson>⟧.reads (codes "diagnostics") json it.diagnostics.items
-        × Optional ⟦<Vec<String> as FromJson>⟧.reads (codes "only") json it.only
-        × IfFits ⟦<CodeActionTriggerKind as FromJson>⟧.reads (codes "triggerKind") json it.trigger_kind };
+        and ThoseThatFit ⟦<Diagnostic as FromJson>⟧.reads (codes "diagnostics") json it.diagnostics
+        and Optional ⟦<Vec<String> as FromJson>⟧.reads (codes "only") json it.only
+        and IfFits ⟦<CodeActionTriggerKind as FromJson>⟧.reads (codes "triggerKind") json it.trigger_kind };
 
     fn from_json(alloc: Global, value: &Value) -> Result<CodeActionContext, Misfit> {
-        let read = Members::new(alloc, value)
+        match Members::new(alloc, value)
             .those_that_fit("diagnostics")
             .optional("only")
             .if_fits("triggerKind")
-            .end();
-        match read {
+            .end()
+        {
             Ok(read) => {
                 let ((((), diagnostics), only), trigger_kind) = read;
                 Ok(CodeActionContext {
@@ -184,11 +184,10 @@ impl ToJson for CodeActionDisabled {
 
 impl FromJson for CodeActionDisabled {
     ghost reads = { λ json it. IsObject json
-        × Required ⟦<String as FromJson>⟧.reads (codes "reason") json it.reason };
+        and Required ⟦<String as FromJson>⟧.reads (codes "reason") json it.reason };
 
     fn from_json(alloc: Global, value: &Value) -> Result<CodeActionDisabled, Misfit> {
-        let read = Members::new(alloc, value).required("reason").end();
-        match read {
+        match Members::new(alloc, value).required("reason").end() {
             Ok(read) => {
                 let ((), reason) = read;
                 Ok(CodeActionDisabled { reason })
@@ -275,17 +274,17 @@ impl ToJson for CodeAction {
 
 impl FromJson for CodeAction {
     ghost reads = { λ json it. IsObject json
-        × Required ⟦<String as FromJson>⟧.reads (codes "title") json it.title
-        × Optional ⟦<String as FromJson>⟧.reads (codes "kind") json it.kind
-        × Optional ⟦<Vec<Diagnostic> as FromJson>⟧.reads (codes "diagnostics") json it.diagnostics
-        × Optional ⟦<bool as FromJson>⟧.reads (codes "isPreferred") json it.is_preferred
-        × Optional ⟦<CodeActionDisabled as FromJson>⟧.reads (codes "disabled") json it.disabled
-        × Optional ⟦<WorkspaceEdit as FromJson>⟧.reads (codes "edit") json it.edit
-        × Optional ⟦<Command as FromJson>⟧.reads (codes "command") json it.command
-        × Optional ⟦<Value as FromJson>⟧.reads (codes "data") json it.«data» };
+        and Required ⟦<String as FromJson>⟧.reads (codes "title") json it.title
+        and Optional ⟦<String as FromJson>⟧.reads (codes "kind") json it.kind
+        and Optional ⟦<Vec<Diagnostic> as FromJson>⟧.reads (codes "diagnostics") json it.diagnostics
+        and Optional ⟦<bool as FromJson>⟧.reads (codes "isPreferred") json it.is_preferred
+        and Optional ⟦<CodeActionDisabled as FromJson>⟧.reads (codes "disabled") json it.disabled
+        and Optional ⟦<WorkspaceEdit as FromJson>⟧.reads (codes "edit") json it.edit
+        and Optional ⟦<Command as FromJson>⟧.reads (codes "command") json it.command
+        and Optional ⟦<Value as FromJson>⟧.reads (codes "data") json it.«data» };
 
     fn from_json(alloc: Global, value: &Value) -> Result<CodeAction, Misfit> {
-        let read = Members::new(alloc, value)
+        match Members::new(alloc, value)
             .required("title")
             .optional("kind")
             .optional("diagnostics")
@@ -294,8 +293,8 @@ impl FromJson for CodeAction {
             .optional("edit")
             .optional("command")
             .optional("data")
-            .end();
-        match read {
+            .end()
+        {
             Ok(read) => {
                 let (
                     (

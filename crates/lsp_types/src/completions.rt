@@ -3,7 +3,7 @@
 ghost use Rattle.std.specs.Prelude.{◌∷◌, [], Some, codes, option_map};
 ghost use Rattle.serde_json.specs.Data.{number, unsigned};
 ghost use Rattle.lsp_types.specs.Json.{object_of};
-ghost use Rattle.lsp_types.specs.Reads.{IfFits, IsObject, IsWithin, Optional, Required};
+ghost use Rattle.lsp_types.specs.Reads.{IfFits, IsObject, IsWithin, Optional, Required, ◌and◌};
 
 use crate::documents::TextDocumentIdentifier;
 use crate::edits::TextEdit;
@@ -221,15 +221,15 @@ impl ToJson for CompletionItemLabelDetails {
 
 impl FromJson for CompletionItemLabelDetails {
     ghost reads = { λ json it. IsObject json
-        × Optional ⟦<String as FromJson>⟧.reads (codes "detail") json it.detail
-        × Optional ⟦<String as FromJson>⟧.reads (codes "description") json it.description };
+        and Optional ⟦<String as FromJson>⟧.reads (codes "detail") json it.detail
+        and Optional ⟦<String as FromJson>⟧.reads (codes "description") json it.description };
 
     fn from_json(alloc: Global, value: &Value) -> Result<CompletionItemLabelDetails, Misfit> {
-        let read = Members::new(alloc, value)
+        match Members::new(alloc, value)
             .optional("detail")
             .optional("description")
-            .end();
-        match read {
+            .end()
+        {
             Ok(read) => {
                 let (((), detail), description) = read;
                 Ok(CompletionItemLabelDetails {
@@ -385,28 +385,28 @@ impl ToJson for CompletionItem {
 
 impl FromJson for CompletionItem {
     ghost reads = { λ json it. IsObject json
-        × Required ⟦<String as FromJson>⟧.reads (codes "label") json it.label
-        × Optional ⟦<CompletionItemLabelDetails as FromJson>⟧.reads (codes "labelDetails") json it.label_details
-        × Optional ⟦<CompletionItemKind as FromJson>⟧.reads (codes "kind") json it.kind
-        × Optional ⟦<Vec<CompletionItemTag> as FromJson>⟧.reads (codes "tags") json it.tags
-        × Optional ⟦<String as FromJson>⟧.reads (codes "detail") json it.detail
-        × Optional ⟦<MarkupContent as FromJson>⟧.reads (codes "documentation") json it.documentation
-        × Optional ⟦<bool as FromJson>⟧.reads (codes "deprecated") json it.deprecated
-        × Optional ⟦<bool as FromJson>⟧.reads (codes "preselect") json it.preselect
-        × Optional ⟦<String as FromJson>⟧.reads (codes "sortText") json it.sort_text
-        × Optional ⟦<String as FromJson>⟧.reads (codes "filterText") json it.filter_text
-        × Optional ⟦<String as FromJson>⟧.reads (codes "insertText") json it.insert_text
-        × Optional ⟦<InsertTextFormat as FromJson>⟧.reads (codes "insertTextFormat") json it.insert_text_format
-        × Optional ⟦<InsertTextMode as FromJson>⟧.reads (codes "insertTextMode") json it.insert_text_mode
-        × Optional ⟦<TextEdit as FromJson>⟧.reads (codes "textEdit") json it.text_edit
-        × Optional ⟦<String as FromJson>⟧.reads (codes "textEditText") json it.text_edit_text
-        × Optional ⟦<Vec<TextEdit> as FromJson>⟧.reads (codes "additionalTextEdits") json it.additional_text_edits
-        × Optional ⟦<Vec<String> as FromJson>⟧.reads (codes "commitCharacters") json it.commit_characters
-        × Optional ⟦<Command as FromJson>⟧.reads (codes "command") json it.command
-        × Optional ⟦<Value as FromJson>⟧.reads (codes "data") json it.«data» };
+        and Required ⟦<String as FromJson>⟧.reads (codes "label") json it.label
+        and Optional ⟦<CompletionItemLabelDetails as FromJson>⟧.reads (codes "labelDetails") json it.label_details
+        and Optional ⟦<CompletionItemKind as FromJson>⟧.reads (codes "kind") json it.kind
+        and Optional ⟦<Vec<CompletionItemTag> as FromJson>⟧.reads (codes "tags") json it.tags
+        and Optional ⟦<String as FromJson>⟧.reads (codes "detail") json it.detail
+        and Optional ⟦<MarkupContent as FromJson>⟧.reads (codes "documentation") json it.documentation
+        and Optional ⟦<bool as FromJson>⟧.reads (codes "deprecated") json it.deprecated
+        and Optional ⟦<bool as FromJson>⟧.reads (codes "preselect") json it.preselect
+        and Optional ⟦<String as FromJson>⟧.reads (codes "sortText") json it.sort_text
+        and Optional ⟦<String as FromJson>⟧.reads (codes "filterText") json it.filter_text
+        and Optional ⟦<String as FromJson>⟧.reads (codes "insertText") json it.insert_text
+        and Optional ⟦<InsertTextFormat as FromJson>⟧.reads (codes "insertTextFormat") json it.insert_text_format
+        and Optional ⟦<InsertTextMode as FromJson>⟧.reads (codes "insertTextMode") json it.insert_text_mode
+        and Optional ⟦<TextEdit as FromJson>⟧.reads (codes "textEdit") json it.text_edit
+        and Optional ⟦<String as FromJson>⟧.reads (codes "textEditText") json it.text_edit_text
+        and Optional ⟦<Vec<TextEdit> as FromJson>⟧.reads (codes "additionalTextEdits") json it.additional_text_edits
+        and Optional ⟦<Vec<String> as FromJson>⟧.reads (codes "commitCharacters") json it.commit_characters
+        and Optional ⟦<Command as FromJson>⟧.reads (codes "command") json it.command
+        and Optional ⟦<Value as FromJson>⟧.reads (codes "data") json it.«data» };
 
     fn from_json(alloc: Global, value: &Value) -> Result<CompletionItem, Misfit> {
-        let read = Members::new(alloc, value)
+        match Members::new(alloc, value)
             .required("label")
             .optional("labelDetails")
             .optional("kind")
@@ -426,8 +426,8 @@ impl FromJson for CompletionItem {
             .optional("commitCharacters")
             .optional("command")
             .optional("data")
-            .end();
-        match read {
+            .end()
+        {
             Ok(read) => {
                 let (
                     (
@@ -570,21 +570,21 @@ impl ToJson for CompletionItemDefaults {
 
 impl FromJson for CompletionItemDefaults {
     ghost reads = { λ json it. IsObject json
-        × Optional ⟦<Vec<String> as FromJson>⟧.reads (codes "commitCharacters") json it.commit_characters
-        × Optional ⟦<Range as FromJson>⟧.reads (codes "editRange") json it.edit_range
-        × Optional ⟦<InsertTextFormat as FromJson>⟧.reads (codes "insertTextFormat") json it.insert_text_format
-        × Optional ⟦<InsertTextMode as FromJson>⟧.reads (codes "insertTextMode") json it.insert_text_mode
-        × Optional ⟦<Value as FromJson>⟧.reads (codes "data") json it.«data» };
+        and Optional ⟦<Vec<String> as FromJson>⟧.reads (codes "commitCharacters") json it.commit_characters
+        and Optional ⟦<Range as FromJson>⟧.reads (codes "editRange") json it.edit_range
+        and Optional ⟦<InsertTextFormat as FromJson>⟧.reads (codes "insertTextFormat") json it.insert_text_format
+        and Optional ⟦<InsertTextMode as FromJson>⟧.reads (codes "insertTextMode") json it.insert_text_mode
+        and Optional ⟦<Value as FromJson>⟧.reads (codes "data") json it.«data» };
 
     fn from_json(alloc: Global, value: &Value) -> Result<CompletionItemDefaults, Misfit> {
-        let read = Members::new(alloc, value)
+        match Members::new(alloc, value)
             .optional("commitCharacters")
             .optional("editRange")
             .optional("insertTextFormat")
             .optional("insertTextMode")
             .optional("data")
-            .end();
-        match read {
+            .end()
+        {
             Ok(read) => {
                 let (
                     (((((), commit_characters), edit_range), insert_text_format), insert_text_mode),
@@ -659,15 +659,15 @@ impl ToJson for CompletionContext {
 
 impl FromJson for CompletionContext {
     ghost reads = { λ json it. IsObject json
-        × Required ⟦<CompletionTriggerKind as FromJson>⟧.reads (codes "triggerKind") json it.trigger_kind
-        × Optional ⟦<String as FromJson>⟧.reads (codes "triggerCharacter") json it.trigger_character };
+        and Required ⟦<CompletionTriggerKind as FromJson>⟧.reads (codes "triggerKind") json it.trigger_kind
+        and Optional ⟦<String as FromJson>⟧.reads (codes "triggerCharacter") json it.trigger_character };
 
     fn from_json(alloc: Global, value: &Value) -> Result<CompletionContext, Misfit> {
-        let read = Members::new(alloc, value)
+        match Members::new(alloc, value)
             .required("triggerKind")
             .optional("triggerCharacter")
-            .end();
-        match read {
+            .end()
+        {
             Ok(read) => {
                 let (((), trigger_kind), trigger_character) = read;
                 Ok(CompletionContext {
@@ -716,21 +716,21 @@ impl ToJson for CompletionParams {
 
 impl FromJson for CompletionParams {
     ghost reads = { λ json it. IsObject json
-        × Required ⟦<TextDocumentIdentifier as FromJson>⟧.reads (codes "textDocument") json it.text_document
-        × Required ⟦<Position as FromJson>⟧.reads (codes "position") json it.position
-        × IfFits ⟦<CompletionContext as FromJson>⟧.reads (codes "context") json it.context
-        × IfFits ⟦<ProgressToken as FromJson>⟧.reads (codes "workDoneToken") json it.work_done_token
-        × IfFits ⟦<ProgressToken as FromJson>⟧.reads (codes "partialResultToken") json it.partial_result_token };
+        and Required ⟦<TextDocumentIdentifier as FromJson>⟧.reads (codes "textDocument") json it.text_document
+        and Required ⟦<Position as FromJson>⟧.reads (codes "position") json it.position
+        and IfFits ⟦<CompletionContext as FromJson>⟧.reads (codes "context") json it.context
+        and IfFits ⟦<ProgressToken as FromJson>⟧.reads (codes "workDoneToken") json it.work_done_token
+        and IfFits ⟦<ProgressToken as FromJson>⟧.reads (codes "partialResultToken") json it.partial_result_token };
 
     fn from_json(alloc: Global, value: &Value) -> Result<CompletionParams, Misfit> {
-        let read = Members::new(alloc, value)
+        match Members::new(alloc, value)
             .required("textDocument")
             .required("position")
             .if_fits("context")
             .if_fits("workDoneToken")
             .if_fits("partialResultToken")
-            .end();
-        match read {
+            .end()
+        {
             Ok(read) => {
                 let (
                     (((((), text_document), position), context), work_done_token),
@@ -796,17 +796,17 @@ impl ToJson for CompletionList {
 
 impl FromJson for CompletionList {
     ghost reads = { λ json it. IsObject json
-        × Required ⟦<bool as FromJson>⟧.reads (codes "isIncomplete") json it.is_incomplete
-        × Optional ⟦<CompletionItemDefaults as FromJson>⟧.reads (codes "itemDefaults") json it.item_defaults
-        × Required ⟦<Vec<CompletionItem> as FromJson>⟧.reads (codes "items") json it.items };
+        and Required ⟦<bool as FromJson>⟧.reads (codes "isIncomplete") json it.is_incomplete
+        and Optional ⟦<CompletionItemDefaults as FromJson>⟧.reads (codes "itemDefaults") json it.item_defaults
+        and Required ⟦<Vec<CompletionItem> as FromJson>⟧.reads (codes "items") json it.items };
 
     fn from_json(alloc: Global, value: &Value) -> Result<CompletionList, Misfit> {
-        let read = Members::new(alloc, value)
+        match Members::new(alloc, value)
             .required("isIncomplete")
             .optional("itemDefaults")
             .required("items")
-            .end();
-        match read {
+            .end()
+        {
             Ok(read) => {
                 let ((((), is_incomplete), item_defaults), items) = read;
                 Ok(CompletionList {

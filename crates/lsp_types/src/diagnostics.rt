@@ -3,7 +3,7 @@
 ghost use Rattle.std.specs.Prelude.{◌∷◌, [], Some, codes, option_map};
 ghost use Rattle.serde_json.specs.Data.{number, unsigned};
 ghost use Rattle.lsp_types.specs.Json.{object_of};
-ghost use Rattle.lsp_types.specs.Reads.{IsObject, IsWithin, Optional, Required};
+ghost use Rattle.lsp_types.specs.Reads.{IsObject, IsWithin, Optional, Required, ◌and◌};
 
 use crate::choices::NumberOrString;
 use crate::documents::Location;
@@ -100,15 +100,15 @@ impl ToJson for DiagnosticRelatedInformation {
 
 impl FromJson for DiagnosticRelatedInformation {
     ghost reads = { λ json it. IsObject json
-        × Required ⟦<Location as FromJson>⟧.reads (codes "location") json it.location
-        × Required ⟦<String as FromJson>⟧.reads (codes "message") json it.message };
+        and Required ⟦<Location as FromJson>⟧.reads (codes "location") json it.location
+        and Required ⟦<String as FromJson>⟧.reads (codes "message") json it.message };
 
     fn from_json(alloc: Global, value: &Value) -> Result<DiagnosticRelatedInformation, Misfit> {
-        let read = Members::new(alloc, value)
+        match Members::new(alloc, value)
             .required("location")
             .required("message")
-            .end();
-        match read {
+            .end()
+        {
             Ok(read) => {
                 let (((), location), message) = read;
                 Ok(DiagnosticRelatedInformation { location, message })
@@ -136,11 +136,10 @@ impl ToJson for CodeDescription {
 
 impl FromJson for CodeDescription {
     ghost reads = { λ json it. IsObject json
-        × Required ⟦<String as FromJson>⟧.reads (codes "href") json it.href };
+        and Required ⟦<String as FromJson>⟧.reads (codes "href") json it.href };
 
     fn from_json(alloc: Global, value: &Value) -> Result<CodeDescription, Misfit> {
-        let read = Members::new(alloc, value).required("href").end();
-        match read {
+        match Members::new(alloc, value).required("href").end() {
             Ok(read) => {
                 let ((), href) = read;
                 Ok(CodeDescription { href })
@@ -233,18 +232,18 @@ impl ToJson for Diagnostic {
 
 impl FromJson for Diagnostic {
     ghost reads = { λ json it. IsObject json
-        × Required ⟦<Range as FromJson>⟧.reads (codes "range") json it.range
-        × Optional ⟦<DiagnosticSeverity as FromJson>⟧.reads (codes "severity") json it.severity
-        × Optional ⟦<NumberOrString as FromJson>⟧.reads (codes "code") json it.code
-        × Optional ⟦<CodeDescription as FromJson>⟧.reads (codes "codeDescription") json it.code_description
-        × Optional ⟦<String as FromJson>⟧.reads (codes "source") json it.source
-        × Required ⟦<String as FromJson>⟧.reads (codes "message") json it.message
-        × Optional ⟦<Vec<DiagnosticTag> as FromJson>⟧.reads (codes "tags") json it.tags
-        × Optional ⟦<Vec<DiagnosticRelatedInformation> as FromJson>⟧.reads (codes "relatedInformation") json it.related_information
-        × Optional ⟦<Value as FromJson>⟧.reads (codes "data") json it.«data» };
+        and Required ⟦<Range as FromJson>⟧.reads (codes "range") json it.range
+        and Optional ⟦<DiagnosticSeverity as FromJson>⟧.reads (codes "severity") json it.severity
+        and Optional ⟦<NumberOrString as FromJson>⟧.reads (codes "code") json it.code
+        and Optional ⟦<CodeDescription as FromJson>⟧.reads (codes "codeDescription") json it.code_description
+        and Optional ⟦<String as FromJson>⟧.reads (codes "source") json it.source
+        and Required ⟦<String as FromJson>⟧.reads (codes "message") json it.message
+        and Optional ⟦<Vec<DiagnosticTag> as FromJson>⟧.reads (codes "tags") json it.tags
+        and Optional ⟦<Vec<DiagnosticRelatedInformation> as FromJson>⟧.reads (codes "relatedInformation") json it.related_information
+        and Optional ⟦<Value as FromJson>⟧.reads (codes "data") json it.«data» };
 
     fn from_json(alloc: Global, value: &Value) -> Result<Diagnostic, Misfit> {
-        let read = Members::new(alloc, value)
+        match Members::new(alloc, value)
             .required("range")
             .optional("severity")
             .optional("code")
@@ -254,8 +253,8 @@ impl FromJson for Diagnostic {
             .optional("tags")
             .optional("relatedInformation")
             .optional("data")
-            .end();
-        match read {
+            .end()
+        {
             Ok(read) => {
                 let (
                     (
@@ -334,17 +333,17 @@ impl ToJson for PublishDiagnosticsParams {
 
 impl FromJson for PublishDiagnosticsParams {
     ghost reads = { λ json it. IsObject json
-        × Required ⟦<String as FromJson>⟧.reads (codes "uri") json it.uri
-        × Optional ⟦<i32 as FromJson>⟧.reads (codes "version") json it.version
-        × Required ⟦<Vec<Diagnostic> as FromJson>⟧.reads (codes "diagnostics") json it.diagnostics };
+        and Required ⟦<String as FromJson>⟧.reads (codes "uri") json it.uri
+        and Optional ⟦<i32 as FromJson>⟧.reads (codes "version") json it.version
+        and Required ⟦<Vec<Diagnostic> as FromJson>⟧.reads (codes "diagnostics") json it.diagnostics };
 
     fn from_json(alloc: Global, value: &Value) -> Result<PublishDiagnosticsParams, Misfit> {
-        let read = Members::new(alloc, value)
+        match Members::new(alloc, value)
             .required("uri")
             .optional("version")
             .required("diagnostics")
-            .end();
-        match read {
+            .end()
+        {
             Ok(read) => {
                 let ((((), uri), version), diagnostics) = read;
                 Ok(PublishDiagnosticsParams {

@@ -3,7 +3,7 @@
 ghost use Rattle.std.specs.Prelude.{◌∷◌, [], Some, codes, option_map};
 ghost use Rattle.serde_json.specs.Data.{number, unsigned};
 ghost use Rattle.lsp_types.specs.Json.{object_of};
-ghost use Rattle.lsp_types.specs.Reads.{IfFits, IsObject, IsWithin, NoneReads, Optional, Required, TextOrEmpty};
+ghost use Rattle.lsp_types.specs.Reads.{IfFits, IsObject, IsWithin, NoneReads, Optional, Required, TextOrEmpty, ◌and◌};
 
 use crate::json::{FromJson, Members, Misfit, Object, ToJson, fitting, number_within};
 use crate::progress::ProgressToken;
@@ -35,15 +35,15 @@ impl ToJson for Location {
 
 impl FromJson for Location {
     ghost reads = { λ json it. IsObject json
-        × Required ⟦<String as FromJson>⟧.reads (codes "uri") json it.uri
-        × Required ⟦<Range as FromJson>⟧.reads (codes "range") json it.range };
+        and Required ⟦<String as FromJson>⟧.reads (codes "uri") json it.uri
+        and Required ⟦<Range as FromJson>⟧.reads (codes "range") json it.range };
 
     fn from_json(alloc: Global, value: &Value) -> Result<Location, Misfit> {
-        let read = Members::new(alloc, value)
+        match Members::new(alloc, value)
             .required("uri")
             .required("range")
-            .end();
-        match read {
+            .end()
+        {
             Ok(read) => {
                 let (((), uri), range) = read;
                 Ok(Location { uri, range })
@@ -110,19 +110,19 @@ impl ToJson for LocationLink {
 
 impl FromJson for LocationLink {
     ghost reads = { λ json it. IsObject json
-        × Optional ⟦<Range as FromJson>⟧.reads (codes "originSelectionRange") json it.origin_selection_range
-        × Required ⟦<String as FromJson>⟧.reads (codes "targetUri") json it.target_uri
-        × Required ⟦<Range as FromJson>⟧.reads (codes "targetRange") json it.target_range
-        × Required ⟦<Range as FromJson>⟧.reads (codes "targetSelectionRange") json it.target_selection_range };
+        and Optional ⟦<Range as FromJson>⟧.reads (codes "originSelectionRange") json it.origin_selection_range
+        and Required ⟦<String as FromJson>⟧.reads (codes "targetUri") json it.target_uri
+        and Required ⟦<Range as FromJson>⟧.reads (codes "targetRange") json it.target_range
+        and Required ⟦<Range as FromJson>⟧.reads (codes "targetSelectionRange") json it.target_selection_range };
 
     fn from_json(alloc: Global, value: &Value) -> Result<LocationLink, Misfit> {
-        let read = Members::new(alloc, value)
+        match Members::new(alloc, value)
             .optional("originSelectionRange")
             .required("targetUri")
             .required("targetRange")
             .required("targetSelectionRange")
-            .end();
-        match read {
+            .end()
+        {
             Ok(read) => {
                 let (
                     ((((), origin_selection_range), target_uri), target_range),
@@ -211,11 +211,10 @@ impl ToJson for TextDocumentIdentifier {
 
 impl FromJson for TextDocumentIdentifier {
     ghost reads = { λ json it. IsObject json
-        × Required ⟦<String as FromJson>⟧.reads (codes "uri") json it.uri };
+        and Required ⟦<String as FromJson>⟧.reads (codes "uri") json it.uri };
 
     fn from_json(alloc: Global, value: &Value) -> Result<TextDocumentIdentifier, Misfit> {
-        let read = Members::new(alloc, value).required("uri").end();
-        match read {
+        match Members::new(alloc, value).required("uri").end() {
             Ok(read) => {
                 let ((), uri) = read;
                 Ok(TextDocumentIdentifier { uri })
@@ -249,15 +248,15 @@ impl ToJson for VersionedTextDocumentIdentifier {
 
 impl FromJson for VersionedTextDocumentIdentifier {
     ghost reads = { λ json it. IsObject json
-        × Required ⟦<String as FromJson>⟧.reads (codes "uri") json it.uri
-        × IfFits ⟦<i32 as FromJson>⟧.reads (codes "version") json it.version };
+        and Required ⟦<String as FromJson>⟧.reads (codes "uri") json it.uri
+        and IfFits ⟦<i32 as FromJson>⟧.reads (codes "version") json it.version };
 
     fn from_json(alloc: Global, value: &Value) -> Result<VersionedTextDocumentIdentifier, Misfit> {
-        let read = Members::new(alloc, value)
+        match Members::new(alloc, value)
             .required("uri")
             .if_fits("version")
-            .end();
-        match read {
+            .end()
+        {
             Ok(read) => {
                 let (((), uri), version) = read;
                 Ok(VersionedTextDocumentIdentifier { uri, version })
@@ -299,19 +298,19 @@ impl ToJson for TextDocumentItem {
 
 impl FromJson for TextDocumentItem {
     ghost reads = { λ json it. IsObject json
-        × Required ⟦<String as FromJson>⟧.reads (codes "uri") json it.uri
-        × TextOrEmpty (codes "languageId") json it.language_id
-        × IfFits ⟦<i32 as FromJson>⟧.reads (codes "version") json it.version
-        × Required ⟦<String as FromJson>⟧.reads (codes "text") json it.text };
+        and Required ⟦<String as FromJson>⟧.reads (codes "uri") json it.uri
+        and TextOrEmpty (codes "languageId") json it.language_id
+        and IfFits ⟦<i32 as FromJson>⟧.reads (codes "version") json it.version
+        and Required ⟦<String as FromJson>⟧.reads (codes "text") json it.text };
 
     fn from_json(alloc: Global, value: &Value) -> Result<TextDocumentItem, Misfit> {
-        let read = Members::new(alloc, value)
+        match Members::new(alloc, value)
             .required("uri")
             .text_or_empty("languageId")
             .if_fits("version")
             .required("text")
-            .end();
-        match read {
+            .end()
+        {
             Ok(read) => {
                 let (((((), uri), language_id), version), text) = read;
                 Ok(TextDocumentItem {
@@ -346,11 +345,10 @@ impl ToJson for DidOpenTextDocumentParams {
 
 impl FromJson for DidOpenTextDocumentParams {
     ghost reads = { λ json it. IsObject json
-        × Required ⟦<TextDocumentItem as FromJson>⟧.reads (codes "textDocument") json it.text_document };
+        and Required ⟦<TextDocumentItem as FromJson>⟧.reads (codes "textDocument") json it.text_document };
 
     fn from_json(alloc: Global, value: &Value) -> Result<DidOpenTextDocumentParams, Misfit> {
-        let read = Members::new(alloc, value).required("textDocument").end();
-        match read {
+        match Members::new(alloc, value).required("textDocument").end() {
             Ok(read) => {
                 let ((), text_document) = read;
                 Ok(DidOpenTextDocumentParams { text_document })
@@ -384,15 +382,15 @@ impl ToJson for DidChangeTextDocumentParams {
 
 impl FromJson for DidChangeTextDocumentParams {
     ghost reads = { λ json it. IsObject json
-        × Required ⟦<VersionedTextDocumentIdentifier as FromJson>⟧.reads (codes "textDocument") json it.text_document
-        × Required ⟦<Vec<ContentChange> as FromJson>⟧.reads (codes "contentChanges") json it.content_changes };
+        and Required ⟦<VersionedTextDocumentIdentifier as FromJson>⟧.reads (codes "textDocument") json it.text_document
+        and Required ⟦<Vec<ContentChange> as FromJson>⟧.reads (codes "contentChanges") json it.content_changes };
 
     fn from_json(alloc: Global, value: &Value) -> Result<DidChangeTextDocumentParams, Misfit> {
-        let read = Members::new(alloc, value)
+        match Members::new(alloc, value)
             .required("textDocument")
             .required("contentChanges")
-            .end();
-        match read {
+            .end()
+        {
             Ok(read) => {
                 let (((), text_document), content_changes) = read;
                 Ok(DidChangeTextDocumentParams {
@@ -429,15 +427,15 @@ impl ToJson for DidSaveTextDocumentParams {
 
 impl FromJson for DidSaveTextDocumentParams {
     ghost reads = { λ json it. IsObject json
-        × Required ⟦<TextDocumentIdentifier as FromJson>⟧.reads (codes "textDocument") json it.text_document
-        × Optional ⟦<String as FromJson>⟧.reads (codes "text") json it.text };
+        and Required ⟦<TextDocumentIdentifier as FromJson>⟧.reads (codes "textDocument") json it.text_document
+        and Optional ⟦<String as FromJson>⟧.reads (codes "text") json it.text };
 
     fn from_json(alloc: Global, value: &Value) -> Result<DidSaveTextDocumentParams, Misfit> {
-        let read = Members::new(alloc, value)
+        match Members::new(alloc, value)
             .required("textDocument")
             .optional("text")
-            .end();
-        match read {
+            .end()
+        {
             Ok(read) => {
                 let (((), text_document), text) = read;
                 Ok(DidSaveTextDocumentParams {
@@ -475,15 +473,15 @@ impl ToJson for WillSaveTextDocumentParams {
 
 impl FromJson for WillSaveTextDocumentParams {
     ghost reads = { λ json it. IsObject json
-        × Required ⟦<TextDocumentIdentifier as FromJson>⟧.reads (codes "textDocument") json it.text_document
-        × Required ⟦<TextDocumentSaveReason as FromJson>⟧.reads (codes "reason") json it.reason };
+        and Required ⟦<TextDocumentIdentifier as FromJson>⟧.reads (codes "textDocument") json it.text_document
+        and Required ⟦<TextDocumentSaveReason as FromJson>⟧.reads (codes "reason") json it.reason };
 
     fn from_json(alloc: Global, value: &Value) -> Result<WillSaveTextDocumentParams, Misfit> {
-        let read = Members::new(alloc, value)
+        match Members::new(alloc, value)
             .required("textDocument")
             .required("reason")
-            .end();
-        match read {
+            .end()
+        {
             Ok(read) => {
                 let (((), text_document), reason) = read;
                 Ok(WillSaveTextDocumentParams {
@@ -548,11 +546,10 @@ impl ToJson for DidCloseTextDocumentParams {
 
 impl FromJson for DidCloseTextDocumentParams {
     ghost reads = { λ json it. IsObject json
-        × Required ⟦<TextDocumentIdentifier as FromJson>⟧.reads (codes "textDocument") json it.text_document };
+        and Required ⟦<TextDocumentIdentifier as FromJson>⟧.reads (codes "textDocument") json it.text_document };
 
     fn from_json(alloc: Global, value: &Value) -> Result<DidCloseTextDocumentParams, Misfit> {
-        let read = Members::new(alloc, value).required("textDocument").end();
-        match read {
+        match Members::new(alloc, value).required("textDocument").end() {
             Ok(read) => {
                 let ((), text_document) = read;
                 Ok(DidCloseTextDocumentParams { text_document })
@@ -590,17 +587,17 @@ impl ToJson for DocumentSymbolParams {
 
 impl FromJson for DocumentSymbolParams {
     ghost reads = { λ json it. IsObject json
-        × Required ⟦<TextDocumentIdentifier as FromJson>⟧.reads (codes "textDocument") json it.text_document
-        × IfFits ⟦<ProgressToken as FromJson>⟧.reads (codes "workDoneToken") json it.work_done_token
-        × IfFits ⟦<ProgressToken as FromJson>⟧.reads (codes "partialResultToken") json it.partial_result_token };
+        and Required ⟦<TextDocumentIdentifier as FromJson>⟧.reads (codes "textDocument") json it.text_document
+        and IfFits ⟦<ProgressToken as FromJson>⟧.reads (codes "workDoneToken") json it.work_done_token
+        and IfFits ⟦<ProgressToken as FromJson>⟧.reads (codes "partialResultToken") json it.partial_result_token };
 
     fn from_json(alloc: Global, value: &Value) -> Result<DocumentSymbolParams, Misfit> {
-        let read = Members::new(alloc, value)
+        match Members::new(alloc, value)
             .required("textDocument")
             .if_fits("workDoneToken")
             .if_fits("partialResultToken")
-            .end();
-        match read {
+            .end()
+        {
             Ok(read) => {
                 let ((((), text_document), work_done_token), partial_result_token) = read;
                 Ok(DocumentSymbolParams {
@@ -644,15 +641,15 @@ impl ToJson for TextDocumentPositionParams {
 
 impl FromJson for TextDocumentPositionParams {
     ghost reads = { λ json it. IsObject json
-        × Required ⟦<TextDocumentIdentifier as FromJson>⟧.reads (codes "textDocument") json it.text_document
-        × Required ⟦<Position as FromJson>⟧.reads (codes "position") json it.position };
+        and Required ⟦<TextDocumentIdentifier as FromJson>⟧.reads (codes "textDocument") json it.text_document
+        and Required ⟦<Position as FromJson>⟧.reads (codes "position") json it.position };
 
     fn from_json(alloc: Global, value: &Value) -> Result<TextDocumentPositionParams, Misfit> {
-        let read = Members::new(alloc, value)
+        match Members::new(alloc, value)
             .required("textDocument")
             .required("position")
-            .end();
-        match read {
+            .end()
+        {
             Ok(read) => {
                 let (((), text_document), position) = read;
                 Ok(TextDocumentPositionParams {
@@ -693,17 +690,17 @@ impl ToJson for HoverParams {
 
 impl FromJson for HoverParams {
     ghost reads = { λ json it. IsObject json
-        × Required ⟦<TextDocumentIdentifier as FromJson>⟧.reads (codes "textDocument") json it.text_document
-        × Required ⟦<Position as FromJson>⟧.reads (codes "position") json it.position
-        × IfFits ⟦<ProgressToken as FromJson>⟧.reads (codes "workDoneToken") json it.work_done_token };
+        and Required ⟦<TextDocumentIdentifier as FromJson>⟧.reads (codes "textDocument") json it.text_document
+        and Required ⟦<Position as FromJson>⟧.reads (codes "position") json it.position
+        and IfFits ⟦<ProgressToken as FromJson>⟧.reads (codes "workDoneToken") json it.work_done_token };
 
     fn from_json(alloc: Global, value: &Value) -> Result<HoverParams, Misfit> {
-        let read = Members::new(alloc, value)
+        match Members::new(alloc, value)
             .required("textDocument")
             .required("position")
             .if_fits("workDoneToken")
-            .end();
-        match read {
+            .end()
+        {
             Ok(read) => {
                 let ((((), text_document), position), work_done_token) = read;
                 Ok(HoverParams {
@@ -752,19 +749,19 @@ impl ToJson for DefinitionParams {
 
 impl FromJson for DefinitionParams {
     ghost reads = { λ json it. IsObject json
-        × Required ⟦<TextDocumentIdentifier as FromJson>⟧.reads (codes "textDocument") json it.text_document
-        × Required ⟦<Position as FromJson>⟧.reads (codes "position") json it.position
-        × IfFits ⟦<ProgressToken as FromJson>⟧.reads (codes "workDoneToken") json it.work_done_token
-        × IfFits ⟦<ProgressToken as FromJson>⟧.reads (codes "partialResultToken") json it.partial_result_token };
+        and Required ⟦<TextDocumentIdentifier as FromJson>⟧.reads (codes "textDocument") json it.text_document
+        and Required ⟦<Position as FromJson>⟧.reads (codes "position") json it.position
+        and IfFits ⟦<ProgressToken as FromJson>⟧.reads (codes "workDoneToken") json it.work_done_token
+        and IfFits ⟦<ProgressToken as FromJson>⟧.reads (codes "partialResultToken") json it.partial_result_token };
 
     fn from_json(alloc: Global, value: &Value) -> Result<DefinitionParams, Misfit> {
-        let read = Members::new(alloc, value)
+        match Members::new(alloc, value)
             .required("textDocument")
             .required("position")
             .if_fits("workDoneToken")
             .if_fits("partialResultToken")
-            .end();
-        match read {
+            .end()
+        {
             Ok(read) => {
                 let (((((), text_document), position), work_done_token), partial_result_token) =
                     read;
@@ -817,17 +814,17 @@ impl ToJson for InlayHintParams {
 
 impl FromJson for InlayHintParams {
     ghost reads = { λ json it. IsObject json
-        × Required ⟦<TextDocumentIdentifier as FromJson>⟧.reads (codes "textDocument") json it.text_document
-        × Required ⟦<Range as FromJson>⟧.reads (codes "range") json it.range
-        × IfFits ⟦<ProgressToken as FromJson>⟧.reads (codes "workDoneToken") json it.work_done_token };
+        and Required ⟦<TextDocumentIdentifier as FromJson>⟧.reads (codes "textDocument") json it.text_document
+        and Required ⟦<Range as FromJson>⟧.reads (codes "range") json it.range
+        and IfFits ⟦<ProgressToken as FromJson>⟧.reads (codes "workDoneToken") json it.work_done_token };
 
     fn from_json(alloc: Global, value: &Value) -> Result<InlayHintParams, Misfit> {
-        let read = Members::new(alloc, value)
+        match Members::new(alloc, value)
             .required("textDocument")
             .required("range")
             .if_fits("workDoneToken")
-            .end();
-        match read {
+            .end()
+        {
             Ok(read) => {
                 let ((((), text_document), range), work_done_token) = read;
                 Ok(InlayHintParams {
@@ -873,19 +870,19 @@ impl ToJson for SemanticTokensRangeParams {
 
 impl FromJson for SemanticTokensRangeParams {
     ghost reads = { λ json it. IsObject json
-        × Required ⟦<TextDocumentIdentifier as FromJson>⟧.reads (codes "textDocument") json it.text_document
-        × Required ⟦<Range as FromJson>⟧.reads (codes "range") json it.range
-        × IfFits ⟦<ProgressToken as FromJson>⟧.reads (codes "workDoneToken") json it.work_done_token
-        × IfFits ⟦<ProgressToken as FromJson>⟧.reads (codes "partialResultToken") json it.partial_result_token };
+        and Required ⟦<TextDocumentIdentifier as FromJson>⟧.reads (codes "textDocument") json it.text_document
+        and Required ⟦<Range as FromJson>⟧.reads (codes "range") json it.range
+        and IfFits ⟦<ProgressToken as FromJson>⟧.reads (codes "workDoneToken") json it.work_done_token
+        and IfFits ⟦<ProgressToken as FromJson>⟧.reads (codes "partialResultToken") json it.partial_result_token };
 
     fn from_json(alloc: Global, value: &Value) -> Result<SemanticTokensRangeParams, Misfit> {
-        let read = Members::new(alloc, value)
+        match Members::new(alloc, value)
             .required("textDocument")
             .required("range")
             .if_fits("workDoneToken")
             .if_fits("partialResultToken")
-            .end();
-        match read {
+            .end()
+        {
             Ok(read) => {
                 let (((((), text_document), range), work_done_token), partial_result_token) = read;
                 Ok(SemanticTokensRangeParams {
@@ -939,21 +936,21 @@ impl ToJson for ReferenceParams {
 
 impl FromJson for ReferenceParams {
     ghost reads = { λ json it. IsObject json
-        × Required ⟦<TextDocumentIdentifier as FromJson>⟧.reads (codes "textDocument") json it.text_document
-        × Required ⟦<Position as FromJson>⟧.reads (codes "position") json it.position
-        × Required ⟦<ReferenceContext as FromJson>⟧.reads (codes "context") json it.context
-        × IfFits ⟦<ProgressToken as FromJson>⟧.reads (codes "workDoneToken") json it.work_done_token
-        × IfFits ⟦<ProgressToken as FromJson>⟧.reads (codes "partialResultToken") json it.partial_result_token };
+        and Required ⟦<TextDocumentIdentifier as FromJson>⟧.reads (codes "textDocument") json it.text_document
+        and Required ⟦<Position as FromJson>⟧.reads (codes "position") json it.position
+        and Required ⟦<ReferenceContext as FromJson>⟧.reads (codes "context") json it.context
+        and IfFits ⟦<ProgressToken as FromJson>⟧.reads (codes "workDoneToken") json it.work_done_token
+        and IfFits ⟦<ProgressToken as FromJson>⟧.reads (codes "partialResultToken") json it.partial_result_token };
 
     fn from_json(alloc: Global, value: &Value) -> Result<ReferenceParams, Misfit> {
-        let read = Members::new(alloc, value)
+        match Members::new(alloc, value)
             .required("textDocument")
             .required("position")
             .required("context")
             .if_fits("workDoneToken")
             .if_fits("partialResultToken")
-            .end();
-        match read {
+            .end()
+        {
             Ok(read) => {
                 let (
                     (((((), text_document), position), context), work_done_token),
@@ -992,13 +989,13 @@ impl ToJson for ReferenceContext {
 
 impl FromJson for ReferenceContext {
     ghost reads = { λ json it. IsObject json
-        × Required ⟦<bool as FromJson>⟧.reads (codes "includeDeclaration") json it.include_declaration };
+        and Required ⟦<bool as FromJson>⟧.reads (codes "includeDeclaration") json it.include_declaration };
 
     fn from_json(alloc: Global, value: &Value) -> Result<ReferenceContext, Misfit> {
-        let read = Members::new(alloc, value)
+        match Members::new(alloc, value)
             .required("includeDeclaration")
-            .end();
-        match read {
+            .end()
+        {
             Ok(read) => {
                 let ((), include_declaration) = read;
                 Ok(ReferenceContext {

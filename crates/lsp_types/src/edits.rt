@@ -2,7 +2,7 @@
 // `tools/types` wrote this file from `types.txt`: change that.
 ghost use Rattle.std.specs.Prelude.{◌∷◌, [], Some, codes, option_map};
 ghost use Rattle.lsp_types.specs.Json.{object_of};
-ghost use Rattle.lsp_types.specs.Reads.{IfFits, IsObject, Optional, Required};
+ghost use Rattle.lsp_types.specs.Reads.{IfFits, IsObject, Optional, Required, ◌and◌};
 
 use crate::documents::TextDocumentIdentifier;
 use crate::json::{FromJson, Members, Misfit, Object, ToJson};
@@ -36,15 +36,15 @@ impl ToJson for TextEdit {
 
 impl FromJson for TextEdit {
     ghost reads = { λ json it. IsObject json
-        × Required ⟦<Range as FromJson>⟧.reads (codes "range") json it.range
-        × Required ⟦<String as FromJson>⟧.reads (codes "newText") json it.new_text };
+        and Required ⟦<Range as FromJson>⟧.reads (codes "range") json it.range
+        and Required ⟦<String as FromJson>⟧.reads (codes "newText") json it.new_text };
 
     fn from_json(alloc: Global, value: &Value) -> Result<TextEdit, Misfit> {
-        let read = Members::new(alloc, value)
+        match Members::new(alloc, value)
             .required("range")
             .required("newText")
-            .end();
-        match read {
+            .end()
+        {
             Ok(read) => {
                 let (((), range), new_text) = read;
                 Ok(TextEdit { range, new_text })
@@ -78,18 +78,18 @@ impl ToJson for OptionalVersionedTextDocumentIdentifier {
 
 impl FromJson for OptionalVersionedTextDocumentIdentifier {
     ghost reads = { λ json it. IsObject json
-        × Required ⟦<String as FromJson>⟧.reads (codes "uri") json it.uri
-        × Optional ⟦<i32 as FromJson>⟧.reads (codes "version") json it.version };
+        and Required ⟦<String as FromJson>⟧.reads (codes "uri") json it.uri
+        and Optional ⟦<i32 as FromJson>⟧.reads (codes "version") json it.version };
 
     fn from_json(
         alloc: Global,
         value: &Value,
     ) -> Result<OptionalVersionedTextDocumentIdentifier, Misfit> {
-        let read = Members::new(alloc, value)
+        match Members::new(alloc, value)
             .required("uri")
             .optional("version")
-            .end();
-        match read {
+            .end()
+        {
             Ok(read) => {
                 let (((), uri), version) = read;
                 Ok(OptionalVersionedTextDocumentIdentifier { uri, version })
@@ -123,15 +123,15 @@ impl ToJson for TextDocumentEdit {
 
 impl FromJson for TextDocumentEdit {
     ghost reads = { λ json it. IsObject json
-        × Required ⟦<OptionalVersionedTextDocumentIdentifier as FromJson>⟧.reads (codes "textDocument") json it.text_document
-        × Required ⟦<Vec<TextEdit> as FromJson>⟧.reads (codes "edits") json it.edits };
+        and Required ⟦<OptionalVersionedTextDocumentIdentifier as FromJson>⟧.reads (codes "textDocument") json it.text_document
+        and Required ⟦<Vec<TextEdit> as FromJson>⟧.reads (codes "edits") json it.edits };
 
     fn from_json(alloc: Global, value: &Value) -> Result<TextDocumentEdit, Misfit> {
-        let read = Members::new(alloc, value)
+        match Members::new(alloc, value)
             .required("textDocument")
             .required("edits")
-            .end();
-        match read {
+            .end()
+        {
             Ok(read) => {
                 let (((), text_document), edits) = read;
                 Ok(TextDocumentEdit {
@@ -192,17 +192,17 @@ impl ToJson for WorkspaceEdit {
 
 impl FromJson for WorkspaceEdit {
     ghost reads = { λ json it. IsObject json
-        × Optional ⟦<BTreeMap<String, Vec<TextEdit>> as FromJson>⟧.reads (codes "changes") json it.changes
-        × Optional ⟦<Vec<TextDocumentEdit> as FromJson>⟧.reads (codes "documentChanges") json it.document_changes
-        × Optional ⟦<BTreeMap<String, ChangeAnnotation> as FromJson>⟧.reads (codes "changeAnnotations") json it.change_annotations };
+        and Optional ⟦<BTreeMap<String, Vec<TextEdit>> as FromJson>⟧.reads (codes "changes") json it.changes
+        and Optional ⟦<Vec<TextDocumentEdit> as FromJson>⟧.reads (codes "documentChanges") json it.document_changes
+        and Optional ⟦<BTreeMap<String, ChangeAnnotation> as FromJson>⟧.reads (codes "changeAnnotations") json it.change_annotations };
 
     fn from_json(alloc: Global, value: &Value) -> Result<WorkspaceEdit, Misfit> {
-        let read = Members::new(alloc, value)
+        match Members::new(alloc, value)
             .optional("changes")
             .optional("documentChanges")
             .optional("changeAnnotations")
-            .end();
-        match read {
+            .end()
+        {
             Ok(read) => {
                 let ((((), changes), document_changes), change_annotations) = read;
                 Ok(WorkspaceEdit {
@@ -263,17 +263,17 @@ impl ToJson for ChangeAnnotation {
 
 impl FromJson for ChangeAnnotation {
     ghost reads = { λ json it. IsObject json
-        × Required ⟦<String as FromJson>⟧.reads (codes "label") json it.label
-        × Optional ⟦<bool as FromJson>⟧.reads (codes "needsConfirmation") json it.needs_confirmation
-        × Optional ⟦<String as FromJson>⟧.reads (codes "description") json it.description };
+        and Required ⟦<String as FromJson>⟧.reads (codes "label") json it.label
+        and Optional ⟦<bool as FromJson>⟧.reads (codes "needsConfirmation") json it.needs_confirmation
+        and Optional ⟦<String as FromJson>⟧.reads (codes "description") json it.description };
 
     fn from_json(alloc: Global, value: &Value) -> Result<ChangeAnnotation, Misfit> {
-        let read = Members::new(alloc, value)
+        match Members::new(alloc, value)
             .required("label")
             .optional("needsConfirmation")
             .optional("description")
-            .end();
-        match read {
+            .end()
+        {
             Ok(read) => {
                 let ((((), label), needs_confirmation), description) = read;
                 Ok(ChangeAnnotation {
@@ -319,19 +319,19 @@ impl ToJson for RenameParams {
 
 impl FromJson for RenameParams {
     ghost reads = { λ json it. IsObject json
-        × Required ⟦<TextDocumentIdentifier as FromJson>⟧.reads (codes "textDocument") json it.text_document
-        × Required ⟦<Position as FromJson>⟧.reads (codes "position") json it.position
-        × Required ⟦<String as FromJson>⟧.reads (codes "newName") json it.new_name
-        × IfFits ⟦<ProgressToken as FromJson>⟧.reads (codes "workDoneToken") json it.work_done_token };
+        and Required ⟦<TextDocumentIdentifier as FromJson>⟧.reads (codes "textDocument") json it.text_document
+        and Required ⟦<Position as FromJson>⟧.reads (codes "position") json it.position
+        and Required ⟦<String as FromJson>⟧.reads (codes "newName") json it.new_name
+        and IfFits ⟦<ProgressToken as FromJson>⟧.reads (codes "workDoneToken") json it.work_done_token };
 
     fn from_json(alloc: Global, value: &Value) -> Result<RenameParams, Misfit> {
-        let read = Members::new(alloc, value)
+        match Members::new(alloc, value)
             .required("textDocument")
             .required("position")
             .required("newName")
             .if_fits("workDoneToken")
-            .end();
-        match read {
+            .end()
+        {
             Ok(read) => {
                 let (((((), text_document), position), new_name), work_done_token) = read;
                 Ok(RenameParams {
@@ -370,15 +370,15 @@ impl ToJson for PrepareRenameResult {
 
 impl FromJson for PrepareRenameResult {
     ghost reads = { λ json it. IsObject json
-        × Required ⟦<Range as FromJson>⟧.reads (codes "range") json it.range
-        × Required ⟦<String as FromJson>⟧.reads (codes "placeholder") json it.placeholder };
+        and Required ⟦<Range as FromJson>⟧.reads (codes "range") json it.range
+        and Required ⟦<String as FromJson>⟧.reads (codes "placeholder") json it.placeholder };
 
     fn from_json(alloc: Global, value: &Value) -> Result<PrepareRenameResult, Misfit> {
-        let read = Members::new(alloc, value)
+        match Members::new(alloc, value)
             .required("range")
             .required("placeholder")
-            .end();
-        match read {
+            .end()
+        {
             Ok(read) => {
                 let (((), range), placeholder) = read;
                 Ok(PrepareRenameResult { range, placeholder })
@@ -424,21 +424,21 @@ impl ToJson for FormattingOptions {
 
 impl FromJson for FormattingOptions {
     ghost reads = { λ json it. IsObject json
-        × Required ⟦<u32 as FromJson>⟧.reads (codes "tabSize") json it.tab_size
-        × Required ⟦<bool as FromJson>⟧.reads (codes "insertSpaces") json it.insert_spaces
-        × Optional ⟦<bool as FromJson>⟧.reads (codes "trimTrailingWhitespace") json it.trim_trailing_whitespace
-        × Optional ⟦<bool as FromJson>⟧.reads (codes "insertFinalNewline") json it.insert_final_newline
-        × Optional ⟦<bool as FromJson>⟧.reads (codes "trimFinalNewlines") json it.trim_final_newlines };
+        and Required ⟦<u32 as FromJson>⟧.reads (codes "tabSize") json it.tab_size
+        and Required ⟦<bool as FromJson>⟧.reads (codes "insertSpaces") json it.insert_spaces
+        and Optional ⟦<bool as FromJson>⟧.reads (codes "trimTrailingWhitespace") json it.trim_trailing_whitespace
+        and Optional ⟦<bool as FromJson>⟧.reads (codes "insertFinalNewline") json it.insert_final_newline
+        and Optional ⟦<bool as FromJson>⟧.reads (codes "trimFinalNewlines") json it.trim_final_newlines };
 
     fn from_json(alloc: Global, value: &Value) -> Result<FormattingOptions, Misfit> {
-        let read = Members::new(alloc, value)
+        match Members::new(alloc, value)
             .required("tabSize")
             .required("insertSpaces")
             .optional("trimTrailingWhitespace")
             .optional("insertFinalNewline")
             .optional("trimFinalNewlines")
-            .end();
-        match read {
+            .end()
+        {
             Ok(read) => {
                 let (
                     (
@@ -488,17 +488,17 @@ impl ToJson for DocumentFormattingParams {
 
 impl FromJson for DocumentFormattingParams {
     ghost reads = { λ json it. IsObject json
-        × Required ⟦<TextDocumentIdentifier as FromJson>⟧.reads (codes "textDocument") json it.text_document
-        × Required ⟦<FormattingOptions as FromJson>⟧.reads (codes "options") json it.options
-        × IfFits ⟦<ProgressToken as FromJson>⟧.reads (codes "workDoneToken") json it.work_done_token };
+        and Required ⟦<TextDocumentIdentifier as FromJson>⟧.reads (codes "textDocument") json it.text_document
+        and Required ⟦<FormattingOptions as FromJson>⟧.reads (codes "options") json it.options
+        and IfFits ⟦<ProgressToken as FromJson>⟧.reads (codes "workDoneToken") json it.work_done_token };
 
     fn from_json(alloc: Global, value: &Value) -> Result<DocumentFormattingParams, Misfit> {
-        let read = Members::new(alloc, value)
+        match Members::new(alloc, value)
             .required("textDocument")
             .required("options")
             .if_fits("workDoneToken")
-            .end();
-        match read {
+            .end()
+        {
             Ok(read) => {
                 let ((((), text_document), options), work_done_token) = read;
                 Ok(DocumentFormattingParams {
@@ -545,19 +545,19 @@ impl ToJson for DocumentRangeFormattingParams {
 
 impl FromJson for DocumentRangeFormattingParams {
     ghost reads = { λ json it. IsObject json
-        × Required ⟦<TextDocumentIdentifier as FromJson>⟧.reads (codes "textDocument") json it.text_document
-        × Required ⟦<Range as FromJson>⟧.reads (codes "range") json it.range
-        × Required ⟦<FormattingOptions as FromJson>⟧.reads (codes "options") json it.options
-        × IfFits ⟦<ProgressToken as FromJson>⟧.reads (codes "workDoneToken") json it.work_done_token };
+        and Required ⟦<TextDocumentIdentifier as FromJson>⟧.reads (codes "textDocument") json it.text_document
+        and Required ⟦<Range as FromJson>⟧.reads (codes "range") json it.range
+        and Required ⟦<FormattingOptions as FromJson>⟧.reads (codes "options") json it.options
+        and IfFits ⟦<ProgressToken as FromJson>⟧.reads (codes "workDoneToken") json it.work_done_token };
 
     fn from_json(alloc: Global, value: &Value) -> Result<DocumentRangeFormattingParams, Misfit> {
-        let read = Members::new(alloc, value)
+        match Members::new(alloc, value)
             .required("textDocument")
             .required("range")
             .required("options")
             .if_fits("workDoneToken")
-            .end();
-        match read {
+            .end()
+        {
             Ok(read) => {
                 let (((((), text_document), range), options), work_done_token) = read;
                 Ok(DocumentRangeFormattingParams {
@@ -605,19 +605,19 @@ impl ToJson for DocumentOnTypeFormattingParams {
 
 impl FromJson for DocumentOnTypeFormattingParams {
     ghost reads = { λ json it. IsObject json
-        × Required ⟦<TextDocumentIdentifier as FromJson>⟧.reads (codes "textDocument") json it.text_document
-        × Required ⟦<Position as FromJson>⟧.reads (codes "position") json it.position
-        × Required ⟦<String as FromJson>⟧.reads (codes "ch") json it.ch
-        × Required ⟦<FormattingOptions as FromJson>⟧.reads (codes "options") json it.options };
+        and Required ⟦<TextDocumentIdentifier as FromJson>⟧.reads (codes "textDocument") json it.text_document
+        and Required ⟦<Position as FromJson>⟧.reads (codes "position") json it.position
+        and Required ⟦<String as FromJson>⟧.reads (codes "ch") json it.ch
+        and Required ⟦<FormattingOptions as FromJson>⟧.reads (codes "options") json it.options };
 
     fn from_json(alloc: Global, value: &Value) -> Result<DocumentOnTypeFormattingParams, Misfit> {
-        let read = Members::new(alloc, value)
+        match Members::new(alloc, value)
             .required("textDocument")
             .required("position")
             .required("ch")
             .required("options")
-            .end();
-        match read {
+            .end()
+        {
             Ok(read) => {
                 let (((((), text_document), position), ch), options) = read;
                 Ok(DocumentOnTypeFormattingParams {

@@ -3,7 +3,7 @@
 ghost use Rattle.std.specs.Prelude.{◌∷◌, [], Some, codes, option_map};
 ghost use Rattle.serde_json.specs.Data.{number, unsigned};
 ghost use Rattle.lsp_types.specs.Json.{object_of};
-ghost use Rattle.lsp_types.specs.Reads.{IsObject, IsWithin, Optional, Required};
+ghost use Rattle.lsp_types.specs.Reads.{IsObject, IsWithin, Optional, Required, ◌and◌};
 
 use crate::edits::TextEdit;
 use crate::json::{FromJson, Members, Misfit, Object, ToJson, number_within};
@@ -118,17 +118,17 @@ impl ToJson for InlayHint {
 
 impl FromJson for InlayHint {
     ghost reads = { λ json it. IsObject json
-        × Required ⟦<Position as FromJson>⟧.reads (codes "position") json it.position
-        × Required ⟦<String as FromJson>⟧.reads (codes "label") json it.label
-        × Optional ⟦<InlayHintKind as FromJson>⟧.reads (codes "kind") json it.kind
-        × Optional ⟦<Vec<TextEdit> as FromJson>⟧.reads (codes "textEdits") json it.text_edits
-        × Optional ⟦<String as FromJson>⟧.reads (codes "tooltip") json it.tooltip
-        × Optional ⟦<bool as FromJson>⟧.reads (codes "paddingLeft") json it.padding_left
-        × Optional ⟦<bool as FromJson>⟧.reads (codes "paddingRight") json it.padding_right
-        × Optional ⟦<Value as FromJson>⟧.reads (codes "data") json it.«data» };
+        and Required ⟦<Position as FromJson>⟧.reads (codes "position") json it.position
+        and Required ⟦<String as FromJson>⟧.reads (codes "label") json it.label
+        and Optional ⟦<InlayHintKind as FromJson>⟧.reads (codes "kind") json it.kind
+        and Optional ⟦<Vec<TextEdit> as FromJson>⟧.reads (codes "textEdits") json it.text_edits
+        and Optional ⟦<String as FromJson>⟧.reads (codes "tooltip") json it.tooltip
+        and Optional ⟦<bool as FromJson>⟧.reads (codes "paddingLeft") json it.padding_left
+        and Optional ⟦<bool as FromJson>⟧.reads (codes "paddingRight") json it.padding_right
+        and Optional ⟦<Value as FromJson>⟧.reads (codes "data") json it.«data» };
 
     fn from_json(alloc: Global, value: &Value) -> Result<InlayHint, Misfit> {
-        let read = Members::new(alloc, value)
+        match Members::new(alloc, value)
             .required("position")
             .required("label")
             .optional("kind")
@@ -137,8 +137,8 @@ impl FromJson for InlayHint {
             .optional("paddingLeft")
             .optional("paddingRight")
             .optional("data")
-            .end();
-        match read {
+            .end()
+        {
             Ok(read) => {
                 let (
                     (

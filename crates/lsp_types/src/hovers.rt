@@ -2,7 +2,7 @@
 // `tools/types` wrote this file from `types.txt`: change that.
 ghost use Rattle.std.specs.Prelude.{◌∷◌, [], Some, codes, option_map};
 ghost use Rattle.lsp_types.specs.Json.{object_of};
-ghost use Rattle.lsp_types.specs.Reads.{IsObject, Optional, Required};
+ghost use Rattle.lsp_types.specs.Reads.{IsObject, Optional, Required, ◌and◌};
 
 use crate::choices::MarkupKind;
 use crate::json::{FromJson, Members, Misfit, Object, ToJson};
@@ -34,15 +34,15 @@ impl ToJson for MarkupContent {
 
 impl FromJson for MarkupContent {
     ghost reads = { λ json it. IsObject json
-        × Required ⟦<MarkupKind as FromJson>⟧.reads (codes "kind") json it.kind
-        × Required ⟦<String as FromJson>⟧.reads (codes "value") json it.value };
+        and Required ⟦<MarkupKind as FromJson>⟧.reads (codes "kind") json it.kind
+        and Required ⟦<String as FromJson>⟧.reads (codes "value") json it.value };
 
     fn from_json(alloc: Global, value: &Value) -> Result<MarkupContent, Misfit> {
-        let read = Members::new(alloc, value)
+        match Members::new(alloc, value)
             .required("kind")
             .required("value")
-            .end();
-        match read {
+            .end()
+        {
             Ok(read) => {
                 let (((), kind), value) = read;
                 Ok(MarkupContent { kind, value })
@@ -76,15 +76,15 @@ impl ToJson for Hover {
 
 impl FromJson for Hover {
     ghost reads = { λ json it. IsObject json
-        × Required ⟦<MarkupContent as FromJson>⟧.reads (codes "contents") json it.contents
-        × Optional ⟦<Range as FromJson>⟧.reads (codes "range") json it.range };
+        and Required ⟦<MarkupContent as FromJson>⟧.reads (codes "contents") json it.contents
+        and Optional ⟦<Range as FromJson>⟧.reads (codes "range") json it.range };
 
     fn from_json(alloc: Global, value: &Value) -> Result<Hover, Misfit> {
-        let read = Members::new(alloc, value)
+        match Members::new(alloc, value)
             .required("contents")
             .optional("range")
-            .end();
-        match read {
+            .end()
+        {
             Ok(read) => {
                 let (((), contents), range) = read;
                 Ok(Hover { contents, range })

@@ -2,7 +2,7 @@
 // `tools/types` wrote this file from `types.txt`: change that.
 ghost use Rattle.std.specs.Prelude.{◌∷◌, [], Some, codes, option_map};
 ghost use Rattle.lsp_types.specs.Json.{object_of};
-ghost use Rattle.lsp_types.specs.Reads.{IfFits, IsObject, Optional, Required};
+ghost use Rattle.lsp_types.specs.Reads.{IfFits, IsObject, Optional, Required, ◌and◌};
 
 use crate::capabilities::ServerCapabilities;
 use crate::choices::NumberOrString;
@@ -68,19 +68,19 @@ impl ToJson for InitializeParams {
 
 impl FromJson for InitializeParams {
     ghost reads = { λ json it. IsObject json
-        × IfFits ⟦<i32 as FromJson>⟧.reads (codes "processId") json it.process_id
-        × IfFits ⟦<ClientInfo as FromJson>⟧.reads (codes "clientInfo") json it.client_info
-        × IfFits ⟦<String as FromJson>⟧.reads (codes "locale") json it.locale
-        × IfFits ⟦<String as FromJson>⟧.reads (codes "rootPath") json it.root_path
-        × Optional ⟦<String as FromJson>⟧.reads (codes "rootUri") json it.root_uri
-        × Optional ⟦<Vec<WorkspaceFolder> as FromJson>⟧.reads (codes "workspaceFolders") json it.workspace_folders
-        × Optional ⟦<Value as FromJson>⟧.reads (codes "initializationOptions") json it.initialization_options
-        × Required ⟦<Value as FromJson>⟧.reads (codes "capabilities") json it.capabilities
-        × IfFits ⟦<String as FromJson>⟧.reads (codes "trace") json it.trace
-        × IfFits ⟦<ProgressToken as FromJson>⟧.reads (codes "workDoneToken") json it.work_done_token };
+        and IfFits ⟦<i32 as FromJson>⟧.reads (codes "processId") json it.process_id
+        and IfFits ⟦<ClientInfo as FromJson>⟧.reads (codes "clientInfo") json it.client_info
+        and IfFits ⟦<String as FromJson>⟧.reads (codes "locale") json it.locale
+        and IfFits ⟦<String as FromJson>⟧.reads (codes "rootPath") json it.root_path
+        and Optional ⟦<String as FromJson>⟧.reads (codes "rootUri") json it.root_uri
+        and Optional ⟦<Vec<WorkspaceFolder> as FromJson>⟧.reads (codes "workspaceFolders") json it.workspace_folders
+        and Optional ⟦<Value as FromJson>⟧.reads (codes "initializationOptions") json it.initialization_options
+        and Required ⟦<Value as FromJson>⟧.reads (codes "capabilities") json it.capabilities
+        and IfFits ⟦<String as FromJson>⟧.reads (codes "trace") json it.trace
+        and IfFits ⟦<ProgressToken as FromJson>⟧.reads (codes "workDoneToken") json it.work_done_token };
 
     fn from_json(alloc: Global, value: &Value) -> Result<InitializeParams, Misfit> {
-        let read = Members::new(alloc, value)
+        match Members::new(alloc, value)
             .if_fits("processId")
             .if_fits("clientInfo")
             .if_fits("locale")
@@ -91,8 +91,8 @@ impl FromJson for InitializeParams {
             .required("capabilities")
             .if_fits("trace")
             .if_fits("workDoneToken")
-            .end();
-        match read {
+            .end()
+        {
             Ok(read) => {
                 let (
                     (
@@ -172,15 +172,15 @@ impl ToJson for ServerInfo {
 
 impl FromJson for ServerInfo {
     ghost reads = { λ json it. IsObject json
-        × Required ⟦<String as FromJson>⟧.reads (codes "name") json it.name
-        × Optional ⟦<String as FromJson>⟧.reads (codes "version") json it.version };
+        and Required ⟦<String as FromJson>⟧.reads (codes "name") json it.name
+        and Optional ⟦<String as FromJson>⟧.reads (codes "version") json it.version };
 
     fn from_json(alloc: Global, value: &Value) -> Result<ServerInfo, Misfit> {
-        let read = Members::new(alloc, value)
+        match Members::new(alloc, value)
             .required("name")
             .optional("version")
-            .end();
-        match read {
+            .end()
+        {
             Ok(read) => {
                 let (((), name), version) = read;
                 Ok(ServerInfo { name, version })
@@ -233,11 +233,10 @@ impl ToJson for SetTraceParams {
 
 impl FromJson for SetTraceParams {
     ghost reads = { λ json it. IsObject json
-        × Required ⟦<String as FromJson>⟧.reads (codes "value") json it.value };
+        and Required ⟦<String as FromJson>⟧.reads (codes "value") json it.value };
 
     fn from_json(alloc: Global, value: &Value) -> Result<SetTraceParams, Misfit> {
-        let read = Members::new(alloc, value).required("value").end();
-        match read {
+        match Members::new(alloc, value).required("value").end() {
             Ok(read) => {
                 let ((), value) = read;
                 Ok(SetTraceParams { value })
@@ -288,15 +287,15 @@ impl ToJson for LogTraceParams {
 
 impl FromJson for LogTraceParams {
     ghost reads = { λ json it. IsObject json
-        × Required ⟦<String as FromJson>⟧.reads (codes "message") json it.message
-        × Optional ⟦<String as FromJson>⟧.reads (codes "verbose") json it.verbose };
+        and Required ⟦<String as FromJson>⟧.reads (codes "message") json it.message
+        and Optional ⟦<String as FromJson>⟧.reads (codes "verbose") json it.verbose };
 
     fn from_json(alloc: Global, value: &Value) -> Result<LogTraceParams, Misfit> {
-        let read = Members::new(alloc, value)
+        match Members::new(alloc, value)
             .required("message")
             .optional("verbose")
-            .end();
-        match read {
+            .end()
+        {
             Ok(read) => {
                 let (((), message), verbose) = read;
                 Ok(LogTraceParams { message, verbose })
@@ -324,11 +323,10 @@ impl ToJson for CancelParams {
 
 impl FromJson for CancelParams {
     ghost reads = { λ json it. IsObject json
-        × Required ⟦<NumberOrString as FromJson>⟧.reads (codes "id") json it.id };
+        and Required ⟦<NumberOrString as FromJson>⟧.reads (codes "id") json it.id };
 
     fn from_json(alloc: Global, value: &Value) -> Result<CancelParams, Misfit> {
-        let read = Members::new(alloc, value).required("id").end();
-        match read {
+        match Members::new(alloc, value).required("id").end() {
             Ok(read) => {
                 let ((), id) = read;
                 Ok(CancelParams { id })
@@ -385,17 +383,17 @@ impl ToJson for Registration {
 
 impl FromJson for Registration {
     ghost reads = { λ json it. IsObject json
-        × Required ⟦<String as FromJson>⟧.reads (codes "id") json it.id
-        × Required ⟦<String as FromJson>⟧.reads (codes "method") json it.method
-        × Optional ⟦<Value as FromJson>⟧.reads (codes "registerOptions") json it.register_options };
+        and Required ⟦<String as FromJson>⟧.reads (codes "id") json it.id
+        and Required ⟦<String as FromJson>⟧.reads (codes "method") json it.method
+        and Optional ⟦<Value as FromJson>⟧.reads (codes "registerOptions") json it.register_options };
 
     fn from_json(alloc: Global, value: &Value) -> Result<Registration, Misfit> {
-        let read = Members::new(alloc, value)
+        match Members::new(alloc, value)
             .required("id")
             .required("method")
             .optional("registerOptions")
-            .end();
-        match read {
+            .end()
+        {
             Ok(read) => {
                 let ((((), id), method), register_options) = read;
                 Ok(Registration {
@@ -429,11 +427,10 @@ impl ToJson for RegistrationParams {
 
 impl FromJson for RegistrationParams {
     ghost reads = { λ json it. IsObject json
-        × Required ⟦<Vec<Registration> as FromJson>⟧.reads (codes "registrations") json it.registrations };
+        and Required ⟦<Vec<Registration> as FromJson>⟧.reads (codes "registrations") json it.registrations };
 
     fn from_json(alloc: Global, value: &Value) -> Result<RegistrationParams, Misfit> {
-        let read = Members::new(alloc, value).required("registrations").end();
-        match read {
+        match Members::new(alloc, value).required("registrations").end() {
             Ok(read) => {
                 let ((), registrations) = read;
                 Ok(RegistrationParams { registrations })
@@ -467,15 +464,15 @@ impl ToJson for Unregistration {
 
 impl FromJson for Unregistration {
     ghost reads = { λ json it. IsObject json
-        × Required ⟦<String as FromJson>⟧.reads (codes "id") json it.id
-        × Required ⟦<String as FromJson>⟧.reads (codes "method") json it.method };
+        and Required ⟦<String as FromJson>⟧.reads (codes "id") json it.id
+        and Required ⟦<String as FromJson>⟧.reads (codes "method") json it.method };
 
     fn from_json(alloc: Global, value: &Value) -> Result<Unregistration, Misfit> {
-        let read = Members::new(alloc, value)
+        match Members::new(alloc, value)
             .required("id")
             .required("method")
-            .end();
-        match read {
+            .end()
+        {
             Ok(read) => {
                 let (((), id), method) = read;
                 Ok(Unregistration { id, method })
@@ -505,13 +502,13 @@ impl ToJson for UnregistrationParams {
 
 impl FromJson for UnregistrationParams {
     ghost reads = { λ json it. IsObject json
-        × Required ⟦<Vec<Unregistration> as FromJson>⟧.reads (codes "unregisterations") json it.unregisterations };
+        and Required ⟦<Vec<Unregistration> as FromJson>⟧.reads (codes "unregisterations") json it.unregisterations };
 
     fn from_json(alloc: Global, value: &Value) -> Result<UnregistrationParams, Misfit> {
-        let read = Members::new(alloc, value)
+        match Members::new(alloc, value)
             .required("unregisterations")
-            .end();
-        match read {
+            .end()
+        {
             Ok(read) => {
                 let ((), unregisterations) = read;
                 Ok(UnregistrationParams { unregisterations })

@@ -3,7 +3,7 @@
 ghost use Rattle.std.specs.Prelude.{◌∷◌, [], Some, codes, option_map};
 ghost use Rattle.serde_json.specs.Data.{string};
 ghost use Rattle.lsp_types.specs.Json.{object_of};
-ghost use Rattle.lsp_types.specs.Reads.{IsObject, Named, Optional, Required};
+ghost use Rattle.lsp_types.specs.Reads.{IsObject, Named, Optional, Required, ◌and◌};
 
 use crate::choices::NumberOrString;
 use crate::json::{FromJson, Members, Misfit, Object, ToJson};
@@ -34,11 +34,10 @@ impl ToJson for WorkDoneProgressParams {
 
 impl FromJson for WorkDoneProgressParams {
     ghost reads = { λ json it. IsObject json
-        × Optional ⟦<ProgressToken as FromJson>⟧.reads (codes "workDoneToken") json it.work_done_token };
+        and Optional ⟦<ProgressToken as FromJson>⟧.reads (codes "workDoneToken") json it.work_done_token };
 
     fn from_json(alloc: Global, value: &Value) -> Result<WorkDoneProgressParams, Misfit> {
-        let read = Members::new(alloc, value).optional("workDoneToken").end();
-        match read {
+        match Members::new(alloc, value).optional("workDoneToken").end() {
             Ok(read) => {
                 let ((), work_done_token) = read;
                 Ok(WorkDoneProgressParams { work_done_token })
@@ -66,11 +65,10 @@ impl ToJson for WorkDoneProgressCreateParams {
 
 impl FromJson for WorkDoneProgressCreateParams {
     ghost reads = { λ json it. IsObject json
-        × Required ⟦<ProgressToken as FromJson>⟧.reads (codes "token") json it.token };
+        and Required ⟦<ProgressToken as FromJson>⟧.reads (codes "token") json it.token };
 
     fn from_json(alloc: Global, value: &Value) -> Result<WorkDoneProgressCreateParams, Misfit> {
-        let read = Members::new(alloc, value).required("token").end();
-        match read {
+        match Members::new(alloc, value).required("token").end() {
             Ok(read) => {
                 let ((), token) = read;
                 Ok(WorkDoneProgressCreateParams { token })
@@ -161,21 +159,21 @@ impl ToJson for WorkDoneProgressBegin {
 
 impl FromJson for WorkDoneProgressBegin {
     ghost reads = { λ json it. IsObject json
-        × Named (codes "kind") (codes "begin") json
-        × Required ⟦<String as FromJson>⟧.reads (codes "title") json it.title
-        × Optional ⟦<bool as FromJson>⟧.reads (codes "cancellable") json it.cancellable
-        × Optional ⟦<String as FromJson>⟧.reads (codes "message") json it.message
-        × Optional ⟦<u32 as FromJson>⟧.reads (codes "percentage") json it.percentage };
+        and Named (codes "kind") (codes "begin") json
+        and Required ⟦<String as FromJson>⟧.reads (codes "title") json it.title
+        and Optional ⟦<bool as FromJson>⟧.reads (codes "cancellable") json it.cancellable
+        and Optional ⟦<String as FromJson>⟧.reads (codes "message") json it.message
+        and Optional ⟦<u32 as FromJson>⟧.reads (codes "percentage") json it.percentage };
 
     fn from_json(alloc: Global, value: &Value) -> Result<WorkDoneProgressBegin, Misfit> {
-        let read = Members::new(alloc, value)
+        match Members::new(alloc, value)
             .named("kind", "begin")
             .required("title")
             .optional("cancellable")
             .optional("message")
             .optional("percentage")
-            .end();
-        match read {
+            .end()
+        {
             Ok(read) => {
                 let ((((((), ()), title), cancellable), message), percentage) = read;
                 Ok(WorkDoneProgressBegin {
@@ -239,19 +237,19 @@ impl ToJson for WorkDoneProgressReport {
 
 impl FromJson for WorkDoneProgressReport {
     ghost reads = { λ json it. IsObject json
-        × Named (codes "kind") (codes "report") json
-        × Optional ⟦<bool as FromJson>⟧.reads (codes "cancellable") json it.cancellable
-        × Optional ⟦<String as FromJson>⟧.reads (codes "message") json it.message
-        × Optional ⟦<u32 as FromJson>⟧.reads (codes "percentage") json it.percentage };
+        and Named (codes "kind") (codes "report") json
+        and Optional ⟦<bool as FromJson>⟧.reads (codes "cancellable") json it.cancellable
+        and Optional ⟦<String as FromJson>⟧.reads (codes "message") json it.message
+        and Optional ⟦<u32 as FromJson>⟧.reads (codes "percentage") json it.percentage };
 
     fn from_json(alloc: Global, value: &Value) -> Result<WorkDoneProgressReport, Misfit> {
-        let read = Members::new(alloc, value)
+        match Members::new(alloc, value)
             .named("kind", "report")
             .optional("cancellable")
             .optional("message")
             .optional("percentage")
-            .end();
-        match read {
+            .end()
+        {
             Ok(read) => {
                 let (((((), ()), cancellable), message), percentage) = read;
                 Ok(WorkDoneProgressReport {
@@ -300,15 +298,15 @@ impl ToJson for WorkDoneProgressEnd {
 
 impl FromJson for WorkDoneProgressEnd {
     ghost reads = { λ json it. IsObject json
-        × Named (codes "kind") (codes "end") json
-        × Optional ⟦<String as FromJson>⟧.reads (codes "message") json it.message };
+        and Named (codes "kind") (codes "end") json
+        and Optional ⟦<String as FromJson>⟧.reads (codes "message") json it.message };
 
     fn from_json(alloc: Global, value: &Value) -> Result<WorkDoneProgressEnd, Misfit> {
-        let read = Members::new(alloc, value)
+        match Members::new(alloc, value)
             .named("kind", "end")
             .optional("message")
-            .end();
-        match read {
+            .end()
+        {
             Ok(read) => {
                 let (((), ()), message) = read;
                 Ok(WorkDoneProgressEnd { message })

@@ -2,7 +2,7 @@
 // `tools/types` wrote this file from `types.txt`: change that.
 ghost use Rattle.std.specs.Prelude.{◌∷◌, [], Some, codes, option_map};
 ghost use Rattle.lsp_types.specs.Json.{object_of};
-ghost use Rattle.lsp_types.specs.Reads.{IsObject, Optional, Required};
+ghost use Rattle.lsp_types.specs.Reads.{IsObject, Optional, Required, ◌and◌};
 
 use crate::json::{FromJson, Members, Misfit, Object, ToJson};
 use serde_json::Value;
@@ -32,15 +32,15 @@ impl ToJson for SemanticTokens {
 
 impl FromJson for SemanticTokens {
     ghost reads = { λ json it. IsObject json
-        × Optional ⟦<String as FromJson>⟧.reads (codes "resultId") json it.result_id
-        × Required ⟦<Vec<u32> as FromJson>⟧.reads (codes "data") json it.«data» };
+        and Optional ⟦<String as FromJson>⟧.reads (codes "resultId") json it.result_id
+        and Required ⟦<Vec<u32> as FromJson>⟧.reads (codes "data") json it.«data» };
 
     fn from_json(alloc: Global, value: &Value) -> Result<SemanticTokens, Misfit> {
-        let read = Members::new(alloc, value)
+        match Members::new(alloc, value)
             .optional("resultId")
             .required("data")
-            .end();
-        match read {
+            .end()
+        {
             Ok(read) => {
                 let (((), result_id), data) = read;
                 Ok(SemanticTokens { result_id, data })

@@ -3,7 +3,7 @@
 ghost use Rattle.std.specs.Prelude.{◌∷◌, [], Some, codes, option_map};
 ghost use Rattle.serde_json.specs.Data.{number, unsigned};
 ghost use Rattle.lsp_types.specs.Json.{object_of};
-ghost use Rattle.lsp_types.specs.Reads.{IfFits, IsObject, IsWithin, Optional, Required};
+ghost use Rattle.lsp_types.specs.Reads.{IfFits, IsObject, IsWithin, Optional, Required, ◌and◌};
 
 use crate::documents::TextDocumentIdentifier;
 use crate::hovers::MarkupContent;
@@ -60,17 +60,17 @@ impl ToJson for SignatureHelp {
 
 impl FromJson for SignatureHelp {
     ghost reads = { λ json it. IsObject json
-        × Required ⟦<Vec<SignatureInformation> as FromJson>⟧.reads (codes "signatures") json it.signatures
-        × Optional ⟦<u32 as FromJson>⟧.reads (codes "activeSignature") json it.active_signature
-        × Optional ⟦<u32 as FromJson>⟧.reads (codes "activeParameter") json it.active_parameter };
+        and Required ⟦<Vec<SignatureInformation> as FromJson>⟧.reads (codes "signatures") json it.signatures
+        and Optional ⟦<u32 as FromJson>⟧.reads (codes "activeSignature") json it.active_signature
+        and Optional ⟦<u32 as FromJson>⟧.reads (codes "activeParameter") json it.active_parameter };
 
     fn from_json(alloc: Global, value: &Value) -> Result<SignatureHelp, Misfit> {
-        let read = Members::new(alloc, value)
+        match Members::new(alloc, value)
             .required("signatures")
             .optional("activeSignature")
             .optional("activeParameter")
-            .end();
-        match read {
+            .end()
+        {
             Ok(read) => {
                 let ((((), signatures), active_signature), active_parameter) = read;
                 Ok(SignatureHelp {
@@ -137,19 +137,19 @@ impl ToJson for SignatureInformation {
 
 impl FromJson for SignatureInformation {
     ghost reads = { λ json it. IsObject json
-        × Required ⟦<String as FromJson>⟧.reads (codes "label") json it.label
-        × Optional ⟦<MarkupContent as FromJson>⟧.reads (codes "documentation") json it.documentation
-        × Optional ⟦<Vec<ParameterInformation> as FromJson>⟧.reads (codes "parameters") json it.parameters
-        × Optional ⟦<u32 as FromJson>⟧.reads (codes "activeParameter") json it.active_parameter };
+        and Required ⟦<String as FromJson>⟧.reads (codes "label") json it.label
+        and Optional ⟦<MarkupContent as FromJson>⟧.reads (codes "documentation") json it.documentation
+        and Optional ⟦<Vec<ParameterInformation> as FromJson>⟧.reads (codes "parameters") json it.parameters
+        and Optional ⟦<u32 as FromJson>⟧.reads (codes "activeParameter") json it.active_parameter };
 
     fn from_json(alloc: Global, value: &Value) -> Result<SignatureInformation, Misfit> {
-        let read = Members::new(alloc, value)
+        match Members::new(alloc, value)
             .required("label")
             .optional("documentation")
             .optional("parameters")
             .optional("activeParameter")
-            .end();
-        match read {
+            .end()
+        {
             Ok(read) => {
                 let (((((), label), documentation), parameters), active_parameter) = read;
                 Ok(SignatureInformation {
@@ -205,15 +205,15 @@ impl ToJson for ParameterInformation {
 
 impl FromJson for ParameterInformation {
     ghost reads = { λ json it. IsObject json
-        × Required ⟦<String as FromJson>⟧.reads (codes "label") json it.label
-        × Optional ⟦<MarkupContent as FromJson>⟧.reads (codes "documentation") json it.documentation };
+        and Required ⟦<String as FromJson>⟧.reads (codes "label") json it.label
+        and Optional ⟦<MarkupContent as FromJson>⟧.reads (codes "documentation") json it.documentation };
 
     fn from_json(alloc: Global, value: &Value) -> Result<ParameterInformation, Misfit> {
-        let read = Members::new(alloc, value)
+        match Members::new(alloc, value)
             .required("label")
             .optional("documentation")
-            .end();
-        match read {
+            .end()
+        {
             Ok(read) => {
                 let (((), label), documentation) = read;
                 Ok(ParameterInformation {
@@ -290,19 +290,19 @@ impl ToJson for SignatureHelpContext {
 
 impl FromJson for SignatureHelpContext {
     ghost reads = { λ json it. IsObject json
-        × Required ⟦<SignatureHelpTriggerKind as FromJson>⟧.reads (codes "triggerKind") json it.trigger_kind
-        × Optional ⟦<String as FromJson>⟧.reads (codes "triggerCharacter") json it.trigger_character
-        × Required ⟦<bool as FromJson>⟧.reads (codes "isRetrigger") json it.is_retrigger
-        × Optional ⟦<SignatureHelp as FromJson>⟧.reads (codes "activeSignatureHelp") json it.active_signature_help };
+        and Required ⟦<SignatureHelpTriggerKind as FromJson>⟧.reads (codes "triggerKind") json it.trigger_kind
+        and Optional ⟦<String as FromJson>⟧.reads (codes "triggerCharacter") json it.trigger_character
+        and Required ⟦<bool as FromJson>⟧.reads (codes "isRetrigger") json it.is_retrigger
+        and Optional ⟦<SignatureHelp as FromJson>⟧.reads (codes "activeSignatureHelp") json it.active_signature_help };
 
     fn from_json(alloc: Global, value: &Value) -> Result<SignatureHelpContext, Misfit> {
-        let read = Members::new(alloc, value)
+        match Members::new(alloc, value)
             .required("triggerKind")
             .optional("triggerCharacter")
             .required("isRetrigger")
             .optional("activeSignatureHelp")
-            .end();
-        match read {
+            .end()
+        {
             Ok(read) => {
                 let (
                     ((((), trigger_kind), trigger_character), is_retrigger),
@@ -352,19 +352,19 @@ impl ToJson for SignatureHelpParams {
 
 impl FromJson for SignatureHelpParams {
     ghost reads = { λ json it. IsObject json
-        × Required ⟦<TextDocumentIdentifier as FromJson>⟧.reads (codes "textDocument") json it.text_document
-        × Required ⟦<Position as FromJson>⟧.reads (codes "position") json it.position
-        × IfFits ⟦<SignatureHelpContext as FromJson>⟧.reads (codes "context") json it.context
-        × IfFits ⟦<ProgressToken as FromJson>⟧.reads (codes "workDoneToken") json it.work_done_token };
+        and Required ⟦<TextDocumentIdentifier as FromJson>⟧.reads (codes "textDocument") json it.text_document
+        and Required ⟦<Position as FromJson>⟧.reads (codes "position") json it.position
+        and IfFits ⟦<SignatureHelpContext as FromJson>⟧.reads (codes "context") json it.context
+        and IfFits ⟦<ProgressToken as FromJson>⟧.reads (codes "workDoneToken") json it.work_done_token };
 
     fn from_json(alloc: Global, value: &Value) -> Result<SignatureHelpParams, Misfit> {
-        let read = Members::new(alloc, value)
+        match Members::new(alloc, value)
             .required("textDocument")
             .required("position")
             .if_fits("context")
             .if_fits("workDoneToken")
-            .end();
-        match read {
+            .end()
+        {
             Ok(read) => {
                 let (((((), text_document), position), context), work_done_token) = read;
                 Ok(SignatureHelpParams {

@@ -3,7 +3,7 @@
 ghost use Rattle.std.specs.Prelude.{◌∷◌, [], Some, codes, option_map};
 ghost use Rattle.serde_json.specs.Data.{number, unsigned};
 ghost use Rattle.lsp_types.specs.Json.{object_of};
-ghost use Rattle.lsp_types.specs.Reads.{IfFits, IsObject, IsWithin, Optional, Required};
+ghost use Rattle.lsp_types.specs.Reads.{IfFits, IsObject, IsWithin, Optional, Required, ◌and◌};
 
 use crate::documents::Location;
 use crate::json::{FromJson, Members, Misfit, Object, ToJson, number_within};
@@ -203,17 +203,17 @@ impl ToJson for WorkspaceSymbolParams {
 
 impl FromJson for WorkspaceSymbolParams {
     ghost reads = { λ json it. IsObject json
-        × Required ⟦<String as FromJson>⟧.reads (codes "query") json it.query
-        × IfFits ⟦<ProgressToken as FromJson>⟧.reads (codes "workDoneToken") json it.work_done_token
-        × IfFits ⟦<ProgressToken as FromJson>⟧.reads (codes "partialResultToken") json it.partial_result_token };
+        and Required ⟦<String as FromJson>⟧.reads (codes "query") json it.query
+        and IfFits ⟦<ProgressToken as FromJson>⟧.reads (codes "workDoneToken") json it.work_done_token
+        and IfFits ⟦<ProgressToken as FromJson>⟧.reads (codes "partialResultToken") json it.partial_result_token };
 
     fn from_json(alloc: Global, value: &Value) -> Result<WorkspaceSymbolParams, Misfit> {
-        let read = Members::new(alloc, value)
+        match Members::new(alloc, value)
             .required("query")
             .if_fits("workDoneToken")
             .if_fits("partialResultToken")
-            .end();
-        match read {
+            .end()
+        {
             Ok(read) => {
                 let ((((), query), work_done_token), partial_result_token) = read;
                 Ok(WorkspaceSymbolParams {
@@ -292,23 +292,23 @@ impl ToJson for WorkspaceSymbol {
 
 impl FromJson for WorkspaceSymbol {
     ghost reads = { λ json it. IsObject json
-        × Required ⟦<String as FromJson>⟧.reads (codes "name") json it.name
-        × Required ⟦<SymbolKind as FromJson>⟧.reads (codes "kind") json it.kind
-        × Optional ⟦<Vec<SymbolTag> as FromJson>⟧.reads (codes "tags") json it.tags
-        × Optional ⟦<String as FromJson>⟧.reads (codes "containerName") json it.container_name
-        × Required ⟦<Location as FromJson>⟧.reads (codes "location") json it.location
-        × Optional ⟦<Value as FromJson>⟧.reads (codes "data") json it.«data» };
+        and Required ⟦<String as FromJson>⟧.reads (codes "name") json it.name
+        and Required ⟦<SymbolKind as FromJson>⟧.reads (codes "kind") json it.kind
+        and Optional ⟦<Vec<SymbolTag> as FromJson>⟧.reads (codes "tags") json it.tags
+        and Optional ⟦<String as FromJson>⟧.reads (codes "containerName") json it.container_name
+        and Required ⟦<Location as FromJson>⟧.reads (codes "location") json it.location
+        and Optional ⟦<Value as FromJson>⟧.reads (codes "data") json it.«data» };
 
     fn from_json(alloc: Global, value: &Value) -> Result<WorkspaceSymbol, Misfit> {
-        let read = Members::new(alloc, value)
+        match Members::new(alloc, value)
             .required("name")
             .required("kind")
             .optional("tags")
             .optional("containerName")
             .required("location")
             .optional("data")
-            .end();
-        match read {
+            .end()
+        {
             Ok(read) => {
                 let (((((((), name), kind), tags), container_name), location), data) = read;
                 Ok(WorkspaceSymbol {

@@ -3,7 +3,7 @@
 ghost use Rattle.std.specs.Prelude.{◌∷◌, [], Some, codes, option_map};
 ghost use Rattle.serde_json.specs.Data.{number, unsigned};
 ghost use Rattle.lsp_types.specs.Json.{object_of};
-ghost use Rattle.lsp_types.specs.Reads.{IsObject, IsWithin, Optional, Required};
+ghost use Rattle.lsp_types.specs.Reads.{IsObject, IsWithin, Optional, Required, ◌and◌};
 
 use crate::json::{FromJson, Members, Misfit, Object, ToJson, number_within};
 use lsp_text::Range;
@@ -68,15 +68,15 @@ impl ToJson for ShowMessageParams {
 
 impl FromJson for ShowMessageParams {
     ghost reads = { λ json it. IsObject json
-        × Required ⟦<MessageType as FromJson>⟧.reads (codes "type") json it.typ
-        × Required ⟦<String as FromJson>⟧.reads (codes "message") json it.message };
+        and Required ⟦<MessageType as FromJson>⟧.reads (codes "type") json it.typ
+        and Required ⟦<String as FromJson>⟧.reads (codes "message") json it.message };
 
     fn from_json(alloc: Global, value: &Value) -> Result<ShowMessageParams, Misfit> {
-        let read = Members::new(alloc, value)
+        match Members::new(alloc, value)
             .required("type")
             .required("message")
-            .end();
-        match read {
+            .end()
+        {
             Ok(read) => {
                 let (((), typ), message) = read;
                 Ok(ShowMessageParams { typ, message })
@@ -134,17 +134,17 @@ impl ToJson for ShowMessageRequestParams {
 
 impl FromJson for ShowMessageRequestParams {
     ghost reads = { λ json it. IsObject json
-        × Required ⟦<MessageType as FromJson>⟧.reads (codes "type") json it.typ
-        × Required ⟦<String as FromJson>⟧.reads (codes "message") json it.message
-        × Optional ⟦<Vec<MessageActionItem> as FromJson>⟧.reads (codes "actions") json it.actions };
+        and Required ⟦<MessageType as FromJson>⟧.reads (codes "type") json it.typ
+        and Required ⟦<String as FromJson>⟧.reads (codes "message") json it.message
+        and Optional ⟦<Vec<MessageActionItem> as FromJson>⟧.reads (codes "actions") json it.actions };
 
     fn from_json(alloc: Global, value: &Value) -> Result<ShowMessageRequestParams, Misfit> {
-        let read = Members::new(alloc, value)
+        match Members::new(alloc, value)
             .required("type")
             .required("message")
             .optional("actions")
-            .end();
-        match read {
+            .end()
+        {
             Ok(read) => {
                 let ((((), typ), message), actions) = read;
                 Ok(ShowMessageRequestParams {
@@ -176,11 +176,10 @@ impl ToJson for MessageActionItem {
 
 impl FromJson for MessageActionItem {
     ghost reads = { λ json it. IsObject json
-        × Required ⟦<String as FromJson>⟧.reads (codes "title") json it.title };
+        and Required ⟦<String as FromJson>⟧.reads (codes "title") json it.title };
 
     fn from_json(alloc: Global, value: &Value) -> Result<MessageActionItem, Misfit> {
-        let read = Members::new(alloc, value).required("title").end();
-        match read {
+        match Members::new(alloc, value).required("title").end() {
             Ok(read) => {
                 let ((), title) = read;
                 Ok(MessageActionItem { title })
@@ -243,19 +242,19 @@ impl ToJson for ShowDocumentParams {
 
 impl FromJson for ShowDocumentParams {
     ghost reads = { λ json it. IsObject json
-        × Required ⟦<String as FromJson>⟧.reads (codes "uri") json it.uri
-        × Optional ⟦<bool as FromJson>⟧.reads (codes "external") json it.external
-        × Optional ⟦<bool as FromJson>⟧.reads (codes "takeFocus") json it.take_focus
-        × Optional ⟦<Range as FromJson>⟧.reads (codes "selection") json it.selection };
+        and Required ⟦<String as FromJson>⟧.reads (codes "uri") json it.uri
+        and Optional ⟦<bool as FromJson>⟧.reads (codes "external") json it.external
+        and Optional ⟦<bool as FromJson>⟧.reads (codes "takeFocus") json it.take_focus
+        and Optional ⟦<Range as FromJson>⟧.reads (codes "selection") json it.selection };
 
     fn from_json(alloc: Global, value: &Value) -> Result<ShowDocumentParams, Misfit> {
-        let read = Members::new(alloc, value)
+        match Members::new(alloc, value)
             .required("uri")
             .optional("external")
             .optional("takeFocus")
             .optional("selection")
-            .end();
-        match read {
+            .end()
+        {
             Ok(read) => {
                 let (((((), uri), external), take_focus), selection) = read;
                 Ok(ShowDocumentParams {
@@ -288,11 +287,10 @@ impl ToJson for ShowDocumentResult {
 
 impl FromJson for ShowDocumentResult {
     ghost reads = { λ json it. IsObject json
-        × Required ⟦<bool as FromJson>⟧.reads (codes "success") json it.success };
+        and Required ⟦<bool as FromJson>⟧.reads (codes "success") json it.success };
 
     fn from_json(alloc: Global, value: &Value) -> Result<ShowDocumentResult, Misfit> {
-        let read = Members::new(alloc, value).required("success").end();
-        match read {
+        match Members::new(alloc, value).required("success").end() {
             Ok(read) => {
                 let ((), success) = read;
                 Ok(ShowDocumentResult { success })

@@ -3,7 +3,7 @@
 ghost use Rattle.std.specs.Prelude.{◌∷◌, [], Some, codes, option_map};
 ghost use Rattle.serde_json.specs.Data.{number, unsigned};
 ghost use Rattle.lsp_types.specs.Json.{object_of};
-ghost use Rattle.lsp_types.specs.Reads.{IfFits, IsObject, IsWithin, Optional, Required};
+ghost use Rattle.lsp_types.specs.Reads.{IfFits, IsObject, IsWithin, Optional, Required, ◌and◌};
 
 use crate::edits::WorkspaceEdit;
 use crate::json::{FromJson, Members, Misfit, Object, ToJson, number_within};
@@ -35,15 +35,15 @@ impl ToJson for WorkspaceFolder {
 
 impl FromJson for WorkspaceFolder {
     ghost reads = { λ json it. IsObject json
-        × Required ⟦<String as FromJson>⟧.reads (codes "uri") json it.uri
-        × IfFits ⟦<String as FromJson>⟧.reads (codes "name") json it.name };
+        and Required ⟦<String as FromJson>⟧.reads (codes "uri") json it.uri
+        and IfFits ⟦<String as FromJson>⟧.reads (codes "name") json it.name };
 
     fn from_json(alloc: Global, value: &Value) -> Result<WorkspaceFolder, Misfit> {
-        let read = Members::new(alloc, value)
+        match Members::new(alloc, value)
             .required("uri")
             .if_fits("name")
-            .end();
-        match read {
+            .end()
+        {
             Ok(read) => {
                 let (((), uri), name) = read;
                 Ok(WorkspaceFolder { uri, name })
@@ -71,11 +71,10 @@ impl ToJson for DidChangeWorkspaceFoldersParams {
 
 impl FromJson for DidChangeWorkspaceFoldersParams {
     ghost reads = { λ json it. IsObject json
-        × Required ⟦<WorkspaceFoldersChangeEvent as FromJson>⟧.reads (codes "event") json it.event };
+        and Required ⟦<WorkspaceFoldersChangeEvent as FromJson>⟧.reads (codes "event") json it.event };
 
     fn from_json(alloc: Global, value: &Value) -> Result<DidChangeWorkspaceFoldersParams, Misfit> {
-        let read = Members::new(alloc, value).required("event").end();
-        match read {
+        match Members::new(alloc, value).required("event").end() {
             Ok(read) => {
                 let ((), event) = read;
                 Ok(DidChangeWorkspaceFoldersParams { event })
@@ -109,15 +108,15 @@ impl ToJson for WorkspaceFoldersChangeEvent {
 
 impl FromJson for WorkspaceFoldersChangeEvent {
     ghost reads = { λ json it. IsObject json
-        × Required ⟦<Vec<WorkspaceFolder> as FromJson>⟧.reads (codes "added") json it.added
-        × Required ⟦<Vec<WorkspaceFolder> as FromJson>⟧.reads (codes "removed") json it.removed };
+        and Required ⟦<Vec<WorkspaceFolder> as FromJson>⟧.reads (codes "added") json it.added
+        and Required ⟦<Vec<WorkspaceFolder> as FromJson>⟧.reads (codes "removed") json it.removed };
 
     fn from_json(alloc: Global, value: &Value) -> Result<WorkspaceFoldersChangeEvent, Misfit> {
-        let read = Members::new(alloc, value)
+        match Members::new(alloc, value)
             .required("added")
             .required("removed")
-            .end();
-        match read {
+            .end()
+        {
             Ok(read) => {
                 let (((), added), removed) = read;
                 Ok(WorkspaceFoldersChangeEvent { added, removed })
@@ -145,11 +144,10 @@ impl ToJson for DidChangeConfigurationParams {
 
 impl FromJson for DidChangeConfigurationParams {
     ghost reads = { λ json it. IsObject json
-        × Required ⟦<Value as FromJson>⟧.reads (codes "settings") json it.settings };
+        and Required ⟦<Value as FromJson>⟧.reads (codes "settings") json it.settings };
 
     fn from_json(alloc: Global, value: &Value) -> Result<DidChangeConfigurationParams, Misfit> {
-        let read = Members::new(alloc, value).required("settings").end();
-        match read {
+        match Members::new(alloc, value).required("settings").end() {
             Ok(read) => {
                 let ((), settings) = read;
                 Ok(DidChangeConfigurationParams { settings })
@@ -215,15 +213,15 @@ impl ToJson for FileEvent {
 
 impl FromJson for FileEvent {
     ghost reads = { λ json it. IsObject json
-        × Required ⟦<String as FromJson>⟧.reads (codes "uri") json it.uri
-        × Required ⟦<FileChangeType as FromJson>⟧.reads (codes "type") json it.typ };
+        and Required ⟦<String as FromJson>⟧.reads (codes "uri") json it.uri
+        and Required ⟦<FileChangeType as FromJson>⟧.reads (codes "type") json it.typ };
 
     fn from_json(alloc: Global, value: &Value) -> Result<FileEvent, Misfit> {
-        let read = Members::new(alloc, value)
+        match Members::new(alloc, value)
             .required("uri")
             .required("type")
-            .end();
-        match read {
+            .end()
+        {
             Ok(read) => {
                 let (((), uri), typ) = read;
                 Ok(FileEvent { uri, typ })
@@ -251,11 +249,10 @@ impl ToJson for DidChangeWatchedFilesParams {
 
 impl FromJson for DidChangeWatchedFilesParams {
     ghost reads = { λ json it. IsObject json
-        × Required ⟦<Vec<FileEvent> as FromJson>⟧.reads (codes "changes") json it.changes };
+        and Required ⟦<Vec<FileEvent> as FromJson>⟧.reads (codes "changes") json it.changes };
 
     fn from_json(alloc: Global, value: &Value) -> Result<DidChangeWatchedFilesParams, Misfit> {
-        let read = Members::new(alloc, value).required("changes").end();
-        match read {
+        match Members::new(alloc, value).required("changes").end() {
             Ok(read) => {
                 let ((), changes) = read;
                 Ok(DidChangeWatchedFilesParams { changes })
@@ -283,11 +280,10 @@ impl ToJson for ConfigurationParams {
 
 impl FromJson for ConfigurationParams {
     ghost reads = { λ json it. IsObject json
-        × Required ⟦<Vec<ConfigurationItem> as FromJson>⟧.reads (codes "items") json it.items };
+        and Required ⟦<Vec<ConfigurationItem> as FromJson>⟧.reads (codes "items") json it.items };
 
     fn from_json(alloc: Global, value: &Value) -> Result<ConfigurationParams, Misfit> {
-        let read = Members::new(alloc, value).required("items").end();
-        match read {
+        match Members::new(alloc, value).required("items").end() {
             Ok(read) => {
                 let ((), items) = read;
                 Ok(ConfigurationParams { items })
@@ -338,15 +334,15 @@ impl ToJson for ConfigurationItem {
 
 impl FromJson for ConfigurationItem {
     ghost reads = { λ json it. IsObject json
-        × Optional ⟦<String as FromJson>⟧.reads (codes "scopeUri") json it.scope_uri
-        × Optional ⟦<String as FromJson>⟧.reads (codes "section") json it.section };
+        and Optional ⟦<String as FromJson>⟧.reads (codes "scopeUri") json it.scope_uri
+        and Optional ⟦<String as FromJson>⟧.reads (codes "section") json it.section };
 
     fn from_json(alloc: Global, value: &Value) -> Result<ConfigurationItem, Misfit> {
-        let read = Members::new(alloc, value)
+        match Members::new(alloc, value)
             .optional("scopeUri")
             .optional("section")
-            .end();
-        match read {
+            .end()
+        {
             Ok(read) => {
                 let (((), scope_uri), section) = read;
                 Ok(ConfigurationItem { scope_uri, section })
@@ -403,17 +399,17 @@ impl ToJson for Command {
 
 impl FromJson for Command {
     ghost reads = { λ json it. IsObject json
-        × Required ⟦<String as FromJson>⟧.reads (codes "title") json it.title
-        × Required ⟦<String as FromJson>⟧.reads (codes "command") json it.command
-        × Optional ⟦<Vec<Value> as FromJson>⟧.reads (codes "arguments") json it.arguments };
+        and Required ⟦<String as FromJson>⟧.reads (codes "title") json it.title
+        and Required ⟦<String as FromJson>⟧.reads (codes "command") json it.command
+        and Optional ⟦<Vec<Value> as FromJson>⟧.reads (codes "arguments") json it.arguments };
 
     fn from_json(alloc: Global, value: &Value) -> Result<Command, Misfit> {
-        let read = Members::new(alloc, value)
+        match Members::new(alloc, value)
             .required("title")
             .required("command")
             .optional("arguments")
-            .end();
-        match read {
+            .end()
+        {
             Ok(read) => {
                 let ((((), title), command), arguments) = read;
                 Ok(Command {
@@ -455,17 +451,17 @@ impl ToJson for ExecuteCommandParams {
 
 impl FromJson for ExecuteCommandParams {
     ghost reads = { λ json it. IsObject json
-        × Required ⟦<String as FromJson>⟧.reads (codes "command") json it.command
-        × Optional ⟦<Vec<Value> as FromJson>⟧.reads (codes "arguments") json it.arguments
-        × IfFits ⟦<ProgressToken as FromJson>⟧.reads (codes "workDoneToken") json it.work_done_token };
+        and Required ⟦<String as FromJson>⟧.reads (codes "command") json it.command
+        and Optional ⟦<Vec<Value> as FromJson>⟧.reads (codes "arguments") json it.arguments
+        and IfFits ⟦<ProgressToken as FromJson>⟧.reads (codes "workDoneToken") json it.work_done_token };
 
     fn from_json(alloc: Global, value: &Value) -> Result<ExecuteCommandParams, Misfit> {
-        let read = Members::new(alloc, value)
+        match Members::new(alloc, value)
             .required("command")
             .optional("arguments")
             .if_fits("workDoneToken")
-            .end();
-        match read {
+            .end()
+        {
             Ok(read) => {
                 let ((((), command), arguments), work_done_token) = read;
                 Ok(ExecuteCommandParams {
@@ -517,15 +513,15 @@ impl ToJson for ApplyWorkspaceEditParams {
 
 impl FromJson for ApplyWorkspaceEditParams {
     ghost reads = { λ json it. IsObject json
-        × Optional ⟦<String as FromJson>⟧.reads (codes "label") json it.label
-        × Required ⟦<WorkspaceEdit as FromJson>⟧.reads (codes "edit") json it.edit };
+        and Optional ⟦<String as FromJson>⟧.reads (codes "label") json it.label
+        and Required ⟦<WorkspaceEdit as FromJson>⟧.reads (codes "edit") json it.edit };
 
     fn from_json(alloc: Global, value: &Value) -> Result<ApplyWorkspaceEditParams, Misfit> {
-        let read = Members::new(alloc, value)
+        match Members::new(alloc, value)
             .optional("label")
             .required("edit")
-            .end();
-        match read {
+            .end()
+        {
             Ok(read) => {
                 let (((), label), edit) = read;
                 Ok(ApplyWorkspaceEditParams { label, edit })
@@ -563,17 +559,17 @@ impl ToJson for ApplyWorkspaceEditResult {
 
 impl FromJson for ApplyWorkspaceEditResult {
     ghost reads = { λ json it. IsObject json
-        × Required ⟦<bool as FromJson>⟧.reads (codes "applied") json it.applied
-        × Optional ⟦<String as FromJson>⟧.reads (codes "failureReason") json it.failure_reason
-        × Optional ⟦<u32 as FromJson>⟧.reads (codes "failedChange") json it.failed_change };
+        and Required ⟦<bool as FromJson>⟧.reads (codes "applied") json it.applied
+        and Optional ⟦<String as FromJson>⟧.reads (codes "failureReason") json it.failure_reason
+        and Optional ⟦<u32 as FromJson>⟧.reads (codes "failedChange") json it.failed_change };
 
     fn from_json(alloc: Global, value: &Value) -> Result<ApplyWorkspaceEditResult, Misfit> {
-        let read = Members::new(alloc, value)
+        match Members::new(alloc, value)
             .required("applied")
             .optional("failureReason")
             .optional("failedChange")
-            .end();
-        match read {
+            .end()
+        {
             Ok(read) => {
                 let ((((), applied), failure_reason), failed_change) = read;
                 Ok(ApplyWorkspaceEditResult {

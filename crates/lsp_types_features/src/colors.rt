@@ -2,7 +2,7 @@
 // `tools/types` wrote this file from `types.txt`: change that.
 ghost use Rattle.std.specs.Prelude.{◌∷◌, [], Some, codes, option_map};
 ghost use Rattle.lsp_types.specs.Json.{object_of};
-ghost use Rattle.lsp_types.specs.Reads.{IfFits, IsObject, Optional, Required};
+ghost use Rattle.lsp_types.specs.Reads.{IfFits, IsObject, Optional, Required, ◌and◌};
 
 use lsp_text::Range;
 use lsp_types::json::{FromJson, Members, Misfit, Object, ToJson};
@@ -45,19 +45,19 @@ impl ToJson for Color {
 
 impl FromJson for Color {
     ghost reads = { λ json it. IsObject json
-        × Required ⟦<f64 as FromJson>⟧.reads (codes "red") json it.red
-        × Required ⟦<f64 as FromJson>⟧.reads (codes "green") json it.green
-        × Required ⟦<f64 as FromJson>⟧.reads (codes "blue") json it.blue
-        × Required ⟦<f64 as FromJson>⟧.reads (codes "alpha") json it.alpha };
+        and Required ⟦<f64 as FromJson>⟧.reads (codes "red") json it.red
+        and Required ⟦<f64 as FromJson>⟧.reads (codes "green") json it.green
+        and Required ⟦<f64 as FromJson>⟧.reads (codes "blue") json it.blue
+        and Required ⟦<f64 as FromJson>⟧.reads (codes "alpha") json it.alpha };
 
     fn from_json(alloc: Global, value: &Value) -> Result<Color, Misfit> {
-        let read = Members::new(alloc, value)
+        match Members::new(alloc, value)
             .required("red")
             .required("green")
             .required("blue")
             .required("alpha")
-            .end();
-        match read {
+            .end()
+        {
             Ok(read) => {
                 let (((((), red), green), blue), alpha) = read;
                 Ok(Color {
@@ -96,15 +96,15 @@ impl ToJson for ColorInformation {
 
 impl FromJson for ColorInformation {
     ghost reads = { λ json it. IsObject json
-        × Required ⟦<Range as FromJson>⟧.reads (codes "range") json it.range
-        × Required ⟦<Color as FromJson>⟧.reads (codes "color") json it.color };
+        and Required ⟦<Range as FromJson>⟧.reads (codes "range") json it.range
+        and Required ⟦<Color as FromJson>⟧.reads (codes "color") json it.color };
 
     fn from_json(alloc: Global, value: &Value) -> Result<ColorInformation, Misfit> {
-        let read = Members::new(alloc, value)
+        match Members::new(alloc, value)
             .required("range")
             .required("color")
-            .end();
-        match read {
+            .end()
+        {
             Ok(read) => {
                 let (((), range), color) = read;
                 Ok(ColorInformation { range, color })
@@ -151,21 +151,21 @@ impl ToJson for ColorPresentationParams {
 
 impl FromJson for ColorPresentationParams {
     ghost reads = { λ json it. IsObject json
-        × Required ⟦<TextDocumentIdentifier as FromJson>⟧.reads (codes "textDocument") json it.text_document
-        × Required ⟦<Color as FromJson>⟧.reads (codes "color") json it.color
-        × Required ⟦<Range as FromJson>⟧.reads (codes "range") json it.range
-        × IfFits ⟦<ProgressToken as FromJson>⟧.reads (codes "workDoneToken") json it.work_done_token
-        × IfFits ⟦<ProgressToken as FromJson>⟧.reads (codes "partialResultToken") json it.partial_result_token };
+        and Required ⟦<TextDocumentIdentifier as FromJson>⟧.reads (codes "textDocument") json it.text_document
+        and Required ⟦<Color as FromJson>⟧.reads (codes "color") json it.color
+        and Required ⟦<Range as FromJson>⟧.reads (codes "range") json it.range
+        and IfFits ⟦<ProgressToken as FromJson>⟧.reads (codes "workDoneToken") json it.work_done_token
+        and IfFits ⟦<ProgressToken as FromJson>⟧.reads (codes "partialResultToken") json it.partial_result_token };
 
     fn from_json(alloc: Global, value: &Value) -> Result<ColorPresentationParams, Misfit> {
-        let read = Members::new(alloc, value)
+        match Members::new(alloc, value)
             .required("textDocument")
             .required("color")
             .required("range")
             .if_fits("workDoneToken")
             .if_fits("partialResultToken")
-            .end();
-        match read {
+            .end()
+        {
             Ok(read) => {
                 let (
                     (((((), text_document), color), range), work_done_token),
@@ -231,17 +231,17 @@ impl ToJson for ColorPresentation {
 
 impl FromJson for ColorPresentation {
     ghost reads = { λ json it. IsObject json
-        × Required ⟦<String as FromJson>⟧.reads (codes "label") json it.label
-        × Optional ⟦<TextEdit as FromJson>⟧.reads (codes "textEdit") json it.text_edit
-        × Optional ⟦<Vec<TextEdit> as FromJson>⟧.reads (codes "additionalTextEdits") json it.additional_text_edits };
+        and Required ⟦<String as FromJson>⟧.reads (codes "label") json it.label
+        and Optional ⟦<TextEdit as FromJson>⟧.reads (codes "textEdit") json it.text_edit
+        and Optional ⟦<Vec<TextEdit> as FromJson>⟧.reads (codes "additionalTextEdits") json it.additional_text_edits };
 
     fn from_json(alloc: Global, value: &Value) -> Result<ColorPresentation, Misfit> {
-        let read = Members::new(alloc, value)
+        match Members::new(alloc, value)
             .required("label")
             .optional("textEdit")
             .optional("additionalTextEdits")
-            .end();
-        match read {
+            .end()
+        {
             Ok(read) => {
                 let ((((), label), text_edit), additional_text_edits) = read;
                 Ok(ColorPresentation {

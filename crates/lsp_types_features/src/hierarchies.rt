@@ -2,7 +2,7 @@
 // `tools/types` wrote this file from `types.txt`: change that.
 ghost use Rattle.std.specs.Prelude.{◌∷◌, [], Some, codes, option_map};
 ghost use Rattle.lsp_types.specs.Json.{object_of};
-ghost use Rattle.lsp_types.specs.Reads.{IfFits, IsObject, Optional, Required};
+ghost use Rattle.lsp_types.specs.Reads.{IfFits, IsObject, Optional, Required, ◌and◌};
 
 use lsp_text::Range;
 use lsp_types::json::{FromJson, Members, Misfit, Object, ToJson};
@@ -97,17 +97,17 @@ impl ToJson for CallHierarchyItem {
 
 impl FromJson for CallHierarchyItem {
     ghost reads = { λ json it. IsObject json
-        × Required ⟦<String as FromJson>⟧.reads (codes "name") json it.name
-        × Required ⟦<SymbolKind as FromJson>⟧.reads (codes "kind") json it.kind
-        × Optional ⟦<Vec<SymbolTag> as FromJson>⟧.reads (codes "tags") json it.tags
-        × Optional ⟦<String as FromJson>⟧.reads (codes "detail") json it.detail
-        × Required ⟦<String as FromJson>⟧.reads (codes "uri") json it.uri
-        × Required ⟦<Range as FromJson>⟧.reads (codes "range") json it.range
-        × Required ⟦<Range as FromJson>⟧.reads (codes "selectionRange") json it.selection_range
-        × Optional ⟦<Value as FromJson>⟧.reads (codes "data") json it.«data» };
+        and Required ⟦<String as FromJson>⟧.reads (codes "name") json it.name
+        and Required ⟦<SymbolKind as FromJson>⟧.reads (codes "kind") json it.kind
+        and Optional ⟦<Vec<SymbolTag> as FromJson>⟧.reads (codes "tags") json it.tags
+        and Optional ⟦<String as FromJson>⟧.reads (codes "detail") json it.detail
+        and Required ⟦<String as FromJson>⟧.reads (codes "uri") json it.uri
+        and Required ⟦<Range as FromJson>⟧.reads (codes "range") json it.range
+        and Required ⟦<Range as FromJson>⟧.reads (codes "selectionRange") json it.selection_range
+        and Optional ⟦<Value as FromJson>⟧.reads (codes "data") json it.«data» };
 
     fn from_json(alloc: Global, value: &Value) -> Result<CallHierarchyItem, Misfit> {
-        let read = Members::new(alloc, value)
+        match Members::new(alloc, value)
             .required("name")
             .required("kind")
             .optional("tags")
@@ -116,8 +116,8 @@ impl FromJson for CallHierarchyItem {
             .required("range")
             .required("selectionRange")
             .optional("data")
-            .end();
-        match read {
+            .end()
+        {
             Ok(read) => {
                 let (
                     ((((((((), name), kind), tags), detail), uri), range), selection_range),
@@ -168,17 +168,17 @@ impl ToJson for CallHierarchyIncomingCallsParams {
 
 impl FromJson for CallHierarchyIncomingCallsParams {
     ghost reads = { λ json it. IsObject json
-        × Required ⟦<CallHierarchyItem as FromJson>⟧.reads (codes "item") json it.item
-        × IfFits ⟦<ProgressToken as FromJson>⟧.reads (codes "workDoneToken") json it.work_done_token
-        × IfFits ⟦<ProgressToken as FromJson>⟧.reads (codes "partialResultToken") json it.partial_result_token };
+        and Required ⟦<CallHierarchyItem as FromJson>⟧.reads (codes "item") json it.item
+        and IfFits ⟦<ProgressToken as FromJson>⟧.reads (codes "workDoneToken") json it.work_done_token
+        and IfFits ⟦<ProgressToken as FromJson>⟧.reads (codes "partialResultToken") json it.partial_result_token };
 
     fn from_json(alloc: Global, value: &Value) -> Result<CallHierarchyIncomingCallsParams, Misfit> {
-        let read = Members::new(alloc, value)
+        match Members::new(alloc, value)
             .required("item")
             .if_fits("workDoneToken")
             .if_fits("partialResultToken")
-            .end();
-        match read {
+            .end()
+        {
             Ok(read) => {
                 let ((((), item), work_done_token), partial_result_token) = read;
                 Ok(CallHierarchyIncomingCallsParams {
@@ -216,15 +216,15 @@ impl ToJson for CallHierarchyIncomingCall {
 
 impl FromJson for CallHierarchyIncomingCall {
     ghost reads = { λ json it. IsObject json
-        × Required ⟦<CallHierarchyItem as FromJson>⟧.reads (codes "from") json it.from
-        × Required ⟦<Vec<Range> as FromJson>⟧.reads (codes "fromRanges") json it.from_ranges };
+        and Required ⟦<CallHierarchyItem as FromJson>⟧.reads (codes "from") json it.from
+        and Required ⟦<Vec<Range> as FromJson>⟧.reads (codes "fromRanges") json it.from_ranges };
 
     fn from_json(alloc: Global, value: &Value) -> Result<CallHierarchyIncomingCall, Misfit> {
-        let read = Members::new(alloc, value)
+        match Members::new(alloc, value)
             .required("from")
             .required("fromRanges")
-            .end();
-        match read {
+            .end()
+        {
             Ok(read) => {
                 let (((), from), from_ranges) = read;
                 Ok(CallHierarchyIncomingCall { from, from_ranges })
@@ -262,15 +262,15 @@ impl ToJson for CallHierarchyOutgoingCall {
 
 impl FromJson for CallHierarchyOutgoingCall {
     ghost reads = { λ json it. IsObject json
-        × Required ⟦<CallHierarchyItem as FromJson>⟧.reads (codes "to") json it.to
-        × Required ⟦<Vec<Range> as FromJson>⟧.reads (codes "fromRanges") json it.from_ranges };
+        and Required ⟦<CallHierarchyItem as FromJson>⟧.reads (codes "to") json it.to
+        and Required ⟦<Vec<Range> as FromJson>⟧.reads (codes "fromRanges") json it.from_ranges };
 
     fn from_json(alloc: Global, value: &Value) -> Result<CallHierarchyOutgoingCall, Misfit> {
-        let read = Members::new(alloc, value)
+        match Members::new(alloc, value)
             .required("to")
             .required("fromRanges")
-            .end();
-        match read {
+            .end()
+        {
             Ok(read) => {
                 let (((), to), from_ranges) = read;
                 Ok(CallHierarchyOutgoingCall { to, from_ranges })

@@ -2,7 +2,7 @@
 // `tools/types` wrote this file from `types.txt`: change that.
 ghost use Rattle.std.specs.Prelude.{◌∷◌, [], Some, codes, option_map};
 ghost use Rattle.lsp_types.specs.Json.{object_of};
-ghost use Rattle.lsp_types.specs.Reads.{IfFits, IsObject, NoneReads, Optional, Required};
+ghost use Rattle.lsp_types.specs.Reads.{IfFits, IsObject, NoneReads, Optional, Required, ◌and◌};
 
 use lsp_text::Range;
 use lsp_types::json::{FromJson, Members, Misfit, Object, ToJson, fitting};
@@ -42,19 +42,19 @@ impl ToJson for InlineValueParams {
 
 impl FromJson for InlineValueParams {
     ghost reads = { λ json it. IsObject json
-        × Required ⟦<TextDocumentIdentifier as FromJson>⟧.reads (codes "textDocument") json it.text_document
-        × Required ⟦<Range as FromJson>⟧.reads (codes "range") json it.range
-        × Required ⟦<InlineValueContext as FromJson>⟧.reads (codes "context") json it.context
-        × IfFits ⟦<ProgressToken as FromJson>⟧.reads (codes "workDoneToken") json it.work_done_token };
+        and Required ⟦<TextDocumentIdentifier as FromJson>⟧.reads (codes "textDocument") json it.text_document
+        and Required ⟦<Range as FromJson>⟧.reads (codes "range") json it.range
+        and Required ⟦<InlineValueContext as FromJson>⟧.reads (codes "context") json it.context
+        and IfFits ⟦<ProgressToken as FromJson>⟧.reads (codes "workDoneToken") json it.work_done_token };
 
     fn from_json(alloc: Global, value: &Value) -> Result<InlineValueParams, Misfit> {
-        let read = Members::new(alloc, value)
+        match Members::new(alloc, value)
             .required("textDocument")
             .required("range")
             .required("context")
             .if_fits("workDoneToken")
-            .end();
-        match read {
+            .end()
+        {
             Ok(read) => {
                 let (((((), text_document), range), context), work_done_token) = read;
                 Ok(InlineValueParams {
@@ -93,15 +93,15 @@ impl ToJson for InlineValueContext {
 
 impl FromJson for InlineValueContext {
     ghost reads = { λ json it. IsObject json
-        × Required ⟦<i32 as FromJson>⟧.reads (codes "frameId") json it.frame_id
-        × Required ⟦<Range as FromJson>⟧.reads (codes "stoppedLocation") json it.stopped_location };
+        and Required ⟦<i32 as FromJson>⟧.reads (codes "frameId") json it.frame_id
+        and Required ⟦<Range as FromJson>⟧.reads (codes "stoppedLocation") json it.stopped_location };
 
     fn from_json(alloc: Global, value: &Value) -> Result<InlineValueContext, Misfit> {
-        let read = Members::new(alloc, value)
+        match Members::new(alloc, value)
             .required("frameId")
             .required("stoppedLocation")
-            .end();
-        match read {
+            .end()
+        {
             Ok(read) => {
                 let (((), frame_id), stopped_location) = read;
                 Ok(InlineValueContext {
@@ -138,15 +138,15 @@ impl ToJson for InlineValueText {
 
 impl FromJson for InlineValueText {
     ghost reads = { λ json it. IsObject json
-        × Required ⟦<Range as FromJson>⟧.reads (codes "range") json it.range
-        × Required ⟦<String as FromJson>⟧.reads (codes "text") json it.text };
+        and Required ⟦<Range as FromJson>⟧.reads (codes "range") json it.range
+        and Required ⟦<String as FromJson>⟧.reads (codes "text") json it.text };
 
     fn from_json(alloc: Global, value: &Value) -> Result<InlineValueText, Misfit> {
-        let read = Members::new(alloc, value)
+        match Members::new(alloc, value)
             .required("range")
             .required("text")
-            .end();
-        match read {
+            .end()
+        {
             Ok(read) => {
                 let (((), range), text) = read;
                 Ok(InlineValueText { range, text })
@@ -203,17 +203,17 @@ impl ToJson for InlineValueVariableLookup {
 
 impl FromJson for InlineValueVariableLookup {
     ghost reads = { λ json it. IsObject json
-        × Required ⟦<Range as FromJson>⟧.reads (codes "range") json it.range
-        × Optional ⟦<String as FromJson>⟧.reads (codes "variableName") json it.variable_name
-        × Required ⟦<bool as FromJson>⟧.reads (codes "caseSensitiveLookup") json it.case_sensitive_lookup };
+        and Required ⟦<Range as FromJson>⟧.reads (codes "range") json it.range
+        and Optional ⟦<String as FromJson>⟧.reads (codes "variableName") json it.variable_name
+        and Required ⟦<bool as FromJson>⟧.reads (codes "caseSensitiveLookup") json it.case_sensitive_lookup };
 
     fn from_json(alloc: Global, value: &Value) -> Result<InlineValueVariableLookup, Misfit> {
-        let read = Members::new(alloc, value)
+        match Members::new(alloc, value)
             .required("range")
             .optional("variableName")
             .required("caseSensitiveLookup")
-            .end();
-        match read {
+            .end()
+        {
             Ok(read) => {
                 let ((((), range), variable_name), case_sensitive_lookup) = read;
                 Ok(InlineValueVariableLookup {
@@ -268,15 +268,15 @@ impl ToJson for InlineValueEvaluatableExpression {
 
 impl FromJson for InlineValueEvaluatableExpression {
     ghost reads = { λ json it. IsObject json
-        × Required ⟦<Range as FromJson>⟧.reads (codes "range") json it.range
-        × Optional ⟦<String as FromJson>⟧.reads (codes "expression") json it.expression };
+        and Required ⟦<Range as FromJson>⟧.reads (codes "range") json it.range
+        and Optional ⟦<String as FromJson>⟧.reads (codes "expression") json it.expression };
 
     fn from_json(alloc: Global, value: &Value) -> Result<InlineValueEvaluatableExpression, Misfit> {
-        let read = Members::new(alloc, value)
+        match Members::new(alloc, value)
             .required("range")
             .optional("expression")
-            .end();
-        match read {
+            .end()
+        {
             Ok(read) => {
                 let (((), range), expression) = read;
                 Ok(InlineValueEvaluatableExpression { range, expression })

@@ -3,7 +3,7 @@
 ghost use Rattle.std.specs.Prelude.{◌∷◌, [], Some, codes, option_map};
 ghost use Rattle.serde_json.specs.Data.{number, unsigned};
 ghost use Rattle.lsp_types.specs.Json.{object_of};
-ghost use Rattle.lsp_types.specs.Reads.{IfFits, IsObject, IsWithin, Optional, Required};
+ghost use Rattle.lsp_types.specs.Reads.{IfFits, IsObject, IsWithin, Optional, Required, ◌and◌};
 
 use lsp_text::{Position, Range};
 use lsp_types::json::{FromJson, Members, Misfit, Object, ToJson, number_within};
@@ -52,15 +52,15 @@ impl ToJson for DocumentHighlight {
 
 impl FromJson for DocumentHighlight {
     ghost reads = { λ json it. IsObject json
-        × Required ⟦<Range as FromJson>⟧.reads (codes "range") json it.range
-        × Optional ⟦<DocumentHighlightKind as FromJson>⟧.reads (codes "kind") json it.kind };
+        and Required ⟦<Range as FromJson>⟧.reads (codes "range") json it.range
+        and Optional ⟦<DocumentHighlightKind as FromJson>⟧.reads (codes "kind") json it.kind };
 
     fn from_json(alloc: Global, value: &Value) -> Result<DocumentHighlight, Misfit> {
-        let read = Members::new(alloc, value)
+        match Members::new(alloc, value)
             .required("range")
             .optional("kind")
-            .end();
-        match read {
+            .end()
+        {
             Ok(read) => {
                 let (((), range), kind) = read;
                 Ok(DocumentHighlight { range, kind })
@@ -174,23 +174,23 @@ impl ToJson for FoldingRange {
 
 impl FromJson for FoldingRange {
     ghost reads = { λ json it. IsObject json
-        × Required ⟦<u32 as FromJson>⟧.reads (codes "startLine") json it.start_line
-        × Optional ⟦<u32 as FromJson>⟧.reads (codes "startCharacter") json it.start_character
-        × Required ⟦<u32 as FromJson>⟧.reads (codes "endLine") json it.end_line
-        × Optional ⟦<u32 as FromJson>⟧.reads (codes "endCharacter") json it.end_character
-        × Optional ⟦<String as FromJson>⟧.reads (codes "kind") json it.kind
-        × Optional ⟦<String as FromJson>⟧.reads (codes "collapsedText") json it.collapsed_text };
+        and Required ⟦<u32 as FromJson>⟧.reads (codes "startLine") json it.start_line
+        and Optional ⟦<u32 as FromJson>⟧.reads (codes "startCharacter") json it.start_character
+        and Required ⟦<u32 as FromJson>⟧.reads (codes "endLine") json it.end_line
+        and Optional ⟦<u32 as FromJson>⟧.reads (codes "endCharacter") json it.end_character
+        and Optional ⟦<String as FromJson>⟧.reads (codes "kind") json it.kind
+        and Optional ⟦<String as FromJson>⟧.reads (codes "collapsedText") json it.collapsed_text };
 
     fn from_json(alloc: Global, value: &Value) -> Result<FoldingRange, Misfit> {
-        let read = Members::new(alloc, value)
+        match Members::new(alloc, value)
             .required("startLine")
             .optional("startCharacter")
             .required("endLine")
             .optional("endCharacter")
             .optional("kind")
             .optional("collapsedText")
-            .end();
-        match read {
+            .end()
+        {
             Ok(read) => {
                 let (
                     ((((((), start_line), start_character), end_line), end_character), kind),
@@ -243,19 +243,19 @@ impl ToJson for SelectionRangeParams {
 
 impl FromJson for SelectionRangeParams {
     ghost reads = { λ json it. IsObject json
-        × Required ⟦<TextDocumentIdentifier as FromJson>⟧.reads (codes "textDocument") json it.text_document
-        × Required ⟦<Vec<Position> as FromJson>⟧.reads (codes "positions") json it.positions
-        × IfFits ⟦<ProgressToken as FromJson>⟧.reads (codes "workDoneToken") json it.work_done_token
-        × IfFits ⟦<ProgressToken as FromJson>⟧.reads (codes "partialResultToken") json it.partial_result_token };
+        and Required ⟦<TextDocumentIdentifier as FromJson>⟧.reads (codes "textDocument") json it.text_document
+        and Required ⟦<Vec<Position> as FromJson>⟧.reads (codes "positions") json it.positions
+        and IfFits ⟦<ProgressToken as FromJson>⟧.reads (codes "workDoneToken") json it.work_done_token
+        and IfFits ⟦<ProgressToken as FromJson>⟧.reads (codes "partialResultToken") json it.partial_result_token };
 
     fn from_json(alloc: Global, value: &Value) -> Result<SelectionRangeParams, Misfit> {
-        let read = Members::new(alloc, value)
+        match Members::new(alloc, value)
             .required("textDocument")
             .required("positions")
             .if_fits("workDoneToken")
             .if_fits("partialResultToken")
-            .end();
-        match read {
+            .end()
+        {
             Ok(read) => {
                 let (((((), text_document), positions), work_done_token), partial_result_token) =
                     read;
@@ -325,15 +325,15 @@ impl ToJson for LinkedEditingRanges {
 
 impl FromJson for LinkedEditingRanges {
     ghost reads = { λ json it. IsObject json
-        × Required ⟦<Vec<Range> as FromJson>⟧.reads (codes "ranges") json it.ranges
-        × Optional ⟦<String as FromJson>⟧.reads (codes "wordPattern") json it.word_pattern };
+        and Required ⟦<Vec<Range> as FromJson>⟧.reads (codes "ranges") json it.ranges
+        and Optional ⟦<String as FromJson>⟧.reads (codes "wordPattern") json it.word_pattern };
 
     fn from_json(alloc: Global, value: &Value) -> Result<LinkedEditingRanges, Misfit> {
-        let read = Members::new(alloc, value)
+        match Members::new(alloc, value)
             .required("ranges")
             .optional("wordPattern")
-            .end();
-        match read {
+            .end()
+        {
             Ok(read) => {
                 let (((), ranges), word_pattern) = read;
                 Ok(LinkedEditingRanges {
@@ -402,19 +402,19 @@ impl ToJson for Moniker {
 
 impl FromJson for Moniker {
     ghost reads = { λ json it. IsObject json
-        × Required ⟦<String as FromJson>⟧.reads (codes "scheme") json it.scheme
-        × Required ⟦<String as FromJson>⟧.reads (codes "identifier") json it.identifier
-        × Required ⟦<String as FromJson>⟧.reads (codes "unique") json it.unique
-        × Optional ⟦<String as FromJson>⟧.reads (codes "kind") json it.kind };
+        and Required ⟦<String as FromJson>⟧.reads (codes "scheme") json it.scheme
+        and Required ⟦<String as FromJson>⟧.reads (codes "identifier") json it.identifier
+        and Required ⟦<String as FromJson>⟧.reads (codes "unique") json it.unique
+        and Optional ⟦<String as FromJson>⟧.reads (codes "kind") json it.kind };
 
     fn from_json(alloc: Global, value: &Value) -> Result<Moniker, Misfit> {
-        let read = Members::new(alloc, value)
+        match Members::new(alloc, value)
             .required("scheme")
             .required("identifier")
             .required("unique")
             .optional("kind")
-            .end();
-        match read {
+            .end()
+        {
             Ok(read) => {
                 let (((((), scheme), identifier), unique), kind) = read;
                 Ok(Moniker {
@@ -479,17 +479,17 @@ impl ToJson for CodeLens {
 
 impl FromJson for CodeLens {
     ghost reads = { λ json it. IsObject json
-        × Required ⟦<Range as FromJson>⟧.reads (codes "range") json it.range
-        × Optional ⟦<Command as FromJson>⟧.reads (codes "command") json it.command
-        × Optional ⟦<Value as FromJson>⟧.reads (codes "data") json it.«data» };
+        and Required ⟦<Range as FromJson>⟧.reads (codes "range") json it.range
+        and Optional ⟦<Command as FromJson>⟧.reads (codes "command") json it.command
+        and Optional ⟦<Value as FromJson>⟧.reads (codes "data") json it.«data» };
 
     fn from_json(alloc: Global, value: &Value) -> Result<CodeLens, Misfit> {
-        let read = Members::new(alloc, value)
+        match Members::new(alloc, value)
             .required("range")
             .optional("command")
             .optional("data")
-            .end();
-        match read {
+            .end()
+        {
             Ok(read) => {
                 let ((((), range), command), data) = read;
                 Ok(CodeLens {
@@ -559,19 +559,19 @@ impl ToJson for DocumentLink {
 
 impl FromJson for DocumentLink {
     ghost reads = { λ json it. IsObject json
-        × Required ⟦<Range as FromJson>⟧.reads (codes "range") json it.range
-        × Optional ⟦<String as FromJson>⟧.reads (codes "target") json it.target
-        × Optional ⟦<String as FromJson>⟧.reads (codes "tooltip") json it.tooltip
-        × Optional ⟦<Value as FromJson>⟧.reads (codes "data") json it.«data» };
+        and Required ⟦<Range as FromJson>⟧.reads (codes "range") json it.range
+        and Optional ⟦<String as FromJson>⟧.reads (codes "target") json it.target
+        and Optional ⟦<String as FromJson>⟧.reads (codes "tooltip") json it.tooltip
+        and Optional ⟦<Value as FromJson>⟧.reads (codes "data") json it.«data» };
 
     fn from_json(alloc: Global, value: &Value) -> Result<DocumentLink, Misfit> {
-        let read = Members::new(alloc, value)
+        match Members::new(alloc, value)
             .required("range")
             .optional("target")
             .optional("tooltip")
             .optional("data")
-            .end();
-        match read {
+            .end()
+        {
             Ok(read) => {
                 let (((((), range), target), tooltip), data) = read;
                 Ok(DocumentLink {

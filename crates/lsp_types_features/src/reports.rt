@@ -3,7 +3,7 @@
 ghost use Rattle.std.specs.Prelude.{◌∷◌, [], Some, codes, option_map};
 ghost use Rattle.serde_json.specs.Data.{string};
 ghost use Rattle.lsp_types.specs.Json.{object_of};
-ghost use Rattle.lsp_types.specs.Reads.{IfFits, IsObject, Named, NoneReads, Optional, Required};
+ghost use Rattle.lsp_types.specs.Reads.{IfFits, IsObject, Named, NoneReads, Optional, Required, ◌and◌};
 
 use lsp_types::json::{FromJson, Members, Misfit, Object, ToJson, fitting};
 use lsp_types::{Diagnostic, ProgressToken, TextDocumentIdentifier};
@@ -47,21 +47,21 @@ impl ToJson for DocumentDiagnosticParams {
 
 impl FromJson for DocumentDiagnosticParams {
     ghost reads = { λ json it. IsObject json
-        × Required ⟦<TextDocumentIdentifier as FromJson>⟧.reads (codes "textDocument") json it.text_document
-        × Optional ⟦<String as FromJson>⟧.reads (codes "identifier") json it.identifier
-        × Optional ⟦<String as FromJson>⟧.reads (codes "previousResultId") json it.previous_result_id
-        × IfFits ⟦<ProgressToken as FromJson>⟧.reads (codes "workDoneToken") json it.work_done_token
-        × IfFits ⟦<ProgressToken as FromJson>⟧.reads (codes "partialResultToken") json it.partial_result_token };
+        and Required ⟦<TextDocumentIdentifier as FromJson>⟧.reads (codes "textDocument") json it.text_document
+        and Optional ⟦<String as FromJson>⟧.reads (codes "identifier") json it.identifier
+        and Optional ⟦<String as FromJson>⟧.reads (codes "previousResultId") json it.previous_result_id
+        and IfFits ⟦<ProgressToken as FromJson>⟧.reads (codes "workDoneToken") json it.work_done_token
+        and IfFits ⟦<ProgressToken as FromJson>⟧.reads (codes "partialResultToken") json it.partial_result_token };
 
     fn from_json(alloc: Global, value: &Value) -> Result<DocumentDiagnosticParams, Misfit> {
-        let read = Members::new(alloc, value)
+        match Members::new(alloc, value)
             .required("textDocument")
             .optional("identifier")
             .optional("previousResultId")
             .if_fits("workDoneToken")
             .if_fits("partialResultToken")
-            .end();
-        match read {
+            .end()
+        {
             Ok(read) => {
                 let (
                     (((((), text_document), identifier), previous_result_id), work_done_token),
@@ -123,17 +123,17 @@ impl ToJson for FullDocumentDiagnosticReport {
 
 impl FromJson for FullDocumentDiagnosticReport {
     ghost reads = { λ json it. IsObject json
-        × Named (codes "kind") (codes "full") json
-        × Optional ⟦<String as FromJson>⟧.reads (codes "resultId") json it.result_id
-        × Required ⟦<Vec<Diagnostic> as FromJson>⟧.reads (codes "items") json it.items };
+        and Named (codes "kind") (codes "full") json
+        and Optional ⟦<String as FromJson>⟧.reads (codes "resultId") json it.result_id
+        and Required ⟦<Vec<Diagnostic> as FromJson>⟧.reads (codes "items") json it.items };
 
     fn from_json(alloc: Global, value: &Value) -> Result<FullDocumentDiagnosticReport, Misfit> {
-        let read = Members::new(alloc, value)
+        match Members::new(alloc, value)
             .named("kind", "full")
             .optional("resultId")
             .required("items")
-            .end();
-        match read {
+            .end()
+        {
             Ok(read) => {
                 let ((((), ()), result_id), items) = read;
                 Ok(FullDocumentDiagnosticReport { result_id, items })
@@ -165,18 +165,18 @@ impl ToJson for UnchangedDocumentDiagnosticReport {
 
 impl FromJson for UnchangedDocumentDiagnosticReport {
     ghost reads = { λ json it. IsObject json
-        × Named (codes "kind") (codes "unchanged") json
-        × Required ⟦<String as FromJson>⟧.reads (codes "resultId") json it.result_id };
+        and Named (codes "kind") (codes "unchanged") json
+        and Required ⟦<String as FromJson>⟧.reads (codes "resultId") json it.result_id };
 
     fn from_json(
         alloc: Global,
         value: &Value,
     ) -> Result<UnchangedDocumentDiagnosticReport, Misfit> {
-        let read = Members::new(alloc, value)
+        match Members::new(alloc, value)
             .named("kind", "unchanged")
             .required("resultId")
-            .end();
-        match read {
+            .end()
+        {
             Ok(read) => {
                 let (((), ()), result_id) = read;
                 Ok(UnchangedDocumentDiagnosticReport { result_id })
@@ -279,22 +279,22 @@ impl ToJson for RelatedFullDocumentDiagnosticReport {
 
 impl FromJson for RelatedFullDocumentDiagnosticReport {
     ghost reads = { λ json it. IsObject json
-        × Named (codes "kind") (codes "full") json
-        × Optional ⟦<String as FromJson>⟧.reads (codes "resultId") json it.result_id
-        × Required ⟦<Vec<Diagnostic> as FromJson>⟧.reads (codes "items") json it.items
-        × Optional ⟦<BTreeMap<String, RelatedReport> as FromJson>⟧.reads (codes "relatedDocuments") json it.related_documents };
+        and Named (codes "kind") (codes "full") json
+        and Optional ⟦<String as FromJson>⟧.reads (codes "resultId") json it.result_id
+        and Required ⟦<Vec<Diagnostic> as FromJson>⟧.reads (codes "items") json it.items
+        and Optional ⟦<BTreeMap<String, RelatedReport> as FromJson>⟧.reads (codes "relatedDocuments") json it.related_documents };
 
     fn from_json(
         alloc: Global,
         value: &Value,
     ) -> Result<RelatedFullDocumentDiagnosticReport, Misfit> {
-        let read = Members::new(alloc, value)
+        match Members::new(alloc, value)
             .named("kind", "full")
             .optional("resultId")
             .required("items")
             .optional("relatedDocuments")
-            .end();
-        match read {
+            .end()
+        {
             Ok(read) => {
                 let (((((), ()), result_id), items), related_documents) = read;
                 Ok(RelatedFullDocumentDiagnosticReport {
@@ -351,20 +351,20 @@ impl ToJson for RelatedUnchangedDocumentDiagnosticReport {
 
 impl FromJson for RelatedUnchangedDocumentDiagnosticReport {
     ghost reads = { λ json it. IsObject json
-        × Named (codes "kind") (codes "unchanged") json
-        × Required ⟦<String as FromJson>⟧.reads (codes "resultId") json it.result_id
-        × Optional ⟦<BTreeMap<String, RelatedReport> as FromJson>⟧.reads (codes "relatedDocuments") json it.related_documents };
+        and Named (codes "kind") (codes "unchanged") json
+        and Required ⟦<String as FromJson>⟧.reads (codes "resultId") json it.result_id
+        and Optional ⟦<BTreeMap<String, RelatedReport> as FromJson>⟧.reads (codes "relatedDocuments") json it.related_documents };
 
     fn from_json(
         alloc: Global,
         value: &Value,
     ) -> Result<RelatedUnchangedDocumentDiagnosticReport, Misfit> {
-        let read = Members::new(alloc, value)
+        match Members::new(alloc, value)
             .named("kind", "unchanged")
             .required("resultId")
             .optional("relatedDocuments")
-            .end();
-        match read {
+            .end()
+        {
             Ok(read) => {
                 let ((((), ()), result_id), related_documents) = read;
                 Ok(RelatedUnchangedDocumentDiagnosticReport {
@@ -445,15 +445,15 @@ impl ToJson for PreviousResultId {
 
 impl FromJson for PreviousResultId {
     ghost reads = { λ json it. IsObject json
-        × Required ⟦<String as FromJson>⟧.reads (codes "uri") json it.uri
-        × Required ⟦<String as FromJson>⟧.reads (codes "value") json it.value };
+        and Required ⟦<String as FromJson>⟧.reads (codes "uri") json it.uri
+        and Required ⟦<String as FromJson>⟧.reads (codes "value") json it.value };
 
     fn from_json(alloc: Global, value: &Value) -> Result<PreviousResultId, Misfit> {
-        let read = Members::new(alloc, value)
+        match Members::new(alloc, value)
             .required("uri")
             .required("value")
-            .end();
-        match read {
+            .end()
+        {
             Ok(read) => {
                 let (((), uri), value) = read;
                 Ok(PreviousResultId { uri, value })
@@ -495,19 +495,19 @@ impl ToJson for WorkspaceDiagnosticParams {
 
 impl FromJson for WorkspaceDiagnosticParams {
     ghost reads = { λ json it. IsObject json
-        × Optional ⟦<String as FromJson>⟧.reads (codes "identifier") json it.identifier
-        × Required ⟦<Vec<PreviousResultId> as FromJson>⟧.reads (codes "previousResultIds") json it.previous_result_ids
-        × IfFits ⟦<ProgressToken as FromJson>⟧.reads (codes "workDoneToken") json it.work_done_token
-        × IfFits ⟦<ProgressToken as FromJson>⟧.reads (codes "partialResultToken") json it.partial_result_token };
+        and Optional ⟦<String as FromJson>⟧.reads (codes "identifier") json it.identifier
+        and Required ⟦<Vec<PreviousResultId> as FromJson>⟧.reads (codes "previousResultIds") json it.previous_result_ids
+        and IfFits ⟦<ProgressToken as FromJson>⟧.reads (codes "workDoneToken") json it.work_done_token
+        and IfFits ⟦<ProgressToken as FromJson>⟧.reads (codes "partialResultToken") json it.partial_result_token };
 
     fn from_json(alloc: Global, value: &Value) -> Result<WorkspaceDiagnosticParams, Misfit> {
-        let read = Members::new(alloc, value)
+        match Members::new(alloc, value)
             .optional("identifier")
             .required("previousResultIds")
             .if_fits("workDoneToken")
             .if_fits("partialResultToken")
-            .end();
-        match read {
+            .end()
+        {
             Ok(read) => {
                 let (
                     ((((), identifier), previous_result_ids), work_done_token),
@@ -580,24 +580,24 @@ impl ToJson for WorkspaceFullDocumentDiagnosticReport {
 
 impl FromJson for WorkspaceFullDocumentDiagnosticReport {
     ghost reads = { λ json it. IsObject json
-        × Named (codes "kind") (codes "full") json
-        × Optional ⟦<String as FromJson>⟧.reads (codes "resultId") json it.result_id
-        × Required ⟦<Vec<Diagnostic> as FromJson>⟧.reads (codes "items") json it.items
-        × Required ⟦<String as FromJson>⟧.reads (codes "uri") json it.uri
-        × Optional ⟦<i32 as FromJson>⟧.reads (codes "version") json it.version };
+        and Named (codes "kind") (codes "full") json
+        and Optional ⟦<String as FromJson>⟧.reads (codes "resultId") json it.result_id
+        and Required ⟦<Vec<Diagnostic> as FromJson>⟧.reads (codes "items") json it.items
+        and Required ⟦<String as FromJson>⟧.reads (codes "uri") json it.uri
+        and Optional ⟦<i32 as FromJson>⟧.reads (codes "version") json it.version };
 
     fn from_json(
         alloc: Global,
         value: &Value,
     ) -> Result<WorkspaceFullDocumentDiagnosticReport, Misfit> {
-        let read = Members::new(alloc, value)
+        match Members::new(alloc, value)
             .named("kind", "full")
             .optional("resultId")
             .required("items")
             .required("uri")
             .optional("version")
-            .end();
-        match read {
+            .end()
+        {
             Ok(read) => {
                 let ((((((), ()), result_id), items), uri), version) = read;
                 Ok(WorkspaceFullDocumentDiagnosticReport {
@@ -661,22 +661,22 @@ impl ToJson for WorkspaceUnchangedDocumentDiagnosticReport {
 
 impl FromJson for WorkspaceUnchangedDocumentDiagnosticReport {
     ghost reads = { λ json it. IsObject json
-        × Named (codes "kind") (codes "unchanged") json
-        × Required ⟦<String as FromJson>⟧.reads (codes "resultId") json it.result_id
-        × Required ⟦<String as FromJson>⟧.reads (codes "uri") json it.uri
-        × Optional ⟦<i32 as FromJson>⟧.reads (codes "version") json it.version };
+        and Named (codes "kind") (codes "unchanged") json
+        and Required ⟦<String as FromJson>⟧.reads (codes "resultId") json it.result_id
+        and Required ⟦<String as FromJson>⟧.reads (codes "uri") json it.uri
+        and Optional ⟦<i32 as FromJson>⟧.reads (codes "version") json it.version };
 
     fn from_json(
         alloc: Global,
         value: &Value,
     ) -> Result<WorkspaceUnchangedDocumentDiagnosticReport, Misfit> {
-        let read = Members::new(alloc, value)
+        match Members::new(alloc, value)
             .named("kind", "unchanged")
             .required("resultId")
             .required("uri")
             .optional("version")
-            .end();
-        match read {
+            .end()
+        {
             Ok(read) => {
                 let (((((), ()), result_id), uri), version) = read;
                 Ok(WorkspaceUnchangedDocumentDiagnosticReport {
@@ -755,11 +755,10 @@ impl ToJson for WorkspaceDiagnosticReport {
 
 impl FromJson for WorkspaceDiagnosticReport {
     ghost reads = { λ json it. IsObject json
-        × Required ⟦<Vec<WorkspaceDocumentDiagnosticReport> as FromJson>⟧.reads (codes "items") json it.items };
+        and Required ⟦<Vec<WorkspaceDocumentDiagnosticReport> as FromJson>⟧.reads (codes "items") json it.items };
 
     fn from_json(alloc: Global, value: &Value) -> Result<WorkspaceDiagnosticReport, Misfit> {
-        let read = Members::new(alloc, value).required("items").end();
-        match read {
+        match Members::new(alloc, value).required("items").end() {
             Ok(read) => {
                 let ((), items) = read;
                 Ok(WorkspaceDiagnosticReport { items })
@@ -789,13 +788,13 @@ impl ToJson for DiagnosticServerCancellationData {
 
 impl FromJson for DiagnosticServerCancellationData {
     ghost reads = { λ json it. IsObject json
-        × Required ⟦<bool as FromJson>⟧.reads (codes "retriggerRequest") json it.retrigger_request };
+        and Required ⟦<bool as FromJson>⟧.reads (codes "retriggerRequest") json it.retrigger_request };
 
     fn from_json(alloc: Global, value: &Value) -> Result<DiagnosticServerCancellationData, Misfit> {
-        let read = Members::new(alloc, value)
+        match Members::new(alloc, value)
             .required("retriggerRequest")
-            .end();
-        match read {
+            .end()
+        {
             Ok(read) => {
                 let ((), retrigger_request) = read;
                 Ok(DiagnosticServerCancellationData { retrigger_request })

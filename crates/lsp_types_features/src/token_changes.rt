@@ -2,7 +2,7 @@
 // `tools/types` wrote this file from `types.txt`: change that.
 ghost use Rattle.std.specs.Prelude.{◌∷◌, [], Some, codes, option_map};
 ghost use Rattle.lsp_types.specs.Json.{object_of};
-ghost use Rattle.lsp_types.specs.Reads.{IfFits, IsObject, NoneReads, Optional, Required};
+ghost use Rattle.lsp_types.specs.Reads.{IfFits, IsObject, NoneReads, Optional, Required, ◌and◌};
 
 use lsp_types::json::{FromJson, Members, Misfit, Object, ToJson, fitting};
 use lsp_types::{ProgressToken, SemanticTokens, TextDocumentIdentifier};
@@ -41,19 +41,19 @@ impl ToJson for SemanticTokensDeltaParams {
 
 impl FromJson for SemanticTokensDeltaParams {
     ghost reads = { λ json it. IsObject json
-        × Required ⟦<TextDocumentIdentifier as FromJson>⟧.reads (codes "textDocument") json it.text_document
-        × Required ⟦<String as FromJson>⟧.reads (codes "previousResultId") json it.previous_result_id
-        × IfFits ⟦<ProgressToken as FromJson>⟧.reads (codes "workDoneToken") json it.work_done_token
-        × IfFits ⟦<ProgressToken as FromJson>⟧.reads (codes "partialResultToken") json it.partial_result_token };
+        and Required ⟦<TextDocumentIdentifier as FromJson>⟧.reads (codes "textDocument") json it.text_document
+        and Required ⟦<String as FromJson>⟧.reads (codes "previousResultId") json it.previous_result_id
+        and IfFits ⟦<ProgressToken as FromJson>⟧.reads (codes "workDoneToken") json it.work_done_token
+        and IfFits ⟦<ProgressToken as FromJson>⟧.reads (codes "partialResultToken") json it.partial_result_token };
 
     fn from_json(alloc: Global, value: &Value) -> Result<SemanticTokensDeltaParams, Misfit> {
-        let read = Members::new(alloc, value)
+        match Members::new(alloc, value)
             .required("textDocument")
             .required("previousResultId")
             .if_fits("workDoneToken")
             .if_fits("partialResultToken")
-            .end();
-        match read {
+            .end()
+        {
             Ok(read) => {
                 let (
                     ((((), text_document), previous_result_id), work_done_token),
@@ -118,17 +118,17 @@ impl ToJson for SemanticTokensEdit {
 
 impl FromJson for SemanticTokensEdit {
     ghost reads = { λ json it. IsObject json
-        × Required ⟦<u32 as FromJson>⟧.reads (codes "start") json it.start
-        × Required ⟦<u32 as FromJson>⟧.reads (codes "deleteCount") json it.delete_count
-        × Optional ⟦<Vec<u32> as FromJson>⟧.reads (codes "data") json it.«data» };
+        and Required ⟦<u32 as FromJson>⟧.reads (codes "start") json it.start
+        and Required ⟦<u32 as FromJson>⟧.reads (codes "deleteCount") json it.delete_count
+        and Optional ⟦<Vec<u32> as FromJson>⟧.reads (codes "data") json it.«data» };
 
     fn from_json(alloc: Global, value: &Value) -> Result<SemanticTokensEdit, Misfit> {
-        let read = Members::new(alloc, value)
+        match Members::new(alloc, value)
             .required("start")
             .required("deleteCount")
             .optional("data")
-            .end();
-        match read {
+            .end()
+        {
             Ok(read) => {
                 let ((((), start), delete_count), data) = read;
                 Ok(SemanticTokensEdit {
@@ -183,15 +183,15 @@ impl ToJson for SemanticTokensDelta {
 
 impl FromJson for SemanticTokensDelta {
     ghost reads = { λ json it. IsObject json
-        × Optional ⟦<String as FromJson>⟧.reads (codes "resultId") json it.result_id
-        × Required ⟦<Vec<SemanticTokensEdit> as FromJson>⟧.reads (codes "edits") json it.edits };
+        and Optional ⟦<String as FromJson>⟧.reads (codes "resultId") json it.result_id
+        and Required ⟦<Vec<SemanticTokensEdit> as FromJson>⟧.reads (codes "edits") json it.edits };
 
     fn from_json(alloc: Global, value: &Value) -> Result<SemanticTokensDelta, Misfit> {
-        let read = Members::new(alloc, value)
+        match Members::new(alloc, value)
             .optional("resultId")
             .required("edits")
-            .end();
-        match read {
+            .end()
+        {
             Ok(read) => {
                 let (((), result_id), edits) = read;
                 Ok(SemanticTokensDelta { result_id, edits })

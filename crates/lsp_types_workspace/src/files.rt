@@ -2,7 +2,7 @@
 // `tools/types` wrote this file from `types.txt`: change that.
 ghost use Rattle.std.specs.Prelude.{◌∷◌, [], Some, codes, option_map};
 ghost use Rattle.lsp_types.specs.Json.{object_of};
-ghost use Rattle.lsp_types.specs.Reads.{IsObject, NoneReads, Optional, Required};
+ghost use Rattle.lsp_types.specs.Reads.{IsObject, NoneReads, Optional, Required, ◌and◌};
 
 use lsp_types::json::{FromJson, Members, Misfit, Object, ToJson, fitting};
 use serde_json::Value;
@@ -26,11 +26,10 @@ impl ToJson for FileCreate {
 
 impl FromJson for FileCreate {
     ghost reads = { λ json it. IsObject json
-        × Required ⟦<String as FromJson>⟧.reads (codes "uri") json it.uri };
+        and Required ⟦<String as FromJson>⟧.reads (codes "uri") json it.uri };
 
     fn from_json(alloc: Global, value: &Value) -> Result<FileCreate, Misfit> {
-        let read = Members::new(alloc, value).required("uri").end();
-        match read {
+        match Members::new(alloc, value).required("uri").end() {
             Ok(read) => {
                 let ((), uri) = read;
                 Ok(FileCreate { uri })
@@ -59,11 +58,10 @@ impl ToJson for CreateFilesParams {
 
 impl FromJson for CreateFilesParams {
     ghost reads = { λ json it. IsObject json
-        × Required ⟦<Vec<FileCreate> as FromJson>⟧.reads (codes "files") json it.files };
+        and Required ⟦<Vec<FileCreate> as FromJson>⟧.reads (codes "files") json it.files };
 
     fn from_json(alloc: Global, value: &Value) -> Result<CreateFilesParams, Misfit> {
-        let read = Members::new(alloc, value).required("files").end();
-        match read {
+        match Members::new(alloc, value).required("files").end() {
             Ok(read) => {
                 let ((), files) = read;
                 Ok(CreateFilesParams { files })
@@ -104,15 +102,15 @@ impl ToJson for FileRename {
 
 impl FromJson for FileRename {
     ghost reads = { λ json it. IsObject json
-        × Required ⟦<String as FromJson>⟧.reads (codes "oldUri") json it.old_uri
-        × Required ⟦<String as FromJson>⟧.reads (codes "newUri") json it.new_uri };
+        and Required ⟦<String as FromJson>⟧.reads (codes "oldUri") json it.old_uri
+        and Required ⟦<String as FromJson>⟧.reads (codes "newUri") json it.new_uri };
 
     fn from_json(alloc: Global, value: &Value) -> Result<FileRename, Misfit> {
-        let read = Members::new(alloc, value)
+        match Members::new(alloc, value)
             .required("oldUri")
             .required("newUri")
-            .end();
-        match read {
+            .end()
+        {
             Ok(read) => {
                 let (((), old_uri), new_uri) = read;
                 Ok(FileRename { old_uri, new_uri })
@@ -141,11 +139,10 @@ impl ToJson for RenameFilesParams {
 
 impl FromJson for RenameFilesParams {
     ghost reads = { λ json it. IsObject json
-        × Required ⟦<Vec<FileRename> as FromJson>⟧.reads (codes "files") json it.files };
+        and Required ⟦<Vec<FileRename> as FromJson>⟧.reads (codes "files") json it.files };
 
     fn from_json(alloc: Global, value: &Value) -> Result<RenameFilesParams, Misfit> {
-        let read = Members::new(alloc, value).required("files").end();
-        match read {
+        match Members::new(alloc, value).required("files").end() {
             Ok(read) => {
                 let ((), files) = read;
                 Ok(RenameFilesParams { files })
@@ -188,11 +185,10 @@ impl ToJson for FileOperationPatternOptions {
 
 impl FromJson for FileOperationPatternOptions {
     ghost reads = { λ json it. IsObject json
-        × Optional ⟦<bool as FromJson>⟧.reads (codes "ignoreCase") json it.ignore_case };
+        and Optional ⟦<bool as FromJson>⟧.reads (codes "ignoreCase") json it.ignore_case };
 
     fn from_json(alloc: Global, value: &Value) -> Result<FileOperationPatternOptions, Misfit> {
-        let read = Members::new(alloc, value).optional("ignoreCase").end();
-        match read {
+        match Members::new(alloc, value).optional("ignoreCase").end() {
             Ok(read) => {
                 let ((), ignore_case) = read;
                 Ok(FileOperationPatternOptions { ignore_case })
@@ -249,17 +245,17 @@ impl ToJson for FileOperationPattern {
 
 impl FromJson for FileOperationPattern {
     ghost reads = { λ json it. IsObject json
-        × Required ⟦<String as FromJson>⟧.reads (codes "glob") json it.glob
-        × Optional ⟦<String as FromJson>⟧.reads (codes "matches") json it.matches
-        × Optional ⟦<FileOperationPatternOptions as FromJson>⟧.reads (codes "options") json it.options };
+        and Required ⟦<String as FromJson>⟧.reads (codes "glob") json it.glob
+        and Optional ⟦<String as FromJson>⟧.reads (codes "matches") json it.matches
+        and Optional ⟦<FileOperationPatternOptions as FromJson>⟧.reads (codes "options") json it.options };
 
     fn from_json(alloc: Global, value: &Value) -> Result<FileOperationPattern, Misfit> {
-        let read = Members::new(alloc, value)
+        match Members::new(alloc, value)
             .required("glob")
             .optional("matches")
             .optional("options")
-            .end();
-        match read {
+            .end()
+        {
             Ok(read) => {
                 let ((((), glob), matches), options) = read;
                 Ok(FileOperationPattern {
@@ -314,15 +310,15 @@ impl ToJson for FileOperationFilter {
 
 impl FromJson for FileOperationFilter {
     ghost reads = { λ json it. IsObject json
-        × Optional ⟦<String as FromJson>⟧.reads (codes "scheme") json it.scheme
-        × Required ⟦<FileOperationPattern as FromJson>⟧.reads (codes "pattern") json it.pattern };
+        and Optional ⟦<String as FromJson>⟧.reads (codes "scheme") json it.scheme
+        and Required ⟦<FileOperationPattern as FromJson>⟧.reads (codes "pattern") json it.pattern };
 
     fn from_json(alloc: Global, value: &Value) -> Result<FileOperationFilter, Misfit> {
-        let read = Members::new(alloc, value)
+        match Members::new(alloc, value)
             .optional("scheme")
             .required("pattern")
-            .end();
-        match read {
+            .end()
+        {
             Ok(read) => {
                 let (((), scheme), pattern) = read;
                 Ok(FileOperationFilter { scheme, pattern })
@@ -350,11 +346,10 @@ impl ToJson for FileOperationRegistrationOptions {
 
 impl FromJson for FileOperationRegistrationOptions {
     ghost reads = { λ json it. IsObject json
-        × Required ⟦<Vec<FileOperationFilter> as FromJson>⟧.reads (codes "filters") json it.filters };
+        and Required ⟦<Vec<FileOperationFilter> as FromJson>⟧.reads (codes "filters") json it.filters };
 
     fn from_json(alloc: Global, value: &Value) -> Result<FileOperationRegistrationOptions, Misfit> {
-        let read = Members::new(alloc, value).required("filters").end();
-        match read {
+        match Members::new(alloc, value).required("filters").end() {
             Ok(read) => {
                 let ((), filters) = read;
                 Ok(FileOperationRegistrationOptions { filters })
@@ -430,23 +425,23 @@ impl ToJson for FileOperationOptions {
 
 impl FromJson for FileOperationOptions {
     ghost reads = { λ json it. IsObject json
-        × Optional ⟦<FileOperationRegistrationOptions as FromJson>⟧.reads (codes "didCreate") json it.did_create
-        × Optional ⟦<FileOperationRegistrationOptions as FromJson>⟧.reads (codes "willCreate") json it.will_create
-        × Optional ⟦<FileOperationRegistrationOptions as FromJson>⟧.reads (codes "didRename") json it.did_rename
-        × Optional ⟦<FileOperationRegistrationOptions as FromJson>⟧.reads (codes "willRename") json it.will_rename
-        × Optional ⟦<FileOperationRegistrationOptions as FromJson>⟧.reads (codes "didDelete") json it.did_delete
-        × Optional ⟦<FileOperationRegistrationOptions as FromJson>⟧.reads (codes "willDelete") json it.will_delete };
+        and Optional ⟦<FileOperationRegistrationOptions as FromJson>⟧.reads (codes "didCreate") json it.did_create
+        and Optional ⟦<FileOperationRegistrationOptions as FromJson>⟧.reads (codes "willCreate") json it.will_create
+        and Optional ⟦<FileOperationRegistrationOptions as FromJson>⟧.reads (codes "didRename") json it.did_rename
+        and Optional ⟦<FileOperationRegistrationOptions as FromJson>⟧.reads (codes "willRename") json it.will_rename
+        and Optional ⟦<FileOperationRegistrationOptions as FromJson>⟧.reads (codes "didDelete") json it.did_delete
+        and Optional ⟦<FileOperationRegistrationOptions as FromJson>⟧.reads (codes "willDelete") json it.will_delete };
 
     fn from_json(alloc: Global, value: &Value) -> Result<FileOperationOptions, Misfit> {
-        let read = Members::new(alloc, value)
+        match Members::new(alloc, value)
             .optional("didCreate")
             .optional("willCreate")
             .optional("didRename")
             .optional("willRename")
             .optional("didDelete")
             .optional("willDelete")
-            .end();
-        match read {
+            .end()
+        {
             Ok(read) => {
                 let (
                     ((((((), did_create), will_create), did_rename), will_rename), did_delete),
@@ -490,15 +485,15 @@ impl ToJson for RelativePattern {
 
 impl FromJson for RelativePattern {
     ghost reads = { λ json it. IsObject json
-        × Required ⟦<String as FromJson>⟧.reads (codes "baseUri") json it.base_uri
-        × Required ⟦<String as FromJson>⟧.reads (codes "pattern") json it.pattern };
+        and Required ⟦<String as FromJson>⟧.reads (codes "baseUri") json it.base_uri
+        and Required ⟦<String as FromJson>⟧.reads (codes "pattern") json it.pattern };
 
     fn from_json(alloc: Global, value: &Value) -> Result<RelativePattern, Misfit> {
-        let read = Members::new(alloc, value)
+        match Members::new(alloc, value)
             .required("baseUri")
             .required("pattern")
-            .end();
-        match read {
+            .end()
+        {
             Ok(read) => {
                 let (((), base_uri), pattern) = read;
                 Ok(RelativePattern { base_uri, pattern })
@@ -577,15 +572,15 @@ impl ToJson for FileSystemWatcher {
 
 impl FromJson for FileSystemWatcher {
     ghost reads = { λ json it. IsObject json
-        × Required ⟦<GlobPattern as FromJson>⟧.reads (codes "globPattern") json it.glob_pattern
-        × Optional ⟦<u32 as FromJson>⟧.reads (codes "kind") json it.kind };
+        and Required ⟦<GlobPattern as FromJson>⟧.reads (codes "globPattern") json it.glob_pattern
+        and Optional ⟦<u32 as FromJson>⟧.reads (codes "kind") json it.kind };
 
     fn from_json(alloc: Global, value: &Value) -> Result<FileSystemWatcher, Misfit> {
-        let read = Members::new(alloc, value)
+        match Members::new(alloc, value)
             .required("globPattern")
             .optional("kind")
-            .end();
-        match read {
+            .end()
+        {
             Ok(read) => {
                 let (((), glob_pattern), kind) = read;
                 Ok(FileSystemWatcher { glob_pattern, kind })
@@ -614,14 +609,13 @@ impl ToJson for DidChangeWatchedFilesRegistrationOptions {
 
 impl FromJson for DidChangeWatchedFilesRegistrationOptions {
     ghost reads = { λ json it. IsObject json
-        × Required ⟦<Vec<FileSystemWatcher> as FromJson>⟧.reads (codes "watchers") json it.watchers };
+        and Required ⟦<Vec<FileSystemWatcher> as FromJson>⟧.reads (codes "watchers") json it.watchers };
 
     fn from_json(
         alloc: Global,
         value: &Value,
     ) -> Result<DidChangeWatchedFilesRegistrationOptions, Misfit> {
-        let read = Members::new(alloc, value).required("watchers").end();
-        match read {
+        match Members::new(alloc, value).required("watchers").end() {
             Ok(read) => {
                 let ((), watchers) = read;
                 Ok(DidChangeWatchedFilesRegistrationOptions { watchers })

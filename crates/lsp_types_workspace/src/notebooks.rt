@@ -3,7 +3,7 @@
 ghost use Rattle.std.specs.Prelude.{◌∷◌, [], Some, codes, option_map};
 ghost use Rattle.serde_json.specs.Data.{number, unsigned};
 ghost use Rattle.lsp_types.specs.Json.{object_of};
-ghost use Rattle.lsp_types.specs.Reads.{IsObject, IsWithin, Optional, Required};
+ghost use Rattle.lsp_types.specs.Reads.{IsObject, IsWithin, Optional, Required, ◌and◌};
 
 use lsp_text::ContentChange;
 use lsp_types::json::{FromJson, Members, Misfit, Object, ToJson, number_within};
@@ -65,15 +65,15 @@ impl ToJson for ExecutionSummary {
 
 impl FromJson for ExecutionSummary {
     ghost reads = { λ json it. IsObject json
-        × Required ⟦<u32 as FromJson>⟧.reads (codes "executionOrder") json it.execution_order
-        × Optional ⟦<bool as FromJson>⟧.reads (codes "success") json it.success };
+        and Required ⟦<u32 as FromJson>⟧.reads (codes "executionOrder") json it.execution_order
+        and Optional ⟦<bool as FromJson>⟧.reads (codes "success") json it.success };
 
     fn from_json(alloc: Global, value: &Value) -> Result<ExecutionSummary, Misfit> {
-        let read = Members::new(alloc, value)
+        match Members::new(alloc, value)
             .required("executionOrder")
             .optional("success")
-            .end();
-        match read {
+            .end()
+        {
             Ok(read) => {
                 let (((), execution_order), success) = read;
                 Ok(ExecutionSummary {
@@ -118,19 +118,19 @@ impl ToJson for NotebookCell {
 
 impl FromJson for NotebookCell {
     ghost reads = { λ json it. IsObject json
-        × Required ⟦<NotebookCellKind as FromJson>⟧.reads (codes "kind") json it.kind
-        × Required ⟦<String as FromJson>⟧.reads (codes "document") json it.document
-        × Optional ⟦<Value as FromJson>⟧.reads (codes "metadata") json it.metadata
-        × Optional ⟦<ExecutionSummary as FromJson>⟧.reads (codes "executionSummary") json it.execution_summary };
+        and Required ⟦<NotebookCellKind as FromJson>⟧.reads (codes "kind") json it.kind
+        and Required ⟦<String as FromJson>⟧.reads (codes "document") json it.document
+        and Optional ⟦<Value as FromJson>⟧.reads (codes "metadata") json it.metadata
+        and Optional ⟦<ExecutionSummary as FromJson>⟧.reads (codes "executionSummary") json it.execution_summary };
 
     fn from_json(alloc: Global, value: &Value) -> Result<NotebookCell, Misfit> {
-        let read = Members::new(alloc, value)
+        match Members::new(alloc, value)
             .required("kind")
             .required("document")
             .optional("metadata")
             .optional("executionSummary")
-            .end();
-        match read {
+            .end()
+        {
             Ok(read) => {
                 let (((((), kind), document), metadata), execution_summary) = read;
                 Ok(NotebookCell {
@@ -181,21 +181,21 @@ impl ToJson for NotebookDocument {
 
 impl FromJson for NotebookDocument {
     ghost reads = { λ json it. IsObject json
-        × Required ⟦<String as FromJson>⟧.reads (codes "uri") json it.uri
-        × Required ⟦<String as FromJson>⟧.reads (codes "notebookType") json it.notebook_type
-        × Required ⟦<i32 as FromJson>⟧.reads (codes "version") json it.version
-        × Optional ⟦<Value as FromJson>⟧.reads (codes "metadata") json it.metadata
-        × Required ⟦<Vec<NotebookCell> as FromJson>⟧.reads (codes "cells") json it.cells };
+        and Required ⟦<String as FromJson>⟧.reads (codes "uri") json it.uri
+        and Required ⟦<String as FromJson>⟧.reads (codes "notebookType") json it.notebook_type
+        and Required ⟦<i32 as FromJson>⟧.reads (codes "version") json it.version
+        and Optional ⟦<Value as FromJson>⟧.reads (codes "metadata") json it.metadata
+        and Required ⟦<Vec<NotebookCell> as FromJson>⟧.reads (codes "cells") json it.cells };
 
     fn from_json(alloc: Global, value: &Value) -> Result<NotebookDocument, Misfit> {
-        let read = Members::new(alloc, value)
+        match Members::new(alloc, value)
             .required("uri")
             .required("notebookType")
             .required("version")
             .optional("metadata")
             .required("cells")
-            .end();
-        match read {
+            .end()
+        {
             Ok(read) => {
                 let ((((((), uri), notebook_type), version), metadata), cells) = read;
                 Ok(NotebookDocument {
@@ -235,15 +235,15 @@ impl ToJson for DidOpenNotebookDocumentParams {
 
 impl FromJson for DidOpenNotebookDocumentParams {
     ghost reads = { λ json it. IsObject json
-        × Required ⟦<NotebookDocument as FromJson>⟧.reads (codes "notebookDocument") json it.notebook_document
-        × Required ⟦<Vec<TextDocumentItem> as FromJson>⟧.reads (codes "cellTextDocuments") json it.cell_text_documents };
+        and Required ⟦<NotebookDocument as FromJson>⟧.reads (codes "notebookDocument") json it.notebook_document
+        and Required ⟦<Vec<TextDocumentItem> as FromJson>⟧.reads (codes "cellTextDocuments") json it.cell_text_documents };
 
     fn from_json(alloc: Global, value: &Value) -> Result<DidOpenNotebookDocumentParams, Misfit> {
-        let read = Members::new(alloc, value)
+        match Members::new(alloc, value)
             .required("notebookDocument")
             .required("cellTextDocuments")
-            .end();
-        match read {
+            .end()
+        {
             Ok(read) => {
                 let (((), notebook_document), cell_text_documents) = read;
                 Ok(DidOpenNotebookDocumentParams {
@@ -280,18 +280,18 @@ impl ToJson for VersionedNotebookDocumentIdentifier {
 
 impl FromJson for VersionedNotebookDocumentIdentifier {
     ghost reads = { λ json it. IsObject json
-        × Required ⟦<i32 as FromJson>⟧.reads (codes "version") json it.version
-        × Required ⟦<String as FromJson>⟧.reads (codes "uri") json it.uri };
+        and Required ⟦<i32 as FromJson>⟧.reads (codes "version") json it.version
+        and Required ⟦<String as FromJson>⟧.reads (codes "uri") json it.uri };
 
     fn from_json(
         alloc: Global,
         value: &Value,
     ) -> Result<VersionedNotebookDocumentIdentifier, Misfit> {
-        let read = Members::new(alloc, value)
+        match Members::new(alloc, value)
             .required("version")
             .required("uri")
-            .end();
-        match read {
+            .end()
+        {
             Ok(read) => {
                 let (((), version), uri) = read;
                 Ok(VersionedNotebookDocumentIdentifier { version, uri })
@@ -329,17 +329,17 @@ impl ToJson for NotebookCellArrayChange {
 
 impl FromJson for NotebookCellArrayChange {
     ghost reads = { λ json it. IsObject json
-        × Required ⟦<u32 as FromJson>⟧.reads (codes "start") json it.start
-        × Required ⟦<u32 as FromJson>⟧.reads (codes "deleteCount") json it.delete_count
-        × Optional ⟦<Vec<NotebookCell> as FromJson>⟧.reads (codes "cells") json it.cells };
+        and Required ⟦<u32 as FromJson>⟧.reads (codes "start") json it.start
+        and Required ⟦<u32 as FromJson>⟧.reads (codes "deleteCount") json it.delete_count
+        and Optional ⟦<Vec<NotebookCell> as FromJson>⟧.reads (codes "cells") json it.cells };
 
     fn from_json(alloc: Global, value: &Value) -> Result<NotebookCellArrayChange, Misfit> {
-        let read = Members::new(alloc, value)
+        match Members::new(alloc, value)
             .required("start")
             .required("deleteCount")
             .optional("cells")
-            .end();
-        match read {
+            .end()
+        {
             Ok(read) => {
                 let ((((), start), delete_count), cells) = read;
                 Ok(NotebookCellArrayChange {
@@ -381,17 +381,17 @@ impl ToJson for NotebookCellStructure {
 
 impl FromJson for NotebookCellStructure {
     ghost reads = { λ json it. IsObject json
-        × Required ⟦<NotebookCellArrayChange as FromJson>⟧.reads (codes "array") json it.array
-        × Optional ⟦<Vec<TextDocumentItem> as FromJson>⟧.reads (codes "didOpen") json it.did_open
-        × Optional ⟦<Vec<TextDocumentIdentifier> as FromJson>⟧.reads (codes "didClose") json it.did_close };
+        and Required ⟦<NotebookCellArrayChange as FromJson>⟧.reads (codes "array") json it.array
+        and Optional ⟦<Vec<TextDocumentItem> as FromJson>⟧.reads (codes "didOpen") json it.did_open
+        and Optional ⟦<Vec<TextDocumentIdentifier> as FromJson>⟧.reads (codes "didClose") json it.did_close };
 
     fn from_json(alloc: Global, value: &Value) -> Result<NotebookCellStructure, Misfit> {
-        let read = Members::new(alloc, value)
+        match Members::new(alloc, value)
             .required("array")
             .optional("didOpen")
             .optional("didClose")
-            .end();
-        match read {
+            .end()
+        {
             Ok(read) => {
                 let ((((), array), did_open), did_close) = read;
                 Ok(NotebookCellStructure {
@@ -429,15 +429,15 @@ impl ToJson for NotebookCellTextChange {
 
 impl FromJson for NotebookCellTextChange {
     ghost reads = { λ json it. IsObject json
-        × Required ⟦<VersionedTextDocumentIdentifier as FromJson>⟧.reads (codes "document") json it.document
-        × Required ⟦<Vec<ContentChange> as FromJson>⟧.reads (codes "changes") json it.changes };
+        and Required ⟦<VersionedTextDocumentIdentifier as FromJson>⟧.reads (codes "document") json it.document
+        and Required ⟦<Vec<ContentChange> as FromJson>⟧.reads (codes "changes") json it.changes };
 
     fn from_json(alloc: Global, value: &Value) -> Result<NotebookCellTextChange, Misfit> {
-        let read = Members::new(alloc, value)
+        match Members::new(alloc, value)
             .required("document")
             .required("changes")
-            .end();
-        match read {
+            .end()
+        {
             Ok(read) => {
                 let (((), document), changes) = read;
                 Ok(NotebookCellTextChange { document, changes })
@@ -475,17 +475,17 @@ impl ToJson for NotebookCellChanges {
 
 impl FromJson for NotebookCellChanges {
     ghost reads = { λ json it. IsObject json
-        × Optional ⟦<NotebookCellStructure as FromJson>⟧.reads (codes "structure") json it.structure
-        × Optional ⟦<Vec<NotebookCell> as FromJson>⟧.reads (codes "data") json it.«data»
-        × Optional ⟦<Vec<NotebookCellTextChange> as FromJson>⟧.reads (codes "textContent") json it.text_content };
+        and Optional ⟦<NotebookCellStructure as FromJson>⟧.reads (codes "structure") json it.structure
+        and Optional ⟦<Vec<NotebookCell> as FromJson>⟧.reads (codes "data") json it.«data»
+        and Optional ⟦<Vec<NotebookCellTextChange> as FromJson>⟧.reads (codes "textContent") json it.text_content };
 
     fn from_json(alloc: Global, value: &Value) -> Result<NotebookCellChanges, Misfit> {
-        let read = Members::new(alloc, value)
+        match Members::new(alloc, value)
             .optional("structure")
             .optional("data")
             .optional("textContent")
-            .end();
-        match read {
+            .end()
+        {
             Ok(read) => {
                 let ((((), structure), data), text_content) = read;
                 Ok(NotebookCellChanges {
@@ -523,15 +523,15 @@ impl ToJson for NotebookDocumentChangeEvent {
 
 impl FromJson for NotebookDocumentChangeEvent {
     ghost reads = { λ json it. IsObject json
-        × Optional ⟦<Value as FromJson>⟧.reads (codes "metadata") json it.metadata
-        × Optional ⟦<NotebookCellChanges as FromJson>⟧.reads (codes "cells") json it.cells };
+        and Optional ⟦<Value as FromJson>⟧.reads (codes "metadata") json it.metadata
+        and Optional ⟦<NotebookCellChanges as FromJson>⟧.reads (codes "cells") json it.cells };
 
     fn from_json(alloc: Global, value: &Value) -> Result<NotebookDocumentChangeEvent, Misfit> {
-        let read = Members::new(alloc, value)
+        match Members::new(alloc, value)
             .optional("metadata")
             .optional("cells")
-            .end();
-        match read {
+            .end()
+        {
             Ok(read) => {
                 let (((), metadata), cells) = read;
                 Ok(NotebookDocumentChangeEvent { metadata, cells })
@@ -565,15 +565,15 @@ impl ToJson for DidChangeNotebookDocumentParams {
 
 impl FromJson for DidChangeNotebookDocumentParams {
     ghost reads = { λ json it. IsObject json
-        × Required ⟦<VersionedNotebookDocumentIdentifier as FromJson>⟧.reads (codes "notebookDocument") json it.notebook_document
-        × Required ⟦<NotebookDocumentChangeEvent as FromJson>⟧.reads (codes "change") json it.change };
+        and Required ⟦<VersionedNotebookDocumentIdentifier as FromJson>⟧.reads (codes "notebookDocument") json it.notebook_document
+        and Required ⟦<NotebookDocumentChangeEvent as FromJson>⟧.reads (codes "change") json it.change };
 
     fn from_json(alloc: Global, value: &Value) -> Result<DidChangeNotebookDocumentParams, Misfit> {
-        let read = Members::new(alloc, value)
+        match Members::new(alloc, value)
             .required("notebookDocument")
             .required("change")
-            .end();
-        match read {
+            .end()
+        {
             Ok(read) => {
                 let (((), notebook_document), change) = read;
                 Ok(DidChangeNotebookDocumentParams {
@@ -609,13 +609,13 @@ impl ToJson for DidSaveNotebookDocumentParams {
 
 impl FromJson for DidSaveNotebookDocumentParams {
     ghost reads = { λ json it. IsObject json
-        × Required ⟦<NotebookDocumentIdentifier as FromJson>⟧.reads (codes "notebookDocument") json it.notebook_document };
+        and Required ⟦<NotebookDocumentIdentifier as FromJson>⟧.reads (codes "notebookDocument") json it.notebook_document };
 
     fn from_json(alloc: Global, value: &Value) -> Result<DidSaveNotebookDocumentParams, Misfit> {
-        let read = Members::new(alloc, value)
+        match Members::new(alloc, value)
             .required("notebookDocument")
-            .end();
-        match read {
+            .end()
+        {
             Ok(read) => {
                 let ((), notebook_document) = read;
                 Ok(DidSaveNotebookDocumentParams { notebook_document })
@@ -649,15 +649,15 @@ impl ToJson for DidCloseNotebookDocumentParams {
 
 impl FromJson for DidCloseNotebookDocumentParams {
     ghost reads = { λ json it. IsObject json
-        × Required ⟦<NotebookDocumentIdentifier as FromJson>⟧.reads (codes "notebookDocument") json it.notebook_document
-        × Required ⟦<Vec<TextDocumentIdentifier> as FromJson>⟧.reads (codes "cellTextDocuments") json it.cell_text_documents };
+        and Required ⟦<NotebookDocumentIdentifier as FromJson>⟧.reads (codes "notebookDocument") json it.notebook_document
+        and Required ⟦<Vec<TextDocumentIdentifier> as FromJson>⟧.reads (codes "cellTextDocuments") json it.cell_text_documents };
 
     fn from_json(alloc: Global, value: &Value) -> Result<DidCloseNotebookDocumentParams, Misfit> {
-        let read = Members::new(alloc, value)
+        match Members::new(alloc, value)
             .required("notebookDocument")
             .required("cellTextDocuments")
-            .end();
-        match read {
+            .end()
+        {
             Ok(read) => {
                 let (((), notebook_document), cell_text_documents) = read;
                 Ok(DidCloseNotebookDocumentParams {

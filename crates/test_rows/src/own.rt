@@ -1,7 +1,7 @@
 // A type of one's own that has one of LSP's in it.
 ghost use Rattle.std.specs.Prelude.{◌∷◌, [], Some, codes};
 ghost use Rattle.lsp_types.specs.Json.{object_of};
-ghost use Rattle.lsp_types.specs.Reads.{IsObject, Required};
+ghost use Rattle.lsp_types.specs.Reads.{IsObject, Required, ◌and◌};
 
 use lsp_types::json::{Members, Misfit, Object};
 use lsp_types::{FromJson, Range, ToJson};
@@ -19,15 +19,15 @@ pub struct Note {
 
 impl FromJson for Note {
     ghost reads = { λ json it. IsObject json
-        × Required ⟦<Range as FromJson>⟧.reads (codes "range") json it.range
-        × Required ⟦<String as FromJson>⟧.reads (codes "text") json it.text };
+        and Required ⟦<Range as FromJson>⟧.reads (codes "range") json it.range
+        and Required ⟦<String as FromJson>⟧.reads (codes "text") json it.text };
 
     fn from_json(alloc: Global, value: &Value) -> Result<Note, Misfit> {
-        let read = Members::new(alloc, value)
+        match Members::new(alloc, value)
             .required("range")
             .required("text")
-            .end();
-        match read {
+            .end()
+        {
             Ok(read) => {
                 let (((), range), text) = read;
                 Ok(Note { range, text })

@@ -1,15 +1,14 @@
 // The members of an object, as they are read.
 ghost use Rattle.std.specs.Prelude.{◌≡◌};
-ghost use Rattle.serde_json.specs.Data.{Data};
 ghost use Rattle.serde_json.specs.View.{view};
 ghost use Rattle.lsp_types.specs.Reads.{
-  Adds,
   Both,
   IfFits,
   IsObject,
   Named,
   Optional,
-  ReadsAs,
+  ReadSoFar,
+  ReadsMore,
   Required,
   TextOrEmpty,
   ThoseThatFit,
@@ -33,7 +32,7 @@ pub struct Members<'v, A: Drop> {
 impl<'v> Members<'v, ()> {
     /// None so far.
     pub fn new(alloc: Global, value: &'v Value) -> Members<'v, ()>
-        ensures { (view result.value.now ≡ view value.now) × ReadsAs (λ _. IsObject (view value.now)) result.read }
+        ensures { ReadSoFar (view value.now) (λ _. IsObject (view value.now)) (view result.value.now) result.read }
     {
         let read = if value.is_object() {
             Ok(())
@@ -47,8 +46,8 @@ impl<'v> Members<'v, ()> {
 impl<'v, A: Drop> Members<'v, A> {
     /// And one that has to be there.
     pub fn required<T: FromJson>(self, key: &'static str) -> Members<'v, (A, T)>
-        ensures { (json : Data) → view self.entry.value.now ≡ json → (view result.value.now ≡ json)
-            × Adds (Required T.reads key.now json) self.entry.read result.read }
+        ensures { ReadsMore (Required T.reads key.now)
+            (view self.entry.value.now) self.entry.read (view result.value.now) result.read }
     {
         let Members { alloc, value, read } = self;
         let more = required(alloc, value, key);
@@ -61,8 +60,8 @@ impl<'v, A: Drop> Members<'v, A> {
 
     /// And one that may be missing or null.
     pub fn optional<T: FromJson>(self, key: &'static str) -> Members<'v, (A, Option<T>)>
-        ensures { (json : Data) → view self.entry.value.now ≡ json → (view result.value.now ≡ json)
-            × Adds (Optional T.reads key.now json) self.entry.read result.read }
+        ensures { ReadsMore (Optional T.reads key.now)
+            (view self.entry.value.now) self.entry.read (view result.value.now) result.read }
     {
         let Members { alloc, value, read } = self;
         let more = optional(alloc, value, key);
@@ -75,8 +74,8 @@ impl<'v, A: Drop> Members<'v, A> {
 
     /// And one that only informs: none if it is missing, is null or does not fit.
     pub fn if_fits<T: FromJson>(self, key: &'static str) -> Members<'v, (A, Option<T>)>
-        ensures { (json : Data) → view self.entry.value.now ≡ json → (view result.value.now ≡ json)
-            × Adds (IfFits T.reads key.now json) self.entry.read result.read }
+        ensures { ReadsMore (IfFits T.reads key.now)
+            (view self.entry.value.now) self.entry.read (view result.value.now) result.read }
     {
         let Members { alloc, value, read } = self;
         let more = if_fits(alloc, value, key);
@@ -89,8 +88,8 @@ impl<'v, A: Drop> Members<'v, A> {
 
     /// And a list that has to be there, without the items that do not fit.
     pub fn those_that_fit<T: FromJson>(self, key: &'static str) -> Members<'v, (A, Vec<T>)>
-        ensures { (json : Data) → view self.entry.value.now ≡ json → (view result.value.now ≡ json)
-            × Adds (λ values. ThoseThatFit T.reads key.now json values.items) self.entry.read result.read }
+        ensures { ReadsMore (ThoseThatFit T.reads key.now)
+            (view self.entry.value.now) self.entry.read (view result.value.now) result.read }
     {
         let Members { alloc, value, read } = self;
         let more = those_that_fit(alloc, value, key);
@@ -103,8 +102,8 @@ impl<'v, A: Drop> Members<'v, A> {
 
     /// And a text that only informs: the empty one if it is missing, is null or is none.
     pub fn text_or_empty(self, key: &'static str) -> Members<'v, (A, String)>
-        ensures { (json : Data) → view self.entry.value.now ≡ json → (view result.value.now ≡ json)
-            × Adds (TextOrEmpty key.now json) self.entry.read result.read }
+        ensures { ReadsMore (TextOrEmpty key.now)
+            (view self.entry.value.now) self.entry.read (view result.value.now) result.read }
     {
         let Members { alloc, value, read } = self;
         let more = text_or_empty(alloc, value, key);
@@ -117,8 +116,8 @@ impl<'v, A: Drop> Members<'v, A> {
 
     /// And one that is this text.
     pub fn named(self, key: &'static str, name: &'static str) -> Members<'v, (A, ())>
-        ensures { (json : Data) → view self.entry.value.now ≡ json → (view result.value.now ≡ json)
-            × Adds (λ _. Named key.now name.now json) self.entry.read result.read }
+        ensures { ReadsMore (λ json _. Named key.now name.now json)
+            (view self.entry.value.now) self.entry.read (view result.value.now) result.read }
     {
         let Members { alloc, value, read } = self;
         let more = named(value, key, name);

@@ -43,7 +43,7 @@ pub fn those_that_fit<T: FromJson>(
     value: &Value,
     key: &'static str,
 ) -> Result<Vec<T>, Misfit>
-    ensures { ReadsAs (λ values. ThoseThatFit T.reads key.now (view value.now) values.items) result }
+    ensures { ReadsAs (ThoseThatFit T.reads key.now (view value.now)) result }
 {
     let Some(member) = value.get(key) else {
         return Err(Misfit::Missing(key));

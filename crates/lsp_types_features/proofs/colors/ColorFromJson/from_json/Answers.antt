@@ -1,12 +1,10 @@
-use Rattle.lsp_types.proofs.ReadLemmas.{done, next}
+use Rattle.lsp_types.proofs.ReadLemmas.{◌ends◌, ◌then◌}
 use Rattle.lsp_types_features.proofs.colors.ColorFromJson.from_json.Goals as goal
 
 pub returns-in-Ok : goal.returns-in-Ok
-returns-in-Ok c = let read = done _ (next _ _ _ _ c.required-4.ensures (next _ _ _ _ c.required-3.ensures
-    (next _ _ _ _ c.required-2.ensures (next _ _ _ _ c.required.ensures c.new.ensures)))) c.end-read.ensures
-    c.in-Ok.is in (read.0.0.0.0, read.0.0.0.1, read.0.0.1, read.0.1, read.1)
+returns-in-Ok c = c.new.ensures then c.required.ensures then c.required-2.ensures then c.required-3.ensures
+    then c.required-4.ensures ends c.in-Ok.ensures
 
 pub returns-in-Err : goal.returns-in-Err
-returns-in-Err c fits it one = done _ (next _ _ _ _ c.required-4.ensures (next _ _ _ _ c.required-3.ensures
-    (next _ _ _ _ c.required-2.ensures (next _ _ _ _ c.required.ensures c.new.ensures)))) c.end-read.ensures
-    c.in-Err.is fits ((((tt, it.red), it.green), it.blue), it.alpha) ((((one.0, one.1), one.2), one.3), one.4)
+returns-in-Err c fits it one = (c.new.ensures then c.required.ensures then c.required-2.ensures then
+    c.required-3.ensures then c.required-4.ensures ends c.in-Err.ensures) fits _ one

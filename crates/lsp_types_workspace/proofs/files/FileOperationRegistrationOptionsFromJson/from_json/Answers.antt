@@ -1,10 +1,8 @@
-use Rattle.lsp_types.proofs.ReadLemmas.{done, next}
+use Rattle.lsp_types.proofs.ReadLemmas.{◌ends◌, ◌then◌}
 use Rattle.lsp_types_workspace.proofs.files.FileOperationRegistrationOptionsFromJson.from_json.Goals as goal
 
 pub returns-in-Ok : goal.returns-in-Ok
-returns-in-Ok c = let read = done _ (next _ _ _ _ c.required.ensures c.new.ensures) c.end-read.ensures
-    c.in-Ok.is in (read.0, read.1)
+returns-in-Ok c = c.new.ensures then c.required.ensures ends c.in-Ok.ensures
 
 pub returns-in-Err : goal.returns-in-Err
-returns-in-Err c fits it one = done _ (next _ _ _ _ c.required.ensures c.new.ensures) c.end-read.ensures
-    c.in-Err.is fits (tt, it.filters) (one.0, one.1)
+returns-in-Err c fits it one = (c.new.ensures then c.required.ensures ends c.in-Err.ensures) fits _ one

@@ -1,26 +1,11 @@
-use Rattle.lsp_types.proofs.ReadLemmas.{done, kept, next}
+use Rattle.lsp_types.proofs.ReadLemmas.{kept, ◌ends◌, ◌then◌}
 use Rattle.lsp_types_workspace.proofs.notebooks.NotebookDocumentFromJson.from_json.Goals as goal
 
 pub returns-in-Ok : goal.returns-in-Ok
-returns-in-Ok c = let read = done _ (next _ _ _ _ c.required-4.ensures (next _ _ _ _ c.optional.ensures (next
-    _ _ _ _ c.required-3.ensures (next _ _ _ _ c.required-2.ensures (next _ _ _ _ c.required.ensures
-    c.new.ensures))))) c.end-read.ensures c.in-Ok.is in (
-      read.0.0.0.0.0,
-      read.0.0.0.0.1,
-      read.0.0.0.1,
-      kept _
-          _ _ read.0.0.1,
-      read.0.1,
-      read.1,
-    )
+returns-in-Ok c = let read = c.new.ensures then c.required.ensures then c.required-2.ensures then
+    c.required-3.ensures then c.optional.ensures then c.required-4.ensures ends c.in-Ok.ensures in
+    (((read.0.0.0, kept _ _ _ read.0.0.1), read.0.1), read.1)
 
 pub returns-in-Err : goal.returns-in-Err
-returns-in-Err c fits it one = done _ (next _ _ _ _ c.required-4.ensures (next _ _ _ _ c.optional.ensures
-    (next _ _ _ _ c.required-3.ensures (next _ _ _ _ c.required-2.ensures (next _ _ _ _ c.required.ensures
-    c.new.ensures))))) c.end-read.ensures c.in-Err.is fits (
-      (
-        (((tt, it.uri), it.notebook_type), it.version),
-        it.metadata,
-      ),
-      it.cells,
-    ) (((((one.0, one.1), one.2), one.3), one.4), one.5)
+returns-in-Err c fits it one = (c.new.ensures then c.required.ensures then c.required-2.ensures then
+    c.required-3.ensures then c.optional.ensures then c.required-4.ensures ends c.in-Err.ensures) fits _ one
