@@ -146,12 +146,52 @@ def those_that_fit(read):
     return items
 
 
+def offsets(value):
+    """A list of two offsets (LSP 3.17, "ParameterInformation")."""
+    fits(isinstance(value, list) and len(value) == 2)
+    return [read_as(UNSIGNED, it) for it in value]
+
+
+offsets.fitting = lambda key: [2, 5]
+
+
+def children(value):
+    """Symbols inside another, a list that is always written."""
+    return some("DocumentSymbol")([] if value is None else value)
+
+
+children.fitting = lambda key: []
+children.is_kept = True
+
+
 def progress(value):
     """LSP 3.17, "Work Done Progress": what its `kind` says."""
     fits(isinstance(value, dict) and value.get("kind") in ("begin", "report", "end"))
     return {"kind": value["kind"], **read_as(f"WorkDoneProgress{value['kind'].capitalize()}", value)}
 
 
+# Types of which each value is one of these.
+CHOICES = {
+    "AnyTextEdit": ["AnnotatedTextEdit", "TextEdit"],
+    "BaseUri": [TEXT, "WorkspaceFolder"],
+    "CodeActionOrCommand": ["Command", "CodeAction"],
+    "CompletionEditRange": ["EditRangeWithInsertReplace", "Range"],
+    "CompletionResult": [some("CompletionItem"), "CompletionList"],
+    "CompletionTextEdit": ["InsertReplaceEdit", "TextEdit"],
+    "DefinitionResult": ["Location", some("Location"), some("LocationLink")],
+    "DocumentChange": ["CreateFile", "RenameFile", "DeleteFile", "TextDocumentEdit"],
+    "DocumentDiagnosticReport": ["RelatedFullDocumentDiagnosticReport", "RelatedUnchangedDocumentDiagnosticReport"],
+    "DocumentSymbolResult": [some("DocumentSymbol"), some("SymbolInformation")],
+    "Documentation": [TEXT, "MarkupContent"],
+    "HoverContents": ["MarkedString", some("MarkedString"), "MarkupContent"],
+    "InlayHintLabel": [TEXT, some("InlayHintLabelPart")],
+    "InlineValue": ["InlineValueText", "InlineValueVariableLookup", "InlineValueEvaluatableExpression"],
+    "MarkedString": [TEXT, "LanguageString"],
+    "ParameterLabel": [TEXT, offsets],
+    "PrepareRenameResult": ["PrepareRenamePlaceholder", "PrepareRenameDefaultBehavior", "Range"],
+    "SemanticTokensDeltaResult": ["SemanticTokensDelta", "SemanticTokens"],
+    "WorkspaceSymbolLocation": ["Location", "TextDocumentIdentifier"],
+}
 DOCUMENT = {"textDocument": "TextDocumentIdentifier"}
 PLACE = {**DOCUMENT, "position": "Position"}
 PART = {**DOCUMENT, "range": "Range"}
@@ -200,18 +240,32 @@ TYPES = {
         **DONE,
     },
     "MarkupContent": {"kind": named("plaintext", "markdown"), "value": TEXT},
-    "Hover": {"contents": "MarkupContent", "range?": "Range"},
+    "LanguageString": {"language": TEXT, "value": TEXT},
+    "Hover": {"contents": "HoverContents", "range?": "Range"},
     "TextEdit": {"range": "Range", "newText": TEXT},
+    "AnnotatedTextEdit": {"range": "Range", "newText": TEXT, "annotationId": TEXT},
     "OptionalVersionedTextDocumentIdentifier": {"uri": TEXT, "version": nullable(INTEGER)},
-    "TextDocumentEdit": {"textDocument": "OptionalVersionedTextDocumentIdentifier", "edits": some("TextEdit")},
+    "TextDocumentEdit": {"textDocument": "OptionalVersionedTextDocumentIdentifier", "edits": some("AnyTextEdit")},
+    "CreateFile": {"kind": named("create"), "uri": TEXT, "options?": "CreateFileOptions", "annotationId?": TEXT},
+    "CreateFileOptions": {"overwrite?": TRUTH, "ignoreIfExists?": TRUTH},
+    "RenameFile": {
+        "kind": named("rename"),
+        "oldUri": TEXT,
+        "newUri": TEXT,
+        "options?": "CreateFileOptions",
+        "annotationId?": TEXT,
+    },
+    "DeleteFile": {"kind": named("delete"), "uri": TEXT, "options?": "DeleteFileOptions", "annotationId?": TEXT},
+    "DeleteFileOptions": {"recursive?": TRUTH, "ignoreIfNotExists?": TRUTH},
     "ChangeAnnotation": {"label": TEXT, "needsConfirmation?": TRUTH, "description?": TEXT},
     "WorkspaceEdit": {
         "changes?": each(some("TextEdit")),
-        "documentChanges?": some("TextDocumentEdit"),
+        "documentChanges?": some("DocumentChange"),
         "changeAnnotations?": each("ChangeAnnotation"),
     },
     "RenameParams": {**PLACE, "newName": TEXT, **DONE},
-    "PrepareRenameResult": {"range": "Range", "placeholder": TEXT},
+    "PrepareRenamePlaceholder": {"range": "Range", "placeholder": TEXT},
+    "PrepareRenameDefaultBehavior": {"defaultBehavior": TRUTH},
     "FormattingOptions": {
         "tabSize": UNSIGNED,
         "insertSpaces": TRUTH,
@@ -232,7 +286,7 @@ TYPES = {
         "kind?": among(1, 25),
         "tags?": some(among(1, 1)),
         "detail?": TEXT,
-        "documentation?": "MarkupContent",
+        "documentation?": "Documentation",
         "deprecated?": TRUTH,
         "preselect?": TRUTH,
         "sortText?": TEXT,
@@ -240,16 +294,18 @@ TYPES = {
         "insertText?": TEXT,
         "insertTextFormat?": among(1, 2),
         "insertTextMode?": among(1, 2),
-        "textEdit?": "TextEdit",
+        "textEdit?": "CompletionTextEdit",
         "textEditText?": TEXT,
         "additionalTextEdits?": some("TextEdit"),
         "commitCharacters?": some(TEXT),
         "command?": "Command",
         "data?": ANY,
     },
+    "InsertReplaceEdit": {"newText": TEXT, "insert": "Range", "replace": "Range"},
+    "EditRangeWithInsertReplace": {"insert": "Range", "replace": "Range"},
     "CompletionItemDefaults": {
         "commitCharacters?": some(TEXT),
-        "editRange?": "Range",
+        "editRange?": "CompletionEditRange",
         "insertTextFormat?": among(1, 2),
         "insertTextMode?": among(1, 2),
         "data?": ANY,
@@ -285,37 +341,47 @@ TYPES = {
     "DocumentSymbol": {
         "name": TEXT,
         "detail?": TEXT,
-        "kind": UNSIGNED,
+        "kind": among(1, 26),
         "tags?": some(among(1, 1)),
         "deprecated?": TRUTH,
         "range": "Range",
         "selectionRange": "Range",
-        "children": some("DocumentSymbol"),
+        "children?": children,
     },
     "WorkspaceSymbolParams": {"query": TEXT, **PARTS},
+    "SymbolInformation": {
+        "name": TEXT,
+        "kind": among(1, 26),
+        "tags?": some(among(1, 1)),
+        "deprecated?": TRUTH,
+        "location": "Location",
+        "containerName?": TEXT,
+    },
     "WorkspaceSymbol": {
         "name": TEXT,
         "kind": among(1, 26),
         "tags?": some(among(1, 1)),
+        "deprecated?": TRUTH,
         "containerName?": TEXT,
-        "location": "Location",
+        "location": "WorkspaceSymbolLocation",
         "data?": ANY,
     },
-    "ParameterInformation": {"label": TEXT, "documentation?": "MarkupContent"},
+    "ParameterInformation": {"label": "ParameterLabel", "documentation?": "Documentation"},
     "SignatureInformation": {
         "label": TEXT,
-        "documentation?": "MarkupContent",
+        "documentation?": "Documentation",
         "parameters?": some("ParameterInformation"),
         "activeParameter?": UNSIGNED,
     },
     "SignatureHelp": {"signatures": some("SignatureInformation"), "activeSignature?": UNSIGNED, "activeParameter?": UNSIGNED},
     "SemanticTokens": {"resultId?": TEXT, "data": some(UNSIGNED)},
+    "InlayHintLabelPart": {"value": TEXT, "tooltip?": "Documentation", "location?": "Location", "command?": "Command"},
     "InlayHint": {
         "position": "Position",
-        "label": TEXT,
+        "label": "InlayHintLabel",
         "kind?": among(1, 2),
         "textEdits?": some("TextEdit"),
-        "tooltip?": TEXT,
+        "tooltip?": "Documentation",
         "paddingLeft?": TRUTH,
         "paddingRight?": TRUTH,
         "data?": ANY,
@@ -427,7 +493,7 @@ TYPES = {
     "FileOperationOptions": {
         f"{when}{what}?": "FileOperationRegistrationOptions" for what in ("Create", "Rename", "Delete") for when in ("did", "will")
     },
-    "RelativePattern": {"baseUri": TEXT, "pattern": TEXT},
+    "RelativePattern": {"baseUri": "BaseUri", "pattern": TEXT},
     "FileSystemWatcher": {"globPattern": either(TEXT, "RelativePattern"), "kind?": UNSIGNED},
     "DidChangeWatchedFilesRegistrationOptions": {"watchers": some("FileSystemWatcher")},
     # Notebooks.
@@ -497,6 +563,8 @@ def all_capabilities(characters, names):
 
 def sample(how, key):
     """A value that fits. A text is the member's key, so that no two are alike."""
+    if how in CHOICES:
+        return sample(CHOICES[how][0], key)
     if isinstance(how, str):
         return {name.rstrip("?"): sample(member, name.rstrip("?")) for name, member in TYPES[how].items()}
     return how.fitting(key) if hasattr(how, "fitting") else next(it for it in [key, True, 1, "markdown"] if is_fit(how, it))
@@ -514,7 +582,7 @@ def is_fit(how, value):
 WHOLE = (
     "InitializeParams DidOpenTextDocumentParams DidChangeTextDocumentParams WillSaveTextDocumentParams DidSaveTextDocumentParams "
     "DidCloseTextDocumentParams TextDocumentParams TextDocumentPositionParams TextDocumentRangeParams InlayHintParams ReferenceParams "
-    "CodeActionParams CodeAction Command RenameParams PrepareRenameResult DocumentFormattingParams DocumentRangeFormattingParams "
+    "CodeActionParams CodeAction Command RenameParams DocumentFormattingParams DocumentRangeFormattingParams "
     "ExecuteCommandParams ApplyWorkspaceEditParams ApplyWorkspaceEditResult Hover CompletionList CompletionItem SignatureHelp Location "
     "SemanticTokens InlayHint WorkspaceSymbolParams WorkspaceSymbol PublishDiagnosticsParams ShowMessageParams ConfigurationParams "
     "WorkDoneProgressParams WorkDoneProgressCreateParams "
@@ -528,13 +596,6 @@ WHOLE = (
     "DidChangeWatchedFilesRegistrationOptions DidOpenNotebookDocumentParams DidChangeNotebookDocumentParams DidSaveNotebookDocumentParams "
     "DidCloseNotebookDocumentParams"
 )
-# Types of which each value is one of these.
-CHOICES = {
-    "DefinitionResult": ["Location", some("Location"), some("LocationLink")],
-    "InlineValue": ["InlineValueText", "InlineValueVariableLookup", "InlineValueEvaluatableExpression"],
-    "SemanticTokensDeltaResult": ["SemanticTokensDelta", "SemanticTokens"],
-    "DocumentDiagnosticReport": ["RelatedFullDocumentDiagnosticReport", "RelatedUnchangedDocumentDiagnosticReport"],
-}
 
 
 def rows():
@@ -551,7 +612,7 @@ def rows():
     yield "# Types with several forms."
     for name, ways in CHOICES.items():
         for way in ways:
-            yield f"typed {name} {ordered(sample(way, ''))}"
+            yield f"typed {name} {ordered(sample(way, 'a'))}"
         yield f"typed {name} {{}}"
     yield """typed SelectionRange {"ranges": [[1, 2], [0, 9]]}"""
     yield """typed Note {"range":{"start":{"line":1,"character":2},"end":{"line":3,"character":4}},"text":"a"}"""
@@ -570,6 +631,8 @@ def rows():
 
 def read_as(how, value):
     """A value as one of these types, or by one of these functions, without what is not the type's own."""
+    if how in CHOICES:
+        return either(*CHOICES[how])(value)
     if not isinstance(how, str):
         return how(value)
     fits(isinstance(value, dict))
@@ -577,8 +640,6 @@ def read_as(how, value):
     for name, member in TYPES[how].items():
         key, is_kept = name.rstrip("?"), getattr(member, "is_kept", False)
         given = value.get(key)
-        if key == "children" and given is None:
-            given = []
         if given is not None or is_kept:
             taken = read_as(member, given)
             if taken is not None or is_kept or member is ANY:
@@ -627,7 +688,6 @@ OTHERS = {
     "ServerCapabilities": capabilities_answer,
     "InitializeResult": result_answer,
     "SelectionRange": selection_answer,
-    **{name: either(*ways) for name, ways in CHOICES.items()},
 }
 
 

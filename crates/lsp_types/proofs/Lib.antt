@@ -2,3 +2,4 @@ mod FileUriLemmas
 mod FolderLemmas
 pub mod JsonLemmas
 pub mod ReadLemmas
+mod SymbolLemmas

@@ -2,5 +2,6 @@ pub mod FileUris
 pub mod Folders
 pub mod Json
 pub mod Reads
+pub mod Symbols
 pub mod Tokens
 pub mod Written

@@ -3,19 +3,20 @@
 ghost use Rattle.std.specs.Prelude.{◌∷◌, [], Some, codes, option_map};
 ghost use Rattle.serde_json.specs.Data.{number, unsigned};
 ghost use Rattle.lsp_types.specs.Json.{object_of};
-ghost use Rattle.lsp_types.specs.Reads.{IfFits, IsObject, IsWithin, Optional, Required, ThoseThatFit, ◌and◌};
+ghost use Rattle.lsp_types.specs.Reads.{IfFits, IsObject, IsWithin, NoneReads, Optional, Required, ThoseThatFit, ◌and◌};
 
 use crate::diagnostics::Diagnostic;
 use crate::documents::TextDocumentIdentifier;
 use crate::edits::WorkspaceEdit;
-use crate::json::{FromJson, Members, Misfit, Object, ToJson, number_within};
+use crate::json::{FromJson, Members, Misfit, Object, ToJson, fitting, number_within};
 use crate::progress::ProgressToken;
 use crate::workspace::Command;
 use lsp_text::Range;
 use serde_json::Value;
 use std::alloc::{AllocError, Global};
 
-/// The params of `textDocument/codeAction` (LSP 3.17, "Code Action Request"). The result is a list of `CodeAction` or null.
+/// The params of `textDocument/codeAction` (LSP 3.17, "Code Action Request"). The result is a list of
+/// `CodeActionOrCommand` or null.
 #[derive(Drop)]
 pub struct CodeActionParams {
     /// The document.
@@ -87,7 +88,8 @@ impl FromJson for CodeActionParams {
 /// What is known where code actions are asked for (LSP 3.17, "CodeActionContext").
 #[derive(Drop)]
 pub struct CodeActionContext {
-    /// The diagnostics that the client shows there, of each server and tool. On reading, one that does not fit is left out.
+    /// The diagnostics that the client shows there, of each server and tool. On reading, one that does not fit is left
+    /// out.
     pub diagnostics: Vec<Diagnostic>,
     /// The kinds that are asked for (`code_action_kinds`), each with those below it.
     pub only: Option<Vec<String>>,
@@ -314,6 +316,51 @@ impl FromJson for CodeAction {
                     data,
                 })
             }
+            Err(misfit) => Err(misfit),
+        }
+    }
+}
+
+/// What a user may choose (LSP 3.17, "Code Action Request"). The `command` of a command is a string, and that of a code
+/// action is none.
+#[derive(Drop)]
+pub enum CodeActionOrCommand {
+    /// A command that the client sends.
+    Command(Command),
+    /// A change, and perhaps a command.
+    Action(CodeAction),
+}
+
+impl ToJson for CodeActionOrCommand {
+    ghost use Rattle.lsp_types.specs.declared.actions.CodeActionOrCommand.TheVariants.{Command, Action};
+
+    ghost stands = { elim [
+      | Command it ↦ ⟦<Command as ToJson>⟧.stands it
+      | Action it ↦ ⟦<CodeAction as ToJson>⟧.stands it
+    ] };
+
+    fn to_json(&self, alloc: Global) -> Result<Value, AllocError> {
+        match self {
+            CodeActionOrCommand::Command(it) => it.to_json(alloc),
+            CodeActionOrCommand::Action(it) => it.to_json(alloc),
+        }
+    }
+}
+
+impl FromJson for CodeActionOrCommand {
+    ghost use Rattle.lsp_types.specs.declared.actions.CodeActionOrCommand.TheVariants.{Command, Action};
+
+    ghost reads = { λ json. elim [
+      | Command it ↦ ⟦<Command as FromJson>⟧.reads json it
+      | Action it ↦ NoneReads ⟦<Command as FromJson>⟧.reads json × ⟦<CodeAction as FromJson>⟧.reads json it
+    ] };
+
+    fn from_json(alloc: Global, value: &Value) -> Result<CodeActionOrCommand, Misfit> {
+        if let Some(it) = fitting(alloc, value)? {
+            return Ok(CodeActionOrCommand::Command(it));
+        }
+        match FromJson::from_json(alloc, value) {
+            Ok(it) => Ok(CodeActionOrCommand::Action(it)),
             Err(misfit) => Err(misfit),
         }
     }

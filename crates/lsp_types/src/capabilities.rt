@@ -82,8 +82,8 @@ pub struct ServerCapabilities {
     pub workspace: Option<WorkspaceOptions>,
     /// What the standard lacks.
     pub experimental: Option<Value>,
-    /// An object, whose members are written beside these, as `{"codeLensProvider": {}}`. Another value is passed over. If a field
-    /// above has the same name, the member here counts: a tree keeps the last of two.
+    /// An object, whose members are written beside these, as `{"codeLensProvider": {}}`. Another value is passed over.
+    /// If a field above has the same name, the member here counts: a tree keeps the last of two.
     pub more: Option<Value>,
 }
 

@@ -3,12 +3,12 @@
 ghost use Rattle.std.specs.Prelude.{◌∷◌, [], Some, codes, option_map};
 ghost use Rattle.serde_json.specs.Data.{number, unsigned};
 ghost use Rattle.lsp_types.specs.Json.{object_of};
-ghost use Rattle.lsp_types.specs.Reads.{IfFits, IsObject, IsWithin, Optional, Required, ◌and◌};
+ghost use Rattle.lsp_types.specs.Reads.{IfFits, IsObject, IsWithin, NoneReads, Optional, Required, ◌and◌};
 
 use crate::documents::TextDocumentIdentifier;
 use crate::edits::TextEdit;
-use crate::hovers::MarkupContent;
-use crate::json::{FromJson, Members, Misfit, Object, ToJson, number_within};
+use crate::hovers::Documentation;
+use crate::json::{FromJson, Members, Misfit, Object, ToJson, fitting, number_within};
 use crate::progress::ProgressToken;
 use crate::workspace::Command;
 use lsp_text::{Position, Range};
@@ -149,8 +149,8 @@ impl FromJson for CompletionItemTag {
     }
 }
 
-/// What becomes of the whitespace in a completion of several lines (LSP 3.17, "InsertTextMode"). On reading, another number is
-/// refused.
+/// What becomes of the whitespace in a completion of several lines (LSP 3.17, "InsertTextMode"). On reading, another
+/// number is refused.
 #[derive(Clone, Copy, Drop)]
 pub struct InsertTextMode(pub u32);
 
@@ -242,6 +242,102 @@ impl FromJson for CompletionItemLabelDetails {
     }
 }
 
+/// An edit of a completion whose user chooses what it replaces (LSP 3.17, "InsertReplaceEdit").
+#[derive(Drop)]
+pub struct InsertReplaceEdit {
+    /// The text that is inserted.
+    pub new_text: String,
+    /// The part to replace if it is inserted. It is the start of `replace`, and ends at the cursor.
+    pub insert: Range,
+    /// The part to replace if it takes the place of the word.
+    pub replace: Range,
+}
+
+impl ToJson for InsertReplaceEdit {
+    ghost stands = { λ it. object_of (
+        (codes "newText", Some (⟦<String as ToJson>⟧.stands it.new_text))
+        ∷ (codes "insert", Some (⟦<Range as ToJson>⟧.stands it.insert))
+        ∷ (codes "replace", Some (⟦<Range as ToJson>⟧.stands it.replace)) ∷ []) };
+
+    fn to_json(&self, alloc: Global) -> Result<Value, AllocError> {
+        Object::new(alloc)
+            .member("newText", &self.new_text)
+            .member("insert", &self.insert)
+            .member("replace", &self.replace)
+            .end()
+    }
+}
+
+impl FromJson for InsertReplaceEdit {
+    ghost reads = { λ json it. IsObject json
+        and Required ⟦<String as FromJson>⟧.reads (codes "newText") json it.new_text
+        and Required ⟦<Range as FromJson>⟧.reads (codes "insert") json it.insert
+        and Required ⟦<Range as FromJson>⟧.reads (codes "replace") json it.replace };
+
+    fn from_json(alloc: Global, value: &Value) -> Result<InsertReplaceEdit, Misfit> {
+        match Members::new(alloc, value)
+            .required("newText")
+            .required("insert")
+            .required("replace")
+            .end()
+        {
+            Ok(read) => {
+                let ((((), new_text), insert), replace) = read;
+                Ok(InsertReplaceEdit {
+                    new_text,
+                    insert,
+                    replace,
+                })
+            }
+            Err(misfit) => Err(misfit),
+        }
+    }
+}
+
+/// The edit that inserts a completion (LSP 3.17, "CompletionItem"). Its members tell the forms apart.
+#[derive(Drop)]
+pub enum CompletionTextEdit {
+    /// One whose user chooses what it replaces, for clients with `insertReplaceSupport`.
+    InsertReplace(InsertReplaceEdit),
+    /// One of one part. It lies in one line, and has the cursor in it or at its end.
+    Edit(TextEdit),
+}
+
+impl ToJson for CompletionTextEdit {
+    ghost use Rattle.lsp_types.specs.declared.completions.CompletionTextEdit.TheVariants.{InsertReplace, Edit};
+
+    ghost stands = { elim [
+      | InsertReplace it ↦ ⟦<InsertReplaceEdit as ToJson>⟧.stands it
+      | Edit it ↦ ⟦<TextEdit as ToJson>⟧.stands it
+    ] };
+
+    fn to_json(&self, alloc: Global) -> Result<Value, AllocError> {
+        match self {
+            CompletionTextEdit::InsertReplace(it) => it.to_json(alloc),
+            CompletionTextEdit::Edit(it) => it.to_json(alloc),
+        }
+    }
+}
+
+impl FromJson for CompletionTextEdit {
+    ghost use Rattle.lsp_types.specs.declared.completions.CompletionTextEdit.TheVariants.{InsertReplace, Edit};
+
+    ghost reads = { λ json. elim [
+      | InsertReplace it ↦ ⟦<InsertReplaceEdit as FromJson>⟧.reads json it
+      | Edit it ↦ NoneReads ⟦<InsertReplaceEdit as FromJson>⟧.reads json × ⟦<TextEdit as FromJson>⟧.reads json it
+    ] };
+
+    fn from_json(alloc: Global, value: &Value) -> Result<CompletionTextEdit, Misfit> {
+        if let Some(it) = fitting(alloc, value)? {
+            return Ok(CompletionTextEdit::InsertReplace(it));
+        }
+        match FromJson::from_json(alloc, value) {
+            Ok(it) => Ok(CompletionTextEdit::Edit(it)),
+            Err(misfit) => Err(misfit),
+        }
+    }
+}
+
 /// A completion (LSP 3.17, "CompletionItem"). The params and the result of `completionItem/resolve` are one.
 #[derive(Drop)]
 pub struct CompletionItem {
@@ -256,7 +352,7 @@ pub struct CompletionItem {
     /// More about it, as its type.
     pub detail: Option<String>,
     /// All about it.
-    pub documentation: Option<MarkupContent>,
+    pub documentation: Option<Documentation>,
     /// Whether it is not to be used. `tags` has come in its place.
     pub deprecated: Option<bool>,
     /// Whether it is the one to take first.
@@ -272,7 +368,7 @@ pub struct CompletionItem {
     /// What becomes of its whitespace. `None` means what the client does.
     pub insert_text_mode: Option<InsertTextMode>,
     /// The edit that inserts it.
-    pub text_edit: Option<TextEdit>,
+    pub text_edit: Option<CompletionTextEdit>,
     /// The text of that edit, if its range is that of the list.
     pub text_edit_text: Option<String>,
     /// Edits elsewhere in the document, as of an import.
@@ -343,7 +439,7 @@ impl ToJson for CompletionItem {
         ∷ (codes "kind", option_map ⟦<CompletionItemKind as ToJson>⟧.stands it.kind)
         ∷ (codes "tags", option_map ⟦<Vec<CompletionItemTag> as ToJson>⟧.stands it.tags)
         ∷ (codes "detail", option_map ⟦<String as ToJson>⟧.stands it.detail)
-        ∷ (codes "documentation", option_map ⟦<MarkupContent as ToJson>⟧.stands it.documentation)
+        ∷ (codes "documentation", option_map ⟦<Documentation as ToJson>⟧.stands it.documentation)
         ∷ (codes "deprecated", option_map ⟦<bool as ToJson>⟧.stands it.deprecated)
         ∷ (codes "preselect", option_map ⟦<bool as ToJson>⟧.stands it.preselect)
         ∷ (codes "sortText", option_map ⟦<String as ToJson>⟧.stands it.sort_text)
@@ -351,7 +447,7 @@ impl ToJson for CompletionItem {
         ∷ (codes "insertText", option_map ⟦<String as ToJson>⟧.stands it.insert_text)
         ∷ (codes "insertTextFormat", option_map ⟦<InsertTextFormat as ToJson>⟧.stands it.insert_text_format)
         ∷ (codes "insertTextMode", option_map ⟦<InsertTextMode as ToJson>⟧.stands it.insert_text_mode)
-        ∷ (codes "textEdit", option_map ⟦<TextEdit as ToJson>⟧.stands it.text_edit)
+        ∷ (codes "textEdit", option_map ⟦<CompletionTextEdit as ToJson>⟧.stands it.text_edit)
         ∷ (codes "textEditText", option_map ⟦<String as ToJson>⟧.stands it.text_edit_text)
         ∷ (codes "additionalTextEdits", option_map ⟦<Vec<TextEdit> as ToJson>⟧.stands it.additional_text_edits)
         ∷ (codes "commitCharacters", option_map ⟦<Vec<String> as ToJson>⟧.stands it.commit_characters)
@@ -390,7 +486,7 @@ impl FromJson for CompletionItem {
         and Optional ⟦<CompletionItemKind as FromJson>⟧.reads (codes "kind") json it.kind
         and Optional ⟦<Vec<CompletionItemTag> as FromJson>⟧.reads (codes "tags") json it.tags
         and Optional ⟦<String as FromJson>⟧.reads (codes "detail") json it.detail
-        and Optional ⟦<MarkupContent as FromJson>⟧.reads (codes "documentation") json it.documentation
+        and Optional ⟦<Documentation as FromJson>⟧.reads (codes "documentation") json it.documentation
         and Optional ⟦<bool as FromJson>⟧.reads (codes "deprecated") json it.deprecated
         and Optional ⟦<bool as FromJson>⟧.reads (codes "preselect") json it.preselect
         and Optional ⟦<String as FromJson>⟧.reads (codes "sortText") json it.sort_text
@@ -398,7 +494,7 @@ impl FromJson for CompletionItem {
         and Optional ⟦<String as FromJson>⟧.reads (codes "insertText") json it.insert_text
         and Optional ⟦<InsertTextFormat as FromJson>⟧.reads (codes "insertTextFormat") json it.insert_text_format
         and Optional ⟦<InsertTextMode as FromJson>⟧.reads (codes "insertTextMode") json it.insert_text_mode
-        and Optional ⟦<TextEdit as FromJson>⟧.reads (codes "textEdit") json it.text_edit
+        and Optional ⟦<CompletionTextEdit as FromJson>⟧.reads (codes "textEdit") json it.text_edit
         and Optional ⟦<String as FromJson>⟧.reads (codes "textEditText") json it.text_edit_text
         and Optional ⟦<Vec<TextEdit> as FromJson>⟧.reads (codes "additionalTextEdits") json it.additional_text_edits
         and Optional ⟦<Vec<String> as FromJson>⟧.reads (codes "commitCharacters") json it.commit_characters
@@ -511,13 +607,99 @@ impl FromJson for CompletionItem {
     }
 }
 
+/// Parts to replace, of which the user chooses (LSP 3.17, "CompletionList").
+#[derive(Clone, Copy, Drop)]
+pub struct EditRangeWithInsertReplace {
+    /// The part to replace if an item is inserted.
+    pub insert: Range,
+    /// The part to replace if it takes the place of the word.
+    pub replace: Range,
+}
+
+impl ToJson for EditRangeWithInsertReplace {
+    ghost stands = { λ it. object_of (
+        (codes "insert", Some (⟦<Range as ToJson>⟧.stands it.insert))
+        ∷ (codes "replace", Some (⟦<Range as ToJson>⟧.stands it.replace)) ∷ []) };
+
+    fn to_json(&self, alloc: Global) -> Result<Value, AllocError> {
+        Object::new(alloc)
+            .member("insert", &self.insert)
+            .member("replace", &self.replace)
+            .end()
+    }
+}
+
+impl FromJson for EditRangeWithInsertReplace {
+    ghost reads = { λ json it. IsObject json
+        and Required ⟦<Range as FromJson>⟧.reads (codes "insert") json it.insert
+        and Required ⟦<Range as FromJson>⟧.reads (codes "replace") json it.replace };
+
+    fn from_json(alloc: Global, value: &Value) -> Result<EditRangeWithInsertReplace, Misfit> {
+        match Members::new(alloc, value)
+            .required("insert")
+            .required("replace")
+            .end()
+        {
+            Ok(read) => {
+                let (((), insert), replace) = read;
+                Ok(EditRangeWithInsertReplace { insert, replace })
+            }
+            Err(misfit) => Err(misfit),
+        }
+    }
+}
+
+/// The part that completions replace (LSP 3.17, "CompletionList"). The members tell the forms apart.
+#[derive(Clone, Copy, Drop)]
+pub enum CompletionEditRange {
+    /// One that the user chooses.
+    InsertReplace(EditRangeWithInsertReplace),
+    /// One part.
+    Range(Range),
+}
+
+impl ToJson for CompletionEditRange {
+    ghost use Rattle.lsp_types.specs.declared.completions.CompletionEditRange.TheVariants.{InsertReplace, Range};
+
+    ghost stands = { elim [
+      | InsertReplace it ↦ ⟦<EditRangeWithInsertReplace as ToJson>⟧.stands it
+      | Range it ↦ ⟦<Range as ToJson>⟧.stands it
+    ] };
+
+    fn to_json(&self, alloc: Global) -> Result<Value, AllocError> {
+        match self {
+            CompletionEditRange::InsertReplace(it) => it.to_json(alloc),
+            CompletionEditRange::Range(it) => it.to_json(alloc),
+        }
+    }
+}
+
+impl FromJson for CompletionEditRange {
+    ghost use Rattle.lsp_types.specs.declared.completions.CompletionEditRange.TheVariants.{InsertReplace, Range};
+
+    ghost reads = { λ json. elim [
+      | InsertReplace it ↦ ⟦<EditRangeWithInsertReplace as FromJson>⟧.reads json it
+      | Range it ↦ NoneReads ⟦<EditRangeWithInsertReplace as FromJson>⟧.reads json × ⟦<Range as FromJson>⟧.reads json it
+    ] };
+
+    fn from_json(alloc: Global, value: &Value) -> Result<CompletionEditRange, Misfit> {
+        if let Some(it) = fitting(alloc, value)? {
+            return Ok(CompletionEditRange::InsertReplace(it));
+        }
+        match FromJson::from_json(alloc, value) {
+            Ok(it) => Ok(CompletionEditRange::Range(it)),
+            Err(misfit) => Err(misfit),
+        }
+    }
+}
+
 /// What the items of a list have that do not say it themselves (LSP 3.17, "CompletionList").
 #[derive(Drop)]
 pub struct CompletionItemDefaults {
     /// Which characters take them as they are typed.
     pub commit_characters: Option<Vec<String>>,
     /// The part that they replace.
-    pub edit_range: Option<Range>,
+    pub edit_range: Option<CompletionEditRange>,
     /// How their texts are meant.
     pub insert_text_format: Option<InsertTextFormat>,
     /// What becomes of their whitespace.
@@ -552,7 +734,7 @@ impl Default for CompletionItemDefaults {
 impl ToJson for CompletionItemDefaults {
     ghost stands = { λ it. object_of (
         (codes "commitCharacters", option_map ⟦<Vec<String> as ToJson>⟧.stands it.commit_characters)
-        ∷ (codes "editRange", option_map ⟦<Range as ToJson>⟧.stands it.edit_range)
+        ∷ (codes "editRange", option_map ⟦<CompletionEditRange as ToJson>⟧.stands it.edit_range)
         ∷ (codes "insertTextFormat", option_map ⟦<InsertTextFormat as ToJson>⟧.stands it.insert_text_format)
         ∷ (codes "insertTextMode", option_map ⟦<InsertTextMode as ToJson>⟧.stands it.insert_text_mode)
         ∷ (codes "data", option_map ⟦<Value as ToJson>⟧.stands it.«data») ∷ []) };
@@ -571,7 +753,7 @@ impl ToJson for CompletionItemDefaults {
 impl FromJson for CompletionItemDefaults {
     ghost reads = { λ json it. IsObject json
         and Optional ⟦<Vec<String> as FromJson>⟧.reads (codes "commitCharacters") json it.commit_characters
-        and Optional ⟦<Range as FromJson>⟧.reads (codes "editRange") json it.edit_range
+        and Optional ⟦<CompletionEditRange as FromJson>⟧.reads (codes "editRange") json it.edit_range
         and Optional ⟦<InsertTextFormat as FromJson>⟧.reads (codes "insertTextFormat") json it.insert_text_format
         and Optional ⟦<InsertTextMode as FromJson>⟧.reads (codes "insertTextMode") json it.insert_text_mode
         and Optional ⟦<Value as FromJson>⟧.reads (codes "data") json it.«data» };
@@ -749,7 +931,7 @@ impl FromJson for CompletionParams {
     }
 }
 
-/// The result of `textDocument/completion`, or null (LSP 3.17, "CompletionList").
+/// Completions, and what holds of them all (LSP 3.17, "CompletionList").
 #[derive(Drop)]
 pub struct CompletionList {
     /// Whether more typing is to ask again.
@@ -815,6 +997,50 @@ impl FromJson for CompletionList {
                     items,
                 })
             }
+            Err(misfit) => Err(misfit),
+        }
+    }
+}
+
+/// The result of `textDocument/completion`, or null: a list, or an object (LSP 3.17, "Completion Request").
+#[derive(Drop)]
+pub enum CompletionResult {
+    /// All completions.
+    Items(Vec<CompletionItem>),
+    /// Completions, and what holds of them all.
+    List(CompletionList),
+}
+
+impl ToJson for CompletionResult {
+    ghost use Rattle.lsp_types.specs.declared.completions.CompletionResult.TheVariants.{Items, List};
+
+    ghost stands = { elim [
+      | Items it ↦ ⟦<Vec<CompletionItem> as ToJson>⟧.stands it
+      | List it ↦ ⟦<CompletionList as ToJson>⟧.stands it
+    ] };
+
+    fn to_json(&self, alloc: Global) -> Result<Value, AllocError> {
+        match self {
+            CompletionResult::Items(it) => it.to_json(alloc),
+            CompletionResult::List(it) => it.to_json(alloc),
+        }
+    }
+}
+
+impl FromJson for CompletionResult {
+    ghost use Rattle.lsp_types.specs.declared.completions.CompletionResult.TheVariants.{Items, List};
+
+    ghost reads = { λ json. elim [
+      | Items it ↦ ⟦<Vec<CompletionItem> as FromJson>⟧.reads json it
+      | List it ↦ NoneReads ⟦<Vec<CompletionItem> as FromJson>⟧.reads json × ⟦<CompletionList as FromJson>⟧.reads json it
+    ] };
+
+    fn from_json(alloc: Global, value: &Value) -> Result<CompletionResult, Misfit> {
+        if let Some(it) = fitting(alloc, value)? {
+            return Ok(CompletionResult::Items(it));
+        }
+        match FromJson::from_json(alloc, value) {
+            Ok(it) => Ok(CompletionResult::List(it)),
             Err(misfit) => Err(misfit),
         }
     }

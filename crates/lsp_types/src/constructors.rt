@@ -4,7 +4,7 @@ ghost use Rattle.std.specs.Prelude.{◌≡◌};
 use crate::capabilities::ServerCapabilities;
 use crate::choices::MarkupKind;
 use crate::edits::{TextEdit, WorkspaceEdit};
-use crate::hovers::{Hover, MarkupContent};
+use crate::hovers::{Hover, HoverContents, MarkupContent};
 use crate::lifecycle::{InitializeResult, ServerInfo};
 use crate::window::MessageType;
 use crate::workspace::{ConfigurationItem, ConfigurationParams};
@@ -13,16 +13,17 @@ use std::collections::BTreeMap;
 
 impl Hover {
     ghost use Rattle.std.specs.Prelude.{◌≡◌, None};
+    ghost use Rattle.lsp_types.specs.declared.hovers.HoverContents.TheVariants.{Markup};
 
     /// A text, about the place that was asked for.
     pub fn new(kind: MarkupKind, value: String) -> Hover
         ensures { result ≡ record {
-          contents = record { kind = kind; value = value };
+          contents = Markup (record { kind = kind; value = value });
           range = None;
         } }
     {
         Hover {
-            contents: MarkupContent { kind, value },
+            contents: HoverContents::Markup(MarkupContent { kind, value }),
             range: None,
         }
     }

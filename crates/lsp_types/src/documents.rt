@@ -140,8 +140,8 @@ impl FromJson for LocationLink {
     }
 }
 
-/// Where something is: the result of `textDocument/definition`, `declaration`, `typeDefinition` and `implementation`, or null (LSP
-/// 3.17, "Goto Definition Request").
+/// Where something is: the result of `textDocument/definition`, `declaration`, `typeDefinition` and `implementation`,
+/// or null (LSP 3.17, "Goto Definition Request").
 #[derive(Drop)]
 pub enum DefinitionResult {
     /// One place.
@@ -448,8 +448,8 @@ impl FromJson for DidSaveTextDocumentParams {
     }
 }
 
-/// The params of `textDocument/willSave` and `willSaveWaitUntil` (LSP 3.17, "WillSaveTextDocument Notification"). The result of the
-/// second is a list of `TextEdit` or null.
+/// The params of `textDocument/willSave` and `willSaveWaitUntil` (LSP 3.17, "WillSaveTextDocument Notification"). The
+/// result of the second is a list of `TextEdit` or null.
 #[derive(Drop)]
 pub struct WillSaveTextDocumentParams {
     /// The document that will be saved.
@@ -617,7 +617,8 @@ pub type TextDocumentParams = DocumentSymbolParams;
 /// The params of `textDocument/semanticTokens/full` (LSP 3.17, "Semantic Tokens").
 pub type SemanticTokensParams = DocumentSymbolParams;
 
-/// A place in a document: the params of hover, definition, signature help and others (LSP 3.17, "TextDocumentPositionParams").
+/// A place in a document: the params of hover, definition, signature help and others (LSP 3.17,
+/// "TextDocumentPositionParams").
 #[derive(Drop)]
 pub struct TextDocumentPositionParams {
     /// The document.

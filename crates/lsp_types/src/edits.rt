@@ -1,11 +1,12 @@
 //! Changes of texts that a server makes: edits, renames and formatting.
 // `tools/types` wrote this file from `types.txt`: change that.
 ghost use Rattle.std.specs.Prelude.{◌∷◌, [], Some, codes, option_map};
+ghost use Rattle.serde_json.specs.Data.{string};
 ghost use Rattle.lsp_types.specs.Json.{object_of};
-ghost use Rattle.lsp_types.specs.Reads.{IfFits, IsObject, Optional, Required, ◌and◌};
+ghost use Rattle.lsp_types.specs.Reads.{IfFits, IsObject, Named, NoneReads, Optional, Required, ◌and◌};
 
 use crate::documents::TextDocumentIdentifier;
-use crate::json::{FromJson, Members, Misfit, Object, ToJson};
+use crate::json::{FromJson, Members, Misfit, Object, ToJson, fitting};
 use crate::progress::ProgressToken;
 use lsp_text::{Position, Range};
 use serde_json::Value;
@@ -99,19 +100,115 @@ impl FromJson for OptionalVersionedTextDocumentIdentifier {
     }
 }
 
+/// A change of a text of which something is said (LSP 3.17, "AnnotatedTextEdit").
+#[derive(Drop)]
+pub struct AnnotatedTextEdit {
+    /// The part that is replaced.
+    pub range: Range,
+    /// The text in its place.
+    pub new_text: String,
+    /// The name in `WorkspaceEdit::change_annotations` of what is said.
+    pub annotation_id: String,
+}
+
+impl ToJson for AnnotatedTextEdit {
+    ghost stands = { λ it. object_of (
+        (codes "range", Some (⟦<Range as ToJson>⟧.stands it.range))
+        ∷ (codes "newText", Some (⟦<String as ToJson>⟧.stands it.new_text))
+        ∷ (codes "annotationId", Some (⟦<String as ToJson>⟧.stands it.annotation_id)) ∷ []) };
+
+    fn to_json(&self, alloc: Global) -> Result<Value, AllocError> {
+        Object::new(alloc)
+            .member("range", &self.range)
+            .member("newText", &self.new_text)
+            .member("annotationId", &self.annotation_id)
+            .end()
+    }
+}
+
+impl FromJson for AnnotatedTextEdit {
+    ghost reads = { λ json it. IsObject json
+        and Required ⟦<Range as FromJson>⟧.reads (codes "range") json it.range
+        and Required ⟦<String as FromJson>⟧.reads (codes "newText") json it.new_text
+        and Required ⟦<String as FromJson>⟧.reads (codes "annotationId") json it.annotation_id };
+
+    fn from_json(alloc: Global, value: &Value) -> Result<AnnotatedTextEdit, Misfit> {
+        match Members::new(alloc, value)
+            .required("range")
+            .required("newText")
+            .required("annotationId")
+            .end()
+        {
+            Ok(read) => {
+                let ((((), range), new_text), annotation_id) = read;
+                Ok(AnnotatedTextEdit {
+                    range,
+                    new_text,
+                    annotation_id,
+                })
+            }
+            Err(misfit) => Err(misfit),
+        }
+    }
+}
+
+/// A change of a text (LSP 3.17, "TextDocumentEdit"). One with a member `annotationId` is the first.
+#[derive(Drop)]
+pub enum AnyTextEdit {
+    /// One of which something is said, for clients with `workspace.workspaceEdit.changeAnnotationSupport`.
+    Annotated(AnnotatedTextEdit),
+    /// One of which nothing is said.
+    Plain(TextEdit),
+}
+
+impl ToJson for AnyTextEdit {
+    ghost use Rattle.lsp_types.specs.declared.edits.AnyTextEdit.TheVariants.{Annotated, Plain};
+
+    ghost stands = { elim [
+      | Annotated it ↦ ⟦<AnnotatedTextEdit as ToJson>⟧.stands it
+      | Plain it ↦ ⟦<TextEdit as ToJson>⟧.stands it
+    ] };
+
+    fn to_json(&self, alloc: Global) -> Result<Value, AllocError> {
+        match self {
+            AnyTextEdit::Annotated(it) => it.to_json(alloc),
+            AnyTextEdit::Plain(it) => it.to_json(alloc),
+        }
+    }
+}
+
+impl FromJson for AnyTextEdit {
+    ghost use Rattle.lsp_types.specs.declared.edits.AnyTextEdit.TheVariants.{Annotated, Plain};
+
+    ghost reads = { λ json. elim [
+      | Annotated it ↦ ⟦<AnnotatedTextEdit as FromJson>⟧.reads json it
+      | Plain it ↦ NoneReads ⟦<AnnotatedTextEdit as FromJson>⟧.reads json × ⟦<TextEdit as FromJson>⟧.reads json it
+    ] };
+
+    fn from_json(alloc: Global, value: &Value) -> Result<AnyTextEdit, Misfit> {
+        if let Some(it) = fitting(alloc, value)? {
+            return Ok(AnyTextEdit::Annotated(it));
+        }
+        match FromJson::from_json(alloc, value) {
+            Ok(it) => Ok(AnyTextEdit::Plain(it)),
+            Err(misfit) => Err(misfit),
+        }
+    }
+}
+
 /// Changes of a document at a version (LSP 3.17, "TextDocumentEdit").
 #[derive(Drop)]
 pub struct TextDocumentEdit {
     /// The document.
     pub text_document: OptionalVersionedTextDocumentIdentifier,
     /// Its changes.
-    pub edits: Vec<TextEdit>,
+    pub edits: Vec<AnyTextEdit>,
 }
 
 impl ToJson for TextDocumentEdit {
     ghost stands = { λ it. object_of (
         (codes "textDocument", Some (⟦<OptionalVersionedTextDocumentIdentifier as ToJson>⟧.stands it.text_document))
-        ∷ (codes "edits", Some (⟦<Vec<TextEdit> as ToJson>⟧.stands it.edits)) ∷ []) };
+        ∷ (codes "edits", Some (⟦<Vec<AnyTextEdit> as ToJson>⟧.stands it.edits)) ∷ []) };
 
     fn to_json(&self, alloc: Global) -> Result<Value, AllocError> {
         Object::new(alloc)
@@ -124,7 +221,7 @@ impl ToJson for TextDocumentEdit {
 impl FromJson for TextDocumentEdit {
     ghost reads = { λ json it. IsObject json
         and Required ⟦<OptionalVersionedTextDocumentIdentifier as FromJson>⟧.reads (codes "textDocument") json it.text_document
-        and Required ⟦<Vec<TextEdit> as FromJson>⟧.reads (codes "edits") json it.edits };
+        and Required ⟦<Vec<AnyTextEdit> as FromJson>⟧.reads (codes "edits") json it.edits };
 
     fn from_json(alloc: Global, value: &Value) -> Result<TextDocumentEdit, Misfit> {
         match Members::new(alloc, value)
@@ -144,14 +241,436 @@ impl FromJson for TextDocumentEdit {
     }
 }
 
+/// What is done if there is such a file already (LSP 3.17, "CreateFileOptions").
+#[derive(Clone, Copy, Drop)]
+pub struct CreateFileOptions {
+    /// Whether it goes. This counts before `ignore_if_exists`.
+    pub overwrite: Option<bool>,
+    /// Whether it stays, and nothing is done.
+    pub ignore_if_exists: Option<bool>,
+}
+
+impl Default for CreateFileOptions {
+    ghost use Rattle.std.specs.Prelude.{◌≡◌, None};
+
+    /// Nothing is set.
+    fn default() -> CreateFileOptions
+        ensures { result ≡ record {
+          overwrite = None;
+          ignore_if_exists = None;
+        } }
+    {
+        CreateFileOptions {
+            overwrite: None,
+            ignore_if_exists: None,
+        }
+    }
+}
+
+impl ToJson for CreateFileOptions {
+    ghost stands = { λ it. object_of (
+        (codes "overwrite", option_map ⟦<bool as ToJson>⟧.stands it.overwrite)
+        ∷ (codes "ignoreIfExists", option_map ⟦<bool as ToJson>⟧.stands it.ignore_if_exists) ∷ []) };
+
+    fn to_json(&self, alloc: Global) -> Result<Value, AllocError> {
+        Object::new(alloc)
+            .some("overwrite", &self.overwrite)
+            .some("ignoreIfExists", &self.ignore_if_exists)
+            .end()
+    }
+}
+
+impl FromJson for CreateFileOptions {
+    ghost reads = { λ json it. IsObject json
+        and Optional ⟦<bool as FromJson>⟧.reads (codes "overwrite") json it.overwrite
+        and Optional ⟦<bool as FromJson>⟧.reads (codes "ignoreIfExists") json it.ignore_if_exists };
+
+    fn from_json(alloc: Global, value: &Value) -> Result<CreateFileOptions, Misfit> {
+        match Members::new(alloc, value)
+            .optional("overwrite")
+            .optional("ignoreIfExists")
+            .end()
+        {
+            Ok(read) => {
+                let (((), overwrite), ignore_if_exists) = read;
+                Ok(CreateFileOptions {
+                    overwrite,
+                    ignore_if_exists,
+                })
+            }
+            Err(misfit) => Err(misfit),
+        }
+    }
+}
+
+/// What is done if there is a file under the new URI already (LSP 3.17, "RenameFileOptions").
+pub type RenameFileOptions = CreateFileOptions;
+
+/// How a file is deleted (LSP 3.17, "DeleteFileOptions").
+#[derive(Clone, Copy, Drop)]
+pub struct DeleteFileOptions {
+    /// Whether a folder goes with all that is in it.
+    pub recursive: Option<bool>,
+    /// Whether nothing is done if there is none.
+    pub ignore_if_not_exists: Option<bool>,
+}
+
+impl Default for DeleteFileOptions {
+    ghost use Rattle.std.specs.Prelude.{◌≡◌, None};
+
+    /// Nothing is set.
+    fn default() -> DeleteFileOptions
+        ensures { result ≡ record {
+          recursive = None;
+          ignore_if_not_exists = None;
+        } }
+    {
+        DeleteFileOptions {
+            recursive: None,
+            ignore_if_not_exists: None,
+        }
+    }
+}
+
+impl ToJson for DeleteFileOptions {
+    ghost stands = { λ it. object_of (
+        (codes "recursive", option_map ⟦<bool as ToJson>⟧.stands it.recursive)
+        ∷ (codes "ignoreIfNotExists", option_map ⟦<bool as ToJson>⟧.stands it.ignore_if_not_exists) ∷ []) };
+
+    fn to_json(&self, alloc: Global) -> Result<Value, AllocError> {
+        Object::new(alloc)
+            .some("recursive", &self.recursive)
+            .some("ignoreIfNotExists", &self.ignore_if_not_exists)
+            .end()
+    }
+}
+
+impl FromJson for DeleteFileOptions {
+    ghost reads = { λ json it. IsObject json
+        and Optional ⟦<bool as FromJson>⟧.reads (codes "recursive") json it.recursive
+        and Optional ⟦<bool as FromJson>⟧.reads (codes "ignoreIfNotExists") json it.ignore_if_not_exists };
+
+    fn from_json(alloc: Global, value: &Value) -> Result<DeleteFileOptions, Misfit> {
+        match Members::new(alloc, value)
+            .optional("recursive")
+            .optional("ignoreIfNotExists")
+            .end()
+        {
+            Ok(read) => {
+                let (((), recursive), ignore_if_not_exists) = read;
+                Ok(DeleteFileOptions {
+                    recursive,
+                    ignore_if_not_exists,
+                })
+            }
+            Err(misfit) => Err(misfit),
+        }
+    }
+}
+
+/// A file or a folder to make (LSP 3.17, "CreateFile").
+#[derive(Drop)]
+pub struct CreateFile {
+    /// Its URI.
+    pub uri: String,
+    /// What is done if it is there already.
+    pub options: Option<CreateFileOptions>,
+    /// The name in `WorkspaceEdit::change_annotations` of what is said of it.
+    pub annotation_id: Option<String>,
+}
+
+impl CreateFile {
+    ghost use Rattle.std.specs.Prelude.{◌≡◌, None};
+
+    /// What has to be there. The rest is `None`.
+    pub fn new(uri: String) -> CreateFile
+        ensures { result ≡ record {
+          uri = uri;
+          options = None;
+          annotation_id = None;
+        } }
+    {
+        CreateFile {
+            uri,
+            options: None,
+            annotation_id: None,
+        }
+    }
+}
+
+impl ToJson for CreateFile {
+    ghost stands = { λ it. object_of (
+        (codes "kind", Some (string (codes "create")))
+        ∷ (codes "uri", Some (⟦<String as ToJson>⟧.stands it.uri))
+        ∷ (codes "options", option_map ⟦<CreateFileOptions as ToJson>⟧.stands it.options)
+        ∷ (codes "annotationId", option_map ⟦<String as ToJson>⟧.stands it.annotation_id) ∷ []) };
+
+    fn to_json(&self, alloc: Global) -> Result<Value, AllocError> {
+        Object::new(alloc)
+            .text("kind", "create")
+            .member("uri", &self.uri)
+            .some("options", &self.options)
+            .some("annotationId", &self.annotation_id)
+            .end()
+    }
+}
+
+impl FromJson for CreateFile {
+    ghost reads = { λ json it. IsObject json
+        and Named (codes "kind") (codes "create") json
+        and Required ⟦<String as FromJson>⟧.reads (codes "uri") json it.uri
+        and Optional ⟦<CreateFileOptions as FromJson>⟧.reads (codes "options") json it.options
+        and Optional ⟦<String as FromJson>⟧.reads (codes "annotationId") json it.annotation_id };
+
+    fn from_json(alloc: Global, value: &Value) -> Result<CreateFile, Misfit> {
+        match Members::new(alloc, value)
+            .named("kind", "create")
+            .required("uri")
+            .optional("options")
+            .optional("annotationId")
+            .end()
+        {
+            Ok(read) => {
+                let (((((), ()), uri), options), annotation_id) = read;
+                Ok(CreateFile {
+                    uri,
+                    options,
+                    annotation_id,
+                })
+            }
+            Err(misfit) => Err(misfit),
+        }
+    }
+}
+
+/// A file or a folder to give another name (LSP 3.17, "RenameFile").
+#[derive(Drop)]
+pub struct RenameFile {
+    /// Its URI until now.
+    pub old_uri: String,
+    /// Its URI from now on.
+    pub new_uri: String,
+    /// What is done if there is one under the new URI.
+    pub options: Option<RenameFileOptions>,
+    /// The name in `WorkspaceEdit::change_annotations` of what is said of it.
+    pub annotation_id: Option<String>,
+}
+
+impl RenameFile {
+    ghost use Rattle.std.specs.Prelude.{◌≡◌, None};
+
+    /// What has to be there. The rest is `None`.
+    pub fn new(old_uri: String, new_uri: String) -> RenameFile
+        ensures { result ≡ record {
+          old_uri = old_uri;
+          new_uri = new_uri;
+          options = None;
+          annotation_id = None;
+        } }
+    {
+        RenameFile {
+            old_uri,
+            new_uri,
+            options: None,
+            annotation_id: None,
+        }
+    }
+}
+
+impl ToJson for RenameFile {
+    ghost stands = { λ it. object_of (
+        (codes "kind", Some (string (codes "rename")))
+        ∷ (codes "oldUri", Some (⟦<String as ToJson>⟧.stands it.old_uri))
+        ∷ (codes "newUri", Some (⟦<String as ToJson>⟧.stands it.new_uri))
+        ∷ (codes "options", option_map ⟦<RenameFileOptions as ToJson>⟧.stands it.options)
+        ∷ (codes "annotationId", option_map ⟦<String as ToJson>⟧.stands it.annotation_id) ∷ []) };
+
+    fn to_json(&self, alloc: Global) -> Result<Value, AllocError> {
+        Object::new(alloc)
+            .text("kind", "rename")
+            .member("oldUri", &self.old_uri)
+            .member("newUri", &self.new_uri)
+            .some("options", &self.options)
+            .some("annotationId", &self.annotation_id)
+            .end()
+    }
+}
+
+impl FromJson for RenameFile {
+    ghost reads = { λ json it. IsObject json
+        and Named (codes "kind") (codes "rename") json
+        and Required ⟦<String as FromJson>⟧.reads (codes "oldUri") json it.old_uri
+        and Required ⟦<String as FromJson>⟧.reads (codes "newUri") json it.new_uri
+        and Optional ⟦<RenameFileOptions as FromJson>⟧.reads (codes "options") json it.options
+        and Optional ⟦<String as FromJson>⟧.reads (codes "annotationId") json it.annotation_id };
+
+    fn from_json(alloc: Global, value: &Value) -> Result<RenameFile, Misfit> {
+        match Members::new(alloc, value)
+            .named("kind", "rename")
+            .required("oldUri")
+            .required("newUri")
+            .optional("options")
+            .optional("annotationId")
+            .end()
+        {
+            Ok(read) => {
+                let ((((((), ()), old_uri), new_uri), options), annotation_id) = read;
+                Ok(RenameFile {
+                    old_uri,
+                    new_uri,
+                    options,
+                    annotation_id,
+                })
+            }
+            Err(misfit) => Err(misfit),
+        }
+    }
+}
+
+/// A file or a folder to delete (LSP 3.17, "DeleteFile").
+#[derive(Drop)]
+pub struct DeleteFile {
+    /// Its URI.
+    pub uri: String,
+    /// How it is deleted.
+    pub options: Option<DeleteFileOptions>,
+    /// The name in `WorkspaceEdit::change_annotations` of what is said of it.
+    pub annotation_id: Option<String>,
+}
+
+impl DeleteFile {
+    ghost use Rattle.std.specs.Prelude.{◌≡◌, None};
+
+    /// What has to be there. The rest is `None`.
+    pub fn new(uri: String) -> DeleteFile
+        ensures { result ≡ record {
+          uri = uri;
+          options = None;
+          annotation_id = None;
+        } }
+    {
+        DeleteFile {
+            uri,
+            options: None,
+            annotation_id: None,
+        }
+    }
+}
+
+impl ToJson for DeleteFile {
+    ghost stands = { λ it. object_of (
+        (codes "kind", Some (string (codes "delete")))
+        ∷ (codes "uri", Some (⟦<String as ToJson>⟧.stands it.uri))
+        ∷ (codes "options", option_map ⟦<DeleteFileOptions as ToJson>⟧.stands it.options)
+        ∷ (codes "annotationId", option_map ⟦<String as ToJson>⟧.stands it.annotation_id) ∷ []) };
+
+    fn to_json(&self, alloc: Global) -> Result<Value, AllocError> {
+        Object::new(alloc)
+            .text("kind", "delete")
+            .member("uri", &self.uri)
+            .some("options", &self.options)
+            .some("annotationId", &self.annotation_id)
+            .end()
+    }
+}
+
+impl FromJson for DeleteFile {
+    ghost reads = { λ json it. IsObject json
+        and Named (codes "kind") (codes "delete") json
+        and Required ⟦<String as FromJson>⟧.reads (codes "uri") json it.uri
+        and Optional ⟦<DeleteFileOptions as FromJson>⟧.reads (codes "options") json it.options
+        and Optional ⟦<String as FromJson>⟧.reads (codes "annotationId") json it.annotation_id };
+
+    fn from_json(alloc: Global, value: &Value) -> Result<DeleteFile, Misfit> {
+        match Members::new(alloc, value)
+            .named("kind", "delete")
+            .required("uri")
+            .optional("options")
+            .optional("annotationId")
+            .end()
+        {
+            Ok(read) => {
+                let (((((), ()), uri), options), annotation_id) = read;
+                Ok(DeleteFile {
+                    uri,
+                    options,
+                    annotation_id,
+                })
+            }
+            Err(misfit) => Err(misfit),
+        }
+    }
+}
+
+/// A change of a document or of a file (LSP 3.17, "WorkspaceEdit"). The `kind` of those of files tells them apart, and
+/// an edit has none.
+#[derive(Drop)]
+pub enum DocumentChange {
+    /// A file to make, for clients with `create` among `workspace.workspaceEdit.resourceOperations`.
+    Create(CreateFile),
+    /// A file to give another name, for those with `rename` there.
+    Rename(RenameFile),
+    /// A file to delete, for those with `delete` there.
+    Delete(DeleteFile),
+    /// Changes of a document's text.
+    Edit(TextDocumentEdit),
+}
+
+impl ToJson for DocumentChange {
+    ghost use Rattle.lsp_types.specs.declared.edits.DocumentChange.TheVariants.{Create, Rename, Delete, Edit};
+
+    ghost stands = { elim [
+      | Create it ↦ ⟦<CreateFile as ToJson>⟧.stands it
+      | Rename it ↦ ⟦<RenameFile as ToJson>⟧.stands it
+      | Delete it ↦ ⟦<DeleteFile as ToJson>⟧.stands it
+      | Edit it ↦ ⟦<TextDocumentEdit as ToJson>⟧.stands it
+    ] };
+
+    fn to_json(&self, alloc: Global) -> Result<Value, AllocError> {
+        match self {
+            DocumentChange::Create(it) => it.to_json(alloc),
+            DocumentChange::Rename(it) => it.to_json(alloc),
+            DocumentChange::Delete(it) => it.to_json(alloc),
+            DocumentChange::Edit(it) => it.to_json(alloc),
+        }
+    }
+}
+
+impl FromJson for DocumentChange {
+    ghost use Rattle.lsp_types.specs.declared.edits.DocumentChange.TheVariants.{Create, Rename, Delete, Edit};
+
+    ghost reads = { λ json. elim [
+      | Create it ↦ ⟦<CreateFile as FromJson>⟧.reads json it
+      | Rename it ↦ NoneReads ⟦<CreateFile as FromJson>⟧.reads json × ⟦<RenameFile as FromJson>⟧.reads json it
+      | Delete it ↦ NoneReads ⟦<CreateFile as FromJson>⟧.reads json × NoneReads ⟦<RenameFile as FromJson>⟧.reads json × ⟦<DeleteFile as FromJson>⟧.reads json it
+      | Edit it ↦ NoneReads ⟦<CreateFile as FromJson>⟧.reads json × NoneReads ⟦<RenameFile as FromJson>⟧.reads json × NoneReads ⟦<DeleteFile as FromJson>⟧.reads json × ⟦<TextDocumentEdit as FromJson>⟧.reads json it
+    ] };
+
+    fn from_json(alloc: Global, value: &Value) -> Result<DocumentChange, Misfit> {
+        if let Some(it) = fitting(alloc, value)? {
+            return Ok(DocumentChange::Create(it));
+        }
+        if let Some(it) = fitting(alloc, value)? {
+            return Ok(DocumentChange::Rename(it));
+        }
+        if let Some(it) = fitting(alloc, value)? {
+            return Ok(DocumentChange::Delete(it));
+        }
+        match FromJson::from_json(alloc, value) {
+            Ok(it) => Ok(DocumentChange::Edit(it)),
+            Err(misfit) => Err(misfit),
+        }
+    }
+}
+
 /// Changes of documents (LSP 3.17, "WorkspaceEdit"). Fill in one of the two.
 #[derive(Drop)]
 pub struct WorkspaceEdit {
     /// The changes of each document, by its URI.
     pub changes: Option<BTreeMap<String, Vec<TextEdit>>>,
-    /// The same with versions, for clients with `workspace.workspaceEdit.documentChanges`. A client may take these and pass
-    /// `changes` over.
-    pub document_changes: Option<Vec<TextDocumentEdit>>,
+    /// The same with versions, and changes of files, made in this order, for clients with
+    /// `workspace.workspaceEdit.documentChanges`. A client may take these and pass `changes` over.
+    pub document_changes: Option<Vec<DocumentChange>>,
     /// What is said of changes, by the name that they have.
     pub change_annotations: Option<BTreeMap<String, ChangeAnnotation>>,
 }
@@ -178,7 +697,7 @@ impl Default for WorkspaceEdit {
 impl ToJson for WorkspaceEdit {
     ghost stands = { λ it. object_of (
         (codes "changes", option_map ⟦<BTreeMap<String, Vec<TextEdit>> as ToJson>⟧.stands it.changes)
-        ∷ (codes "documentChanges", option_map ⟦<Vec<TextDocumentEdit> as ToJson>⟧.stands it.document_changes)
+        ∷ (codes "documentChanges", option_map ⟦<Vec<DocumentChange> as ToJson>⟧.stands it.document_changes)
         ∷ (codes "changeAnnotations", option_map ⟦<BTreeMap<String, ChangeAnnotation> as ToJson>⟧.stands it.change_annotations) ∷ []) };
 
     fn to_json(&self, alloc: Global) -> Result<Value, AllocError> {
@@ -193,7 +712,7 @@ impl ToJson for WorkspaceEdit {
 impl FromJson for WorkspaceEdit {
     ghost reads = { λ json it. IsObject json
         and Optional ⟦<BTreeMap<String, Vec<TextEdit>> as FromJson>⟧.reads (codes "changes") json it.changes
-        and Optional ⟦<Vec<TextDocumentEdit> as FromJson>⟧.reads (codes "documentChanges") json it.document_changes
+        and Optional ⟦<Vec<DocumentChange> as FromJson>⟧.reads (codes "documentChanges") json it.document_changes
         and Optional ⟦<BTreeMap<String, ChangeAnnotation> as FromJson>⟧.reads (codes "changeAnnotations") json it.change_annotations };
 
     fn from_json(alloc: Global, value: &Value) -> Result<WorkspaceEdit, Misfit> {
@@ -346,16 +865,16 @@ impl FromJson for RenameParams {
     }
 }
 
-/// The result of `textDocument/prepareRename`, or null (LSP 3.17, "Prepare Rename Request").
+/// What is renamed, and from which name (LSP 3.17, "Prepare Rename Request").
 #[derive(Drop)]
-pub struct PrepareRenameResult {
+pub struct PrepareRenamePlaceholder {
     /// The part that is renamed.
     pub range: Range,
     /// The name that the user may change.
     pub placeholder: String,
 }
 
-impl ToJson for PrepareRenameResult {
+impl ToJson for PrepareRenamePlaceholder {
     ghost stands = { λ it. object_of (
         (codes "range", Some (⟦<Range as ToJson>⟧.stands it.range))
         ∷ (codes "placeholder", Some (⟦<String as ToJson>⟧.stands it.placeholder)) ∷ []) };
@@ -368,12 +887,12 @@ impl ToJson for PrepareRenameResult {
     }
 }
 
-impl FromJson for PrepareRenameResult {
+impl FromJson for PrepareRenamePlaceholder {
     ghost reads = { λ json it. IsObject json
         and Required ⟦<Range as FromJson>⟧.reads (codes "range") json it.range
         and Required ⟦<String as FromJson>⟧.reads (codes "placeholder") json it.placeholder };
 
-    fn from_json(alloc: Global, value: &Value) -> Result<PrepareRenameResult, Misfit> {
+    fn from_json(alloc: Global, value: &Value) -> Result<PrepareRenamePlaceholder, Misfit> {
         match Members::new(alloc, value)
             .required("range")
             .required("placeholder")
@@ -381,8 +900,94 @@ impl FromJson for PrepareRenameResult {
         {
             Ok(read) => {
                 let (((), range), placeholder) = read;
-                Ok(PrepareRenameResult { range, placeholder })
+                Ok(PrepareRenamePlaceholder { range, placeholder })
             }
+            Err(misfit) => Err(misfit),
+        }
+    }
+}
+
+/// The client finds what is renamed (LSP 3.17, "Prepare Rename Request").
+#[derive(Clone, Copy, Drop)]
+pub struct PrepareRenameDefaultBehavior {
+    /// Whether it does so in its own way.
+    pub default_behavior: bool,
+}
+
+impl ToJson for PrepareRenameDefaultBehavior {
+    ghost stands = { λ it. object_of (
+        (codes "defaultBehavior", Some (⟦<bool as ToJson>⟧.stands it.default_behavior)) ∷ []) };
+
+    fn to_json(&self, alloc: Global) -> Result<Value, AllocError> {
+        Object::new(alloc)
+            .member("defaultBehavior", &self.default_behavior)
+            .end()
+    }
+}
+
+impl FromJson for PrepareRenameDefaultBehavior {
+    ghost reads = { λ json it. IsObject json
+        and Required ⟦<bool as FromJson>⟧.reads (codes "defaultBehavior") json it.default_behavior };
+
+    fn from_json(alloc: Global, value: &Value) -> Result<PrepareRenameDefaultBehavior, Misfit> {
+        match Members::new(alloc, value).required("defaultBehavior").end() {
+            Ok(read) => {
+                let ((), default_behavior) = read;
+                Ok(PrepareRenameDefaultBehavior { default_behavior })
+            }
+            Err(misfit) => Err(misfit),
+        }
+    }
+}
+
+/// The result of `textDocument/prepareRename`, or null (LSP 3.17, "Prepare Rename Request"). The members tell the forms
+/// apart.
+#[derive(Drop)]
+pub enum PrepareRenameResult {
+    /// What is renamed, and from which name.
+    Placeholder(PrepareRenamePlaceholder),
+    /// The client finds what is renamed, for those with `prepareSupportDefaultBehavior`.
+    Default(PrepareRenameDefaultBehavior),
+    /// What is renamed.
+    Range(Range),
+}
+
+impl ToJson for PrepareRenameResult {
+    ghost use Rattle.lsp_types.specs.declared.edits.PrepareRenameResult.TheVariants.{Placeholder, Default, Range};
+
+    ghost stands = { elim [
+      | Placeholder it ↦ ⟦<PrepareRenamePlaceholder as ToJson>⟧.stands it
+      | Default it ↦ ⟦<PrepareRenameDefaultBehavior as ToJson>⟧.stands it
+      | Range it ↦ ⟦<Range as ToJson>⟧.stands it
+    ] };
+
+    fn to_json(&self, alloc: Global) -> Result<Value, AllocError> {
+        match self {
+            PrepareRenameResult::Placeholder(it) => it.to_json(alloc),
+            PrepareRenameResult::Default(it) => it.to_json(alloc),
+            PrepareRenameResult::Range(it) => it.to_json(alloc),
+        }
+    }
+}
+
+impl FromJson for PrepareRenameResult {
+    ghost use Rattle.lsp_types.specs.declared.edits.PrepareRenameResult.TheVariants.{Placeholder, Default, Range};
+
+    ghost reads = { λ json. elim [
+      | Placeholder it ↦ ⟦<PrepareRenamePlaceholder as FromJson>⟧.reads json it
+      | Default it ↦ NoneReads ⟦<PrepareRenamePlaceholder as FromJson>⟧.reads json × ⟦<PrepareRenameDefaultBehavior as FromJson>⟧.reads json it
+      | Range it ↦ NoneReads ⟦<PrepareRenamePlaceholder as FromJson>⟧.reads json × NoneReads ⟦<PrepareRenameDefaultBehavior as FromJson>⟧.reads json × ⟦<Range as FromJson>⟧.reads json it
+    ] };
+
+    fn from_json(alloc: Global, value: &Value) -> Result<PrepareRenameResult, Misfit> {
+        if let Some(it) = fitting(alloc, value)? {
+            return Ok(PrepareRenameResult::Placeholder(it));
+        }
+        if let Some(it) = fitting(alloc, value)? {
+            return Ok(PrepareRenameResult::Default(it));
+        }
+        match FromJson::from_json(alloc, value) {
+            Ok(it) => Ok(PrepareRenameResult::Range(it)),
             Err(misfit) => Err(misfit),
         }
     }
@@ -460,7 +1065,8 @@ impl FromJson for FormattingOptions {
     }
 }
 
-/// The params of `textDocument/formatting` (LSP 3.17, "Document Formatting Request"). The result is a list of `TextEdit` or null.
+/// The params of `textDocument/formatting` (LSP 3.17, "Document Formatting Request"). The result is a list of
+/// `TextEdit` or null.
 #[derive(Drop)]
 pub struct DocumentFormattingParams {
     /// The document.
@@ -512,8 +1118,8 @@ impl FromJson for DocumentFormattingParams {
     }
 }
 
-/// The params of `textDocument/rangeFormatting` (LSP 3.17, "Document Range Formatting Request"). The result is a list of `TextEdit`
-/// or null.
+/// The params of `textDocument/rangeFormatting` (LSP 3.17, "Document Range Formatting Request"). The result is a list
+/// of `TextEdit` or null.
 #[derive(Drop)]
 pub struct DocumentRangeFormattingParams {
     /// The document.
@@ -572,8 +1178,8 @@ impl FromJson for DocumentRangeFormattingParams {
     }
 }
 
-/// The params of `textDocument/onTypeFormatting` (LSP 3.17, "Document on Type Formatting Request"). The result is a list of
-/// `TextEdit` or null.
+/// The params of `textDocument/onTypeFormatting` (LSP 3.17, "Document on Type Formatting Request"). The result is a
+/// list of `TextEdit` or null.
 #[derive(Drop)]
 pub struct DocumentOnTypeFormattingParams {
     /// The document.

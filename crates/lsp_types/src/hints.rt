@@ -3,10 +3,13 @@
 ghost use Rattle.std.specs.Prelude.{◌∷◌, [], Some, codes, option_map};
 ghost use Rattle.serde_json.specs.Data.{number, unsigned};
 ghost use Rattle.lsp_types.specs.Json.{object_of};
-ghost use Rattle.lsp_types.specs.Reads.{IsObject, IsWithin, Optional, Required, ◌and◌};
+ghost use Rattle.lsp_types.specs.Reads.{IsObject, IsWithin, NoneReads, Optional, Required, ◌and◌};
 
+use crate::documents::Location;
 use crate::edits::TextEdit;
-use crate::json::{FromJson, Members, Misfit, Object, ToJson, number_within};
+use crate::hovers::Documentation;
+use crate::json::{FromJson, Members, Misfit, Object, ToJson, fitting, number_within};
+use crate::workspace::Command;
 use lsp_text::Position;
 use serde_json::Value;
 use std::alloc::{AllocError, Global};
@@ -41,19 +44,143 @@ impl FromJson for InlayHintKind {
     }
 }
 
+/// A part of a hint (LSP 3.17, "InlayHintLabelPart").
+#[derive(Drop)]
+pub struct InlayHintLabelPart {
+    /// Its text.
+    pub value: String,
+    /// What is shown as the mouse stands over it.
+    pub tooltip: Option<Documentation>,
+    /// Where its name is defined, so that a user can go there.
+    pub location: Option<Location>,
+    /// The command that a click sends.
+    pub command: Option<Command>,
+}
+
+impl InlayHintLabelPart {
+    ghost use Rattle.std.specs.Prelude.{◌≡◌, None};
+
+    /// What has to be there. The rest is `None`.
+    pub fn new(value: String) -> InlayHintLabelPart
+        ensures { result ≡ record {
+          value = value;
+          tooltip = None;
+          location = None;
+          command = None;
+        } }
+    {
+        InlayHintLabelPart {
+            value,
+            tooltip: None,
+            location: None,
+            command: None,
+        }
+    }
+}
+
+impl ToJson for InlayHintLabelPart {
+    ghost stands = { λ it. object_of (
+        (codes "value", Some (⟦<String as ToJson>⟧.stands it.value))
+        ∷ (codes "tooltip", option_map ⟦<Documentation as ToJson>⟧.stands it.tooltip)
+        ∷ (codes "location", option_map ⟦<Location as ToJson>⟧.stands it.location)
+        ∷ (codes "command", option_map ⟦<Command as ToJson>⟧.stands it.command) ∷ []) };
+
+    fn to_json(&self, alloc: Global) -> Result<Value, AllocError> {
+        Object::new(alloc)
+            .member("value", &self.value)
+            .some("tooltip", &self.tooltip)
+            .some("location", &self.location)
+            .some("command", &self.command)
+            .end()
+    }
+}
+
+impl FromJson for InlayHintLabelPart {
+    ghost reads = { λ json it. IsObject json
+        and Required ⟦<String as FromJson>⟧.reads (codes "value") json it.value
+        and Optional ⟦<Documentation as FromJson>⟧.reads (codes "tooltip") json it.tooltip
+        and Optional ⟦<Location as FromJson>⟧.reads (codes "location") json it.location
+        and Optional ⟦<Command as FromJson>⟧.reads (codes "command") json it.command };
+
+    fn from_json(alloc: Global, value: &Value) -> Result<InlayHintLabelPart, Misfit> {
+        match Members::new(alloc, value)
+            .required("value")
+            .optional("tooltip")
+            .optional("location")
+            .optional("command")
+            .end()
+        {
+            Ok(read) => {
+                let (((((), value), tooltip), location), command) = read;
+                Ok(InlayHintLabelPart {
+                    value,
+                    tooltip,
+                    location,
+                    command,
+                })
+            }
+            Err(misfit) => Err(misfit),
+        }
+    }
+}
+
+/// What a hint says: a string, or a list (LSP 3.17, "InlayHint").
+#[derive(Drop)]
+pub enum InlayHintLabel {
+    /// A text.
+    Text(String),
+    /// Texts, one behind the other, with more of each.
+    Parts(Vec<InlayHintLabelPart>),
+}
+
+impl ToJson for InlayHintLabel {
+    ghost use Rattle.lsp_types.specs.declared.hints.InlayHintLabel.TheVariants.{Text, Parts};
+
+    ghost stands = { elim [
+      | Text it ↦ ⟦<String as ToJson>⟧.stands it
+      | Parts it ↦ ⟦<Vec<InlayHintLabelPart> as ToJson>⟧.stands it
+    ] };
+
+    fn to_json(&self, alloc: Global) -> Result<Value, AllocError> {
+        match self {
+            InlayHintLabel::Text(it) => it.to_json(alloc),
+            InlayHintLabel::Parts(it) => it.to_json(alloc),
+        }
+    }
+}
+
+impl FromJson for InlayHintLabel {
+    ghost use Rattle.lsp_types.specs.declared.hints.InlayHintLabel.TheVariants.{Text, Parts};
+
+    ghost reads = { λ json. elim [
+      | Text it ↦ ⟦<String as FromJson>⟧.reads json it
+      | Parts it ↦ NoneReads ⟦<String as FromJson>⟧.reads json × ⟦<Vec<InlayHintLabelPart> as FromJson>⟧.reads json it
+    ] };
+
+    fn from_json(alloc: Global, value: &Value) -> Result<InlayHintLabel, Misfit> {
+        if let Some(it) = fitting(alloc, value)? {
+            return Ok(InlayHintLabel::Text(it));
+        }
+        match FromJson::from_json(alloc, value) {
+            Ok(it) => Ok(InlayHintLabel::Parts(it)),
+            Err(misfit) => Err(misfit),
+        }
+    }
+}
+
 /// A hint (LSP 3.17, "Inlay Hint Request").
 #[derive(Drop)]
 pub struct InlayHint {
     /// Where it stands.
     pub position: Position,
-    /// Its text.
-    pub label: String,
+    /// What it says.
+    pub label: InlayHintLabel,
     /// What it tells.
     pub kind: Option<InlayHintKind>,
     /// Edits that make it a part of the text, if the user takes it.
     pub text_edits: Option<Vec<TextEdit>>,
     /// What is shown as the mouse stands over it.
-    pub tooltip: Option<String>,
+    pub tooltip: Option<Documentation>,
     /// Whether a space stands before it.
     pub padding_left: Option<bool>,
     /// Whether a space stands behind it.
@@ -64,12 +191,13 @@ pub struct InlayHint {
 
 impl InlayHint {
     ghost use Rattle.std.specs.Prelude.{◌≡◌, None};
+    ghost use Rattle.lsp_types.specs.declared.hints.InlayHintLabel.TheVariants.{Text};
 
-    /// What has to be there. The rest is `None`.
+    /// A text at a place. The rest is `None`.
     pub fn new(position: Position, label: String) -> InlayHint
         ensures { result ≡ record {
           position = position;
-          label = label;
+          label = Text label;
           kind = None;
           text_edits = None;
           tooltip = None;
@@ -80,7 +208,7 @@ impl InlayHint {
     {
         InlayHint {
             position,
-            label,
+            label: InlayHintLabel::Text(label),
             kind: None,
             text_edits: None,
             tooltip: None,
@@ -94,10 +222,10 @@ impl InlayHint {
 impl ToJson for InlayHint {
     ghost stands = { λ it. object_of (
         (codes "position", Some (⟦<Position as ToJson>⟧.stands it.position))
-        ∷ (codes "label", Some (⟦<String as ToJson>⟧.stands it.label))
+        ∷ (codes "label", Some (⟦<InlayHintLabel as ToJson>⟧.stands it.label))
         ∷ (codes "kind", option_map ⟦<InlayHintKind as ToJson>⟧.stands it.kind)
         ∷ (codes "textEdits", option_map ⟦<Vec<TextEdit> as ToJson>⟧.stands it.text_edits)
-        ∷ (codes "tooltip", option_map ⟦<String as ToJson>⟧.stands it.tooltip)
+        ∷ (codes "tooltip", option_map ⟦<Documentation as ToJson>⟧.stands it.tooltip)
         ∷ (codes "paddingLeft", option_map ⟦<bool as ToJson>⟧.stands it.padding_left)
         ∷ (codes "paddingRight", option_map ⟦<bool as ToJson>⟧.stands it.padding_right)
         ∷ (codes "data", option_map ⟦<Value as ToJson>⟧.stands it.«data») ∷ []) };
@@ -119,10 +247,10 @@ impl ToJson for InlayHint {
 impl FromJson for InlayHint {
     ghost reads = { λ json it. IsObject json
         and Required ⟦<Position as FromJson>⟧.reads (codes "position") json it.position
-        and Required ⟦<String as FromJson>⟧.reads (codes "label") json it.label
+        and Required ⟦<InlayHintLabel as FromJson>⟧.reads (codes "label") json it.label
         and Optional ⟦<InlayHintKind as FromJson>⟧.reads (codes "kind") json it.kind
         and Optional ⟦<Vec<TextEdit> as FromJson>⟧.reads (codes "textEdits") json it.text_edits
-        and Optional ⟦<String as FromJson>⟧.reads (codes "tooltip") json it.tooltip
+        and Optional ⟦<Documentation as FromJson>⟧.reads (codes "tooltip") json it.tooltip
         and Optional ⟦<bool as FromJson>⟧.reads (codes "paddingLeft") json it.padding_left
         and Optional ⟦<bool as FromJson>⟧.reads (codes "paddingRight") json it.padding_right
         and Optional ⟦<Value as FromJson>⟧.reads (codes "data") json it.«data» };

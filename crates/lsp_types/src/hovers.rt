@@ -2,10 +2,10 @@
 // `tools/types` wrote this file from `types.txt`: change that.
 ghost use Rattle.std.specs.Prelude.{◌∷◌, [], Some, codes, option_map};
 ghost use Rattle.lsp_types.specs.Json.{object_of};
-ghost use Rattle.lsp_types.specs.Reads.{IsObject, Optional, Required, ◌and◌};
+ghost use Rattle.lsp_types.specs.Reads.{IsObject, NoneReads, Optional, Required, ◌and◌};
 
 use crate::choices::MarkupKind;
-use crate::json::{FromJson, Members, Misfit, Object, ToJson};
+use crate::json::{FromJson, Members, Misfit, Object, ToJson, fitting};
 use lsp_text::Range;
 use serde_json::Value;
 use std::alloc::{AllocError, Global};
@@ -52,18 +52,201 @@ impl FromJson for MarkupContent {
     }
 }
 
+/// A text that tells of something: a string, or an object (LSP 3.17, "MarkupContent").
+#[derive(Drop)]
+pub enum Documentation {
+    /// Plain text.
+    Text(String),
+    /// A text that says how it is marked up.
+    Markup(MarkupContent),
+}
+
+impl ToJson for Documentation {
+    ghost use Rattle.lsp_types.specs.declared.hovers.Documentation.TheVariants.{Text, Markup};
+
+    ghost stands = { elim [
+      | Text it ↦ ⟦<String as ToJson>⟧.stands it
+      | Markup it ↦ ⟦<MarkupContent as ToJson>⟧.stands it
+    ] };
+
+    fn to_json(&self, alloc: Global) -> Result<Value, AllocError> {
+        match self {
+            Documentation::Text(it) => it.to_json(alloc),
+            Documentation::Markup(it) => it.to_json(alloc),
+        }
+    }
+}
+
+impl FromJson for Documentation {
+    ghost use Rattle.lsp_types.specs.declared.hovers.Documentation.TheVariants.{Text, Markup};
+
+    ghost reads = { λ json. elim [
+      | Text it ↦ ⟦<String as FromJson>⟧.reads json it
+      | Markup it ↦ NoneReads ⟦<String as FromJson>⟧.reads json × ⟦<MarkupContent as FromJson>⟧.reads json it
+    ] };
+
+    fn from_json(alloc: Global, value: &Value) -> Result<Documentation, Misfit> {
+        if let Some(it) = fitting(alloc, value)? {
+            return Ok(Documentation::Text(it));
+        }
+        match FromJson::from_json(alloc, value) {
+            Ok(it) => Ok(Documentation::Markup(it)),
+            Err(misfit) => Err(misfit),
+        }
+    }
+}
+
+/// Code (LSP 3.17, "MarkedString").
+#[derive(Drop)]
+pub struct LanguageString {
+    /// The language that it is in, as `rust`.
+    pub language: String,
+    /// The code.
+    pub value: String,
+}
+
+impl ToJson for LanguageString {
+    ghost stands = { λ it. object_of (
+        (codes "language", Some (⟦<String as ToJson>⟧.stands it.language))
+        ∷ (codes "value", Some (⟦<String as ToJson>⟧.stands it.value)) ∷ []) };
+
+    fn to_json(&self, alloc: Global) -> Result<Value, AllocError> {
+        Object::new(alloc)
+            .member("language", &self.language)
+            .member("value", &self.value)
+            .end()
+    }
+}
+
+impl FromJson for LanguageString {
+    ghost reads = { λ json it. IsObject json
+        and Required ⟦<String as FromJson>⟧.reads (codes "language") json it.language
+        and Required ⟦<String as FromJson>⟧.reads (codes "value") json it.value };
+
+    fn from_json(alloc: Global, value: &Value) -> Result<LanguageString, Misfit> {
+        match Members::new(alloc, value)
+            .required("language")
+            .required("value")
+            .end()
+        {
+            Ok(read) => {
+                let (((), language), value) = read;
+                Ok(LanguageString { language, value })
+            }
+            Err(misfit) => Err(misfit),
+        }
+    }
+}
+
+/// A text in the form that `MarkupContent` has taken the place of: a string, or an object (LSP 3.17, "MarkedString").
+#[derive(Drop)]
+pub enum MarkedString {
+    /// Markdown.
+    Text(String),
+    /// Code, shown as a block.
+    Code(LanguageString),
+}
+
+impl ToJson for MarkedString {
+    ghost use Rattle.lsp_types.specs.declared.hovers.MarkedString.TheVariants.{Text, Code};
+
+    ghost stands = { elim [
+      | Text it ↦ ⟦<String as ToJson>⟧.stands it
+      | Code it ↦ ⟦<LanguageString as ToJson>⟧.stands it
+    ] };
+
+    fn to_json(&self, alloc: Global) -> Result<Value, AllocError> {
+        match self {
+            MarkedString::Text(it) => it.to_json(alloc),
+            MarkedString::Code(it) => it.to_json(alloc),
+        }
+    }
+}
+
+impl FromJson for MarkedString {
+    ghost use Rattle.lsp_types.specs.declared.hovers.MarkedString.TheVariants.{Text, Code};
+
+    ghost reads = { λ json. elim [
+      | Text it ↦ ⟦<String as FromJson>⟧.reads json it
+      | Code it ↦ NoneReads ⟦<String as FromJson>⟧.reads json × ⟦<LanguageString as FromJson>⟧.reads json it
+    ] };
+
+    fn from_json(alloc: Global, value: &Value) -> Result<MarkedString, Misfit> {
+        if let Some(it) = fitting(alloc, value)? {
+            return Ok(MarkedString::Text(it));
+        }
+        match FromJson::from_json(alloc, value) {
+            Ok(it) => Ok(MarkedString::Code(it)),
+            Err(misfit) => Err(misfit),
+        }
+    }
+}
+
+/// What a hover shows (LSP 3.17, "Hover Request"). An object with `kind` is the last form, and one with `language` is
+/// code.
+#[derive(Drop)]
+pub enum HoverContents {
+    /// A text in the older form.
+    Marked(MarkedString),
+    /// Texts in the older form.
+    Several(Vec<MarkedString>),
+    /// A text that says how it is marked up.
+    Markup(MarkupContent),
+}
+
+impl ToJson for HoverContents {
+    ghost use Rattle.lsp_types.specs.declared.hovers.HoverContents.TheVariants.{Marked, Several, Markup};
+
+    ghost stands = { elim [
+      | Marked it ↦ ⟦<MarkedString as ToJson>⟧.stands it
+      | Several it ↦ ⟦<Vec<MarkedString> as ToJson>⟧.stands it
+      | Markup it ↦ ⟦<MarkupContent as ToJson>⟧.stands it
+    ] };
+
+    fn to_json(&self, alloc: Global) -> Result<Value, AllocError> {
+        match self {
+            HoverContents::Marked(it) => it.to_json(alloc),
+            HoverContents::Several(it) => it.to_json(alloc),
+            HoverContents::Markup(it) => it.to_json(alloc),
+        }
+    }
+}
+
+impl FromJson for HoverContents {
+    ghost use Rattle.lsp_types.specs.declared.hovers.HoverContents.TheVariants.{Marked, Several, Markup};
+
+    ghost reads = { λ json. elim [
+      | Marked it ↦ ⟦<MarkedString as FromJson>⟧.reads json it
+      | Several it ↦ NoneReads ⟦<MarkedString as FromJson>⟧.reads json × ⟦<Vec<MarkedString> as FromJson>⟧.reads json it
+      | Markup it ↦ NoneReads ⟦<MarkedString as FromJson>⟧.reads json × NoneReads ⟦<Vec<MarkedString> as FromJson>⟧.reads json × ⟦<MarkupContent as FromJson>⟧.reads json it
+    ] };
+
+    fn from_json(alloc: Global, value: &Value) -> Result<HoverContents, Misfit> {
+        if let Some(it) = fitting(alloc, value)? {
+            return Ok(HoverContents::Marked(it));
+        }
+        if let Some(it) = fitting(alloc, value)? {
+            return Ok(HoverContents::Several(it));
+        }
+        match FromJson::from_json(alloc, value) {
+            Ok(it) => Ok(HoverContents::Markup(it)),
+            Err(misfit) => Err(misfit),
+        }
+    }
+}
+
 /// The result of `textDocument/hover`, or null (LSP 3.17, "Hover Request").
 #[derive(Drop)]
 pub struct Hover {
     /// What is shown.
-    pub contents: MarkupContent,
+    pub contents: HoverContents,
     /// The part of the text that it is about.
     pub range: Option<Range>,
 }
 
 impl ToJson for Hover {
     ghost stands = { λ it. object_of (
-        (codes "contents", Some (⟦<MarkupContent as ToJson>⟧.stands it.contents))
+        (codes "contents", Some (⟦<HoverContents as ToJson>⟧.stands it.contents))
         ∷ (codes "range", option_map ⟦<Range as ToJson>⟧.stands it.range) ∷ []) };
 
     fn to_json(&self, alloc: Global) -> Result<Value, AllocError> {
@@ -76,7 +259,7 @@ impl ToJson for Hover {
 
 impl FromJson for Hover {
     ghost reads = { λ json it. IsObject json
-        and Required ⟦<MarkupContent as FromJson>⟧.reads (codes "contents") json it.contents
+        and Required ⟦<HoverContents as FromJson>⟧.reads (codes "contents") json it.contents
         and Optional ⟦<Range as FromJson>⟧.reads (codes "range") json it.range };
 
     fn from_json(alloc: Global, value: &Value) -> Result<Hover, Misfit> {

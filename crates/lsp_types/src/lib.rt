@@ -1,10 +1,11 @@
 //! Types of LSP 3.17 that most servers use, under the standard's names. What a client sends is read (`FromJson`), and what a server
 //! sends is written (`ToJson`), both by the calls of `lsp_methods`. Nearly all types go both ways. Only written are
-//! `ServerCapabilities` with its options, `InitializeResult`, `DocumentSymbol` and `ProgressParams`.
+//! `ServerCapabilities` with its options, `InitializeResult` and `ProgressParams`.
 //!
 //! On reading, members that a type lacks are passed over, and a member that may be missing may be null. It is an error if a
 //! required member is missing, if one has another type, or if a number or a name is none that the standard lists. Where the
-//! standard has a choice of types, the one that a server needs is here: its fields say which.
+//! standard has several forms, the type is an enum, of which the first case that fits is read. What a server offers is in the form that
+//! says most.
 //!
 //! `Position`, `Range` and `TextDocumentContentChangeEvent` are types of `lsp_text`, so `Text::offset_at` takes a position that was
 //! read, and `TextDocuments::change` of `lsp_documents` the changes.
@@ -31,6 +32,7 @@ pub mod json;
 mod lifecycle;
 pub mod methods;
 mod nested;
+mod offsets;
 mod progress;
 mod semantic_tokens;
 mod signatures;
@@ -42,6 +44,7 @@ mod workspace;
 pub use actions::CodeAction;
 pub use actions::CodeActionContext;
 pub use actions::CodeActionDisabled;
+pub use actions::CodeActionOrCommand;
 pub use actions::CodeActionParams;
 pub use actions::CodeActionTriggerKind;
 pub use capabilities::CodeActionOptions;
@@ -66,6 +69,7 @@ pub use capabilities::WorkspaceOptions;
 pub use choices::MarkupKind;
 pub use choices::NumberOrString;
 pub use completions::CompletionContext;
+pub use completions::CompletionEditRange;
 pub use completions::CompletionItem;
 pub use completions::CompletionItemDefaults;
 pub use completions::CompletionItemKind;
@@ -73,7 +77,11 @@ pub use completions::CompletionItemLabelDetails;
 pub use completions::CompletionItemTag;
 pub use completions::CompletionList;
 pub use completions::CompletionParams;
+pub use completions::CompletionResult;
+pub use completions::CompletionTextEdit;
 pub use completions::CompletionTriggerKind;
+pub use completions::EditRangeWithInsertReplace;
+pub use completions::InsertReplaceEdit;
 pub use completions::InsertTextFormat;
 pub use completions::InsertTextMode;
 pub use diagnostics::CodeDescription;
@@ -113,13 +121,24 @@ pub use documents::TextDocumentSaveReason;
 pub use documents::TypeDefinitionParams;
 pub use documents::VersionedTextDocumentIdentifier;
 pub use documents::WillSaveTextDocumentParams;
+pub use edits::AnnotatedTextEdit;
+pub use edits::AnyTextEdit;
 pub use edits::ChangeAnnotation;
+pub use edits::CreateFile;
+pub use edits::CreateFileOptions;
+pub use edits::DeleteFile;
+pub use edits::DeleteFileOptions;
+pub use edits::DocumentChange;
 pub use edits::DocumentFormattingParams;
 pub use edits::DocumentOnTypeFormattingParams;
 pub use edits::DocumentRangeFormattingParams;
 pub use edits::FormattingOptions;
 pub use edits::OptionalVersionedTextDocumentIdentifier;
+pub use edits::PrepareRenameDefaultBehavior;
+pub use edits::PrepareRenamePlaceholder;
 pub use edits::PrepareRenameResult;
+pub use edits::RenameFile;
+pub use edits::RenameFileOptions;
 pub use edits::RenameParams;
 pub use edits::TextDocumentEdit;
 pub use edits::TextEdit;
@@ -131,7 +150,13 @@ pub use file_uri::paths_come_back;
 pub use file_uri::uri_of_path;
 pub use hints::InlayHint;
 pub use hints::InlayHintKind;
+pub use hints::InlayHintLabel;
+pub use hints::InlayHintLabelPart;
+pub use hovers::Documentation;
 pub use hovers::Hover;
+pub use hovers::HoverContents;
+pub use hovers::LanguageString;
+pub use hovers::MarkedString;
 pub use hovers::MarkupContent;
 pub use json::FromJson;
 pub use json::ToJson;
@@ -149,6 +174,7 @@ pub use lifecycle::UnregistrationParams;
 pub use lsp_text::ContentChange as TextDocumentContentChangeEvent;
 pub use lsp_text::Position;
 pub use lsp_text::Range;
+pub use offsets::LabelOffsets;
 pub use progress::ProgressParams;
 pub use progress::ProgressToken;
 pub use progress::WorkDoneProgressBegin;
@@ -159,15 +185,19 @@ pub use progress::WorkDoneProgressParams;
 pub use progress::WorkDoneProgressReport;
 pub use semantic_tokens::SemanticTokens;
 pub use signatures::ParameterInformation;
+pub use signatures::ParameterLabel;
 pub use signatures::SignatureHelp;
 pub use signatures::SignatureHelpContext;
 pub use signatures::SignatureHelpParams;
 pub use signatures::SignatureHelpTriggerKind;
 pub use signatures::SignatureInformation;
 pub use symbols::DocumentSymbol;
+pub use symbols::DocumentSymbolResult;
+pub use symbols::SymbolInformation;
 pub use symbols::SymbolKind;
 pub use symbols::SymbolTag;
 pub use symbols::WorkspaceSymbol;
+pub use symbols::WorkspaceSymbolLocation;
 pub use symbols::WorkspaceSymbolParams;
 pub use tokens::SemanticToken;
 pub use window::LogMessageParams;

@@ -2,8 +2,8 @@
 // `tools/types` wrote this file from `types.txt`: change that.
 ghost use Rattle.std.specs.Prelude.{codes};
 
-use crate::actions::{CodeAction, CodeActionParams};
-use crate::completions::{CompletionItem, CompletionList, CompletionParams};
+use crate::actions::{CodeAction, CodeActionOrCommand, CodeActionParams};
+use crate::completions::{CompletionItem, CompletionParams, CompletionResult};
 use crate::diagnostics::PublishDiagnosticsParams;
 use crate::directions::{
     NotificationToClient, NotificationToServer, RequestToClient, RequestToServer,
@@ -28,7 +28,7 @@ use crate::lifecycle::{
 use crate::progress::{ProgressParams, WorkDoneProgressCancelParams, WorkDoneProgressCreateParams};
 use crate::semantic_tokens::SemanticTokens;
 use crate::signatures::{SignatureHelp, SignatureHelpParams};
-use crate::symbols::{DocumentSymbol, WorkspaceSymbol, WorkspaceSymbolParams};
+use crate::symbols::{DocumentSymbolResult, WorkspaceSymbol, WorkspaceSymbolParams};
 use crate::window::{
     LogMessageParams, MessageActionItem, ShowDocumentParams, ShowDocumentResult, ShowMessageParams,
     ShowMessageRequestParams,
@@ -100,7 +100,8 @@ impl NotificationToServer for ExitNotification {
     ghost method = { codes "exit" };
 }
 
-/// `client/registerCapability`, a request to the client. What the server can do from now on (LSP 3.17, "Register Capability").
+/// `client/registerCapability`, a request to the client. What the server can do from now on (LSP 3.17, "Register
+/// Capability").
 pub struct RegistrationRequest;
 
 impl RegistrationRequest {
@@ -214,7 +215,8 @@ impl NotificationToClient for ProgressNotification {
     }
 }
 
-/// `textDocument/didOpen`, a notification to the server. A document was opened (LSP 3.17, "DidOpenTextDocument Notification").
+/// `textDocument/didOpen`, a notification to the server. A document was opened (LSP 3.17, "DidOpenTextDocument
+/// Notification").
 pub struct DidOpenTextDocumentNotification;
 
 impl DidOpenTextDocumentNotification {
@@ -228,7 +230,8 @@ impl NotificationToServer for DidOpenTextDocumentNotification {
     ghost method = { codes "textDocument/didOpen" };
 }
 
-/// `textDocument/didChange`, a notification to the server. A document was changed (LSP 3.17, "DidChangeTextDocument Notification").
+/// `textDocument/didChange`, a notification to the server. A document was changed (LSP 3.17, "DidChangeTextDocument
+/// Notification").
 pub struct DidChangeTextDocumentNotification;
 
 impl DidChangeTextDocumentNotification {
@@ -242,7 +245,8 @@ impl NotificationToServer for DidChangeTextDocumentNotification {
     ghost method = { codes "textDocument/didChange" };
 }
 
-/// `textDocument/willSave`, a notification to the server. A document will be saved (LSP 3.17, "WillSaveTextDocument Notification").
+/// `textDocument/willSave`, a notification to the server. A document will be saved (LSP 3.17, "WillSaveTextDocument
+/// Notification").
 pub struct WillSaveTextDocumentNotification;
 
 impl WillSaveTextDocumentNotification {
@@ -273,7 +277,8 @@ impl RequestToServer for WillSaveTextDocumentWaitUntilRequest {
     ghost method = { codes "textDocument/willSaveWaitUntil" };
 }
 
-/// `textDocument/didSave`, a notification to the server. A document was saved (LSP 3.17, "DidSaveTextDocument Notification").
+/// `textDocument/didSave`, a notification to the server. A document was saved (LSP 3.17, "DidSaveTextDocument
+/// Notification").
 pub struct DidSaveTextDocumentNotification;
 
 impl DidSaveTextDocumentNotification {
@@ -287,7 +292,8 @@ impl NotificationToServer for DidSaveTextDocumentNotification {
     ghost method = { codes "textDocument/didSave" };
 }
 
-/// `textDocument/didClose`, a notification to the server. A document was closed (LSP 3.17, "DidCloseTextDocument Notification").
+/// `textDocument/didClose`, a notification to the server. A document was closed (LSP 3.17, "DidCloseTextDocument
+/// Notification").
 pub struct DidCloseTextDocumentNotification;
 
 impl DidCloseTextDocumentNotification {
@@ -301,7 +307,8 @@ impl NotificationToServer for DidCloseTextDocumentNotification {
     ghost method = { codes "textDocument/didClose" };
 }
 
-/// `textDocument/declaration`, a request to the server. Where a name is declared (LSP 3.17, "Goto Declaration Request").
+/// `textDocument/declaration`, a request to the server. Where a name is declared (LSP 3.17, "Goto Declaration
+/// Request").
 pub struct DeclarationRequest;
 
 impl DeclarationRequest {
@@ -333,8 +340,8 @@ impl RequestToServer for DefinitionRequest {
     ghost method = { codes "textDocument/definition" };
 }
 
-/// `textDocument/typeDefinition`, a request to the server. Where the type of a name is defined (LSP 3.17, "Goto Type Definition
-/// Request").
+/// `textDocument/typeDefinition`, a request to the server. Where the type of a name is defined (LSP 3.17, "Goto Type
+/// Definition Request").
 pub struct TypeDefinitionRequest;
 
 impl TypeDefinitionRequest {
@@ -350,7 +357,8 @@ impl RequestToServer for TypeDefinitionRequest {
     ghost method = { codes "textDocument/typeDefinition" };
 }
 
-/// `textDocument/implementation`, a request to the server. Where a name is implemented (LSP 3.17, "Goto Implementation Request").
+/// `textDocument/implementation`, a request to the server. Where a name is implemented (LSP 3.17, "Goto Implementation
+/// Request").
 pub struct ImplementationRequest;
 
 impl ImplementationRequest {
@@ -398,7 +406,8 @@ impl RequestToServer for HoverRequest {
     ghost method = { codes "textDocument/hover" };
 }
 
-/// `textDocument/documentSymbol`, a request to the server. The symbols of a document (LSP 3.17, "Document Symbols Request").
+/// `textDocument/documentSymbol`, a request to the server. The symbols of a document (LSP 3.17, "Document Symbols
+/// Request").
 pub struct DocumentSymbolRequest;
 
 impl DocumentSymbolRequest {
@@ -409,12 +418,13 @@ impl DocumentSymbolRequest {
 impl RequestToServer for DocumentSymbolRequest {
     type Params = DocumentSymbolParams;
 
-    type Result = Option<Vec<DocumentSymbol>>;
+    type Result = Option<DocumentSymbolResult>;
 
     ghost method = { codes "textDocument/documentSymbol" };
 }
 
-/// `textDocument/semanticTokens/full`, a request to the server. What each word of a document is (LSP 3.17, "Semantic Tokens").
+/// `textDocument/semanticTokens/full`, a request to the server. What each word of a document is (LSP 3.17, "Semantic
+/// Tokens").
 pub struct SemanticTokensRequest;
 
 impl SemanticTokensRequest {
@@ -430,7 +440,8 @@ impl RequestToServer for SemanticTokensRequest {
     ghost method = { codes "textDocument/semanticTokens/full" };
 }
 
-/// `textDocument/semanticTokens/range`, a request to the server. What each word of a part is (LSP 3.17, "Semantic Tokens").
+/// `textDocument/semanticTokens/range`, a request to the server. What each word of a part is (LSP 3.17, "Semantic
+/// Tokens").
 pub struct SemanticTokensRangeRequest;
 
 impl SemanticTokensRangeRequest {
@@ -446,8 +457,8 @@ impl RequestToServer for SemanticTokensRangeRequest {
     ghost method = { codes "textDocument/semanticTokens/range" };
 }
 
-/// `workspace/semanticTokens/refresh`, a request to the client. The client is to ask for semantic tokens anew (LSP 3.17, "Semantic
-/// Tokens").
+/// `workspace/semanticTokens/refresh`, a request to the client. The client is to ask for semantic tokens anew (LSP
+/// 3.17, "Semantic Tokens").
 pub struct SemanticTokensRefreshRequest;
 
 impl SemanticTokensRefreshRequest {
@@ -467,8 +478,8 @@ impl RequestToClient for SemanticTokensRefreshRequest {
     }
 }
 
-/// `textDocument/inlayHint`, a request to the server. What is shown between the characters of a part (LSP 3.17, "Inlay Hint
-/// Request").
+/// `textDocument/inlayHint`, a request to the server. What is shown between the characters of a part (LSP 3.17, "Inlay
+/// Hint Request").
 pub struct InlayHintRequest;
 
 impl InlayHintRequest {
@@ -500,8 +511,8 @@ impl RequestToServer for InlayHintResolveRequest {
     ghost method = { codes "inlayHint/resolve" };
 }
 
-/// `workspace/inlayHint/refresh`, a request to the client. The client is to ask for hints anew (LSP 3.17, "Inlay Hint Refresh
-/// Request").
+/// `workspace/inlayHint/refresh`, a request to the client. The client is to ask for hints anew (LSP 3.17, "Inlay Hint
+/// Refresh Request").
 pub struct InlayHintRefreshRequest;
 
 impl InlayHintRefreshRequest {
@@ -532,12 +543,13 @@ impl CompletionRequest {
 impl RequestToServer for CompletionRequest {
     type Params = CompletionParams;
 
-    type Result = Option<CompletionList>;
+    type Result = Option<CompletionResult>;
 
     ghost method = { codes "textDocument/completion" };
 }
 
-/// `completionItem/resolve`, a request to the server. The same completion, with more (LSP 3.17, "Completion Item Resolve Request").
+/// `completionItem/resolve`, a request to the server. The same completion, with more (LSP 3.17, "Completion Item
+/// Resolve Request").
 pub struct CompletionResolveRequest;
 
 impl CompletionResolveRequest {
@@ -553,8 +565,8 @@ impl RequestToServer for CompletionResolveRequest {
     ghost method = { codes "completionItem/resolve" };
 }
 
-/// `textDocument/publishDiagnostics`, a notification to the client. What is wrong with a document (LSP 3.17, "PublishDiagnostics
-/// Notification").
+/// `textDocument/publishDiagnostics`, a notification to the client. What is wrong with a document (LSP 3.17,
+/// "PublishDiagnostics Notification").
 pub struct PublishDiagnosticsNotification;
 
 impl PublishDiagnosticsNotification {
@@ -588,7 +600,8 @@ impl RequestToServer for SignatureHelpRequest {
     ghost method = { codes "textDocument/signatureHelp" };
 }
 
-/// `textDocument/codeAction`, a request to the server. The changes that a user may choose (LSP 3.17, "Code Action Request").
+/// `textDocument/codeAction`, a request to the server. The changes that a user may choose (LSP 3.17, "Code Action
+/// Request").
 pub struct CodeActionRequest;
 
 impl CodeActionRequest {
@@ -599,7 +612,7 @@ impl CodeActionRequest {
 impl RequestToServer for CodeActionRequest {
     type Params = CodeActionParams;
 
-    type Result = Option<Vec<CodeAction>>;
+    type Result = Option<Vec<CodeActionOrCommand>>;
 
     ghost method = { codes "textDocument/codeAction" };
 }
@@ -620,7 +633,8 @@ impl RequestToServer for CodeActionResolveRequest {
     ghost method = { codes "codeAction/resolve" };
 }
 
-/// `textDocument/formatting`, a request to the server. Changes that format a document (LSP 3.17, "Document Formatting Request").
+/// `textDocument/formatting`, a request to the server. Changes that format a document (LSP 3.17, "Document Formatting
+/// Request").
 pub struct DocumentFormattingRequest;
 
 impl DocumentFormattingRequest {
@@ -636,8 +650,8 @@ impl RequestToServer for DocumentFormattingRequest {
     ghost method = { codes "textDocument/formatting" };
 }
 
-/// `textDocument/rangeFormatting`, a request to the server. Changes that format a part of a document (LSP 3.17, "Document Range
-/// Formatting Request").
+/// `textDocument/rangeFormatting`, a request to the server. Changes that format a part of a document (LSP 3.17,
+/// "Document Range Formatting Request").
 pub struct DocumentRangeFormattingRequest;
 
 impl DocumentRangeFormattingRequest {
@@ -653,8 +667,8 @@ impl RequestToServer for DocumentRangeFormattingRequest {
     ghost method = { codes "textDocument/rangeFormatting" };
 }
 
-/// `textDocument/onTypeFormatting`, a request to the server. Changes that format what was typed (LSP 3.17, "Document on Type
-/// Formatting Request").
+/// `textDocument/onTypeFormatting`, a request to the server. Changes that format what was typed (LSP 3.17, "Document on
+/// Type Formatting Request").
 pub struct DocumentOnTypeFormattingRequest;
 
 impl DocumentOnTypeFormattingRequest {
@@ -670,7 +684,8 @@ impl RequestToServer for DocumentOnTypeFormattingRequest {
     ghost method = { codes "textDocument/onTypeFormatting" };
 }
 
-/// `textDocument/rename`, a request to the server. Changes that rename what stands at a place (LSP 3.17, "Rename Request").
+/// `textDocument/rename`, a request to the server. Changes that rename what stands at a place (LSP 3.17, "Rename
+/// Request").
 pub struct RenameRequest;
 
 impl RenameRequest {
@@ -718,7 +733,8 @@ impl RequestToServer for WorkspaceSymbolRequest {
     ghost method = { codes "workspace/symbol" };
 }
 
-/// `workspaceSymbol/resolve`, a request to the server. The same symbol, with more (LSP 3.17, "Workspace Symbol Resolve Request").
+/// `workspaceSymbol/resolve`, a request to the server. The same symbol, with more (LSP 3.17, "Workspace Symbol Resolve
+/// Request").
 pub struct WorkspaceSymbolResolveRequest;
 
 impl WorkspaceSymbolResolveRequest {
@@ -754,8 +770,8 @@ impl RequestToClient for ConfigurationRequest {
     }
 }
 
-/// `workspace/didChangeConfiguration`, a notification to the server. The user set something (LSP 3.17, "DidChangeConfiguration
-/// Notification").
+/// `workspace/didChangeConfiguration`, a notification to the server. The user set something (LSP 3.17,
+/// "DidChangeConfiguration Notification").
 pub struct DidChangeConfigurationNotification;
 
 impl DidChangeConfigurationNotification {
@@ -769,7 +785,8 @@ impl NotificationToServer for DidChangeConfigurationNotification {
     ghost method = { codes "workspace/didChangeConfiguration" };
 }
 
-/// `workspace/workspaceFolders`, a request to the client. The folders that are open (LSP 3.17, "Workspace folders request").
+/// `workspace/workspaceFolders`, a request to the client. The folders that are open (LSP 3.17, "Workspace folders
+/// request").
 pub struct WorkspaceFoldersRequest;
 
 impl WorkspaceFoldersRequest {
@@ -873,7 +890,8 @@ impl NotificationToClient for ShowMessageNotification {
     }
 }
 
-/// `window/showMessageRequest`, a request to the client. A text to show, with a choice (LSP 3.17, "ShowMessage Request").
+/// `window/showMessageRequest`, a request to the client. A text to show, with a choice (LSP 3.17, "ShowMessage
+/// Request").
 pub struct ShowMessageRequest;
 
 impl ShowMessageRequest {
@@ -931,8 +949,8 @@ impl NotificationToClient for LogMessageNotification {
     }
 }
 
-/// `window/workDoneProgress/create`, a request to the client. Begins to show the progress of work (LSP 3.17, "Creating Work Done
-/// Progress").
+/// `window/workDoneProgress/create`, a request to the client. Begins to show the progress of work (LSP 3.17, "Creating
+/// Work Done Progress").
 pub struct WorkDoneProgressCreateRequest;
 
 impl WorkDoneProgressCreateRequest {
@@ -952,8 +970,8 @@ impl RequestToClient for WorkDoneProgressCreateRequest {
     }
 }
 
-/// `window/workDoneProgress/cancel`, a notification to the server. The user calls work off (LSP 3.17, "Canceling a Work Done
-/// Progress").
+/// `window/workDoneProgress/cancel`, a notification to the server. The user calls work off (LSP 3.17, "Canceling a Work
+/// Done Progress").
 pub struct WorkDoneProgressCancelNotification;
 
 impl WorkDoneProgressCancelNotification {
@@ -967,8 +985,8 @@ impl NotificationToServer for WorkDoneProgressCancelNotification {
     ghost method = { codes "window/workDoneProgress/cancel" };
 }
 
-/// `telemetry/event`, a notification to the client. What the server tells of its use: an object or a list (LSP 3.17, "Telemetry
-/// Notification").
+/// `telemetry/event`, a notification to the client. What the server tells of its use: an object or a list (LSP 3.17,
+/// "Telemetry Notification").
 pub struct TelemetryEventNotification;
 
 impl TelemetryEventNotification {

@@ -13,8 +13,8 @@ use std::alloc::{AllocError, Global};
 /// A name that the one who asks for progress gives it (LSP 3.17, "Progress Support").
 pub type ProgressToken = NumberOrString;
 
-/// The member of a request's params by which the client asks for progress (LSP 3.17, "Client Initiated Progress"). Read it beside
-/// them, from the same value.
+/// The member of a request's params by which the client asks for progress (LSP 3.17, "Client Initiated Progress"). Read
+/// it beside them, from the same value.
 #[derive(Drop)]
 pub struct WorkDoneProgressParams {
     /// The token to report with. `None` means that no progress is asked for.

@@ -3,11 +3,12 @@
 ghost use Rattle.std.specs.Prelude.{◌∷◌, [], Some, codes, option_map};
 ghost use Rattle.serde_json.specs.Data.{number, unsigned};
 ghost use Rattle.lsp_types.specs.Json.{object_of};
-ghost use Rattle.lsp_types.specs.Reads.{IfFits, IsObject, IsWithin, Optional, Required, ◌and◌};
+ghost use Rattle.lsp_types.specs.Reads.{IfFits, IsObject, IsWithin, NoneReads, Optional, Required, ◌and◌};
 
 use crate::documents::TextDocumentIdentifier;
-use crate::hovers::MarkupContent;
-use crate::json::{FromJson, Members, Misfit, Object, ToJson, number_within};
+use crate::hovers::Documentation;
+use crate::json::{FromJson, Members, Misfit, Object, ToJson, fitting, number_within};
+use crate::offsets::LabelOffsets;
 use crate::progress::ProgressToken;
 use lsp_text::Position;
 use serde_json::Value;
@@ -90,7 +91,7 @@ pub struct SignatureInformation {
     /// The signature, as it is shown.
     pub label: String,
     /// All about it.
-    pub documentation: Option<MarkupContent>,
+    pub documentation: Option<Documentation>,
     /// Its parameters.
     pub parameters: Option<Vec<ParameterInformation>>,
     /// Which of them is typed, in place of the help's `active_parameter`.
@@ -121,7 +122,7 @@ impl SignatureInformation {
 impl ToJson for SignatureInformation {
     ghost stands = { λ it. object_of (
         (codes "label", Some (⟦<String as ToJson>⟧.stands it.label))
-        ∷ (codes "documentation", option_map ⟦<MarkupContent as ToJson>⟧.stands it.documentation)
+        ∷ (codes "documentation", option_map ⟦<Documentation as ToJson>⟧.stands it.documentation)
         ∷ (codes "parameters", option_map ⟦<Vec<ParameterInformation> as ToJson>⟧.stands it.parameters)
         ∷ (codes "activeParameter", option_map ⟦<u32 as ToJson>⟧.stands it.active_parameter) ∷ []) };
 
@@ -138,7 +139,7 @@ impl ToJson for SignatureInformation {
 impl FromJson for SignatureInformation {
     ghost reads = { λ json it. IsObject json
         and Required ⟦<String as FromJson>⟧.reads (codes "label") json it.label
-        and Optional ⟦<MarkupContent as FromJson>⟧.reads (codes "documentation") json it.documentation
+        and Optional ⟦<Documentation as FromJson>⟧.reads (codes "documentation") json it.documentation
         and Optional ⟦<Vec<ParameterInformation> as FromJson>⟧.reads (codes "parameters") json it.parameters
         and Optional ⟦<u32 as FromJson>⟧.reads (codes "activeParameter") json it.active_parameter };
 
@@ -164,27 +165,72 @@ impl FromJson for SignatureInformation {
     }
 }
 
+/// The part of a signature's label that a parameter is: a string, or a list (LSP 3.17, "ParameterInformation").
+#[derive(Drop)]
+pub enum ParameterLabel {
+    /// Its text.
+    Text(String),
+    /// Where it stands, for clients with `labelOffsetSupport`.
+    Offsets(LabelOffsets),
+}
+
+impl ToJson for ParameterLabel {
+    ghost use Rattle.lsp_types.specs.declared.signatures.ParameterLabel.TheVariants.{Text, Offsets};
+
+    ghost stands = { elim [
+      | Text it ↦ ⟦<String as ToJson>⟧.stands it
+      | Offsets it ↦ ⟦<LabelOffsets as ToJson>⟧.stands it
+    ] };
+
+    fn to_json(&self, alloc: Global) -> Result<Value, AllocError> {
+        match self {
+            ParameterLabel::Text(it) => it.to_json(alloc),
+            ParameterLabel::Offsets(it) => it.to_json(alloc),
+        }
+    }
+}
+
+impl FromJson for ParameterLabel {
+    ghost use Rattle.lsp_types.specs.declared.signatures.ParameterLabel.TheVariants.{Text, Offsets};
+
+    ghost reads = { λ json. elim [
+      | Text it ↦ ⟦<String as FromJson>⟧.reads json it
+      | Offsets it ↦ NoneReads ⟦<String as FromJson>⟧.reads json × ⟦<LabelOffsets as FromJson>⟧.reads json it
+    ] };
+
+    fn from_json(alloc: Global, value: &Value) -> Result<ParameterLabel, Misfit> {
+        if let Some(it) = fitting(alloc, value)? {
+            return Ok(ParameterLabel::Text(it));
+        }
+        match FromJson::from_json(alloc, value) {
+            Ok(it) => Ok(ParameterLabel::Offsets(it)),
+            Err(misfit) => Err(misfit),
+        }
+    }
+}
+
 /// A parameter (LSP 3.17, "ParameterInformation").
 #[derive(Drop)]
 pub struct ParameterInformation {
     /// The part of the signature's label that it is.
-    pub label: String,
+    pub label: ParameterLabel,
     /// All about it.
-    pub documentation: Option<MarkupContent>,
+    pub documentation: Option<Documentation>,
 }
 
 impl ParameterInformation {
     ghost use Rattle.std.specs.Prelude.{◌≡◌, None};
+    ghost use Rattle.lsp_types.specs.declared.signatures.ParameterLabel.TheVariants.{Text};
 
-    /// What has to be there. The rest is `None`.
+    /// What stands in the signature. The rest is `None`.
     pub fn new(label: String) -> ParameterInformation
         ensures { result ≡ record {
-          label = label;
+          label = Text label;
           documentation = None;
         } }
     {
         ParameterInformation {
-            label,
+            label: ParameterLabel::Text(label),
             documentation: None,
         }
     }
@@ -192,8 +238,8 @@ impl ParameterInformation {
 
 impl ToJson for ParameterInformation {
     ghost stands = { λ it. object_of (
-        (codes "label", Some (⟦<String as ToJson>⟧.stands it.label))
-        ∷ (codes "documentation", option_map ⟦<MarkupContent as ToJson>⟧.stands it.documentation) ∷ []) };
+        (codes "label", Some (⟦<ParameterLabel as ToJson>⟧.stands it.label))
+        ∷ (codes "documentation", option_map ⟦<Documentation as ToJson>⟧.stands it.documentation) ∷ []) };
 
     fn to_json(&self, alloc: Global) -> Result<Value, AllocError> {
         Object::new(alloc)
@@ -205,8 +251,8 @@ impl ToJson for ParameterInformation {
 
 impl FromJson for ParameterInformation {
     ghost reads = { λ json it. IsObject json
-        and Required ⟦<String as FromJson>⟧.reads (codes "label") json it.label
-        and Optional ⟦<MarkupContent as FromJson>⟧.reads (codes "documentation") json it.documentation };
+        and Required ⟦<ParameterLabel as FromJson>⟧.reads (codes "label") json it.label
+        and Optional ⟦<Documentation as FromJson>⟧.reads (codes "documentation") json it.documentation };
 
     fn from_json(alloc: Global, value: &Value) -> Result<ParameterInformation, Misfit> {
         match Members::new(alloc, value)

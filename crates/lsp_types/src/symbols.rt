@@ -3,10 +3,10 @@
 ghost use Rattle.std.specs.Prelude.{◌∷◌, [], Some, codes, option_map};
 ghost use Rattle.serde_json.specs.Data.{number, unsigned};
 ghost use Rattle.lsp_types.specs.Json.{object_of};
-ghost use Rattle.lsp_types.specs.Reads.{IfFits, IsObject, IsWithin, Optional, Required, ◌and◌};
+ghost use Rattle.lsp_types.specs.Reads.{IfFits, IsObject, IsWithin, NoneReads, Optional, Required, ◌and◌};
 
-use crate::documents::Location;
-use crate::json::{FromJson, Members, Misfit, Object, ToJson, number_within};
+use crate::documents::{Location, TextDocumentIdentifier};
+use crate::json::{FromJson, Members, Misfit, Object, ToJson, fitting, number_within};
 use crate::progress::ProgressToken;
 use lsp_text::Range;
 use serde_json::Value;
@@ -118,7 +118,8 @@ impl FromJson for SymbolTag {
     }
 }
 
-/// A symbol of a document, with those inside it (LSP 3.17, "DocumentSymbol").
+/// A symbol of a document, with those inside it (LSP 3.17, "DocumentSymbol"). Read, they nest at most 128 levels; a
+/// message of JSON has room for half as many.
 #[derive(Drop)]
 pub struct DocumentSymbol {
     /// Its name.
@@ -135,7 +136,7 @@ pub struct DocumentSymbol {
     pub range: Range,
     /// The part to select, as its name. It lies in `range`.
     pub selection_range: Range,
-    /// Those inside it.
+    /// Those inside it. On reading, none if they are missing.
     pub children: Vec<DocumentSymbol>,
 }
 
@@ -175,7 +176,151 @@ impl DocumentSymbol {
     }
 }
 
-/// The params of `workspace/symbol` (LSP 3.17, "Workspace Symbols Request"). The result is a list of `WorkspaceSymbol` or null.
+/// A symbol, and where it is (LSP 3.17, "Document Symbols Request").
+#[derive(Drop)]
+pub struct SymbolInformation {
+    /// Its name.
+    pub name: String,
+    /// What it is.
+    pub kind: SymbolKind,
+    /// How it may be shown.
+    pub tags: Option<Vec<SymbolTag>>,
+    /// Whether it is not to be used. `tags` has come in its place.
+    pub deprecated: Option<bool>,
+    /// Where it is.
+    pub location: Location,
+    /// What it stands in, for people.
+    pub container_name: Option<String>,
+}
+
+impl SymbolInformation {
+    ghost use Rattle.std.specs.Prelude.{◌≡◌, None};
+
+    /// What has to be there. The rest is `None`.
+    pub fn new(name: String, kind: SymbolKind, location: Location) -> SymbolInformation
+        ensures { result ≡ record {
+          name = name;
+          kind = kind;
+          tags = None;
+          deprecated = None;
+          location = location;
+          container_name = None;
+        } }
+    {
+        SymbolInformation {
+            name,
+            kind,
+            tags: None,
+            deprecated: None,
+            location,
+            container_name: None,
+        }
+    }
+}
+
+impl ToJson for SymbolInformation {
+    ghost stands = { λ it. object_of (
+        (codes "name", Some (⟦<String as ToJson>⟧.stands it.name))
+        ∷ (codes "kind", Some (⟦<SymbolKind as ToJson>⟧.stands it.kind))
+        ∷ (codes "tags", option_map ⟦<Vec<SymbolTag> as ToJson>⟧.stands it.tags)
+        ∷ (codes "deprecated", option_map ⟦<bool as ToJson>⟧.stands it.deprecated)
+        ∷ (codes "location", Some (⟦<Location as ToJson>⟧.stands it.location))
+        ∷ (codes "containerName", option_map ⟦<String as ToJson>⟧.stands it.container_name) ∷ []) };
+
+    fn to_json(&self, alloc: Global) -> Result<Value, AllocError> {
+        Object::new(alloc)
+            .member("name", &self.name)
+            .member("kind", &self.kind)
+            .some("tags", &self.tags)
+            .some("deprecated", &self.deprecated)
+            .member("location", &self.location)
+            .some("containerName", &self.container_name)
+            .end()
+    }
+}
+
+impl FromJson for SymbolInformation {
+    ghost reads = { λ json it. IsObject json
+        and Required ⟦<String as FromJson>⟧.reads (codes "name") json it.name
+        and Required ⟦<SymbolKind as FromJson>⟧.reads (codes "kind") json it.kind
+        and Optional ⟦<Vec<SymbolTag> as FromJson>⟧.reads (codes "tags") json it.tags
+        and Optional ⟦<bool as FromJson>⟧.reads (codes "deprecated") json it.deprecated
+        and Required ⟦<Location as FromJson>⟧.reads (codes "location") json it.location
+        and Optional ⟦<String as FromJson>⟧.reads (codes "containerName") json it.container_name };
+
+    fn from_json(alloc: Global, value: &Value) -> Result<SymbolInformation, Misfit> {
+        match Members::new(alloc, value)
+            .required("name")
+            .required("kind")
+            .optional("tags")
+            .optional("deprecated")
+            .required("location")
+            .optional("containerName")
+            .end()
+        {
+            Ok(read) => {
+                let (((((((), name), kind), tags), deprecated), location), container_name) = read;
+                Ok(SymbolInformation {
+                    name,
+                    kind,
+                    tags,
+                    deprecated,
+                    location,
+                    container_name,
+                })
+            }
+            Err(misfit) => Err(misfit),
+        }
+    }
+}
+
+/// The result of `textDocument/documentSymbol`, or null (LSP 3.17, "Document Symbols Request"). Symbols with a member
+/// `location` are the second form.
+#[derive(Drop)]
+pub enum DocumentSymbolResult {
+    /// Symbols with those inside them, for clients with `hierarchicalDocumentSymbolSupport`.
+    Symbols(Vec<DocumentSymbol>),
+    /// Symbols side by side.
+    Information(Vec<SymbolInformation>),
+}
+
+impl ToJson for DocumentSymbolResult {
+    ghost use Rattle.lsp_types.specs.declared.symbols.DocumentSymbolResult.TheVariants.{Symbols, Information};
+
+    ghost stands = { elim [
+      | Symbols it ↦ ⟦<Vec<DocumentSymbol> as ToJson>⟧.stands it
+      | Information it ↦ ⟦<Vec<SymbolInformation> as ToJson>⟧.stands it
+    ] };
+
+    fn to_json(&self, alloc: Global) -> Result<Value, AllocError> {
+        match self {
+            DocumentSymbolResult::Symbols(it) => it.to_json(alloc),
+            DocumentSymbolResult::Information(it) => it.to_json(alloc),
+        }
+    }
+}
+
+impl FromJson for DocumentSymbolResult {
+    ghost use Rattle.lsp_types.specs.declared.symbols.DocumentSymbolResult.TheVariants.{Symbols, Information};
+
+    ghost reads = { λ json. elim [
+      | Symbols it ↦ ⟦<Vec<DocumentSymbol> as FromJson>⟧.reads json it
+      | Information it ↦ NoneReads ⟦<Vec<DocumentSymbol> as FromJson>⟧.reads json × ⟦<Vec<SymbolInformation> as FromJson>⟧.reads json it
+    ] };
+
+    fn from_json(alloc: Global, value: &Value) -> Result<DocumentSymbolResult, Misfit> {
+        if let Some(it) = fitting(alloc, value)? {
+            return Ok(DocumentSymbolResult::Symbols(it));
+        }
+        match FromJson::from_json(alloc, value) {
+            Ok(it) => Ok(DocumentSymbolResult::Information(it)),
+            Err(misfit) => Err(misfit),
+        }
+    }
+}
+
+/// The params of `workspace/symbol` (LSP 3.17, "Workspace Symbols Request"). The result is a list of `WorkspaceSymbol`
+/// or null.
 #[derive(Drop)]
 pub struct WorkspaceSymbolParams {
     /// What the user typed. The empty text asks for all.
@@ -227,7 +372,53 @@ impl FromJson for WorkspaceSymbolParams {
     }
 }
 
-/// A symbol of a workspace (LSP 3.17, "Workspace Symbols Request"). The params and the result of `workspaceSymbol/resolve` are one.
+/// Where a symbol of a workspace is (LSP 3.17, "Workspace Symbols Request"). One with a member `range` is the first.
+#[derive(Drop)]
+pub enum WorkspaceSymbolLocation {
+    /// The place.
+    Place(Location),
+    /// Its document alone, for clients with `resolveSupport`: `workspaceSymbol/resolve` gives the place.
+    Document(TextDocumentIdentifier),
+}
+
+impl ToJson for WorkspaceSymbolLocation {
+    ghost use Rattle.lsp_types.specs.declared.symbols.WorkspaceSymbolLocation.TheVariants.{Place, Document};
+
+    ghost stands = { elim [
+      | Place it ↦ ⟦<Location as ToJson>⟧.stands it
+      | Document it ↦ ⟦<TextDocumentIdentifier as ToJson>⟧.stands it
+    ] };
+
+    fn to_json(&self, alloc: Global) -> Result<Value, AllocError> {
+        match self {
+            WorkspaceSymbolLocation::Place(it) => it.to_json(alloc),
+            WorkspaceSymbolLocation::Document(it) => it.to_json(alloc),
+        }
+    }
+}
+
+impl FromJson for WorkspaceSymbolLocation {
+    ghost use Rattle.lsp_types.specs.declared.symbols.WorkspaceSymbolLocation.TheVariants.{Place, Document};
+
+    ghost reads = { λ json. elim [
+      | Place it ↦ ⟦<Location as FromJson>⟧.reads json it
+      | Document it ↦ NoneReads ⟦<Location as FromJson>⟧.reads json × ⟦<TextDocumentIdentifier as FromJson>⟧.reads json it
+    ] };
+
+    fn from_json(alloc: Global, value: &Value) -> Result<WorkspaceSymbolLocation, Misfit> {
+        if let Some(it) = fitting(alloc, value)? {
+            return Ok(WorkspaceSymbolLocation::Place(it));
+        }
+        match FromJson::from_json(alloc, value) {
+            Ok(it) => Ok(WorkspaceSymbolLocation::Document(it)),
+            Err(misfit) => Err(misfit),
+        }
+    }
+}
+
+/// A symbol of a workspace, of which the result of `workspace/symbol` is a list (LSP 3.17, "Workspace Symbols
+/// Request"). It has the members of the older `SymbolInformation` too, so that lists of these are read by it. The
+/// params and the result of `workspaceSymbol/resolve` are one.
 #[derive(Drop)]
 pub struct WorkspaceSymbol {
     /// Its name.
@@ -236,25 +427,29 @@ pub struct WorkspaceSymbol {
     pub kind: SymbolKind,
     /// How it may be shown.
     pub tags: Option<Vec<SymbolTag>>,
+    /// Whether it is not to be used. Of a `SymbolInformation` alone. `tags` has come in its place.
+    pub deprecated: Option<bool>,
     /// What it stands in, for people.
     pub container_name: Option<String>,
     /// Where it is.
-    pub location: Location,
+    pub location: WorkspaceSymbolLocation,
     /// What the client gives back in `workspaceSymbol/resolve`.
     pub data: Option<Value>,
 }
 
 impl WorkspaceSymbol {
     ghost use Rattle.std.specs.Prelude.{◌≡◌, None};
+    ghost use Rattle.lsp_types.specs.declared.symbols.WorkspaceSymbolLocation.TheVariants.{Place};
 
-    /// What has to be there. The rest is `None`.
+    /// A symbol, and its place. The rest is `None`.
     pub fn new(name: String, kind: SymbolKind, location: Location) -> WorkspaceSymbol
         ensures { result ≡ record {
           name = name;
           kind = kind;
           tags = None;
+          deprecated = None;
           container_name = None;
-          location = location;
+          location = Place location;
           «data» = None;
         } }
     {
@@ -262,8 +457,9 @@ impl WorkspaceSymbol {
             name,
             kind,
             tags: None,
+            deprecated: None,
             container_name: None,
-            location,
+            location: WorkspaceSymbolLocation::Place(location),
             data: None,
         }
     }
@@ -274,8 +470,9 @@ impl ToJson for WorkspaceSymbol {
         (codes "name", Some (⟦<String as ToJson>⟧.stands it.name))
         ∷ (codes "kind", Some (⟦<SymbolKind as ToJson>⟧.stands it.kind))
         ∷ (codes "tags", option_map ⟦<Vec<SymbolTag> as ToJson>⟧.stands it.tags)
+        ∷ (codes "deprecated", option_map ⟦<bool as ToJson>⟧.stands it.deprecated)
         ∷ (codes "containerName", option_map ⟦<String as ToJson>⟧.stands it.container_name)
-        ∷ (codes "location", Some (⟦<Location as ToJson>⟧.stands it.location))
+        ∷ (codes "location", Some (⟦<WorkspaceSymbolLocation as ToJson>⟧.stands it.location))
         ∷ (codes "data", option_map ⟦<Value as ToJson>⟧.stands it.«data») ∷ []) };
 
     fn to_json(&self, alloc: Global) -> Result<Value, AllocError> {
@@ -283,6 +480,7 @@ impl ToJson for WorkspaceSymbol {
             .member("name", &self.name)
             .member("kind", &self.kind)
             .some("tags", &self.tags)
+            .some("deprecated", &self.deprecated)
             .some("containerName", &self.container_name)
             .member("location", &self.location)
             .some("data", &self.data)
@@ -295,8 +493,9 @@ impl FromJson for WorkspaceSymbol {
         and Required ⟦<String as FromJson>⟧.reads (codes "name") json it.name
         and Required ⟦<SymbolKind as FromJson>⟧.reads (codes "kind") json it.kind
         and Optional ⟦<Vec<SymbolTag> as FromJson>⟧.reads (codes "tags") json it.tags
+        and Optional ⟦<bool as FromJson>⟧.reads (codes "deprecated") json it.deprecated
         and Optional ⟦<String as FromJson>⟧.reads (codes "containerName") json it.container_name
-        and Required ⟦<Location as FromJson>⟧.reads (codes "location") json it.location
+        and Required ⟦<WorkspaceSymbolLocation as FromJson>⟧.reads (codes "location") json it.location
         and Optional ⟦<Value as FromJson>⟧.reads (codes "data") json it.«data» };
 
     fn from_json(alloc: Global, value: &Value) -> Result<WorkspaceSymbol, Misfit> {
@@ -304,17 +503,20 @@ impl FromJson for WorkspaceSymbol {
             .required("name")
             .required("kind")
             .optional("tags")
+            .optional("deprecated")
             .optional("containerName")
             .required("location")
             .optional("data")
             .end()
         {
             Ok(read) => {
-                let (((((((), name), kind), tags), container_name), location), data) = read;
+                let ((((((((), name), kind), tags), deprecated), container_name), location), data) =
+                    read;
                 Ok(WorkspaceSymbol {
                     name,
                     kind,
                     tags,
+                    deprecated,
                     container_name,
                     location,
                     data,

@@ -86,8 +86,8 @@ impl FromJson for ShowMessageParams {
     }
 }
 
-/// The params of `window/showMessageRequest` (LSP 3.17, "ShowMessage Request"). The result is the `MessageActionItem` that the user
-/// chose, or null.
+/// The params of `window/showMessageRequest` (LSP 3.17, "ShowMessage Request"). The result is the `MessageActionItem`
+/// that the user chose, or null.
 #[derive(Drop)]
 pub struct ShowMessageRequestParams {
     /// How important it is. Its key is `type`.

@@ -129,7 +129,8 @@ impl FromJson for WorkspaceFoldersChangeEvent {
 /// The params of `workspace/didChangeConfiguration` (LSP 3.17, "DidChangeConfiguration Notification").
 #[derive(Drop)]
 pub struct DidChangeConfigurationParams {
-    /// The settings. A client that can be asked sends null, and means that the server is to ask (`workspace/configuration`).
+    /// The settings. A client that can be asked sends null, and means that the server is to ask
+    /// (`workspace/configuration`).
     pub settings: Value,
 }
 
@@ -262,7 +263,8 @@ impl FromJson for DidChangeWatchedFilesParams {
     }
 }
 
-/// The params of `workspace/configuration` (LSP 3.17, "Configuration Request"). The result is a list with a value for each item.
+/// The params of `workspace/configuration` (LSP 3.17, "Configuration Request"). The result is a list with a value for
+/// each item.
 #[derive(Drop)]
 pub struct ConfigurationParams {
     /// What is asked for.

@@ -10,7 +10,8 @@ use lsp_types::{DocumentSymbolParams, ProgressToken, TextDocumentIdentifier, Tex
 use serde_json::Value;
 use std::alloc::{AllocError, Global};
 
-/// The params of `textDocument/documentColor` (LSP 3.17, "Document Color Request"). The result is a list of `ColorInformation`.
+/// The params of `textDocument/documentColor` (LSP 3.17, "Document Color Request"). The result is a list of
+/// `ColorInformation`.
 pub type DocumentColorParams = DocumentSymbolParams;
 
 /// A color (LSP 3.17, "Color"). Each part goes from 0 to 1.

@@ -10,8 +10,8 @@ use lsp_types::{HoverParams, ProgressToken, SymbolKind, SymbolTag};
 use serde_json::Value;
 use std::alloc::{AllocError, Global};
 
-/// The params of `textDocument/prepareCallHierarchy` (LSP 3.17, "Prepare Call Hierarchy Request"). The result is a list of
-/// `CallHierarchyItem` or null.
+/// The params of `textDocument/prepareCallHierarchy` (LSP 3.17, "Prepare Call Hierarchy Request"). The result is a list
+/// of `CallHierarchyItem` or null.
 pub type CallHierarchyPrepareParams = HoverParams;
 
 /// A function, or another symbol that calls or is called (LSP 3.17, "CallHierarchyItem").
@@ -234,8 +234,8 @@ impl FromJson for CallHierarchyIncomingCall {
     }
 }
 
-/// The params of `callHierarchy/outgoingCalls`, where `item` is the one that calls (LSP 3.17, "Call Hierarchy Outgoing Calls"). The
-/// result is a list of `CallHierarchyOutgoingCall` or null.
+/// The params of `callHierarchy/outgoingCalls`, where `item` is the one that calls (LSP 3.17, "Call Hierarchy Outgoing
+/// Calls"). The result is a list of `CallHierarchyOutgoingCall` or null.
 pub type CallHierarchyOutgoingCallsParams = CallHierarchyIncomingCallsParams;
 
 /// One that is called (LSP 3.17, "Call Hierarchy Outgoing Calls").
@@ -280,17 +280,17 @@ impl FromJson for CallHierarchyOutgoingCall {
     }
 }
 
-/// The params of `textDocument/prepareTypeHierarchy` (LSP 3.17, "Prepare Type Hierarchy Request"). The result is a list of
-/// `TypeHierarchyItem` or null.
+/// The params of `textDocument/prepareTypeHierarchy` (LSP 3.17, "Prepare Type Hierarchy Request"). The result is a list
+/// of `TypeHierarchyItem` or null.
 pub type TypeHierarchyPrepareParams = HoverParams;
 
 /// A type (LSP 3.17, "TypeHierarchyItem").
 pub type TypeHierarchyItem = CallHierarchyItem;
 
-/// The params of `typeHierarchy/supertypes`, where `item` is a type (LSP 3.17, "Type Hierarchy Supertypes"). The result is a list
-/// of `TypeHierarchyItem` or null.
+/// The params of `typeHierarchy/supertypes`, where `item` is a type (LSP 3.17, "Type Hierarchy Supertypes"). The result
+/// is a list of `TypeHierarchyItem` or null.
 pub type TypeHierarchySupertypesParams = CallHierarchyIncomingCallsParams;
 
-/// The params of `typeHierarchy/subtypes`, where `item` is a type (LSP 3.17, "Type Hierarchy Subtypes"). The result is a list of
-/// `TypeHierarchyItem` or null.
+/// The params of `typeHierarchy/subtypes`, where `item` is a type (LSP 3.17, "Type Hierarchy Subtypes"). The result is
+/// a list of `TypeHierarchyItem` or null.
 pub type TypeHierarchySubtypesParams = CallHierarchyIncomingCallsParams;

@@ -10,7 +10,8 @@ use lsp_types::{ProgressToken, TextDocumentIdentifier};
 use serde_json::Value;
 use std::alloc::{AllocError, Global};
 
-/// The params of `textDocument/inlineValue` (LSP 3.17, "Inline Value Request"). The result is a list of `InlineValue` or null.
+/// The params of `textDocument/inlineValue` (LSP 3.17, "Inline Value Request"). The result is a list of `InlineValue`
+/// or null.
 #[derive(Drop)]
 pub struct InlineValueParams {
     /// The document.

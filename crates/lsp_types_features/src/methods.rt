@@ -24,8 +24,8 @@ use crate::reports::{
 use crate::token_changes::{SemanticTokensDeltaParams, SemanticTokensDeltaResult};
 use lsp_types::{RequestToClient, RequestToServer};
 
-/// `textDocument/documentHighlight`, a request to the server. Where a name stands, to mark it (LSP 3.17, "Document Highlights
-/// Request").
+/// `textDocument/documentHighlight`, a request to the server. Where a name stands, to mark it (LSP 3.17, "Document
+/// Highlights Request").
 pub struct DocumentHighlightRequest;
 
 impl DocumentHighlightRequest {
@@ -57,8 +57,8 @@ impl RequestToServer for FoldingRangeRequest {
     ghost method = { codes "textDocument/foldingRange" };
 }
 
-/// `textDocument/selectionRange`, a request to the server. What can be selected around places (LSP 3.17, "Selection Range
-/// Request").
+/// `textDocument/selectionRange`, a request to the server. What can be selected around places (LSP 3.17, "Selection
+/// Range Request").
 pub struct SelectionRangeRequest;
 
 impl SelectionRangeRequest {
@@ -74,8 +74,8 @@ impl RequestToServer for SelectionRangeRequest {
     ghost method = { codes "textDocument/selectionRange" };
 }
 
-/// `textDocument/linkedEditingRange`, a request to the server. What is edited together with a place (LSP 3.17, "Linked Editing
-/// Range").
+/// `textDocument/linkedEditingRange`, a request to the server. What is edited together with a place (LSP 3.17, "Linked
+/// Editing Range").
 pub struct LinkedEditingRangeRequest;
 
 impl LinkedEditingRangeRequest {
@@ -107,7 +107,8 @@ impl RequestToServer for MonikerRequest {
     ghost method = { codes "textDocument/moniker" };
 }
 
-/// `textDocument/codeLens`, a request to the server. Commands that are shown within a text (LSP 3.17, "Code Lens Request").
+/// `textDocument/codeLens`, a request to the server. Commands that are shown within a text (LSP 3.17, "Code Lens
+/// Request").
 pub struct CodeLensRequest;
 
 impl CodeLensRequest {
@@ -123,7 +124,8 @@ impl RequestToServer for CodeLensRequest {
     ghost method = { codes "textDocument/codeLens" };
 }
 
-/// `codeLens/resolve`, a request to the server. The same lens, with its command (LSP 3.17, "Code Lens Resolve Request").
+/// `codeLens/resolve`, a request to the server. The same lens, with its command (LSP 3.17, "Code Lens Resolve
+/// Request").
 pub struct CodeLensResolveRequest;
 
 impl CodeLensResolveRequest {
@@ -139,8 +141,8 @@ impl RequestToServer for CodeLensResolveRequest {
     ghost method = { codes "codeLens/resolve" };
 }
 
-/// `workspace/codeLens/refresh`, a request to the client. The client is to ask for lenses anew (LSP 3.17, "Code Lens Refresh
-/// Request").
+/// `workspace/codeLens/refresh`, a request to the client. The client is to ask for lenses anew (LSP 3.17, "Code Lens
+/// Refresh Request").
 pub struct CodeLensRefreshRequest;
 
 impl CodeLensRefreshRequest {
@@ -176,7 +178,8 @@ impl RequestToServer for DocumentLinkRequest {
     ghost method = { codes "textDocument/documentLink" };
 }
 
-/// `documentLink/resolve`, a request to the server. The same link, with its target (LSP 3.17, "Document Link Resolve Request").
+/// `documentLink/resolve`, a request to the server. The same link, with its target (LSP 3.17, "Document Link Resolve
+/// Request").
 pub struct DocumentLinkResolveRequest;
 
 impl DocumentLinkResolveRequest {
@@ -192,8 +195,8 @@ impl RequestToServer for DocumentLinkResolveRequest {
     ghost method = { codes "documentLink/resolve" };
 }
 
-/// `textDocument/prepareCallHierarchy`, a request to the server. What stands at a place and can call or be called (LSP 3.17,
-/// "Prepare Call Hierarchy Request").
+/// `textDocument/prepareCallHierarchy`, a request to the server. What stands at a place and can call or be called (LSP
+/// 3.17, "Prepare Call Hierarchy Request").
 pub struct CallHierarchyPrepareRequest;
 
 impl CallHierarchyPrepareRequest {
@@ -241,8 +244,8 @@ impl RequestToServer for CallHierarchyOutgoingCallsRequest {
     ghost method = { codes "callHierarchy/outgoingCalls" };
 }
 
-/// `textDocument/prepareTypeHierarchy`, a request to the server. Which type stands at a place (LSP 3.17, "Prepare Type Hierarchy
-/// Request").
+/// `textDocument/prepareTypeHierarchy`, a request to the server. Which type stands at a place (LSP 3.17, "Prepare Type
+/// Hierarchy Request").
 pub struct TypeHierarchyPrepareRequest;
 
 impl TypeHierarchyPrepareRequest {
@@ -258,7 +261,8 @@ impl RequestToServer for TypeHierarchyPrepareRequest {
     ghost method = { codes "textDocument/prepareTypeHierarchy" };
 }
 
-/// `typeHierarchy/supertypes`, a request to the server. The types right above it (LSP 3.17, "Type Hierarchy Supertypes").
+/// `typeHierarchy/supertypes`, a request to the server. The types right above it (LSP 3.17, "Type Hierarchy
+/// Supertypes").
 pub struct TypeHierarchySupertypesRequest;
 
 impl TypeHierarchySupertypesRequest {
@@ -290,7 +294,8 @@ impl RequestToServer for TypeHierarchySubtypesRequest {
     ghost method = { codes "typeHierarchy/subtypes" };
 }
 
-/// `textDocument/documentColor`, a request to the server. The colors that a text names (LSP 3.17, "Document Color Request").
+/// `textDocument/documentColor`, a request to the server. The colors that a text names (LSP 3.17, "Document Color
+/// Request").
 pub struct DocumentColorRequest;
 
 impl DocumentColorRequest {
@@ -306,7 +311,8 @@ impl RequestToServer for DocumentColorRequest {
     ghost method = { codes "textDocument/documentColor" };
 }
 
-/// `textDocument/colorPresentation`, a request to the server. How a color is written (LSP 3.17, "Color Presentation Request").
+/// `textDocument/colorPresentation`, a request to the server. How a color is written (LSP 3.17, "Color Presentation
+/// Request").
 pub struct ColorPresentationRequest;
 
 impl ColorPresentationRequest {
@@ -338,8 +344,8 @@ impl RequestToServer for InlineValueRequest {
     ghost method = { codes "textDocument/inlineValue" };
 }
 
-/// `workspace/inlineValue/refresh`, a request to the client. The client is to ask for values anew (LSP 3.17, "Inline Value Refresh
-/// Request").
+/// `workspace/inlineValue/refresh`, a request to the client. The client is to ask for values anew (LSP 3.17, "Inline
+/// Value Refresh Request").
 pub struct InlineValueRefreshRequest;
 
 impl InlineValueRefreshRequest {
@@ -359,8 +365,8 @@ impl RequestToClient for InlineValueRefreshRequest {
     }
 }
 
-/// `textDocument/semanticTokens/full/delta`, a request to the server. What changed of the tokens of a document (LSP 3.17, "Semantic
-/// Tokens").
+/// `textDocument/semanticTokens/full/delta`, a request to the server. What changed of the tokens of a document (LSP
+/// 3.17, "Semantic Tokens").
 pub struct SemanticTokensDeltaRequest;
 
 impl SemanticTokensDeltaRequest {
@@ -376,7 +382,8 @@ impl RequestToServer for SemanticTokensDeltaRequest {
     ghost method = { codes "textDocument/semanticTokens/full/delta" };
 }
 
-/// `textDocument/diagnostic`, a request to the server. What is wrong with a document (LSP 3.17, "Document Diagnostics").
+/// `textDocument/diagnostic`, a request to the server. What is wrong with a document (LSP 3.17, "Document
+/// Diagnostics").
 pub struct DocumentDiagnosticRequest;
 
 impl DocumentDiagnosticRequest {
@@ -392,8 +399,8 @@ impl RequestToServer for DocumentDiagnosticRequest {
     ghost method = { codes "textDocument/diagnostic" };
 }
 
-/// `workspace/diagnostic`, a request to the server. What is wrong with the documents of a workspace (LSP 3.17, "Workspace
-/// Diagnostics").
+/// `workspace/diagnostic`, a request to the server. What is wrong with the documents of a workspace (LSP 3.17,
+/// "Workspace Diagnostics").
 pub struct WorkspaceDiagnosticRequest;
 
 impl WorkspaceDiagnosticRequest {
@@ -409,8 +416,8 @@ impl RequestToServer for WorkspaceDiagnosticRequest {
     ghost method = { codes "workspace/diagnostic" };
 }
 
-/// `workspace/diagnostic/refresh`, a request to the client. The client is to ask for diagnostics anew (LSP 3.17, "Diagnostics
-/// Refresh").
+/// `workspace/diagnostic/refresh`, a request to the client. The client is to ask for diagnostics anew (LSP 3.17,
+/// "Diagnostics Refresh").
 pub struct DiagnosticRefreshRequest;
 
 impl DiagnosticRefreshRequest {

@@ -106,7 +106,8 @@ impl FromJson for DocumentHighlightKind {
 /// `DocumentHighlight` or null.
 pub type DocumentHighlightParams = DefinitionParams;
 
-/// The params of `textDocument/foldingRange` (LSP 3.17, "Folding Range Request"). The result is a list of `FoldingRange` or null.
+/// The params of `textDocument/foldingRange` (LSP 3.17, "Folding Range Request"). The result is a list of
+/// `FoldingRange` or null.
 pub type FoldingRangeParams = DocumentSymbolParams;
 
 /// A part of a document that a client can fold (LSP 3.17, "FoldingRange").
@@ -210,8 +211,8 @@ impl FromJson for FoldingRange {
     }
 }
 
-/// The params of `textDocument/selectionRange` (LSP 3.17, "Selection Range Request"). The result is a list of `SelectionRange`, one
-/// for each place, or null.
+/// The params of `textDocument/selectionRange` (LSP 3.17, "Selection Range Request"). The result is a list of
+/// `SelectionRange`, one for each place, or null.
 #[derive(Drop)]
 pub struct SelectionRangeParams {
     /// The document.
@@ -280,8 +281,8 @@ pub struct SelectionRange {
     pub parent: Option<Box<SelectionRange>>,
 }
 
-/// The params of `textDocument/linkedEditingRange` (LSP 3.17, "Linked Editing Range"). The result is a `LinkedEditingRanges` or
-/// null.
+/// The params of `textDocument/linkedEditingRange` (LSP 3.17, "Linked Editing Range"). The result is a
+/// `LinkedEditingRanges` or null.
 pub type LinkedEditingRangeParams = HoverParams;
 
 /// Places that are edited together (LSP 3.17, "Linked Editing Range").
@@ -432,7 +433,8 @@ impl FromJson for Moniker {
 /// The params of `textDocument/codeLens` (LSP 3.17, "Code Lens Request"). The result is a list of `CodeLens` or null.
 pub type CodeLensParams = DocumentSymbolParams;
 
-/// A command that is shown within a text (LSP 3.17, "CodeLens"). The params and the result of `codeLens/resolve` are one.
+/// A command that is shown within a text (LSP 3.17, "CodeLens"). The params and the result of `codeLens/resolve` are
+/// one.
 #[derive(Drop)]
 pub struct CodeLens {
     /// Where it is shown. It lies in one line.
@@ -503,10 +505,12 @@ impl FromJson for CodeLens {
     }
 }
 
-/// The params of `textDocument/documentLink` (LSP 3.17, "Document Link Request"). The result is a list of `DocumentLink` or null.
+/// The params of `textDocument/documentLink` (LSP 3.17, "Document Link Request"). The result is a list of
+/// `DocumentLink` or null.
 pub type DocumentLinkParams = DocumentSymbolParams;
 
-/// A part of a text that leads elsewhere (LSP 3.17, "DocumentLink"). The params and the result of `documentLink/resolve` are one.
+/// A part of a text that leads elsewhere (LSP 3.17, "DocumentLink"). The params and the result of
+/// `documentLink/resolve` are one.
 #[derive(Drop)]
 pub struct DocumentLink {
     /// The part.

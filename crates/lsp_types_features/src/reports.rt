@@ -11,7 +11,8 @@ use serde_json::Value;
 use std::alloc::{AllocError, Global};
 use std::collections::BTreeMap;
 
-/// The params of `textDocument/diagnostic` (LSP 3.17, "Document Diagnostics"). The result is a `DocumentDiagnosticReport`.
+/// The params of `textDocument/diagnostic` (LSP 3.17, "Document Diagnostics"). The result is a
+/// `DocumentDiagnosticReport`.
 #[derive(Drop)]
 pub struct DocumentDiagnosticParams {
     /// The document.
@@ -230,7 +231,8 @@ impl FromJson for RelatedReport {
     }
 }
 
-/// All that is wrong with a document, and with others that depend on it (LSP 3.17, "RelatedFullDocumentDiagnosticReport").
+/// All that is wrong with a document, and with others that depend on it (LSP 3.17,
+/// "RelatedFullDocumentDiagnosticReport").
 #[derive(Drop)]
 pub struct RelatedFullDocumentDiagnosticReport {
     /// A name for this report.
@@ -308,7 +310,8 @@ impl FromJson for RelatedFullDocumentDiagnosticReport {
     }
 }
 
-/// The report that the client has still holds, and those of others (LSP 3.17, "RelatedUnchangedDocumentDiagnosticReport").
+/// The report that the client has still holds, and those of others (LSP 3.17,
+/// "RelatedUnchangedDocumentDiagnosticReport").
 #[derive(Drop)]
 pub struct RelatedUnchangedDocumentDiagnosticReport {
     /// A name for it from now on.
@@ -463,7 +466,8 @@ impl FromJson for PreviousResultId {
     }
 }
 
-/// The params of `workspace/diagnostic` (LSP 3.17, "Workspace Diagnostics"). The result is a `WorkspaceDiagnosticReport`.
+/// The params of `workspace/diagnostic` (LSP 3.17, "Workspace Diagnostics"). The result is a
+/// `WorkspaceDiagnosticReport`.
 #[derive(Drop)]
 pub struct WorkspaceDiagnosticParams {
     /// Which kind is asked for, by the name in `DiagnosticOptions`.
@@ -768,7 +772,8 @@ impl FromJson for WorkspaceDiagnosticReport {
     }
 }
 
-/// The `data` of the error -32802 (server cancelled) to a request for diagnostics (LSP 3.17, "DiagnosticServerCancellationData").
+/// The `data` of the error -32802 (server cancelled) to a request for diagnostics (LSP 3.17,
+/// "DiagnosticServerCancellationData").
 #[derive(Clone, Copy, Drop)]
 pub struct DiagnosticServerCancellationData {
     /// Whether the client is to ask again.

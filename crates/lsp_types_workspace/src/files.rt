@@ -4,6 +4,7 @@ ghost use Rattle.std.specs.Prelude.{◌∷◌, [], Some, codes, option_map};
 ghost use Rattle.lsp_types.specs.Json.{object_of};
 ghost use Rattle.lsp_types.specs.Reads.{IsObject, NoneReads, Optional, Required, ◌and◌};
 
+use lsp_types::WorkspaceFolder;
 use lsp_types::json::{FromJson, Members, Misfit, Object, ToJson, fitting};
 use serde_json::Value;
 use std::alloc::{AllocError, Global};
@@ -39,8 +40,8 @@ impl FromJson for FileCreate {
     }
 }
 
-/// The params of `workspace/willCreateFiles` and `didCreateFiles` (LSP 3.17, "WillCreateFiles Request"). The result of the first is
-/// a `WorkspaceEdit` or null.
+/// The params of `workspace/willCreateFiles` and `didCreateFiles` (LSP 3.17, "WillCreateFiles Request"). The result of
+/// the first is a `WorkspaceEdit` or null.
 #[derive(Drop)]
 pub struct CreateFilesParams {
     /// All that are made.
@@ -74,8 +75,8 @@ impl FromJson for CreateFilesParams {
 /// A file or a folder that is deleted (LSP 3.17, "FileDelete").
 pub type FileDelete = FileCreate;
 
-/// The params of `workspace/willDeleteFiles` and `didDeleteFiles` (LSP 3.17, "WillDeleteFiles Request"). The result of the first is
-/// a `WorkspaceEdit` or null.
+/// The params of `workspace/willDeleteFiles` and `didDeleteFiles` (LSP 3.17, "WillDeleteFiles Request"). The result of
+/// the first is a `WorkspaceEdit` or null.
 pub type DeleteFilesParams = CreateFilesParams;
 
 /// A file or a folder that gets another name (LSP 3.17, "FileRename").
@@ -120,8 +121,8 @@ impl FromJson for FileRename {
     }
 }
 
-/// The params of `workspace/willRenameFiles` and `didRenameFiles` (LSP 3.17, "WillRenameFiles Request"). The result of the first is
-/// a `WorkspaceEdit` or null.
+/// The params of `workspace/willRenameFiles` and `didRenameFiles` (LSP 3.17, "WillRenameFiles Request"). The result of
+/// the first is a `WorkspaceEdit` or null.
 #[derive(Drop)]
 pub struct RenameFilesParams {
     /// All that get another name.
@@ -461,18 +462,62 @@ impl FromJson for FileOperationOptions {
     }
 }
 
+/// A folder: a string, or an object (LSP 3.17, "RelativePattern").
+#[derive(Drop)]
+pub enum BaseUri {
+    /// Its URI.
+    Uri(String),
+    /// One that is open in the client.
+    Folder(WorkspaceFolder),
+}
+
+impl ToJson for BaseUri {
+    ghost use Rattle.lsp_types_workspace.specs.declared.files.BaseUri.TheVariants.{Uri, Folder};
+
+    ghost stands = { elim [
+      | Uri it ↦ ⟦<String as ToJson>⟧.stands it
+      | Folder it ↦ ⟦<WorkspaceFolder as ToJson>⟧.stands it
+    ] };
+
+    fn to_json(&self, alloc: Global) -> Result<Value, AllocError> {
+        match self {
+            BaseUri::Uri(it) => it.to_json(alloc),
+            BaseUri::Folder(it) => it.to_json(alloc),
+        }
+    }
+}
+
+impl FromJson for BaseUri {
+    ghost use Rattle.lsp_types_workspace.specs.declared.files.BaseUri.TheVariants.{Uri, Folder};
+
+    ghost reads = { λ json. elim [
+      | Uri it ↦ ⟦<String as FromJson>⟧.reads json it
+      | Folder it ↦ NoneReads ⟦<String as FromJson>⟧.reads json × ⟦<WorkspaceFolder as FromJson>⟧.reads json it
+    ] };
+
+    fn from_json(alloc: Global, value: &Value) -> Result<BaseUri, Misfit> {
+        if let Some(it) = fitting(alloc, value)? {
+            return Ok(BaseUri::Uri(it));
+        }
+        match FromJson::from_json(alloc, value) {
+            Ok(it) => Ok(BaseUri::Folder(it)),
+            Err(misfit) => Err(misfit),
+        }
+    }
+}
+
 /// A pattern of paths below a folder (LSP 3.17, "RelativePattern").
 #[derive(Drop)]
 pub struct RelativePattern {
-    /// The folder's URI.
-    pub base_uri: String,
+    /// The folder.
+    pub base_uri: BaseUri,
     /// The pattern.
     pub pattern: String,
 }
 
 impl ToJson for RelativePattern {
     ghost stands = { λ it. object_of (
-        (codes "baseUri", Some (⟦<String as ToJson>⟧.stands it.base_uri))
+        (codes "baseUri", Some (⟦<BaseUri as ToJson>⟧.stands it.base_uri))
         ∷ (codes "pattern", Some (⟦<String as ToJson>⟧.stands it.pattern)) ∷ []) };
 
     fn to_json(&self, alloc: Global) -> Result<Value, AllocError> {
@@ -485,7 +530,7 @@ impl ToJson for RelativePattern {
 
 impl FromJson for RelativePattern {
     ghost reads = { λ json it. IsObject json
-        and Required ⟦<String as FromJson>⟧.reads (codes "baseUri") json it.base_uri
+        and Required ⟦<BaseUri as FromJson>⟧.reads (codes "baseUri") json it.base_uri
         and Required ⟦<String as FromJson>⟧.reads (codes "pattern") json it.pattern };
 
     fn from_json(alloc: Global, value: &Value) -> Result<RelativePattern, Misfit> {
@@ -552,8 +597,8 @@ impl FromJson for GlobPattern {
 pub struct FileSystemWatcher {
     /// Which.
     pub glob_pattern: GlobPattern,
-    /// What is told of them: the sum of 1 for those that are made, 2 for changes and 4 for those that are deleted. `None` means all
-    /// three.
+    /// What is told of them: the sum of 1 for those that are made, 2 for changes and 4 for those that are deleted.
+    /// `None` means all three.
     pub kind: Option<u32>,
 }
 

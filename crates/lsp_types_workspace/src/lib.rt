@@ -7,8 +7,8 @@ pub mod methods;
 mod notebooks;
 
 pub use files::{
-    CreateFilesParams, DeleteFilesParams, DidChangeWatchedFilesRegistrationOptions, FileCreate,
-    FileDelete, FileOperationFilter, FileOperationOptions, FileOperationPattern,
+    BaseUri, CreateFilesParams, DeleteFilesParams, DidChangeWatchedFilesRegistrationOptions,
+    FileCreate, FileDelete, FileOperationFilter, FileOperationOptions, FileOperationPattern,
     FileOperationPatternOptions, FileOperationRegistrationOptions, FileRename, FileSystemWatcher,
     GlobPattern, RelativePattern, RenameFilesParams,
 };

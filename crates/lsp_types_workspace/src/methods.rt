@@ -9,8 +9,8 @@ use crate::notebooks::{
 };
 use lsp_types::{NotificationToServer, RequestToServer, WorkspaceEdit};
 
-/// `workspace/willCreateFiles`, a request to the server. Changes to make before files are made (LSP 3.17, "WillCreateFiles
-/// Request").
+/// `workspace/willCreateFiles`, a request to the server. Changes to make before files are made (LSP 3.17,
+/// "WillCreateFiles Request").
 pub struct WillCreateFilesRequest;
 
 impl WillCreateFilesRequest {
@@ -26,8 +26,8 @@ impl RequestToServer for WillCreateFilesRequest {
     ghost method = { codes "workspace/willCreateFiles" };
 }
 
-/// `workspace/willRenameFiles`, a request to the server. Changes to make before files get other names (LSP 3.17, "WillRenameFiles
-/// Request").
+/// `workspace/willRenameFiles`, a request to the server. Changes to make before files get other names (LSP 3.17,
+/// "WillRenameFiles Request").
 pub struct WillRenameFilesRequest;
 
 impl WillRenameFilesRequest {
@@ -43,8 +43,8 @@ impl RequestToServer for WillRenameFilesRequest {
     ghost method = { codes "workspace/willRenameFiles" };
 }
 
-/// `workspace/willDeleteFiles`, a request to the server. Changes to make before files are deleted (LSP 3.17, "WillDeleteFiles
-/// Request").
+/// `workspace/willDeleteFiles`, a request to the server. Changes to make before files are deleted (LSP 3.17,
+/// "WillDeleteFiles Request").
 pub struct WillDeleteFilesRequest;
 
 impl WillDeleteFilesRequest {
@@ -74,7 +74,8 @@ impl NotificationToServer for DidCreateFilesNotification {
     ghost method = { codes "workspace/didCreateFiles" };
 }
 
-/// `workspace/didRenameFiles`, a notification to the server. Files got other names (LSP 3.17, "DidRenameFiles Notification").
+/// `workspace/didRenameFiles`, a notification to the server. Files got other names (LSP 3.17, "DidRenameFiles
+/// Notification").
 pub struct DidRenameFilesNotification;
 
 impl DidRenameFilesNotification {
@@ -88,7 +89,8 @@ impl NotificationToServer for DidRenameFilesNotification {
     ghost method = { codes "workspace/didRenameFiles" };
 }
 
-/// `workspace/didDeleteFiles`, a notification to the server. Files were deleted (LSP 3.17, "DidDeleteFiles Notification").
+/// `workspace/didDeleteFiles`, a notification to the server. Files were deleted (LSP 3.17, "DidDeleteFiles
+/// Notification").
 pub struct DidDeleteFilesNotification;
 
 impl DidDeleteFilesNotification {
@@ -117,8 +119,8 @@ impl NotificationToServer for DidOpenNotebookDocumentNotification {
     ghost method = { codes "notebookDocument/didOpen" };
 }
 
-/// `notebookDocument/didChange`, a notification to the server. A notebook was changed (LSP 3.17, "DidChangeNotebookDocument
-/// Notification").
+/// `notebookDocument/didChange`, a notification to the server. A notebook was changed (LSP 3.17,
+/// "DidChangeNotebookDocument Notification").
 pub struct DidChangeNotebookDocumentNotification;
 
 impl DidChangeNotebookDocumentNotification {
@@ -147,8 +149,8 @@ impl NotificationToServer for DidSaveNotebookDocumentNotification {
     ghost method = { codes "notebookDocument/didSave" };
 }
 
-/// `notebookDocument/didClose`, a notification to the server. A notebook was closed (LSP 3.17, "DidCloseNotebookDocument
-/// Notification").
+/// `notebookDocument/didClose`, a notification to the server. A notebook was closed (LSP 3.17,
+/// "DidCloseNotebookDocument Notification").
 pub struct DidCloseNotebookDocumentNotification;
 
 impl DidCloseNotebookDocumentNotification {

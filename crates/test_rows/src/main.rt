@@ -20,6 +20,7 @@ mod boxes;
 mod by_method;
 mod dispatching;
 mod documents;
+mod forms;
 mod links;
 mod lists;
 mod messages;

@@ -1,15 +1,15 @@
 // Values of the types of `lsp_types_features` and `lsp_types_workspace`.
+use crate::forms::of_edit;
 use crate::own::Note;
 use crate::said::Said;
-use crate::types::{back, get, of_other, say_json};
+use crate::types::{back, get, say_json};
 use lsp_types::{Position, Range};
 use lsp_types_features::{
     CallHierarchyIncomingCall, CallHierarchyIncomingCallsParams, CallHierarchyItem,
     CallHierarchyOutgoingCall, CodeLens, ColorInformation, ColorPresentation,
     ColorPresentationParams, DiagnosticServerCancellationData, DocumentDiagnosticParams,
-    DocumentDiagnosticReport, DocumentHighlight, DocumentLink, FoldingRange, InlineValue,
-    InlineValueParams, LinkedEditingRanges, Moniker, SelectionRange, SelectionRangeParams,
-    SemanticTokensDeltaParams, SemanticTokensDeltaResult, WorkspaceDiagnosticParams,
+    DocumentHighlight, DocumentLink, FoldingRange, InlineValueParams, LinkedEditingRanges, Moniker,
+    SelectionRange, SelectionRangeParams, SemanticTokensDeltaParams, WorkspaceDiagnosticParams,
     WorkspaceDiagnosticReport,
 };
 use lsp_types_workspace::{
@@ -48,11 +48,8 @@ fn of_call(said: &mut Said, name: &str, text: &str) {
 fn of_report(said: &mut Said, name: &str, text: &str) {
     match name {
         "InlineValueParams" => back::<InlineValueParams>(said, text),
-        "InlineValue" => back::<InlineValue>(said, text),
         "SemanticTokensDeltaParams" => back::<SemanticTokensDeltaParams>(said, text),
-        "SemanticTokensDeltaResult" => back::<SemanticTokensDeltaResult>(said, text),
         "DocumentDiagnosticParams" => back::<DocumentDiagnosticParams>(said, text),
-        "DocumentDiagnosticReport" => back::<DocumentDiagnosticReport>(said, text),
         "WorkspaceDiagnosticParams" => back::<WorkspaceDiagnosticParams>(said, text),
         "WorkspaceDiagnosticReport" => back::<WorkspaceDiagnosticReport>(said, text),
         "DiagnosticServerCancellationData" => back::<DiagnosticServerCancellationData>(said, text),
@@ -73,7 +70,7 @@ fn of_file(said: &mut Said, name: &str, text: &str) {
         "DidSaveNotebookDocumentParams" => back::<DidSaveNotebookDocumentParams>(said, text),
         "DidCloseNotebookDocumentParams" => back::<DidCloseNotebookDocumentParams>(said, text),
         "Note" => back::<Note>(said, text),
-        _ => of_other(said, name, text),
+        _ => of_edit(said, name, text),
     }
 }
 

@@ -8,20 +8,19 @@ use lsp_types::{
     ApplyWorkspaceEditParams, ApplyWorkspaceEditResult, CancelParams, CodeAction,
     CodeActionOptions, CodeActionParams, CodeLensOptions, Command, CompletionItem,
     CompletionItemOptions, CompletionList, CompletionOptions, CompletionParams,
-    ConfigurationParams, DefinitionParams, DefinitionResult, DiagnosticOptions,
-    DidChangeConfigurationParams, DidChangeTextDocumentParams, DidChangeWatchedFilesParams,
-    DidChangeWorkspaceFoldersParams, DidCloseTextDocumentParams, DidOpenTextDocumentParams,
-    DidSaveTextDocumentParams, DocumentFormattingParams, DocumentLinkOptions,
-    DocumentOnTypeFormattingOptions, DocumentOnTypeFormattingParams, DocumentRangeFormattingParams,
-    DocumentSymbol, ExecuteCommandOptions, ExecuteCommandParams, FromJson, Hover, HoverParams,
-    InitializeParams, InitializeResult, InlayHint, InlayHintParams, Location, LocationLink,
-    LogTraceParams, MessageActionItem, NumberOrString, Position, PrepareRenameResult,
-    ProgressParams, PublishDiagnosticsParams, Range, ReferenceParams, RegistrationParams,
-    RenameOptions, RenameParams, SaveOptions, SemanticTokens, SemanticTokensFullOptions,
-    SemanticTokensLegend, SemanticTokensOptions, ServerCapabilities, ServerInfo, SetTraceParams,
-    ShowDocumentParams, ShowDocumentResult, ShowMessageParams, ShowMessageRequestParams,
-    SignatureHelp, SignatureHelpOptions, SignatureHelpParams, SymbolKind, TextDocumentParams,
-    TextDocumentPositionParams, TextDocumentRangeParams, TextDocumentSyncKind,
+    ConfigurationParams, DefinitionParams, DiagnosticOptions, DidChangeConfigurationParams,
+    DidChangeTextDocumentParams, DidChangeWatchedFilesParams, DidChangeWorkspaceFoldersParams,
+    DidCloseTextDocumentParams, DidOpenTextDocumentParams, DidSaveTextDocumentParams,
+    DocumentFormattingParams, DocumentLinkOptions, DocumentOnTypeFormattingOptions,
+    DocumentOnTypeFormattingParams, DocumentRangeFormattingParams, ExecuteCommandOptions,
+    ExecuteCommandParams, FromJson, Hover, HoverParams, InitializeParams, InitializeResult,
+    InlayHint, InlayHintParams, Location, LocationLink, LogTraceParams, MessageActionItem,
+    NumberOrString, Position, ProgressParams, PublishDiagnosticsParams, Range, ReferenceParams,
+    RegistrationParams, RenameOptions, RenameParams, SaveOptions, SemanticTokens,
+    SemanticTokensFullOptions, SemanticTokensLegend, SemanticTokensOptions, ServerCapabilities,
+    ServerInfo, SetTraceParams, ShowDocumentParams, ShowDocumentResult, ShowMessageParams,
+    ShowMessageRequestParams, SignatureHelp, SignatureHelpOptions, SignatureHelpParams,
+    TextDocumentParams, TextDocumentPositionParams, TextDocumentRangeParams, TextDocumentSyncKind,
     TextDocumentSyncOptions, ToJson, UnregistrationParams, WillSaveTextDocumentParams,
     WorkDoneProgressBegin, WorkDoneProgressCreateParams, WorkDoneProgressEnd,
     WorkDoneProgressParams, WorkDoneProgressReport, WorkspaceFoldersServerCapabilities,
@@ -128,7 +127,6 @@ fn of_saved(said: &mut Said, name: &str, text: &str) {
     match name {
         "WillSaveTextDocumentParams" => back::<WillSaveTextDocumentParams>(said, text),
         "DidCloseTextDocumentParams" => back::<DidCloseTextDocumentParams>(said, text),
-        "PrepareRenameResult" => back::<PrepareRenameResult>(said, text),
         "DocumentRangeFormattingParams" => back::<DocumentRangeFormattingParams>(said, text),
         "WorkspaceSymbolParams" => back::<WorkspaceSymbolParams>(said, text),
         "WorkspaceSymbol" => back::<WorkspaceSymbol>(said, text),
@@ -177,7 +175,6 @@ fn of_window(said: &mut Said, name: &str, text: &str) {
 fn of_place(said: &mut Said, name: &str, text: &str) {
     match name {
         "LocationLink" => back::<LocationLink>(said, text),
-        "DefinitionResult" => back::<DefinitionResult>(said, text),
         "HoverParams" => back::<HoverParams>(said, text),
         "DefinitionParams" => back::<DefinitionParams>(said, text),
         "CompletionParams" => back::<CompletionParams>(said, text),
@@ -226,7 +223,6 @@ fn of_members(said: &mut Said, name: &str, found: &Value) {
     match name {
         "InitializeResult" => initialized(said, found),
         "SelectionRange" => more_types::selection(said, found),
-        "DocumentSymbol" => symbol_with_children(said, found),
         "ProgressParams" => match text_in(found.pointer("/value/kind")) {
             "begin" => progress::<WorkDoneProgressBegin>(said, found),
             "report" => progress::<WorkDoneProgressReport>(said, found),
@@ -294,38 +290,6 @@ fn progress<T: ToJson + FromJson>(said: &mut Said, found: &Value) {
             drop(token);
             unfit(said, misfit)
         }
-    }
-}
-
-/// A symbol with those right inside it.
-fn symbol_with_children(said: &mut Said, found: &Value) {
-    let mut symbol = symbol(said, found);
-    add_children(said, found, &mut symbol.children);
-    say_json(said, &symbol);
-    drop(symbol);
-}
-
-fn add_children(said: &mut Said, found: &Value, children: &mut Vec<DocumentSymbol>) {
-    if let Some(Value::Array(list)) = found.get("children") {
-        for child in list {
-            let symbol = symbol(said, child);
-            said.kept(children.push(symbol));
-        }
-    }
-}
-
-/// A symbol with none inside it.
-fn symbol(said: &mut Said, found: &Value) -> DocumentSymbol {
-    let start = Position::new(0, 0);
-    DocumentSymbol {
-        name: get(said, found, "name", String::new(said.alloc)),
-        detail: get(said, found, "detail", None),
-        kind: SymbolKind(get(said, found, "kind", 0)),
-        tags: get(said, found, "tags", None),
-        deprecated: get(said, found, "deprecated", None),
-        range: get(said, found, "range", Range::new(start, start)),
-        selection_range: get(said, found, "selectionRange", Range::new(start, start)),
-        children: Vec::new(said.alloc),
     }
 }
 

@@ -1,0 +1,44 @@
+// Two numbers that JSON has in a list.
+ghost use Rattle.std.specs.Prelude.{◌∷◌, []};
+ghost use Rattle.serde_json.specs.Data.{array, item, no_items, number, unsigned};
+ghost use Rattle.serde_json.specs.Find.{as_array};
+ghost use Rattle.lsp_types.specs.Reads.{EachItem, InSome, IsWhole};
+
+use crate::json::{FromJson, Misfit, ToJson};
+use serde_json::Value;
+use std::alloc::{AllocError, Global};
+
+/// Where a part of a text stands in it, in units of UTF-16 from 0 (LSP 3.17, "ParameterInformation"). It is a list of two numbers.
+#[derive(Clone, Copy, Drop)]
+pub struct LabelOffsets {
+    /// Its first unit.
+    pub start: u32,
+    /// The first unit behind it.
+    pub end: u32,
+}
+
+impl FromJson for LabelOffsets {
+    ghost reads = { λ json it. InSome (λ items. EachItem IsWhole items (it.start ∷ it.end ∷ [])) (as_array json) };
+
+    fn from_json(alloc: Global, value: &Value) -> Result<LabelOffsets, Misfit> {
+        let Some(numbers) = value.as_array() else {
+            return Err(Misfit::Wanted("a list of two numbers"));
+        };
+        match numbers.as_slice() {
+            [start, end] => Ok(LabelOffsets {
+                start: u32::from_json(alloc, start)?,
+                end: u32::from_json(alloc, end)?,
+            }),
+            _ => Err(Misfit::Wanted("a list of two numbers")),
+        }
+    }
+}
+
+impl ToJson for LabelOffsets {
+    ghost stands = { λ it. array (item (number (unsigned it.start)) (item (number (unsigned it.end)) no_items)) };
+
+    fn to_json(&self, alloc: Global) -> Result<Value, AllocError> {
+        let numbers = vec![in alloc; Value::from(self.start), Value::from(self.end)]?;
+        Ok(Value::Array(numbers))
+    }
+}
