@@ -1,4 +1,4 @@
-use Rattle.std.proofs.Common.{rules, ◌≡◌, Vec, map, take, ◌+◌, [], ◌∷◌, ◌++◌, sym, subst}
+use Rattle.std.proofs.Common.{rules, ◌≡◌, Vec, map, take, [], ◌∷◌, ◌++◌, sym, subst}
 use Rattle.serde_json.specs.View.{items_of, view}
 use Rattle.lsp_types.specs.Reads.{FittingItems, NoneReads}
 use Rattle.lsp_types.proofs.ReadLemmas.{fits_more, fits_not, taken}
