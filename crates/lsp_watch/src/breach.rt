@@ -2,7 +2,7 @@
 use lsp_message::RequestId;
 use std::fmt;
 
-/// Which way a message goes.
+/// Which way a message goes. It prints as `->` to the server and `<-` to the client.
 #[derive(Clone, Copy, Debug, PartialEq, Eq)]
 pub enum Way {
     /// From the client to the server.
@@ -33,6 +33,15 @@ impl Way {
             Way::ToServer => true,
             Way::ToClient => false,
         }
+    }
+}
+
+impl fmt::Display for Way {
+    fn fmt<W: fmt::Write>(&self, f: &mut fmt::Formatter<W>) -> fmt::Result {
+        f.write_str(match self {
+            Way::ToServer => "->",
+            Way::ToClient => "<-",
+        })
     }
 }
 
@@ -85,7 +94,7 @@ impl fmt::Display for Rule {
     }
 }
 
-/// How a message goes against one that passed before it.
+/// How a message goes against one that passed before it. It prints the rule, and the place as that of a line.
 #[derive(Debug, Drop)]
 pub struct Breach {
     /// The rule that it breaks.
@@ -94,4 +103,14 @@ pub struct Breach {
     pub id: Option<RequestId>,
     /// The place of the message that it goes against, if there is one.
     pub against: Option<u64>,
+}
+
+impl fmt::Display for Breach {
+    fn fmt<W: fmt::Write>(&self, f: &mut fmt::Formatter<W>) -> fmt::Result {
+        let rule = self.rule;
+        match self.against {
+            Some(place) => write!(f, "{rule}; see line {place}"),
+            None => write!(f, "{rule}"),
+        }
+    }
 }

@@ -109,8 +109,8 @@ impl Watch {
         }
     }
 
-    /// The rule that a message breaks.
-    fn breach(&self, way: Way, message: &Message) -> Result<Option<Breach>, AllocError>
+    /// The rule that a message would break if it passed now. The error means that an allocation failed.
+    pub fn breach(&self, way: Way, message: &Message) -> Result<Option<Breach>, AllocError>
         ensures { (log : Log) → Saw self.now log → IfOk result (λ found.
             found ≡ breach_of log way (message_view message.now)) }
     {
