@@ -9,6 +9,8 @@ use Rattle.lsp_peers.specs.declared.step.Outcome.{Outcome}
 use Rattle.lsp_peers.specs.declared.step.Side.{Side}
 use Rattle.lsp_peers.specs.declared.step.Step.{Step}
 use Rattle.lsp_peers.specs.declared.world.World.{World}
+use Rattle.lsp_watch.specs.Log.{Log}
+use Rattle.lsp_watched.specs.Peers.{IsLogOf, KeepsIds}
 
 -- the bytes in the link to a side
 abbrev pub link_of : Side → World → List ℕ
@@ -29,3 +31,5 @@ pub record Exchanged (steps : List Step) (outcomes : List Outcome) (world : Worl
   pub after : WorldAfter world (λ side. []) history
   pub took : all ≡ true → TookAll world history
   pub left : TookAll world history → all ≡ true
+  -- whichever of them is the client, a watch finds no broken rule of ids in what they write
+  pub watched : (client : Side) (log : Log) → IsLogOf client history log → KeepsIds log

@@ -26,6 +26,7 @@ returns-clause-took c =
         | then-is_idle w ↦ w.all-is ∙ w.is_idle-all.ensures.busy (both_idle c.in_ok-world.world told.0 told.3 all B)
         | else-is_idle w ↦ let idle = c.is_idle.ensures.busy (both_idle c.in_ok-world.world told.0 told.3 all A) in cc
       ];
+      watched = λ client log passes. c.peers_keep_ids.ensures client told.0 log told.3.lawful passes;
     }
 
 pub returns-clause-facts : goal.returns-clause-facts

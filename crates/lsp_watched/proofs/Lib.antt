@@ -1,0 +1,5 @@
+mod PeersKeepIds
+mod Refused
+mod Replies
+mod Sessions
+mod Waits

@@ -1,0 +1,96 @@
+-- Wrong runs whose logs the laws do not let pass.
+use Rattle.std.proofs.Common.{ℕ, List, [], ◌∷◌, String, Global, Some, Ok, codes, pos, refl}
+use Rattle.std.specs.Prelude.{string_bytes}
+use Rattle.serde_json.specs.Data.{null}
+use Rattle.serde_json.specs.View.{view}
+use Rattle.serde_json.specs.declared.value.Value.{Value}
+use Rattle.lsp_message.specs.Id.{number}
+use Rattle.lsp_message.specs.Message.{Message, request, notification, response}
+use Rattle.lsp_peers.specs.History.{Entry}
+use Rattle.lsp_peers.specs.HistoryLaw.{bare}
+use Rattle.lsp_peers.specs.Ids.{nth_id}
+use Rattle.lsp_peers.specs.declared.step.Outcome.TheVariants.{Registered, Answered}
+use Rattle.lsp_peers.specs.declared.step.Side.TheVariants.{A, B}
+use Rattle.lsp_peers.specs.declared.step.Step.TheVariants.{Register, Answer}
+use Rattle.lsp_session.specs.Session.{Exchange}
+use Rattle.lsp_watch.specs.Log.{Log, passed}
+use Rattle.lsp_watch.specs.declared.breach.Way.TheVariants.{ToServer, ToClient}
+use Rattle.lsp_watched.specs.Peers.{IsLogOf, KeepsIds}
+use Rattle.lsp_watched.specs.Sessions.{IsLogOfSession, ServerIsClean, ServerKeepsLifecycle}
+
+-- ---- two peers: A asks, and B answers
+
+module _ (method : String Global) (params value : Value) (label : ℕ) where
+  abbrev asks : Entry
+  asks = bare (Register A method params 7) (Registered (nth_id 0))
+
+  abbrev answers : Entry
+  answers = bare (Answer B (nth_id 0) value) (Answered label)
+
+  abbrev question : Message
+  question = request (nth_id 0) (string_bytes method) (view params)
+
+  abbrev reply : Message
+  reply = response (nth_id 0) (Ok (view value))
+
+  abbrev asked : Log
+  asked = passed ToServer 1 question ∷ []
+
+  abbrev answered : Log
+  answered = passed ToClient 2 reply ∷ asked
+
+  -- B answers before it is asked
+  unasked : IsLogOf A (answers ∷ []) (passed ToClient 1 reply ∷ [])
+      × (KeepsIds (passed ToClient 1 reply ∷ []) → ⊥)
+  unasked = ((passed ToClient 1 reply ∷ [], (1, refl), refl), λ keeps. let none = keeps [] [] _ refl in cc)
+
+  -- B answers twice
+  two_replies : IsLogOf A (asks ∷ answers ∷ answers ∷ []) (passed ToClient 3 reply ∷ answered)
+      × (KeepsIds (passed ToClient 3 reply ∷ answered) → ⊥)
+  two_replies = (
+    (asked, (1, refl), (answered, (2, refl), (passed ToClient 3 reply ∷ answered, (3, refl), refl))),
+    λ keeps. let none = keeps [] answered _ refl in cc,
+  )
+
+  -- A asks twice under one id
+  two_requests : IsLogOf A (asks ∷ asks ∷ []) (passed ToServer 2 question ∷ asked)
+      × (KeepsIds (passed ToServer 2 question ∷ asked) → ⊥)
+  two_requests = (
+    (asked, (1, refl), (passed ToServer 2 question ∷ asked, (2, refl), refl)),
+    λ keeps. let none = keeps [] asked _ refl in cc,
+  )
+
+-- ---- a session
+
+abbrev initialize : Message
+initialize = request (number (pos 1)) (codes "initialize") null
+
+abbrev result : Message
+result = response (number (pos 1)) (Ok null)
+
+abbrev note : Message
+note = notification (codes "demo/note") null
+
+abbrev exchange : List Message → Exchange
+exchange sent = record { came = Some initialize; sent = sent }
+
+abbrev begun : Log
+begun = passed ToServer 1 initialize ∷ []
+
+-- a request gets two replies
+replied_twice : IsLogOfSession (exchange (result ∷ result ∷ []) ∷ [])
+    (passed ToClient 3 result ∷ passed ToClient 2 result ∷ begun)
+    × (ServerIsClean (passed ToClient 3 result ∷ passed ToClient 2 result ∷ begun) → ⊥)
+replied_twice = (
+  (begun, passed ToClient 3 result ∷ passed ToClient 2 result ∷ begun, (1, refl), (2, (3, refl)), refl),
+  λ clean. let none = clean [] (passed ToClient 2 result ∷ begun) _ refl refl in cc,
+)
+
+-- a notification comes before the result of `initialize`
+speaks_early : IsLogOfSession (exchange (note ∷ result ∷ []) ∷ [])
+    (passed ToClient 3 result ∷ passed ToClient 2 note ∷ begun)
+    × (ServerKeepsLifecycle (passed ToClient 3 result ∷ passed ToClient 2 note ∷ begun) → ⊥)
+speaks_early = (
+  (begun, passed ToClient 3 result ∷ passed ToClient 2 note ∷ begun, (1, refl), (2, (3, refl)), refl),
+  λ keeps. let none = keeps (passed ToClient 3 result ∷ []) begun _ refl refl in cc,
+)
