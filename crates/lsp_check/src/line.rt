@@ -1,9 +1,20 @@
-// The lines of a recording.
+// The lines of recordings and of editors' logs.
+use crate::time::time_in;
 use lsp_message::{Message, ReadFault};
 use lsp_watch::Way;
-use std::alloc::Global;
+use memchr::memchr;
+use serde_json::Value;
+use std::alloc::{AllocError, Global};
 use std::error::Error;
 use std::fmt;
+
+/// A message with its way, and when it passed, in milliseconds from some time on.
+#[derive(Debug, Drop)]
+pub struct Passing {
+    pub way: Way,
+    pub message: Message,
+    pub time: Option<u64>,
+}
 
 /// Why a line is no message.
 #[derive(Clone, Copy, Debug)]
@@ -31,8 +42,14 @@ impl fmt::Display for LineFault {
 
 impl Error for LineFault {}
 
-/// The way and the message of a line.
-pub fn message_in(alloc: Global, line: &[u8]) -> Result<(Way, Message), LineFault> {
+impl From<AllocError> for LineFault {
+    fn from(_: AllocError) -> LineFault {
+        LineFault::Memory
+    }
+}
+
+/// The message of a line of a recording: `-> ` or `<- `, and its body.
+pub fn recorded(alloc: Global, line: &[u8]) -> Result<Passing, LineFault> {
     let (way, body) = match line {
         [b'-', b'>', b' ', body @ ..] => (Way::ToServer, body),
         [b'<', b'-', b' ', body @ ..] => (Way::ToClient, body),
@@ -41,17 +58,92 @@ pub fn message_in(alloc: Global, line: &[u8]) -> Result<(Way, Message), LineFaul
     if let Err(fault) = std::str::from_utf8(body) {
         return Err(LineFault::NotText(fault.valid_up_to().saturating_add(4)));
     }
+    let message = message_of(alloc, body)?;
+    Ok(Passing {
+        way,
+        message,
+        time: None,
+    })
+}
+
+/// The message of a line of an editor's log, or `None` if it has none. Such a line has
+///
+/// - an object with `isLSPMessage`, as VS Code's client writes it where its trace is verbose and in JSON;
+/// - or a mark of a way, then perhaps one word, and the message, as Helix and Emacs write it: `-> {..}`, `<--
+/// initialize[1] {..}`.
+pub fn logged(alloc: Global, line: &[u8]) -> Result<Option<Passing>, LineFault> {
+    if let Err(fault) = std::str::from_utf8(line) {
+        return Err(LineFault::NotText(fault.valid_up_to().saturating_add(1)));
+    }
+    let Some(at) = memchr(b'{', line) else {
+        return Ok(None);
+    };
+    let (head, body) = (&line[..at], &line[at..]);
+    let Some(way) = way_in(std::str::from_utf8(head).unwrap_or("")) else {
+        return traced(alloc, body);
+    };
+    let message = message_of(alloc, body)?;
+    Ok(Some(Passing {
+        way,
+        message,
+        time: time_in(head),
+    }))
+}
+
+fn message_of(alloc: Global, body: &[u8]) -> Result<Message, LineFault> {
     match Message::from_content(alloc, body) {
-        Ok(message) => Ok((way, message)),
+        Ok(message) => Ok(message),
         Err(ReadFault::Memory) => Err(LineFault::Memory),
         Err(_) => Err(LineFault::NoMessage),
     }
 }
 
-/// What a line of a recording begins with.
-pub fn mark(way: Way) -> &'static str {
-    match way {
-        Way::ToServer => "->",
-        Way::ToClient => "<-",
+/// The way whose mark stands before the message, or before the one word in front of it.
+fn way_in(head: &str) -> Option<Way> {
+    let head = head.trim_end();
+    match head.rsplit_once(" ") {
+        Some((before, word)) if !word.contains("\"") => way_at_end(head).or(way_at_end(
+            before.trim_end(),
+        )),
+        _ => way_at_end(head),
+    }
+}
+
+fn way_at_end(head: &str) -> Option<Way> {
+    if head.ends_with("->") {
+        Some(Way::ToServer)
+    } else if head.ends_with("<-") || head.ends_with("<--") {
+        Some(Way::ToClient)
+    } else {
+        None
+    }
+}
+
+/// The message of an object that VS Code's client wrote, or `None` if it is none: the type says which way the message
+/// went, and the
+/// timestamp is in milliseconds.
+fn traced(alloc: Global, body: &[u8]) -> Result<Option<Passing>, LineFault> {
+    let Ok(text) = std::str::from_utf8(body) else {
+        return Ok(None);
+    };
+    let mut trace = match Value::from_str(alloc, text) {
+        Ok(trace) => trace,
+        Err(error) if error.is_memory() => return Err(LineFault::Memory),
+        Err(_) => return Ok(None),
+    };
+    let way = match trace.get("type").and_then(Value::as_str) {
+        Some(word) if word.starts_with("send-") => Way::ToServer,
+        Some(word) if word.starts_with("receive-") => Way::ToClient,
+        _ => {
+            drop(trace);
+            return Ok(None);
+        }
+    };
+    let time = trace.get("timestamp").and_then(Value::as_u64);
+    let tree = trace.get_mut("message").map(Value::take);
+    drop(trace);
+    match tree.and_then(Message::from_tree) {
+        Some(message) => Ok(Some(Passing { way, message, time })),
+        None => Err(LineFault::NoMessage),
     }
 }

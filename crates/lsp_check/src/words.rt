@@ -1,0 +1,62 @@
+// The words that the program is called with.
+use clap::{Arg, ArgAction, Command};
+use std::alloc::{AllocError, Global};
+
+const ABOUT: &str =
+    "Judges what passed between an LSP client and a server: ids, and the order of the lifecycle";
+
+const MORE: &str = "\
+A line of a recording is `-> ` and a message to the server, or `<- ` and one to the client. In a log of an editor
+other lines may stand between. Its messages are those of VS Code (trace \"verbose\", in JSON), of Helix (hx -v) and of
+Emacs 30 (events in full).
+
+Each message that breaks a rule has a line, with its place and that of the message that it goes against. A request
+that is open at the end is told, and is no breach. Of a file that is cut, what is whole is judged. Two files of frames
+do not say what passed first: a breach is told if each order of their messages has one.
+
+With --json each line is an object. Its \"kind\" is one of
+- \"breach\": a place, \"way\", \"rule\", \"method\" (\"reply\" of a reply), \"text\", perhaps \"id\", and perhaps
+  \"against\", another place
+- \"open\": a place, \"way\", \"id\"
+- \"stop\": a place, and as \"text\" why the rest of the file is not judged
+- \"summary\": \"file\", perhaps \"second\", \"requests\", \"replies\", \"open\", \"breaches\", and where times are
+  known \"slowest\": \"milliseconds\", and the place of the request
+A place is \"file\" and \"line\", from 1 on, or \"byte\" of frames, from 0 on.
+
+The status is 1 where a rule is broken, 2 where a file can't be read or has a bad line, frame or word, and else 0.
+";
+
+pub fn command<'a>(alloc: Global) -> Result<Command<'a>, AllocError> {
+    let to_server = Arg::new(alloc, "to-server")
+        .long("to-server")
+        .value_name("FRAMES")
+        .help("The client's frames, one behind another")
+        .requires_arg("to-client")?;
+    let to_client = Arg::new(alloc, "to-client")
+        .long("to-client")
+        .value_name("FRAMES")
+        .help("The server's frames, of the same session")
+        .requires_arg("to-server")?
+        .conflicts_with("FILE")?;
+    let files = Arg::new(alloc, "FILE")
+        .num_args(0..)
+        .help("Recordings, as example_recorder writes them")
+        .required_unless_present("to-server")?;
+    let log = flag(alloc, "log", "Each FILE is a log of an editor");
+    let json = flag(alloc, "json", "Tells it in lines of JSON");
+    Command::new(alloc, "lsp_check")
+        .about(ABOUT)
+        .after_help(MORE)
+        .arg(log)?
+        .arg(json)?
+        .arg(to_server)?
+        .arg(to_client)?
+        .arg(files)
+}
+
+fn flag<'a>(alloc: Global, name: &'a str, help: &'a str) -> Arg<'a> {
+    Arg::new(alloc, name)
+        .long(name)
+        .help(help)
+        .action(ArgAction::SetTrue)
+}
