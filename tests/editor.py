@@ -17,10 +17,10 @@ import time
 
 sys.dont_write_bytecode = True
 
-try:  # where it lies beside this file, messages have to be of LSP's types
-    from typed import Typed
+try:  # where it lies beside this file, the server's messages have to be of LSP's types, and to keep its order
+    from watched import Watched
 except ImportError:
-    Typed = None
+    Watched = None
 
 PATIENCE = 300
 METHOD_NOT_FOUND = -32601
@@ -44,7 +44,7 @@ class Editor:
         self.messages = queue.Queue()
         self.notices = []  # the notifications that came and were not looked at
         self.answers = {}  # a method of the server's own requests, and the result to give; else null
-        self.typed = Typed() if Typed else None
+        self.typed = Watched() if Watched else None
         threading.Thread(target=self.read_all, args=[source], daemon=True).start()
 
     def read_all(self, source):

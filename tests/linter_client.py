@@ -15,7 +15,7 @@ sys.dont_write_bytecode = True
 
 from client import EXIT, SERVE, SHUTDOWN, SHUTDOWN_REPLY, Difference, compact, expect, frame, run_checks
 from tcp_client import TcpServer
-from typed import Typed
+from watched import Watched
 
 PROGRAM = SERVE.parents[2] / "example_linter" / "out" / "example_linter"
 DOCUMENTS = 5
@@ -89,7 +89,7 @@ class Client:
     def __init__(self, server):
         self.server = server
         self.documents = {}
-        self.typed = Typed()
+        self.typed = Watched()
 
     def sends(self, **message):
         self.typed.sent(message)
@@ -137,7 +137,7 @@ class Client:
 
 def begin(client):
     client.sends(id=1, method="initialize", params={"capabilities": {}})
-    result = json.loads(client.server.receive())["result"]
+    result = client.receives()["result"]
     expect("how texts are told", result["capabilities"]["textDocumentSync"]["change"], 2)
     expect("in which units", result["capabilities"]["positionEncoding"], "utf-16")
     client.sends(method="initialized", params={})

@@ -26,6 +26,8 @@ ECHOED = '{"jsonrpc":"2.0","id":5,"result":["größe\\n"]}'.encode()
 # A client that waits for each reply: what it sends, and what comes back.
 SESSION = [(INITIALIZE, INITIALIZE_REPLY), (INITIALIZED, None), (ECHO, ECHOED), (SHUTDOWN, SHUTDOWN_REPLY), (EXIT, None)]
 LAST_WORDS = b'{"jsonrpc":"2.0","method":"bye"}'
+# What the recorder tells of them: a server says nothing before the result of `initialize` (LSP 3.17, "Initialize Request").
+TOO_EARLY = b'1: <- `initialize` has no result yet (LSP 3.17, "Initialize Request")\n'
 
 
 def lines_of(session):
@@ -153,7 +155,8 @@ def check_early_close(log):
         client.sendall(b"".join(map(frame, sent)))
         client.shutdown(socket.SHUT_WR)
         expect("the replies", read_all(client), b"".join(map(frame, came)))
-        expect("the end of the recorder", recording.end(), (0, b"", b""))
+        status, printed, told = recording.end()
+        expect("the end of the recorder, and what it tells of the server", (status, printed, b"<-" in told), (0, b"", False))
         expect("the end of the server", demo.end(), (0, b"", b""))
     lines = log.read_bytes().splitlines()
     for mark, bodies in [(b"-> ", sent), (b"<- ", came)]:
@@ -170,7 +173,7 @@ def check_last_words(log):
                 theirs.sendall(frame(LAST_WORDS))
             client.shutdown(socket.SHUT_WR)
             expect("what came", read_all(client), frame(LAST_WORDS))
-            expect("the end of the recorder", recording.end(), (0, b"", b""))
+            expect("the end of the recorder", recording.end(), (0, b"", TOO_EARLY))
     expect("the recording", log.read_bytes(), b"<- " + LAST_WORDS + b"\n")
 
 
@@ -192,7 +195,7 @@ def check_pipes(log):
         with listener.accept()[0] as theirs:
             theirs.sendall(frame(LAST_WORDS))
         expect("what came", read_pipe(recording.process), frame(LAST_WORDS))
-        expect("the end of the recorder", recording.end(), (0, b"", b""))
+        expect("the end of the recorder", recording.end(), (0, b"", TOO_EARLY))
     expect("the recording", log.read_bytes(), b"<- " + LAST_WORDS + b"\n")
 
 

@@ -15,7 +15,7 @@ sys.dont_write_bytecode = True
 
 from client import EXIT, SERVE, SHUTDOWN, SHUTDOWN_REPLY, Difference, compact, expect, frame, run_checks
 from tcp_client import TcpServer
-from typed import Typed
+from watched import Watched
 
 PROGRAM = SERVE.parents[2] / "example_search" / "out" / "example_search"
 DOCUMENTS = 20
@@ -30,7 +30,7 @@ class Client:
     def __init__(self, server):
         self.server = server
         self.last_id = 10
-        self.typed = Typed()
+        self.typed = Watched()
 
     def sends(self, **message):
         self.typed.sent(message)

@@ -1,27 +1,9 @@
 // The lines of a recording.
 use anyhow::{Result, bail};
 use lsp_server::Message;
+use lsp_watch::Way;
 use serde_json::Value;
 use std::alloc::Global;
-
-/// Which way a message goes.
-#[derive(Clone, Copy)]
-pub enum Way {
-    /// From the client to the server.
-    ToServer,
-    /// From the server to the client.
-    ToClient,
-}
-
-impl Way {
-    /// What a line begins with.
-    pub fn mark(self) -> &'static str {
-        match self {
-            Way::ToServer => "->",
-            Way::ToClient => "<-",
-        }
-    }
-}
 
 /// The way and the body of a line.
 pub fn split(line: &str) -> Result<(Way, &str)> {

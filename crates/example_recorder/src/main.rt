@@ -6,7 +6,8 @@
 //!     example_recorder replay FILE SERVER           send them to a server, and compare what it answers
 //!
 //! LISTEN and SERVER are addresses, such as 127.0.0.1:9257, and `-` is standard input and output. A line of a recording is `->` and a
-//! body for a message to the server, `<-` and a body for one to the client.
+//! body for a message to the server, `<-` and a body for one to the client. While it records, it tells on standard error which line breaks
+//! a rule of `lsp_watch`.
 #![tactic(auto)]
 
 mod line;
@@ -49,7 +50,18 @@ fn main(rt: HostRuntime) -> Result<()> {
 /// Records the session of a client and a server.
 fn record_session<R, W: Write>(rt: &R, listen: &str, server: &str, log: &mut W) -> Result<()>
 where
-    R: Net + Threads + Wait + Clock + AllocGlobal + Input + Print + Copy + Drop + Send + 'static,
+    R: Net
+        + Threads
+        + Wait
+        + Clock
+        + AllocGlobal
+        + Input
+        + Print
+        + Eprint
+        + Copy
+        + Drop
+        + Send
+        + 'static,
     R::Reader: Send + 'static,
     R::Stream: Send + 'static,
 {

@@ -1,8 +1,9 @@
 // The recorder: a thread for each way, and a log that both write.
-use crate::line::Way;
+use crate::line::message_of;
 use anyhow::Result;
 use crossbeam_channel::{Receiver, Sender, bounded};
 use lsp_server::{CHANNEL_ROOM, Connection, IoThreads, Message, spawn};
+use lsp_watch::{Watch, Way};
 use std::alloc::AllocError;
 use std::io::Write;
 use std::sync::Wait;
@@ -40,7 +41,7 @@ pub fn record<R, W: Write>(
     until: Until,
 ) -> Result<()>
 where
-    R: Threads + Wait + AllocGlobal + Copy + Drop + Send + 'static,
+    R: Threads + Wait + AllocGlobal + Eprint + Copy + Drop + Send + 'static,
 {
     let (upward, entries) = match pass_both(rt, client, server, log, until) {
         Ok(passed) => passed,
@@ -77,7 +78,7 @@ fn pass_both<R, W: Write>(
     until: Until,
 ) -> Result<(Passing, Receiver<Entry>)>
 where
-    R: Threads + Wait + AllocGlobal + Copy + Drop + Send + 'static,
+    R: Threads + Wait + AllocGlobal + Eprint + Copy + Drop + Send + 'static,
 {
     let (upward, downward, entries) = start_both(rt, client, server)?;
     write_lines(rt, &entries, log, until)?;
@@ -136,19 +137,23 @@ fn crossed(client: Connection, server: Connection) -> (Connection, Connection) {
     (upward, downward)
 }
 
-/// Writes a line for each message that passes.
-fn write_lines<R: Wait, W: Write>(
+/// Writes a line for each message that passes. A message that breaks a rule is told on standard error, with the line of the one that it
+/// goes against.
+fn write_lines<R: Wait + AllocGlobal + Eprint, W: Write>(
     rt: &R,
     entries: &Receiver<Entry>,
     log: &mut W,
     until: Until,
 ) -> Result<()> {
+    let mut watch = Watch::new(rt.alloc());
+    let mut number: u64 = 0;
     for entry in entries.iter(rt) {
         match entry {
             Entry::Message { way, body } => {
-                let mark = way.mark();
-                writeln!(log, "{mark} {body}")?;
+                number = number.saturating_add(1);
+                writeln!(log, "{way} {body}")?;
                 log.flush()?;
+                tell_breach(rt, &mut watch, number, way, body.as_str())?;
             }
             Entry::End(way) => {
                 if matches!(way, Way::ToClient) && matches!(until, Until::ServerCloses) {
@@ -156,6 +161,23 @@ fn write_lines<R: Wait, W: Write>(
                 }
             }
         }
+    }
+    Ok(())
+}
+
+/// Shows a message to the watch, and tells the rule that it breaks.
+fn tell_breach<R: AllocGlobal + Eprint>(
+    rt: &R,
+    watch: &mut Watch,
+    number: u64,
+    way: Way,
+    body: &str,
+) -> Result<()> {
+    let message = message_of(rt.alloc(), body)?;
+    let found = watch.pass(number, way, &message);
+    drop(message);
+    if let Some(breach) = found? {
+        eprintln!(rt; "{number}: {way} {breach}")?;
     }
     Ok(())
 }

@@ -1,8 +1,9 @@
 // What is done with a recording.
-use crate::line::{Way, message_of, split};
+use crate::line::{message_of, split};
 use anyhow::{Context, Error, Result, bail};
 use crossbeam_channel::{Receiver, Sender};
 use lsp_server::{Connection, ErrorCode, Message, RequestId, Response};
+use lsp_watch::Way;
 use serde_json::Value;
 use std::alloc::{AllocError, Global};
 use std::io::Write;
