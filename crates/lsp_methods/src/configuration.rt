@@ -1,5 +1,5 @@
 // What the user set for a server.
-ghost use Rattle.std.specs.Prelude.{◌≡◌, ◌≢◌, true, false, None, Ok, IfOk, IfSome};
+ghost use Rattle.std.specs.Prelude.{◌≡◌, ◌≢◌, true, false, Ok, IfOk, IfSome, OnErr, is_some};
 ghost use Rattle.serde_json.specs.View.{view};
 ghost use Rattle.lsp_methods.specs.Configuring.{asks_for};
 ghost use Rattle.lsp_service.specs.View.{act_view};
@@ -15,8 +15,8 @@ use std::alloc::{AllocError, Global};
 
 /// A section of the client's configuration, read by a type of your own (LSP 3.17, "Configuration Request").
 ///
-/// In `initialize` call `agree`. Ask in `initialized`, and again at each `workspace/didChangeConfiguration`. A client that can't be asked
-/// sends its settings there: hand them to `take_settings`.
+/// In `initialize` call `agree`, in `initialized` `ask`, and `change` at each `workspace/didChangeConfiguration`. The replies go to
+/// `take_reply`.
 #[derive(Drop)]
 pub struct Configuration<T: Drop> {
     /// The section, as the name of your server.
@@ -61,7 +61,7 @@ impl<T: DeserializeOwned + Drop> Configuration<T> {
         alloc: Global,
         payload: P,
     ) -> Result<Option<Act<P>>, AllocError>
-        ensures none { self.now.is_asked ≡ false → IfOk result (λ asked. asked ≡ None) }
+        ensures asked { IfOk result (λ asked. is_some asked ≡ self.now.is_asked) }
         ensures act { IfOk result (λ asked. IfSome asked (λ act.
             act_view P.eq act ≡ asks_for self.now.«section».now «payload»)) }
     {
@@ -121,7 +121,42 @@ impl<T: DeserializeOwned + Drop> Configuration<T> {
         ensures others { (self.new.section ≡ self.old.section) × (self.new.is_asked ≡ self.old.is_asked) }
         ensures kept { result ≢ Ok true → self.new.«value» ≡ self.old.«value» }
     {
-        match params.settings.get(self.section) {
+        self.take_from(alloc, &params.settings)
+    }
+
+    /// Takes part in `workspace/didChangeConfiguration`, which has these params: asks anew, if the client can be asked, and else takes the
+    /// settings that it sends, as `take_settings` does. `payload` comes back with the reply.
+    ///
+    /// `Err` means that an allocation failed, and `value` stays.
+    pub fn change<P: Drop + PartialEq>(
+        &mut self,
+        alloc: Global,
+        params: &Value,
+        payload: P,
+    ) -> Result<Option<Act<P>>, AllocError>
+        ensures others { (self.new.section ≡ self.old.section) × (self.new.is_asked ≡ self.old.is_asked) }
+        ensures kept { self.old.is_asked ≡ true → self.new ≡ self.old }
+        ensures stays { OnErr result (self.new.«value» ≡ self.old.«value») }
+        ensures asked { IfOk result (λ asked. is_some asked ≡ self.old.is_asked) }
+        ensures act { IfOk result (λ asked. IfSome asked (λ act.
+            act_view P.eq act ≡ asks_for self.old.«section».now «payload»)) }
+    {
+        if self.is_asked {
+            return self.ask(alloc, payload);
+        }
+        drop(payload);
+        if let Some(settings) = params.get("settings") {
+            self.take_from(alloc, settings)?;
+        }
+        Ok(None)
+    }
+
+    /// Takes the member of the section's name, if there is one and it fits.
+    fn take_from(&mut self, alloc: Global, settings: &Value) -> Result<bool, AllocError>
+        ensures others { (self.new.section ≡ self.old.section) × (self.new.is_asked ≡ self.old.is_asked) }
+        ensures kept { result ≢ Ok true → self.new.«value» ≡ self.old.«value» }
+    {
+        match settings.get(self.section) {
             Some(found) => {
                 let value = found.clone()?;
                 self.take(alloc, Some(value))
