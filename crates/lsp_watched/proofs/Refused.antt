@@ -16,7 +16,8 @@ use Rattle.lsp_session.specs.Session.{Exchange}
 use Rattle.lsp_watch.specs.Log.{Log, passed}
 use Rattle.lsp_watch.specs.declared.breach.Way.TheVariants.{ToServer, ToClient}
 use Rattle.lsp_watched.specs.Peers.{IsLogOf, KeepsIds}
-use Rattle.lsp_watched.specs.Sessions.{IsLogOfSession, ServerIsClean, ServerKeepsLifecycle}
+use Rattle.lsp_watched.specs.Sessions.{IsLogOfSession, ClientKeepsIds, ServerIsClean, ServerKeepsLifecycle}
+use Rattle.lsp_watched.specs.Sessions.{ServerRepliesFit}
 
 -- ---- two peers: A asks, and B answers
 
@@ -77,13 +78,44 @@ exchange sent = record { came = Some initialize; sent = sent }
 abbrev begun : Log
 begun = passed ToServer 1 initialize ∷ []
 
+abbrev answered_once : Log
+answered_once = passed ToClient 2 result ∷ begun
+
 -- a request gets two replies
-replied_twice : IsLogOfSession (exchange (result ∷ result ∷ []) ∷ [])
-    (passed ToClient 3 result ∷ passed ToClient 2 result ∷ begun)
-    × (ServerIsClean (passed ToClient 3 result ∷ passed ToClient 2 result ∷ begun) → ⊥)
+replied_twice : IsLogOfSession (exchange (result ∷ result ∷ []) ∷ []) (passed ToClient 3 result ∷ answered_once)
+    × (ServerIsClean (passed ToClient 3 result ∷ answered_once) → ⊥)
+    × (ServerRepliesFit (passed ToClient 3 result ∷ answered_once) → ⊥)
 replied_twice = (
-  (begun, passed ToClient 3 result ∷ passed ToClient 2 result ∷ begun, (1, refl), (2, (3, refl)), refl),
-  λ clean. let none = clean [] (passed ToClient 2 result ∷ begun) _ refl refl in cc,
+  (begun, passed ToClient 3 result ∷ answered_once, (1, refl), (2, (3, refl)), refl),
+  λ clean. let none = clean [] answered_once _ refl refl in cc,
+  λ fits. let none = fits [] answered_once _ refl refl refl in cc,
+)
+
+abbrev asked_again : Log
+asked_again = passed ToServer 2 initialize ∷ begun
+
+-- A client that reuses an id before the reply gets two replies under it, and the second finds no request: that is why
+-- the law of a server's replies asks for a client that does not.
+reused : IsLogOfSession (exchange [] ∷ exchange (result ∷ result ∷ []) ∷ [])
+    (passed ToClient 4 result ∷ passed ToClient 3 result ∷ asked_again)
+    × (ServerRepliesFit (passed ToClient 4 result ∷ passed ToClient 3 result ∷ asked_again) → ⊥)
+    × (ClientKeepsIds asked_again → ⊥)
+reused = (
+  (
+    begun,
+    begun,
+    (1, refl),
+    refl,
+    (
+      asked_again,
+      passed ToClient 4 result ∷ passed ToClient 3 result ∷ asked_again,
+      (2, refl),
+      (3, (4, refl)),
+      refl,
+    ),
+  ),
+  λ fits. let none = fits [] (passed ToClient 3 result ∷ asked_again) _ refl refl refl in cc,
+  λ keeps. let none = keeps [] begun _ refl refl in cc,
 )
 
 -- a notification comes before the result of `initialize`
