@@ -1,4 +1,7 @@
 //! Laws of what passes. Each is the contract of a function, so the proofs of callers can use it.
+//!
+//! In the log of a session each message of the client stands where the session takes it, with what is sent for it behind
+//! it. A recorder in between sees a message sooner, if the client does not wait for replies: no law speaks of such a log.
 ghost use Rattle.std.specs.Prelude.{Bool, List, Option};
 ghost use Rattle.lsp_message.specs.Id.{Id};
 ghost use Rattle.lsp_message.specs.Message.{Message};
@@ -15,9 +18,8 @@ ghost use Rattle.lsp_watched.specs.Sessions.{ServerIsClean, ServerKeepsLifecycle
 
 use lsp_peers::laws::{a_beginning_is_a_history, each_request_is_in_one_place};
 
-/// In the log of a history of two peers no message breaks a rule of ids (JSON-RPC 2.0, sections 4 and 5), whichever
-/// of the two is the
-/// client: no request comes under an id under which one waits, and no reply that no request waits for.
+/// In the log of a history of two peers no message breaks a rule of ids (JSON-RPC 2.0, sections 4 and 5), whichever of
+/// the two is the client: no request comes under an id under which one waits, and no reply that no request waits for.
 pub fn peers_keep_ids()
     ensures { (client : Side) (history : List Entry) (log : Log)
         → IsHistory history → IsLogOf client history log → KeepsIds log }
@@ -26,9 +28,8 @@ pub fn peers_keep_ids()
     each_request_is_in_one_place();
 }
 
-/// A session in which each request gets its one reply sends nothing that breaks a rule, whatever its client does: a
-/// fact of each session of a
-/// `Handler` (`lsp_session::laws::sessions::session_answers_requests`).
+/// A session in which each request gets its one reply sends nothing that breaks a rule, whatever its client does: a fact
+/// of each session of a `Handler` (`lsp_session::laws::sessions::session_answers_requests`).
 pub fn server_of_replies_is_clean()
     ensures { (exchanges : List Exchange) (stop : Stop) (shutdown_reply : Option Message)
         (answer : SessionAnswer) (log : Log)
@@ -36,9 +37,8 @@ pub fn server_of_replies_is_clean()
         → ServerIsClean log }
 {}
 
-/// A session that keeps the order of the lifecycle sends nothing that breaks a rule of it, whatever its client and
-/// its service do: a fact of
-/// each session (`lsp_session::laws::sessions::session_keeps_order`).
+/// A session that keeps the order of the lifecycle sends nothing that breaks a rule of it, whatever its client and its
+/// service do: a fact of each session (`lsp_session::laws::sessions::session_keeps_order`).
 pub fn server_keeps_lifecycle()
     ensures { (passes_late speaks_last : Bool) (exchanges : List Exchange) (stop : Stop)
         (shutdown_reply : Option Message) (answer : SessionAnswer) (log : Log)
