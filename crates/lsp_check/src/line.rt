@@ -120,8 +120,7 @@ fn way_at_end(head: &str) -> Option<Way> {
 }
 
 /// The message of an object that VS Code's client wrote, or `None` if it is none: the type says which way the message
-/// went, and the
-/// timestamp is in milliseconds.
+/// went, and the timestamp is in milliseconds.
 fn traced(alloc: Global, body: &[u8]) -> Result<Option<Passing>, LineFault> {
     let Ok(text) = std::str::from_utf8(body) else {
         return Ok(None);

@@ -11,8 +11,7 @@ use std::io::{BufRead, Write};
 /// each order.
 ///
 /// It takes the next message of the client, unless that breaks a rule, and else the next one of the server. What the
-/// one sends
-/// never makes a message wrong that the other has yet to send, so no order is missed.
+/// one sends never makes a message wrong that the other has yet to send, so no order is missed.
 pub fn judge_frames<C: BufRead, S: BufRead, W: Write>(
     report: &Report<'_>,
     client: &mut Frames<C>,
@@ -35,9 +34,8 @@ pub fn judge_frames<C: BufRead, S: BufRead, W: Write>(
     Ok(judged.status().max(client_status).max(server_status))
 }
 
-/// The way of the next message. None is judged that breaks a rule where the other file ends too early: what is lost
-/// may have
-/// been what it needs.
+/// The way of the next message. None is judged that breaks a rule where the other file ends too early: what is lost may
+/// have been what it needs.
 fn next_way(watch: &Watch, client: &Next, server: &Next) -> Result<Option<Way>> {
     if fits(watch, Way::ToServer, client)? {
         return Ok(Some(Way::ToServer));

@@ -14,7 +14,7 @@ pub enum Form {
     Json,
 }
 
-/// How much passed, how often a rule was broken, and whether a file was unreadable.
+/// How much passed, how much is open, how often a rule was broken, and the slowest reply where times are known.
 #[derive(Clone, Copy, Debug)]
 pub struct Counts {
     pub requests: u64,
