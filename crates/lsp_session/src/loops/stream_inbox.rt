@@ -4,9 +4,9 @@ ghost use Rattle.lsp_message.specs.Frame.{no_limit, of_content};
 ghost use Rattle.lsp_session.specs.Event.{event_view};
 ghost use Rattle.lsp_session.specs.StreamBoxes.{StreamInboxGives};
 
-use crate::lifecycle::{Event, Inbox, is_exit};
-use crate::loops::ReadEnd;
-use lsp_message::{Limits, Message, Passed};
+use crate::lifecycle::{Event, Inbox};
+use crate::loops::{EndSession, ReadEnd, TolerantInbox};
+use lsp_message::{Limits, Passed};
 use std::alloc::Global;
 use std::io::BufRead;
 
@@ -60,25 +60,17 @@ impl<'a, R: BufRead> StreamInbox<'a, R> {
     fn next_event(&mut self) -> Event
         ensures { StreamInboxGives R.remaining self.old (event_view result) self.new }
     {
-        if self.end.is_some() {
-            return Event::Closed;
-        }
-        match Message::read_telling(self.alloc, self.reader, self.limits, &mut Passed::new()) {
-            Ok(Some(message)) => {
-                if is_exit(&message) {
-                    self.end = Some(ReadEnd::Exit);
-                }
-                Event::Message(message)
-            }
-            Ok(None) => {
-                self.end = Some(ReadEnd::End);
-                Event::Closed
-            }
-            Err(fault) => {
-                self.end = Some(ReadEnd::Fault(fault));
-                Event::Closed
-            }
-        }
+        let mut bad_bodies = EndSession;
+        let mut inbox = TolerantInbox::resumed(
+            self.alloc,
+            &mut *self.reader,
+            &mut bad_bodies,
+            self.limits,
+            self.end,
+        );
+        let event = inbox.next_event(&mut Passed::new());
+        self.end = inbox.end();
+        event
     }
 }
 
