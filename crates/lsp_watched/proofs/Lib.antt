@@ -1,4 +1,6 @@
 mod PeersKeepIds
+mod Recorded
+mod RecordedStart
 mod Refused
 mod Replies
 mod Sessions

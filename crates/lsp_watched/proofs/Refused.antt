@@ -1,5 +1,5 @@
 -- Wrong runs whose logs the laws do not let pass.
-use Rattle.std.proofs.Common.{ℕ, List, [], ◌∷◌, String, Global, Some, Ok, codes, pos, refl}
+use Rattle.std.proofs.Common.{ℕ, ◌≡◌, List, [], ◌∷◌, ◌++◌, sym, ◌∙◌, String, Global, Some, Ok, codes, pos, refl}
 use Rattle.std.specs.Prelude.{string_bytes}
 use Rattle.serde_json.specs.Data.{null}
 use Rattle.serde_json.specs.View.{view}
@@ -12,12 +12,15 @@ use Rattle.lsp_peers.specs.Ids.{nth_id}
 use Rattle.lsp_peers.specs.declared.step.Outcome.TheVariants.{Registered, Answered}
 use Rattle.lsp_peers.specs.declared.step.Side.TheVariants.{A, B}
 use Rattle.lsp_peers.specs.declared.step.Step.TheVariants.{Register, Answer}
-use Rattle.lsp_session.specs.Session.{Exchange}
+use Rattle.lsp_session.specs.Session.{Exchange, messages_of}
 use Rattle.lsp_watch.specs.Log.{Log, passed}
 use Rattle.lsp_watch.specs.declared.breach.Way.TheVariants.{ToServer, ToClient}
 use Rattle.lsp_watched.specs.Peers.{IsLogOf, KeepsIds}
+use Rattle.lsp_watched.specs.Recorded.{IsRecorded}
 use Rattle.lsp_watched.specs.Sessions.{IsLogOfSession, ClientKeepsIds, ServerIsClean, ServerKeepsLifecycle}
 use Rattle.lsp_watched.specs.Sessions.{ServerRepliesFit}
+use Rattle.lsp_watched.proofs.Recorded.{IsSentOf}
+use Rattle.lsp_watched.proofs.Waits.{at_each_none, at_each_more}
 
 -- ---- two peers: A asks, and B answers
 
@@ -117,6 +120,60 @@ reused = (
   λ fits. let none = fits [] (passed ToClient 3 result ∷ asked_again) _ refl refl refl in cc,
   λ keeps. let none = keeps [] begun _ refl refl in cc,
 )
+
+-- The session replies to each request before it takes the next. A recorder sees both requests first, and the second
+-- reply finds none: that is why the laws of what a recorder sees ask for such a client too.
+abbrev two_in_turn : List Exchange
+two_in_turn = exchange (result ∷ []) ∷ exchange (result ∷ []) ∷ []
+
+reused_ahead : IsRecorded two_in_turn (passed ToClient 4 result ∷ passed ToClient 3 result ∷ asked_again)
+    × (ServerRepliesFit (passed ToClient 4 result ∷ passed ToClient 3 result ∷ asked_again) → ⊥)
+    × (ClientKeepsIds asked_again → ⊥)
+reused_ahead = (
+  at_each_more (IsSentOf two_in_turn) (passed ToClient 4 result) (passed ToClient 3 result ∷ asked_again)
+      (λ way. record {
+        earlier = exchange (result ∷ []) ∷ [];
+        exchange = exchange (result ∷ []);
+        later = [];
+        cut = refl;
+        first = [];
+        rest = [];
+        sends = refl;
+        sent = refl;
+        ahead = [];
+        took = refl;
+      }) (at_each_more (IsSentOf two_in_turn) (passed ToClient 3 result) asked_again (λ way. record {
+        earlier = [];
+        exchange = exchange (result ∷ []);
+        later = exchange (result ∷ []) ∷ [];
+        cut = refl;
+        first = [];
+        rest = [];
+        sends = refl;
+        sent = refl;
+        ahead = initialize ∷ [];
+        took = refl;
+      }) (at_each_more (IsSentOf two_in_turn) (passed ToServer 2 initialize) begun (λ way. cc)
+      (at_each_more (IsSentOf two_in_turn) (passed ToServer 1 initialize) [] (λ way. cc)
+      (at_each_none (IsSentOf two_in_turn))))),
+  λ fits. let none = fits [] (passed ToClient 3 result ∷ asked_again) _ refl refl refl in cc,
+  λ keeps. let none = keeps [] begun _ refl refl in cc,
+)
+
+-- The session sends no message before it took what it is sent for.
+sent_ahead : IsRecorded (exchange (result ∷ []) ∷ []) (passed ToClient 1 result ∷ []) → ⊥
+sent_ahead recorded =
+    let at = recorded [] [] (passed ToClient 1 result) refl refl in
+    nothing_took at.earlier at.exchange at.ahead at.later at.cut at.took
+  where
+    nothing_took : (earlier : List Exchange) (x : Exchange) (ahead : List Message) (later : List Exchange)
+        → exchange (result ∷ []) ∷ [] ≡ earlier ++ x ∷ later
+        → [] ≡ messages_of (earlier ++ x ∷ []) ++ ahead → ⊥
+    nothing_took [] x ahead later cut took =
+        let same : exchange (result ∷ []) ≡ x = cc in
+        let none : [] ≡ initialize ∷ ahead = took ∙ (λ k. messages_of (sym same k ∷ []) ++ ahead) in cc
+    nothing_took (y ∷ []) x ahead later cut took = cc
+    nothing_took (y ∷ z ∷ earlier) x ahead later cut took = cc
 
 -- a notification comes before the result of `initialize`
 speaks_early : IsLogOfSession (exchange (note ∷ result ∷ []) ∷ [])

@@ -59,7 +59,7 @@ pass_split (x ∷ xs) ys old new passes =
     let rest = pass_split xs ys passes.1 new passes.4 in
     (rest.0, (passes.0, passes.1, passes.2, passes.3, rest.1), rest.2)
 
-front_replied : (xs ys : List Exchange) → AllReplied (xs ++ ys) → AllReplied xs
+pub front_replied : (xs ys : List Exchange) → AllReplied (xs ++ ys) → AllReplied xs
 front_replied [] ys all = tt
 front_replied (x ∷ xs) ys all = (all.0, front_replied xs ys all.1)
 
@@ -177,17 +177,17 @@ reply_keeps : (before : Log) (place : ℕ) (id : Id) (outcome : _) → waits ToS
 reply_keeps before place id outcome one = λ e. refl
 
 -- `initialize` has its result
-abbrev HasBegun : Log → Type 0
+abbrev pub HasBegun : Log → Type 0
 HasBegun log = is_some (initialize_result log) ≡ true
 
-begun_more : (before : Log) (p : Passed) → HasBegun before → HasBegun (p ∷ before)
+pub begun_more : (before : Log) (p : Passed) → HasBegun before → HasBegun (p ∷ before)
 begun_more before p begun = by (answers_initialize before p && is_success p.message)
   where
     by : (b : Bool) → is_some (cond b (Some p.place) (initialize_result before)) ≡ true
     by true = refl
     by false = begun
 
-begun_keeps : (before : Log) (place : ℕ) (m : Message) → HasBegun before
+pub begun_keeps : (before : Log) (place : ℕ) (m : Message) → HasBegun before
     → KeepsLifecycle before (passed ToClient place m)
 begun_keeps before place (response id outcome) begun = λ e. refl
 begun_keeps before place (request id method params) begun = λ e. ap (λ b. cond (b || (is_some (initializing before)
@@ -215,7 +215,7 @@ begun_session (x ∷ xs) old new passes begun keeps =
     (begun_after_client ms old passes.0 passes.2 begun) came in
     begun_session xs passes.1 new passes.4 sent.1 sent.0
 
-none_waiting : (o : Option Passed) (p : Passed) → is_some o ≡ false → option_or o (Some p) ≡ Some p
+pub none_waiting : (o : Option Passed) (p : Passed) → is_some o ≡ false → option_or o (Some p) ≡ Some p
 none_waiting None p e = refl
 none_waiting (Some q) p e = cc
 

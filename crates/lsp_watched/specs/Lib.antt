@@ -1,3 +1,4 @@
 pub mod Passing
 pub mod Peers
+pub mod Recorded
 pub mod Sessions

@@ -1,7 +1,8 @@
 //! Laws of what passes. Each is the contract of a function, so the proofs of callers can use it.
 //!
 //! In the log of a session each message of the client stands where the session takes it, with what is sent for it behind
-//! it. A recorder in between sees a message sooner, if the client does not wait for replies: no law speaks of such a log.
+//! it. A recorder in between may see a message sooner, if the client does not wait for replies (`IsRecorded`): laws of
+//! such a log ask for a client that reuses no id before its reply passed.
 ghost use Rattle.std.specs.Prelude.{Bool, List, Option};
 ghost use Rattle.lsp_message.specs.Id.{Id};
 ghost use Rattle.lsp_message.specs.Message.{Message};
@@ -13,6 +14,7 @@ ghost use Rattle.lsp_session.specs.Session.{Exchange, SessionAnswer, Stop};
 ghost use Rattle.lsp_session.specs.SessionLaws.{KeepsOrder};
 ghost use Rattle.lsp_watch.specs.Log.{Log};
 ghost use Rattle.lsp_watched.specs.Peers.{IsLogOf, KeepsIds};
+ghost use Rattle.lsp_watched.specs.Recorded.{IsRecorded};
 ghost use Rattle.lsp_watched.specs.Sessions.{IsLogOfSession, ClientKeepsIds};
 ghost use Rattle.lsp_watched.specs.Sessions.{ServerIsClean, ServerKeepsLifecycle, ServerRepliesFit};
 
@@ -46,9 +48,34 @@ pub fn server_keeps_lifecycle()
         → IsLogOfSession exchanges log → ServerKeepsLifecycle log }
 {}
 
-/// A session in which there are never more replies under an id than requests sends no reply that breaks a rule, if its
-/// client reuses no id before the reply: a fact of each session of a `Server` (`lsp_service::laws::server_keeps_laws`).
+/// A session in which there are never more replies under an id than requests sends no reply that breaks a rule, as a
+/// recorder sees it, if its client reuses no id before the reply: a fact of each session of a `Server`
+/// (`lsp_service::laws::server_keeps_laws`).
 pub fn server_replies_fit()
     ensures { (exchanges : List Exchange) (log : Log) → ((id : Id) → NeverMore id exchanges)
-        → IsLogOfSession exchanges log → ClientKeepsIds log → ServerRepliesFit log }
+        → IsRecorded exchanges log → ClientKeepsIds log → ServerRepliesFit log }
+{}
+
+/// As a recorder sees it, a session that keeps the order of the lifecycle sends nothing that breaks a rule of it, if its
+/// client reuses no id before the reply.
+pub fn recorded_server_keeps_lifecycle()
+    ensures { (passes_late speaks_last : Bool) (exchanges : List Exchange) (stop : Stop)
+        (shutdown_reply : Option Message) (answer : SessionAnswer) (log : Log)
+        → KeepsOrder passes_late speaks_last exchanges stop shutdown_reply answer
+        → IsRecorded exchanges log → ClientKeepsIds log → ServerKeepsLifecycle log }
+{}
+
+/// As a recorder sees it, a session in which each request gets its one reply sends nothing that breaks a rule, if its
+/// client reuses no id before the reply.
+pub fn recorded_server_of_replies_is_clean()
+    ensures { (exchanges : List Exchange) (stop : Stop) (shutdown_reply : Option Message)
+        (answer : SessionAnswer) (log : Log)
+        → AnswersRequests exchanges stop shutdown_reply answer → IsRecorded exchanges log
+        → ClientKeepsIds log → ServerIsClean log }
+{}
+
+/// The log of a session is one that a recorder may see: the client waits for what is sent for each message.
+pub fn a_session_is_recorded()
+    ensures { (exchanges : List Exchange) (log : Log) → IsLogOfSession exchanges log
+        → IsRecorded exchanges log }
 {}

@@ -1,0 +1,433 @@
+-- Where a recorder sees that `initialize` got its result, and what the session sends from there on.
+use Rattle.std.proofs.Common.{◌≡◌, ◌≤◌, ◌<◌, ◌+◌, ◌⊎◌, inl, inr, ℕ, Bool, true, false, cond, ◌&&◌, List, [], ◌∷◌, ◌++◌}
+use Rattle.std.proofs.Common.{Option, Some, None, is_some, refl, sym, ap, ◌∙◌, subst, arith, append_assoc}
+use Rattle.std.proofs.Common.{append-nil, codes, Ok, length}
+use Rattle.serde_json.specs.Data.{Data}
+use Rattle.std.proofs.lemmas.List.{length-append}
+use Rattle.std.specs.Option.{option_or}
+use Rattle.std.specs.Str.{bytes_eq}
+use Rattle.lsp_message.specs.Id.{Id, same_id}
+use Rattle.lsp_message.specs.Message.{Message, request, notification, response}
+use Rattle.lsp_message.proofs.Ids.{same_own}
+use Rattle.lsp_service.specs.Law.{one_if, is_request_under, is_reply_under, how_many}
+use Rattle.lsp_session.specs.Answered.{AllReplied}
+use Rattle.lsp_session.specs.Session.{Exchange, messages_of, sends_of, SessionAnswer, Stop}
+use Rattle.lsp_session.specs.SessionLaws.{KeepsOrder, IsOpened, IsUnstarted, AllRefused, AllEarly}
+use Rattle.lsp_watch.specs.CleanLog.{AtEach, is_call}
+use Rattle.lsp_watch.specs.Log.{Log, Passed, passed, from_client, same_way, waiting, is_some_initialize}
+use Rattle.lsp_watch.specs.Rules.{lifecycle_finding, initialize_result}
+use Rattle.lsp_watch.specs.declared.breach.Way.{Way}
+use Rattle.lsp_watch.specs.declared.breach.Way.TheVariants.{ToServer, ToClient}
+use Rattle.lsp_watched.specs.Recorded.{gone, IsSentAt, IsRecorded}
+use Rattle.lsp_watched.specs.Sessions.{ClientKeepsIds, ServerKeepsLifecycle}
+use Rattle.lsp_watched.proofs.Recorded.{RepliesAtMost, AllAtMost, at_most_each, at_most_at, never_more, never_more_of}
+use Rattle.lsp_watched.proofs.Recorded.{is_a_reply, came_last, sends_append, IsSentOf}
+use Rattle.lsp_watched.proofs.Replies.{at_before, how_many_append, told, one_more, balanced, IsBounded, AsksNew}
+use Rattle.lsp_watched.proofs.Sessions.{HasBegun, begun_more, begun_keeps, none_waiting, front_replied}
+
+-- ---- where a list is cut
+
+abbrev Cuts : {A : Type 0} → List A → A → List A → A → Type 0
+Cuts {A} a x b y = ((u : List A) × (b ≡ a ++ x ∷ u)) ⊎ (((a ≡ b) × (x ≡ y)) ⊎ ((u : List A) × (a ≡ b ++ y ∷ u)))
+
+cut_more : {A : Type 0} (w z : A) (a : List A) (x : A) (b : List A) (y : A) → w ≡ z → Cuts a x b y
+    → Cuts (w ∷ a) x (z ∷ b) y
+cut_more w z a x b y same (inl further) = inl (further.0, λ k. sym same k ∷ further.1 k)
+cut_more w z a x b y same (inr (inl equal)) = inr (inl ((λ k. same k ∷ equal.0 k), equal.1))
+cut_more w z a x b y same (inr (inr before)) = inr (inr (before.0, λ k. same k ∷ before.1 k))
+
+cuts : {A : Type 0} (a : List A) (x : A) (c b : List A) (y : A) (d : List A) → a ++ x ∷ c ≡ b ++ y ∷ d → Cuts a x b y
+cuts [] x c [] y d is = inr (inl (refl, let same : x ≡ y = cc in same))
+cuts [] x c (z ∷ b) y d is = let same : x ≡ z = cc in inl (b, λ k. sym same k ∷ b)
+cuts (w ∷ a) x c [] y d is = let same : w ≡ y = cc in inr (inr (a, λ k. same k ∷ a))
+cuts (w ∷ a) x c (z ∷ b) y d is =
+    let same : w ≡ z = cc in
+    let rest : a ++ x ∷ c ≡ b ++ y ∷ d = cc in
+    cut_more w z a x b y same (cuts a x c b y d rest)
+
+-- ---- where a message passed
+
+record PassedAt (way : Way) (log : Log) (front : List Message) (m : Message) : Type 0 where
+  pub later : Log
+  pub one : Passed
+  pub before : Log
+  pub place : log ≡ later ++ one ∷ before
+  pub goes : same_way way one.way ≡ true
+  pub is : one.message ≡ m
+  pub behind : gone way before ≡ front
+
+further : (way : Way) (p : Passed) (log : Log) (front : List Message) (m : Message) → PassedAt way log front m
+    → PassedAt way (p ∷ log) front m
+further way p log front m at = record {
+  later = p ∷ at.later;
+  one = at.one;
+  before = at.before;
+  place = ap (λ l. p ∷ l) at.place;
+  goes = at.goes;
+  is = at.is;
+  behind = at.behind;
+}
+
+passed_at : (way : Way) (log : Log) (front : List Message) (m : Message) (rest : List Message)
+    → gone way log ≡ front ++ m ∷ rest
+    → PassedAt way log front m
+passed_at way [] [] m rest is = cc
+passed_at way [] (n ∷ front) m rest is = cc
+passed_at way (p ∷ log) front m rest is = by (λ r e. passed_at way log front m r e) (same_way way p.way) refl is
+  where
+    here : ((r : List Message) → gone way log ≡ front ++ m ∷ r → PassedAt way log front m) → same_way way p.way ≡ true
+        → gone way log ++ p.message ∷ [] ≡ front ++ m ∷ rest → Cuts (gone way log) p.message front m
+        → PassedAt way (p ∷ log) front m
+    here earlier goes is (inl longer) = absurd (omega (
+      arith,
+      ap length is,
+      ap length longer.1,
+      length-append (gone way log) (p.message ∷ []),
+      length-append front (m ∷ rest),
+      length-append (gone way log) (p.message ∷ longer.0),
+    ))
+    here earlier goes is (inr (inl equal)) = record {
+      later = [];
+      one = p;
+      before = log;
+      place = refl;
+      goes = goes;
+      is = equal.1;
+      behind = equal.0;
+    }
+    here earlier goes is (inr (inr shorter)) = further way p log front m (earlier shorter.0 shorter.1)
+
+    by : ((r : List Message) → gone way log ≡ front ++ m ∷ r → PassedAt way log front m) → (b : Bool)
+        → same_way way p.way ≡ b
+        → cond b (gone way log ++ p.message ∷ []) (gone way log) ≡ front ++ m ∷ rest
+        → PassedAt way (p ∷ log) front m
+    by earlier true goes is = here earlier goes is (cuts (gone way log) p.message [] front m rest is)
+    by earlier false goes is = further way p log front m (earlier rest is)
+
+-- ---- how much was sent
+
+sent_length : (xs : List Exchange) (x : Exchange) (ys : List Exchange) → length (sends_of (xs ++ x ∷ ys))
+    ≡ length (sends_of xs) + (length x.sent + length (sends_of ys))
+sent_length [] x ys = omega (arith, length-append x.sent (sends_of ys))
+sent_length (y ∷ xs) x ys = omega (
+  arith,
+  length-append y.sent (sends_of (xs ++ x ∷ ys)),
+  length-append y.sent (sends_of xs),
+  sent_length xs x ys,
+)
+
+grows_once : (way : Way) (p : Passed) (log : Log) → length (gone way log) ≤ length (gone way (p ∷ log))
+grows_once way p log = by (same_way way p.way)
+  where
+    by : (b : Bool) → length (gone way log) ≤ length (cond b (gone way log ++ p.message ∷ []) (gone way log))
+    by true = omega (arith, length-append (gone way log) (p.message ∷ []))
+    by false = omega arith
+
+grows : (way : Way) (later log : Log) → length (gone way log) ≤ length (gone way (later ++ log))
+grows way [] log = omega arith
+grows way (p ∷ later) log = omega (arith, grows way later log, grows_once way p (later ++ log))
+
+went_client : (way : Way) → from_client way ≡ false → way ≡ ToClient
+went_client ToServer is = cc
+went_client ToClient is = refl
+
+grows_by_one : (p : Passed) (log : Log) → from_client p.way ≡ false
+    → length (gone ToClient (p ∷ log)) ≡ length (gone ToClient log) + 1
+grows_by_one p log way = ap (λ w. length (cond (same_way ToClient w) (gone ToClient log ++ p.message ∷ [])
+    (gone ToClient log))) (went_client p.way way)
+    ∙ length-append (gone ToClient log) (p.message ∷ [])
+
+-- what is sent before so much was sent, is sent at an exchange before
+within : (exchanges front : List Exchange) (x : Exchange) (rest : List Exchange) (before : Log) (m : Message)
+    → exchanges ≡ front ++ x ∷ rest
+    → length (gone ToClient before) < length (sends_of front) → IsSentAt exchanges before m → IsSentAt front before m
+within exchanges front x rest before m cut less at =
+    by (cuts at.earlier at.exchange at.later front x rest (sym at.cut ∙ cut))
+  where
+    by : Cuts at.earlier at.exchange front x → IsSentAt front before m
+    by (inl further) = record {
+      earlier = at.earlier;
+      exchange = at.exchange;
+      later = further.0;
+      cut = further.1;
+      first = at.first;
+      rest = at.rest;
+      sends = at.sends;
+      sent = at.sent;
+      ahead = at.ahead;
+      took = at.took;
+    }
+    by (inr (inl equal)) = absurd (omega (
+      arith,
+      less,
+      ap length at.sent,
+      length-append (sends_of at.earlier) at.first,
+      ap (λ xs. length (sends_of xs)) equal.0,
+    ))
+    by (inr (inr behind)) = absurd (omega (
+      arith,
+      less,
+      ap length at.sent,
+      length-append (sends_of at.earlier) at.first,
+      ap (λ xs. length (sends_of xs)) behind.1,
+      sent_length front x behind.0,
+    ))
+
+-- and what is sent next is sent at the next exchange
+at_next : (exchanges front : List Exchange) (x : Exchange) (rest : List Exchange) (before : Log) (m : Message)
+    → exchanges ≡ front ++ x ∷ rest
+    → gone ToClient before ≡ sends_of front → length x.sent ≡ 1 → (at : IsSentAt exchanges before m)
+    → (at.earlier ≡ front) × (at.exchange ≡ x)
+at_next exchanges front x rest before m cut all one at =
+    by (cuts at.earlier at.exchange at.later front x rest (sym at.cut ∙ cut))
+  where
+    by : Cuts at.earlier at.exchange front x → (at.earlier ≡ front) × (at.exchange ≡ x)
+    by (inl further) = absurd (omega (
+      arith,
+      ap length all,
+      ap length at.sent,
+      length-append (sends_of at.earlier) at.first,
+      ap (λ xs. length (sends_of xs)) further.1,
+      sent_length at.earlier at.exchange further.0,
+      ap length at.sends,
+      length-append at.first (m ∷ at.rest),
+    ))
+    by (inr (inl equal)) = equal
+    by (inr (inr behind)) = absurd (omega (
+      arith,
+      one,
+      ap length all,
+      ap length at.sent,
+      length-append (sends_of at.earlier) at.first,
+      ap (λ xs. length (sends_of xs)) behind.1,
+      sent_length front x behind.0,
+    ))
+
+-- ---- a request that waits
+
+module _ (id : Id) where
+  told_once : (p : Passed) (log : Log) → told id log ≤ told id (p ∷ log)
+  told_once p log = by (same_way ToClient p.way)
+    where
+      by : (b : Bool) → told id log
+          ≤ how_many (is_reply_under id) (cond b (gone ToClient log ++ p.message ∷ []) (gone ToClient log))
+      by true = omega (arith, how_many_append (is_reply_under id) (gone ToClient log) (p.message ∷ []))
+      by false = omega arith
+
+  told_grows : (later log : Log) → told id log ≤ told id (later ++ log)
+  told_grows [] log = omega arith
+  told_grows (p ∷ later) log = omega (arith, told_grows later log, told_once p (later ++ log))
+
+  kept : (b : Bool) (w : Option Passed) (p q : Passed) → w ≡ Some q → cond b (option_or w (Some p)) w ≡ Some q
+  kept true None p q is = cc
+  kept true (Some r) p q is = is
+  kept false w p q is = is
+
+  untold : (b : Bool) (w : Option Passed) (n : ℕ) (q : Passed) → n + one_if b ≤ n → w ≡ Some q → cond b None w ≡ Some q
+  untold true w n q less is = absurd (omega (arith, less))
+  untold false w n q less is = is
+
+  stays_once : (way : Way) (place : ℕ) (m : Message) (log : Log) (q : Passed)
+      → told id (passed way place m ∷ log) ≤ told id log
+      → waiting ToServer id log ≡ Some q → waiting ToServer id (passed way place m ∷ log) ≡ Some q
+  stays_once ToServer place (request i method params) log q less is =
+      kept (same_id id i) (waiting ToServer id log) _ q is
+  stays_once ToServer place (notification method params) log q less is = is
+  stays_once ToServer place (response i outcome) log q less is = is
+  stays_once ToClient place (request i method params) log q less is = is
+  stays_once ToClient place (notification method params) log q less is = is
+  stays_once ToClient place (response i outcome) log q less is =
+      untold (same_id id i) (waiting ToServer id log) (told id log) q
+      (omega (arith, less, how_many_append (is_reply_under id) (gone ToClient log) (response i outcome ∷ []))) is
+
+  stays : (later log : Log) (q : Passed) → told id (later ++ log) ≤ told id log → waiting ToServer id log ≡ Some q
+      → waiting ToServer id (later ++ log) ≡ Some q
+  stays [] log q less is = is
+  stays (p ∷ later) log q less is = stays_once p.way p.place p.message (later ++ log) q
+      (omega (arith, less, told_grows later log))
+      (stays later log q (omega (arith, less, told_once p (later ++ log))) is)
+
+-- ---- small steps
+
+went_server : (way : Way) → from_client way ≡ true → way ≡ ToServer
+went_server ToServer is = refl
+went_server ToClient is = cc
+
+is_from_client : (p : Passed) (m : Message) → same_way ToServer p.way ≡ true → p.message ≡ m
+    → p ≡ passed ToServer p.place m
+is_from_client p m goes is = λ k. passed (went_server p.way goes k) p.place (is k)
+
+goes_to_client : (way : Way) → same_way ToClient way ≡ true → way ≡ ToClient
+goes_to_client ToServer is = cc
+goes_to_client ToClient is = refl
+
+is_from_server : (p : Passed) (m : Message) → same_way ToClient p.way ≡ true → p.message ≡ m
+    → p ≡ passed ToClient p.place m
+is_from_server p m goes is = λ k. passed (goes_to_client p.way goes k) p.place (is k)
+
+begun_all : (later log : Log) → HasBegun log → HasBegun (later ++ log)
+begun_all [] log begun = begun
+begun_all (p ∷ later) log begun = begun_more (later ++ log) p (begun_all later log begun)
+
+reply_keeps_order : (before : Log) (way : Way) (m : Message) → is_call m ≡ false → lifecycle_finding before way m ≡ None
+reply_keeps_order before way (response i outcome) reply = refl
+reply_keeps_order before way (request i method params) reply = cc
+reply_keeps_order before way (notification method params) reply = cc
+
+-- ---- `initialize` and its result
+
+module _ (exchanges : List Exchange) (log : Log) (recorded : IsRecorded exchanges log) (anew : ClientKeepsIds log)
+    (front rest : List Exchange) (id : Id) (method : List ℕ) (params result : Data)
+    (is_initialize : bytes_eq method (codes "initialize") ≡ true) (replied : AllReplied front)
+  where
+    abbrev initialize : Message
+    initialize = request id method params
+
+    abbrev gives : Message
+    gives = response id (Ok result)
+
+    abbrev exchange : Exchange
+    exchange = record { came = Some initialize; sent = gives ∷ [] }
+
+    all_at_most : AllAtMost front
+    all_at_most = subst AllAtMost (append-nil front) (at_most_each front [] replied tt)
+
+    -- behind `initialize`, up to its result
+    module _ (cut : exchanges ≡ front ++ exchange ∷ rest) (since before : Log) (place : ℕ)
+        (all : IsRecorded exchanges (since ++ passed ToServer place initialize ∷ before))
+        (keeps : ClientKeepsIds (since ++ passed ToServer place initialize ∷ before))
+        (sent : gone ToClient (since ++ passed ToServer place initialize ∷ before) ≡ sends_of front)
+        (took : gone ToServer before ≡ messages_of front)
+      where
+        bounded : AtEach IsBounded before
+        bounded later b p is way =
+            let ahead : Log = since ++ passed ToServer place initialize ∷ later in
+            let place_in : since ++ passed ToServer place initialize ∷ before ≡ ahead ++ p ∷ b =
+            ap (λ l. since ++ passed ToServer place initialize ∷ l) is
+            ∙ sym (append_assoc since (passed ToServer place initialize ∷ later) (p ∷ b)) in
+            one_more front b p.message (never_more front all_at_most)
+            (within exchanges front exchange rest b p.message cut (omega (
+              arith,
+              ap length sent,
+              ap (λ l. length (gone ToClient l)) place_in,
+              grows ToClient ahead (p ∷ b),
+              grows_by_one p b way,
+            )) (all ahead b p place_in way))
+
+        none_before : waiting ToServer id before ≡ None
+        none_before = keeps since before (passed ToServer place initialize) refl refl
+
+        waits_at_first : waiting ToServer id (passed ToServer place initialize ∷ before)
+            ≡ Some (passed ToServer place initialize)
+        waits_at_first = ap (λ b. cond b
+            (option_or (waiting ToServer id before) (Some (passed ToServer place initialize)))
+            (waiting ToServer id before)) (same_own id)
+            ∙ none_waiting (waiting ToServer id before) (passed ToServer place initialize)
+            (ap (λ (o : Option Passed). is_some o) none_before)
+
+        waits_on : waiting ToServer id (since ++ passed ToServer place initialize ∷ before)
+            ≡ Some (passed ToServer place initialize)
+        waits_on = stays id since (passed ToServer place initialize ∷ before) (passed ToServer place initialize)
+            (omega (
+              arith,
+              balanced before (at_before AsksNew (since ++ passed ToServer place initialize ∷ before) since before
+                  (passed ToServer place initialize) refl keeps) bounded id,
+              ap (λ (o : Option Passed). one_if (is_some o)) none_before,
+              ap (how_many (is_request_under id)) took,
+              ap (how_many (is_reply_under id)) sent,
+              never_more_of front all_at_most id,
+            )) waits_at_first
+
+        begins : (replies : ℕ) → HasBegun (passed ToClient replies gives ∷ since ++ passed ToServer place initialize
+            ∷ before)
+        begins replies = ap (λ (b : Bool). is_some (cond (b && true) (Some replies)
+            (initialize_result (since ++ passed ToServer place initialize ∷ before))))
+            (ap is_some_initialize waits_on ∙ is_initialize)
+
+    module _ (cut : exchanges ≡ front ++ exchange ∷ rest) where
+      begun_at : (later b : Log) (replies : ℕ) → log ≡ later ++ passed ToClient replies gives ∷ b
+          → gone ToClient b ≡ sends_of front
+          → HasBegun (passed ToClient replies gives ∷ b)
+      begun_at later b replies is sent =
+          let reply : Passed = passed ToClient replies gives in
+          let at = recorded later b reply is refl in
+          let same = at_next exchanges front exchange rest b gives cut sent refl at in
+          let took : gone ToServer b ≡ messages_of front ++ initialize ∷ at.ahead =
+          at.took ∙ (λ k. messages_of (same.0 k ++ same.1 k ∷ []) ++ at.ahead)
+          ∙ ap (λ l. l ++ at.ahead) (came_last front exchange)
+          ∙ append_assoc (messages_of front) (initialize ∷ []) at.ahead in
+          let found = passed_at ToServer b (messages_of front) initialize at.ahead took in
+          let b_is : b ≡ found.later ++ passed ToServer found.one.place initialize ∷ found.before =
+          found.place ∙ ap (λ p. found.later ++ p ∷ found.before)
+          (is_from_client found.one initialize found.goes found.is) in
+          subst (λ l. HasBegun (reply ∷ l)) (sym b_is)
+          (begins cut found.later found.before found.one.place
+          (subst (IsRecorded exchanges) b_is (at_before (IsSentOf exchanges) log later b reply is recorded))
+          (subst ClientKeepsIds b_is (at_before AsksNew log later b reply is anew))
+          (ap (gone ToClient) (sym b_is) ∙ sent) found.behind replies)
+
+      begun_before : (later before : Log) (p : Passed) → log ≡ later ++ p ∷ before
+          → (at : IsSentAt exchanges before p.message)
+          → (u : List Exchange) → at.earlier ≡ front ++ exchange ∷ u → HasBegun before
+      begun_before later before p is at u behind =
+          let sent : gone ToClient before ≡ sends_of front ++ gives ∷ (sends_of u ++ at.first) =
+          at.sent ∙ ap (λ xs. sends_of xs ++ at.first) behind
+          ∙ ap (λ ms. ms ++ at.first) (sends_append front (exchange ∷ u))
+          ∙ append_assoc (sends_of front) (gives ∷ sends_of u) at.first in
+          let found = passed_at ToClient before (sends_of front) gives (sends_of u ++ at.first) sent in
+          let before_is : before ≡ found.later ++ passed ToClient found.one.place gives ∷ found.before =
+          found.place ∙ ap (λ q. found.later ++ q ∷ found.before)
+          (is_from_server found.one gives found.goes found.is) in
+          let place_in : log ≡ (later ++ p ∷ found.later) ++ passed ToClient found.one.place gives ∷ found.before =
+          is ∙ ap (λ l. later ++ p ∷ l) before_is
+          ∙ sym (append_assoc later (p ∷ found.later) (passed ToClient found.one.place gives ∷ found.before)) in
+          subst HasBegun (sym before_is) (begun_all found.later (passed ToClient found.one.place gives ∷ found.before)
+          (begun_at (later ++ p ∷ found.later) found.before found.one.place place_in found.behind))
+
+      pub keeps_from_there : RepliesAtMost exchange → ServerKeepsLifecycle log
+      keeps_from_there last later before p is way =
+          let at = recorded later before p is way in
+          by at (cuts at.earlier at.exchange at.later front exchange rest (sym at.cut ∙ cut))
+        where
+          by : (at : IsSentAt exchanges before p.message) → Cuts at.earlier at.exchange front exchange
+              → lifecycle_finding before p.way p.message ≡ None
+          by at (inl further) = reply_keeps_order before p.way p.message
+              (is_a_reply at.exchange at.first p.message at.rest
+              (at_most_at at.earlier at.exchange further.0 (subst AllAtMost further.1 all_at_most)) at.sends)
+          by at (inr (inl equal)) = reply_keeps_order before p.way p.message
+              (is_a_reply at.exchange at.first p.message at.rest (subst RepliesAtMost (sym equal.1) last) at.sends)
+          by at (inr (inr behind)) = subst (λ w. lifecycle_finding before w p.message ≡ None)
+              (sym (went_client p.way way))
+              (begun_keeps before p.place p.message (begun_before later before p is at behind.0 behind.1) refl)
+
+-- ---- each session
+
+unstarted_at_most : (rest : List Exchange) (stop : Stop) (answer : SessionAnswer) → IsUnstarted rest stop answer
+    → AllAtMost rest
+unstarted_at_most [] stop answer is = tt
+unstarted_at_most (x ∷ rest) stop answer is = (inr is.2, subst AllAtMost (sym is.0) tt)
+
+pub recorded_keeps_lifecycle : (passes_late speaks_last : Bool) (exchanges : List Exchange) (stop : Stop)
+    (shutdown_reply : Option Message) (answer : SessionAnswer) (log : Log)
+    → KeepsOrder passes_late speaks_last exchanges stop shutdown_reply answer → IsRecorded exchanges log
+    → ClientKeepsIds log → ServerKeepsLifecycle log
+recorded_keeps_lifecycle passes_late speaks_last exchanges stop shutdown_reply answer log order recorded anew =
+    by order.opened
+  where
+    by : IsOpened passes_late speaks_last order.early order.rest stop shutdown_reply answer
+        ⊎ (AllRefused order.early × AllEarly order.early × IsUnstarted order.rest stop answer × (shutdown_reply ≡ None))
+        → ServerKeepsLifecycle log
+    by (inl opened) =
+        let ends = opened.ends in
+        let early = subst AllReplied ends.cut order.replied in
+        keeps_from_there exchanges log recorded anew ends.before order.rest ends.id ends.method ends.params ends.result
+        ends.asks (front_replied ends.before _ early)
+        (order.cut ∙ ap (λ l. l ++ order.rest) ends.cut ∙ append_assoc ends.before _ order.rest)
+        (at_most_at ends.before _ []
+        (subst AllAtMost (append-nil _) (at_most_each (ends.before ++ _ ∷ []) [] early tt)))
+    by (inr unstarted) = λ later before p is way.
+        let at = recorded later before p is way in
+        reply_keeps_order before p.way p.message (is_a_reply at.exchange at.first p.message at.rest
+        (at_most_at at.earlier at.exchange at.later (subst AllAtMost (sym order.cut ∙ at.cut)
+        (at_most_each order.early order.rest order.replied
+        (unstarted_at_most order.rest stop answer unstarted.2)))) at.sends)

@@ -1,0 +1,31 @@
+-- What a recorder sees that stands between a client and a session.
+use Rattle.std.specs.Prelude.{◌≡◌, false, List, [], ◌∷◌, ◌++◌, if◌then◌else◌}
+use Rattle.lsp_message.specs.Message.{Message}
+use Rattle.lsp_session.specs.Session.{Exchange, messages_of, sends_of}
+use Rattle.lsp_watch.specs.CleanLog.{AtEach}
+use Rattle.lsp_watch.specs.Log.{Log, from_client, same_way}
+use Rattle.lsp_watch.specs.declared.breach.Way.{Way}
+use Rattle.lsp_watch.specs.declared.breach.Way.TheVariants.{ToServer, ToClient}
+
+-- the messages that went this way, in order
+abbrev pub gone : Way → Log → List Message
+gone way [] = []
+gone way (p ∷ before) = if same_way way p.way then gone way before ++ p.message ∷ [] else gone way before
+
+-- The session sends this message when these have passed: all that it sent before, and of the client's messages those
+-- that it took. More of the client's may have passed, which it takes later.
+pub record IsSentAt (exchanges : List Exchange) (before : Log) (m : Message) : Type 0 where
+  pub earlier : List Exchange
+  pub exchange : Exchange
+  pub later : List Exchange
+  pub cut : exchanges ≡ earlier ++ exchange ∷ later
+  pub first : List Message
+  pub rest : List Message
+  pub sends : exchange.sent ≡ first ++ m ∷ rest
+  pub sent : gone ToClient before ≡ sends_of earlier ++ first
+  pub ahead : List Message
+  pub took : gone ToServer before ≡ messages_of (earlier ++ exchange ∷ []) ++ ahead
+
+-- A recorder sees each message of the client before the session takes it, and each of the session's once it was sent.
+abbrev pub IsRecorded : List Exchange → Log → Type 0
+IsRecorded exchanges log = AtEach (λ before p. from_client p.way ≡ false → IsSentAt exchanges before p.message) log
