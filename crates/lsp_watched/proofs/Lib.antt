@@ -1,3 +1,4 @@
+mod OwnRequests
 mod PeersKeepIds
 mod Recorded
 mod RecordedStart
