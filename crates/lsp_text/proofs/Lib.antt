@@ -1,3 +1,4 @@
 pub mod StartLemmas
 pub mod ColumnLemmas
 pub mod CharacterLemmas
+pub mod LineLemmas

@@ -75,29 +75,41 @@ starts_in-between ends i (x ∷ xs) n =
     (omega arith) (omega arith)
     (λ k l. let b = starts_in-between ends (i + 1) xs n k l in (omega (arith, b.0), omega (arith, b.1)))
 
+-- each of the numbers is above the one before it
+abbrev Rising : List ℕ → Type 0
+Rising ss = (i j : ℕ) → i < j → j < length ss → get_or ss i 0 < get_or ss j 0
+
+rising-cons : (s high : ℕ) (ss : List ℕ) → Between s high ss → Rising ss → Rising (s ∷ ss)
+rising-cons s high ss b o i zero le l = absurd (omega arith)
+rising-cons s high ss b o zero (suc j) le l = (b j (omega arith)).0
+rising-cons s high ss b o (suc i) (suc j) le l = o i j (omega arith) (omega arith)
+
+rising-cond : (s high : ℕ) (ss : List ℕ) (t : Bool) → Between s high ss → Rising ss → Rising (cond t (s ∷ ss) ss)
+rising-cond s high ss true b o = rising-cons s high ss b o
+rising-cond s high ss false b o = o
+
+starts_in-rising : (ends : LineEnds) (i : ℕ) (xs : List ℕ) (n : ℕ) → Rising (starts_in ends i xs n)
+starts_in-rising ends i [] n = λ a b le l. absurd (omega arith)
+starts_in-rising ends i (x ∷ xs) n =
+    rising-cond (i + 1) (i + 1 + length xs) (starts_in ends (i + 1) xs n) (ends_line ends x (get_or xs 0 n))
+    (starts_in-between ends (i + 1) xs n) (starts_in-rising ends (i + 1) xs n)
+
+pub line_starts-rising : (ends : LineEnds) (xs : List ℕ) → Rising (line_starts ends xs)
+line_starts-rising ends xs = rising-cons 0 (0 + length xs) (starts_in ends 0 xs 0) (starts_in-between ends 0 xs 0)
+    (starts_in-rising ends 0 xs 0)
+
 -- the numbers are in order
 abbrev pub InOrder : List ℕ → Type 0
 InOrder ss = (i j : ℕ) → i ≤ j → j < length ss → get_or ss i 0 ≤ get_or ss j 0
 
-order-cons : (s high : ℕ) (ss : List ℕ) → Between s high ss → InOrder ss → InOrder (s ∷ ss)
-order-cons s high ss b o zero zero le l = omega arith
-order-cons s high ss b o zero (suc j) le l = let k = b j (omega arith) in omega (arith, k.0)
-order-cons s high ss b o (suc i) zero le l = absurd (omega arith)
-order-cons s high ss b o (suc i) (suc j) le l = o i j (omega arith) (omega arith)
-
-order-cond : (s high : ℕ) (ss : List ℕ) (t : Bool) → Between s high ss → InOrder ss → InOrder (cond t (s ∷ ss) ss)
-order-cond s high ss true b o = order-cons s high ss b o
-order-cond s high ss false b o = o
-
-starts_in-order : (ends : LineEnds) (i : ℕ) (xs : List ℕ) (n : ℕ) → InOrder (starts_in ends i xs n)
-starts_in-order ends i [] n = λ a b le l. absurd (omega arith)
-starts_in-order ends i (x ∷ xs) n =
-    order-cond (i + 1) (i + 1 + length xs) (starts_in ends (i + 1) xs n) (ends_line ends x (get_or xs 0 n))
-    (starts_in-between ends (i + 1) xs n) (starts_in-order ends (i + 1) xs n)
-
 pub line_starts-order : (ends : LineEnds) (xs : List ℕ) → InOrder (line_starts ends xs)
-line_starts-order ends xs = order-cons 0 (0 + length xs) (starts_in ends 0 xs 0) (starts_in-between ends 0 xs 0)
-    (starts_in-order ends 0 xs 0)
+line_starts-order ends xs i j le l =
+    elim (cases_lt i j) [
+      | inl h ↦ (let r = line_starts-rising ends xs i j h l in omega (arith, r))
+      | inr h ↦ (let e : i ≡ j = omega arith in
+          let g : get_or (line_starts ends xs) i 0 ≡ get_or (line_starts ends xs) j 0 = ap (λ k. get_or (line_starts
+          ends xs) k 0) e in omega (arith, g))
+    ]
 
 cond-map : (f : ℕ → ℕ) (t : Bool) (a b : ℕ) (xs ys : List ℕ) → f a ≡ b → map f xs ≡ ys → map f (cond t (a ∷ xs) xs)
     ≡ cond t (b ∷ ys) ys
@@ -235,6 +247,10 @@ pub line_starts-within : (ends : LineEnds) (xs : List ℕ) (k : ℕ) → k < len
     → get_or (line_starts ends xs) k 0 ≤ length xs
 line_starts-within ends xs zero l = omega arith
 line_starts-within ends xs (suc k) l = let b = starts_in-between ends 0 xs 0 k (omega arith) in omega (arith, b.1)
+
+pub begins_within : (ends : LineEnds) (xs ss : List ℕ) (k : ℕ) → ss ≡ line_starts ends xs → k < length ss
+    → get_or ss k 0 ≤ length xs
+begins_within ends xs ss k e l = rw e (line_starts-within ends xs k (let h = ap length e in omega (arith, h, l)))
 
 -- one more of the numbers behind the first ones is changed in place
 pub move_more : (f : ℕ → ℕ) (old ys : List ℕ) (first i : ℕ) → first ≤ i → i < length old →

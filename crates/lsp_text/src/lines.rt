@@ -1,8 +1,9 @@
 // Where the lines of a text begin.
-ghost use Rattle.std.specs.Prelude.{◌≡◌, ℕ, ◌+◌, ◌-◌, ◌<◌, ◌≤◌, ◌^◌, ◌++◌, OnOk, OnErr, IfOk, length, map, take, drop, slice_index, slice_index_or};
+ghost use Rattle.std.specs.Prelude.{◌≡◌, ℕ, ◌+◌, ◌-◌, ◌<◌, ◌≤◌, ◌^◌, ◌++◌, OnOk, OnErr, IfOk, length, map, take, drop, slice_index, slice_index_or, slice_range};
 ghost use Rattle.std.specs.List.{replace_range, splice};
 ghost use Rattle.lsp_text.specs.Lines.{ends_line as is_ended, starts_in, line_starts, lined};
-ghost use Rattle.lsp_text.specs.Columns.{line_of};
+ghost use Rattle.lsp_text.specs.Columns.{first_line, line_of};
+ghost use Rattle.std.specs.String.Boundary.{IsSplitPoint};
 
 use crate::line_ends::LineEnds;
 use std::alloc::{AllocError, Global};
@@ -15,7 +16,7 @@ fn ends_line(ends: LineEnds, byte: u8, next: u8) -> bool
 }
 
 /// The byte at a place, or another one past the end.
-pub fn byte_or(bytes: &[u8], i: usize, default: u8) -> u8
+fn byte_or(bytes: &[u8], i: usize, default: u8) -> u8
     ensures { result ≡ slice_index_or bytes.now i default }
 {
     if i < bytes.len() { bytes[i] } else { default }
@@ -112,6 +113,26 @@ pub fn start_of(ends: LineEnds, text: &[u8], starts: &[usize], line: usize) -> u
     ensures within { result ≤ length text.now }
 {
     starts[line]
+}
+
+/// Where a line ends. The next one begins behind what ends it: one byte, with the `\r` before it if one stands there in the line.
+pub fn line_end(ends: LineEnds, text: &[u8], starts: &[usize], line: usize) -> usize
+    requires index { starts.now ≡ line_starts ends text.now }
+    requires within { line < length starts.now }
+    ensures in_order { slice_index starts.now line ≤ result }
+    ensures line { slice_range text.now (slice_index starts.now line) result
+        ≡ first_line ends (drop (slice_index starts.now line) text.now) }
+    ensures boundary { IsSplitPoint text.now result }
+{
+    if line + 1 == starts.len() {
+        return text.len();
+    }
+    let last = starts[line + 1] - 1;
+    if starts[line] < last && text[last - 1] == b'\r' {
+        last - 1
+    } else {
+        last
+    }
 }
 
 /// The line that a place of a text is in: the last one that begins there or before.

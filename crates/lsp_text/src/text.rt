@@ -115,11 +115,14 @@ impl Text {
             (λ found. (line < length (starts_of self.now))
             × (found.now ≡ line_text self.now line)) }
     {
-        if line as usize >= self.starts.len() {
+        let line = line as usize;
+        let starts = self.starts.as_slice();
+        if line >= starts.len() {
             return None;
         }
-        let start = self.offset_at(Position::new(line, 0), PositionEncoding::Utf8);
-        let end = columns::end_in(self.ends, self.text.as_bytes(), start);
+        let text = self.text.as_bytes();
+        let start = lines::start_of(self.ends, text, starts, line);
+        let end = lines::line_end(self.ends, text, starts, line);
         Some(&self.text.as_str()[start..end])
     }
 
