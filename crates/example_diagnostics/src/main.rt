@@ -272,7 +272,8 @@ fn long_lines(alloc: Global, text: &Text, longest: u32) -> Result<Vec<Diagnostic
         let Some(line) = text.line(number) else {
             break;
         };
-        if line.chars().count() > longest as usize {
+        // A line has no more characters than bytes.
+        if line.len() > longest as usize && line.chars().count() > longest as usize {
             let range = Range::new(Position::new(number, 0), Position::new(number + 1, 0));
             let message = format!(in alloc; "longer than {longest} characters")?;
             found.push(Diagnostic::new(range, DiagnosticSeverity::WARNING, message))?;
