@@ -627,6 +627,8 @@ def rows():
     for client in [{"workspace": {"configuration": True}}, {"workspace": {"configuration": False}}, {}, None]:
         for reply, settings in [([7], {"lines": 5}), ([None], {"lines": None}), ([], {}), (["x"], None), (None, {"lines": -1}), ({}, [])]:
             yield f"configuration {ordered({'client': client, 'reply': reply, 'settings': settings})}"
+        for changed in [{"settings": {"lines": 6}}, {"settings": {"lines": "6"}}, {"settings": {"a": 6}}, {"settings": None}, {"lines": 6}, []]:
+            yield f"configuration {ordered({'client': client, 'changed': changed})}"
 
 
 def read_as(how, value):
@@ -739,13 +741,18 @@ def configuration_answer(text):
     given = json.loads(text)
     capabilities = given.get("client")
     can = isinstance(capabilities, dict) and capabilities.get("workspace", {}).get("configuration") is True
-    said = [f"ask workspace/configuration {ordered({'items': [{'section': 'lines'}]})} for 7" if can else "nothing"]
+    asked = "ask workspace/configuration " + ordered({"items": [{"section": "lines"}]}) + " for " if can else "nothing"
+    said = [f"{asked}7" if can else asked]
     reply, settings, value = given.get("reply"), given.get("settings"), 80
     for found in [reply[-1] if isinstance(reply, list) and reply else None, settings.get("lines") if isinstance(settings, dict) else None]:
         taken = is_number(found) and 0 <= found < 2**32
         value = found if taken else value
         said.append(f"{'taken' if taken else 'kept'} {value}")
-    return [", ".join(said)]
+    changed = given.get("changed")
+    settings = changed.get("settings") if isinstance(changed, dict) and not can else None
+    found = settings.get("lines") if isinstance(settings, dict) else None
+    value = found if is_number(found) and 0 <= found < 2**32 else value
+    return [", ".join([*said, f"{asked}8" if can else asked, str(value)])]
 
 
 def pair(value):

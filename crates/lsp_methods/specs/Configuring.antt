@@ -1,7 +1,7 @@
 -- Whether a client can be asked for its configuration, and what it is asked (LSP 3.17, "Configuration Request").
-use Rattle.std.specs.Prelude.{Bool, false, List, ℕ, [], ◌∷◌, Option, None, Some, codes}
+use Rattle.std.specs.Prelude.{Bool, false, List, ℕ, [], ◌∷◌, Option, None, Some, codes, option_and_then}
 use Rattle.serde_json.specs.Data.{Data, array, string}
-use Rattle.serde_json.specs.Find.{as_bool, pointer}
+use Rattle.serde_json.specs.Find.{as_bool, get, pointer}
 use Rattle.serde_json.specs.View.{items_of}
 use Rattle.lsp_service.specs.Acts.{Act, asks}
 use Rattle.lsp_types.specs.Json.{object_of}
@@ -27,3 +27,8 @@ asks_for section payload = asks (codes "workspace/configuration") (object_of ((
   Some (array (items_of (
       object_of ((codes "scopeUri", None) ∷ (codes "section", Some (string section)) ∷ []) ∷ []))),
 ) ∷ [])) payload
+
+-- what the params of a change have of a section, as a client sends them that can't be asked (LSP 3.17,
+-- "DidChangeConfiguration Notification")
+abbrev pub settings_of : List ℕ → Data → Option Data
+settings_of section params = option_and_then (get section) (get (codes "settings") params)

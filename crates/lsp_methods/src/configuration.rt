@@ -1,7 +1,8 @@
 // What the user set for a server.
-ghost use Rattle.std.specs.Prelude.{◌≡◌, ◌≢◌, true, false, Ok, IfOk, IfSome, OnErr, is_some};
+ghost use Rattle.std.specs.Prelude.{◌≡◌, ◌≢◌, true, false, None, Ok, IfOk, IfSome, OnErr, is_some};
+ghost use Rattle.serde_json.specs.Find.{get};
 ghost use Rattle.serde_json.specs.View.{view};
-ghost use Rattle.lsp_methods.specs.Configuring.{asks_for};
+ghost use Rattle.lsp_methods.specs.Configuring.{asks_for, settings_of};
 ghost use Rattle.lsp_service.specs.View.{act_view};
 
 use crate::speaking::{ask, read_result};
@@ -120,6 +121,7 @@ impl<T: DeserializeOwned + Drop> Configuration<T> {
     ) -> Result<bool, AllocError>
         ensures others { (self.new.section ≡ self.old.section) × (self.new.is_asked ≡ self.old.is_asked) }
         ensures kept { result ≢ Ok true → self.new.«value» ≡ self.old.«value» }
+        ensures missing { get self.old.«section».now (view params.now.settings) ≡ None → self.new ≡ self.old }
     {
         self.take_from(alloc, &params.settings)
     }
@@ -136,6 +138,7 @@ impl<T: DeserializeOwned + Drop> Configuration<T> {
     ) -> Result<Option<Act<P>>, AllocError>
         ensures others { (self.new.section ≡ self.old.section) × (self.new.is_asked ≡ self.old.is_asked) }
         ensures kept { self.old.is_asked ≡ true → self.new ≡ self.old }
+        ensures missing { settings_of self.old.«section».now (view params.now) ≡ None → self.new ≡ self.old }
         ensures stays { OnErr result (self.new.«value» ≡ self.old.«value») }
         ensures asked { IfOk result (λ asked. is_some asked ≡ self.old.is_asked) }
         ensures act { IfOk result (λ asked. IfSome asked (λ act.
@@ -155,6 +158,7 @@ impl<T: DeserializeOwned + Drop> Configuration<T> {
     fn take_from(&mut self, alloc: Global, settings: &Value) -> Result<bool, AllocError>
         ensures others { (self.new.section ≡ self.old.section) × (self.new.is_asked ≡ self.old.is_asked) }
         ensures kept { result ≢ Ok true → self.new.«value» ≡ self.old.«value» }
+        ensures missing { get self.old.«section».now (view settings.now) ≡ None → self.new ≡ self.old }
     {
         match settings.get(self.section) {
             Some(found) => {

@@ -183,8 +183,8 @@ fn say(said: &mut Said, act: Act<u32>) {
     }
 }
 
-/// A client's capabilities, what it replies and what it sends as settings, one after another: what is asked, whether each is taken, and
-/// what holds then, from 80.
+/// A client's capabilities, what it replies, what it sends as settings and as params of a change, one after another: what is asked, whether
+/// each is taken, and what holds then, from 80.
 pub fn configuration(said: &mut Said, text: &str) {
     let alloc = said.alloc;
     match value_in(alloc, text) {
@@ -215,7 +215,21 @@ fn configured(said: &mut Said, found: &Value, mut configuration: Configuration<u
     let taken = configuration.take_settings(alloc, &params);
     say_taken(said, taken, configuration.value);
     drop(params);
+    changed(said, found, &mut configuration);
     drop(configuration);
+}
+
+fn changed(said: &mut Said, found: &Value, configuration: &mut Configuration<u32>) {
+    let params = get(said, found, "changed", Value::Null);
+    said.push(", ");
+    match configuration.change(said.alloc, &params, 8) {
+        Ok(Some(act)) => say(said, act),
+        Ok(None) => said.push("nothing"),
+        Err(_) => said.is_short = true,
+    }
+    drop(params);
+    said.push(", ");
+    said.show(configuration.value);
 }
 
 fn say_taken(said: &mut Said, taken: Result<bool, AllocError>, value: u32) {
