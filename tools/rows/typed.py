@@ -192,6 +192,8 @@ CHOICES = {
     "SemanticTokensDeltaResult": ["SemanticTokensDelta", "SemanticTokens"],
     "WorkspaceSymbolLocation": ["Location", "TextDocumentIdentifier"],
 }
+# Types that come back to the side that made them, with what the standard does not name.
+KEPT = "CallHierarchyItem CodeAction CodeLens CompletionItem DocumentLink InlayHint WorkspaceSymbol".split()
 DOCUMENT = {"textDocument": "TextDocumentIdentifier"}
 PLACE = {**DOCUMENT, "position": "Position"}
 PART = {**DOCUMENT, "range": "Range"}
@@ -615,6 +617,13 @@ def rows():
             yield f"typed {name} {ordered(sample(way, 'a'))}"
         yield f"typed {name} {{}}"
     yield """typed SelectionRange {"ranges": [[1, 2], [0, 9]]}"""
+    yield "# What the standard does not name comes back, and that alone: a member that may be null does not."
+    for name in KEPT:
+        whole = sample(name, "")
+        needed = {it: whole[it] for it in TYPES[name] if not it.endswith("?")}
+        for more in [{"zz": None, "a": {"data": [1, None]}}, {"Data": 1, "data ": 2, "": 3}, {"data": None, "more": {"data": 1}}]:
+            yield f"typed {name} {ordered({**needed, **more})}"
+        yield f"typed {name} {ordered({**whole, 'tooltips': 'é'})}"
     yield """typed Note {"range":{"start":{"line":1,"character":2},"end":{"line":3,"character":4}},"text":"a"}"""
     yield """typed Note {"text":"a"}"""
     yield "# Acts by methods: params that fit, a line of 0, a key that is missing, one of another type, and a method of another kind."
@@ -650,7 +659,8 @@ def read_as(how, value):
             fits(name.endswith("?") or key in value and member is ANY)
             if member is ANY and not name.endswith("?"):
                 found[key] = None
-    return found
+    keys = {name.rstrip("?") for name in TYPES[how]}
+    return found | {key: it for key, it in value.items() if how in KEPT and key not in keys}
 
 
 def capabilities_answer(value):

@@ -62,7 +62,7 @@ taken vs i v within is =
     ap (map view) ((take_at_read vs i v within).1 ∙ ap (λ u. take i vs ++ u ∷ []) (sym is))
     ∙ map-append view (take i vs) (v ∷ [])
 
-abbrev Entry : Type 0
+abbrev pub Entry : Type 0
 Entry = String Global × Value
 
 -- a key is above those before it
@@ -70,6 +70,12 @@ below : (first : Entry) (done : List Entry) (e : Entry) (more : List Entry)
     → AllByRecursion (λ key. string_cmp first.0 key ≡ Less) (keys_of (done ++ e ∷ more)) → string_cmp first.0 e.0 ≡ Less
 below first [] e more all = all.0
 below first (next ∷ done) e more all = below first done e more all.1
+
+pub above : (first : Entry) (done : List Entry) (e : Entry) (more : List Entry)
+    → AllByRecursion (λ key. string_cmp first.0 key ≡ Less) (keys_of (done ++ e ∷ more))
+    → slice_cmp nat_cmp (string_bytes e.0) (string_bytes first.0) ≡ Greater
+above first done e more all = nat_list_cmp_total.antisymm (string_bytes e.0) (string_bytes first.0)
+    ∙ ap ordering_reverse (below first done e more all)
 
 -- one more member, whose key goes last
 pub member_more : {T : Type 0} (reads : Data → T → Type 0) (done : List Entry) (e : Entry) (more : List Entry)
@@ -82,12 +88,11 @@ member_more reads [] e more [] name x sorted same each one = (same, one, tt)
 member_more reads [] e more (y ∷ xs) name x sorted same each one = absurd each
 member_more reads (first ∷ done) e more [] name x sorted same each one = absurd each
 member_more reads (first ∷ done) e more (y ∷ xs) name x sorted same each one =
-    let above : slice_cmp nat_cmp (string_bytes name) (string_bytes y.0) ≡ Greater =
+    let higher : slice_cmp nat_cmp (string_bytes name) (string_bytes y.0) ≡ Greater =
     ap (λ key. slice_cmp nat_cmp key (string_bytes y.0)) same
     ∙ ap (λ key. slice_cmp nat_cmp (string_bytes e.0) key) each.0
-    ∙ nat_list_cmp_total.antisymm (string_bytes e.0) (string_bytes first.0)
-    ∙ ap ordering_reverse (below first done e more sorted.0) in
-    rw above (each.0, each.1, member_more reads done e more xs name x sorted.1 same each.2 one)
+    ∙ above first done e more sorted.0 in
+    rw higher (each.0, each.1, member_more reads done e more xs name x sorted.1 same each.2 one)
 
 -- the value of a member
 pub member_at : {T : Type 0} (reads : Data → T → Type 0) (done : List Entry) (e : Entry) (more : List Entry)

@@ -1,14 +1,17 @@
 -- What is read of JSON.
 use Rattle.std.specs.Prelude.{◌≡◌, ◌≢◌, ◌≤◌, ◌<◌, ◌^◌, ℕ, ℤ, List, [], ◌∷◌, ⊤, Option, Some, None, Result, Ok, Err}
-use Rattle.std.specs.Prelude.{◌⊎◌, true, is_some}
+use Rattle.std.specs.Prelude.{◌⊎◌, Bool, bytes_eq, if◌then◌else◌, option_map, true, is_some}
+use Rattle.std.specs.List.{list_any}
 use Rattle.std.specs.Prelude.{String, Vec, codes, string_bytes, option_and_then, unwrap_or, FitsSigned}
 use Rattle.std.specs.BTreeMap.{insert_entry}
 use Rattle.std.specs.Int.{w32}
 use Rattle.std.specs.String.{string_cmp}
 use Rattle.std.specs.declared.alloc.Global.{Global}
 use Rattle.serde_json.specs.Data.{Data, Num, unsigned, negative, float, null, boolean, number, string, array, object}
-use Rattle.serde_json.specs.Data.{Items, no_items, item, Members, no_members, member}
+use Rattle.serde_json.specs.Data.{Items, no_items, item, Members, no_members, member, put}
 use Rattle.serde_json.specs.Find.{get, as_array, as_object, as_str, as_number, as_u64, as_i64}
+use Rattle.serde_json.specs.View.{view}
+use Rattle.serde_json.specs.declared.value.Value.{Value}
 use Rattle.lsp_text.specs.Documents.{Change}
 use Rattle.lsp_text.specs.declared.position.Position.{Position}
 use Rattle.lsp_text.specs.declared.position.Range.{Range}
@@ -112,6 +115,28 @@ EachMember reads (member key json rest) (entry ∷ more) =
     (string_bytes entry.0 ≡ key) × reads json entry.1 × EachMember reads rest more
 EachMember reads no_members (entry ∷ more) = ⊥
 EachMember reads (member key json rest) [] = ⊥
+
+-- whether a key is one of these
+abbrev pub is_named : List (List ℕ) → List ℕ → Bool
+is_named keys key = list_any (λ named. bytes_eq named key) keys
+
+-- the members that have other keys than these, in their order
+abbrev pub others : List (List ℕ) → Members → Members
+others keys no_members = no_members
+others keys (member key json rest) = if is_named keys key then others keys rest else member key json (others keys rest)
+
+-- the members, with one more if its key is none of these
+abbrev pub with_other : List (List ℕ) → List ℕ → Data → Members → Members
+with_other keys key json members = if is_named keys key then members else put key json members
+
+-- the object with these members, if there is one
+abbrev pub object_if : Members → Option Data
+object_if no_members = None
+object_if (member key json rest) = Some (object (member key json rest))
+
+-- what an object has beside the members of these keys: an object, or none if there is nothing
+unfoldable pub Beside : List (List ℕ) → Data → Option Value → Type 0
+Beside keys json it = InSome (λ members. option_map view it ≡ object_if (others keys members)) (as_object json)
 
 -- a whole number of 32 bits, from 0
 abbrev pub IsWhole : Data → ℕ → Type 0

@@ -2,8 +2,9 @@
 // `tools/types` wrote this file from `types.txt`: change that.
 ghost use Rattle.std.specs.Prelude.{◌∷◌, [], Some, codes, option_map};
 ghost use Rattle.serde_json.specs.Data.{number, unsigned};
-ghost use Rattle.lsp_types.specs.Json.{object_of};
-ghost use Rattle.lsp_types.specs.Reads.{IfFits, IsObject, IsWithin, NoneReads, Optional, Required, ThoseThatFit, ◌and◌};
+ghost use Rattle.serde_json.specs.View.{view};
+ghost use Rattle.lsp_types.specs.Json.{object_of, object_with};
+ghost use Rattle.lsp_types.specs.Reads.{Beside, IfFits, IsObject, IsWithin, NoneReads, Optional, Required, ThoseThatFit, ◌and◌};
 
 use crate::diagnostics::Diagnostic;
 use crate::documents::TextDocumentIdentifier;
@@ -218,6 +219,9 @@ pub struct CodeAction {
     pub command: Option<Command>,
     /// What the client gives back in `codeAction/resolve`.
     pub data: Option<Value>,
+    /// What LSP 3.17 does not name, as a newer client or server says it: an object, whose members are written beside
+    /// these. On reading, none if there is nothing else. If a field above has the same name, the member here counts.
+    pub more: Option<Value>,
 }
 
 impl CodeAction {
@@ -234,6 +238,7 @@ impl CodeAction {
           edit = None;
           command = None;
           «data» = None;
+          more = None;
         } }
     {
         CodeAction {
@@ -245,12 +250,13 @@ impl CodeAction {
             edit: None,
             command: None,
             data: None,
+            more: None,
         }
     }
 }
 
 impl ToJson for CodeAction {
-    ghost stands = { λ it. object_of (
+    ghost stands = { λ it. object_with (
         (codes "title", Some (⟦<String as ToJson>⟧.stands it.title))
         ∷ (codes "kind", option_map ⟦<String as ToJson>⟧.stands it.kind)
         ∷ (codes "diagnostics", option_map ⟦<Vec<Diagnostic> as ToJson>⟧.stands it.diagnostics)
@@ -258,7 +264,7 @@ impl ToJson for CodeAction {
         ∷ (codes "disabled", option_map ⟦<CodeActionDisabled as ToJson>⟧.stands it.disabled)
         ∷ (codes "edit", option_map ⟦<WorkspaceEdit as ToJson>⟧.stands it.edit)
         ∷ (codes "command", option_map ⟦<Command as ToJson>⟧.stands it.command)
-        ∷ (codes "data", option_map ⟦<Value as ToJson>⟧.stands it.«data») ∷ []) };
+        ∷ (codes "data", option_map ⟦<Value as ToJson>⟧.stands it.«data») ∷ []) (option_map view it.more) };
 
     fn to_json(&self, alloc: Global) -> Result<Value, AllocError> {
         Object::new(alloc)
@@ -270,6 +276,7 @@ impl ToJson for CodeAction {
             .some("edit", &self.edit)
             .some("command", &self.command)
             .some("data", &self.data)
+            .rest(&self.more)
             .end()
     }
 }
@@ -283,7 +290,8 @@ impl FromJson for CodeAction {
         and Optional ⟦<CodeActionDisabled as FromJson>⟧.reads (codes "disabled") json it.disabled
         and Optional ⟦<WorkspaceEdit as FromJson>⟧.reads (codes "edit") json it.edit
         and Optional ⟦<Command as FromJson>⟧.reads (codes "command") json it.command
-        and Optional ⟦<Value as FromJson>⟧.reads (codes "data") json it.«data» };
+        and Optional ⟦<Value as FromJson>⟧.reads (codes "data") json it.«data»
+        and Beside (codes "title" ∷ codes "kind" ∷ codes "diagnostics" ∷ codes "isPreferred" ∷ codes "disabled" ∷ codes "edit" ∷ codes "command" ∷ codes "data" ∷ []) json it.more };
 
     fn from_json(alloc: Global, value: &Value) -> Result<CodeAction, Misfit> {
         match Members::new(alloc, value)
@@ -295,15 +303,28 @@ impl FromJson for CodeAction {
             .optional("edit")
             .optional("command")
             .optional("data")
+            .rest(&[
+                "title",
+                "kind",
+                "diagnostics",
+                "isPreferred",
+                "disabled",
+                "edit",
+                "command",
+                "data",
+            ])
             .end()
         {
             Ok(read) => {
                 let (
                     (
-                        (((((((), title), kind), diagnostics), is_preferred), disabled), edit),
-                        command,
+                        (
+                            (((((((), title), kind), diagnostics), is_preferred), disabled), edit),
+                            command,
+                        ),
+                        data,
                     ),
-                    data,
+                    more,
                 ) = read;
                 Ok(CodeAction {
                     title,
@@ -314,6 +335,7 @@ impl FromJson for CodeAction {
                     edit,
                     command,
                     data,
+                    more,
                 })
             }
             Err(misfit) => Err(misfit),

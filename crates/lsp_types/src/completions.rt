@@ -2,8 +2,9 @@
 // `tools/types` wrote this file from `types.txt`: change that.
 ghost use Rattle.std.specs.Prelude.{◌∷◌, [], Some, codes, option_map};
 ghost use Rattle.serde_json.specs.Data.{number, unsigned};
-ghost use Rattle.lsp_types.specs.Json.{object_of};
-ghost use Rattle.lsp_types.specs.Reads.{IfFits, IsObject, IsWithin, NoneReads, Optional, Required, ◌and◌};
+ghost use Rattle.serde_json.specs.View.{view};
+ghost use Rattle.lsp_types.specs.Json.{object_of, object_with};
+ghost use Rattle.lsp_types.specs.Reads.{Beside, IfFits, IsObject, IsWithin, NoneReads, Optional, Required, ◌and◌};
 
 use crate::documents::TextDocumentIdentifier;
 use crate::edits::TextEdit;
@@ -379,6 +380,9 @@ pub struct CompletionItem {
     pub command: Option<Command>,
     /// What the client gives back in `completionItem/resolve`.
     pub data: Option<Value>,
+    /// What LSP 3.17 does not name, as a newer client or server says it: an object, whose members are written beside
+    /// these. On reading, none if there is nothing else. If a field above has the same name, the member here counts.
+    pub more: Option<Value>,
 }
 
 impl CompletionItem {
@@ -406,6 +410,7 @@ impl CompletionItem {
           commit_characters = None;
           command = None;
           «data» = None;
+          more = None;
         } }
     {
         CompletionItem {
@@ -428,12 +433,13 @@ impl CompletionItem {
             commit_characters: None,
             command: None,
             data: None,
+            more: None,
         }
     }
 }
 
 impl ToJson for CompletionItem {
-    ghost stands = { λ it. object_of (
+    ghost stands = { λ it. object_with (
         (codes "label", Some (⟦<String as ToJson>⟧.stands it.label))
         ∷ (codes "labelDetails", option_map ⟦<CompletionItemLabelDetails as ToJson>⟧.stands it.label_details)
         ∷ (codes "kind", option_map ⟦<CompletionItemKind as ToJson>⟧.stands it.kind)
@@ -452,7 +458,7 @@ impl ToJson for CompletionItem {
         ∷ (codes "additionalTextEdits", option_map ⟦<Vec<TextEdit> as ToJson>⟧.stands it.additional_text_edits)
         ∷ (codes "commitCharacters", option_map ⟦<Vec<String> as ToJson>⟧.stands it.commit_characters)
         ∷ (codes "command", option_map ⟦<Command as ToJson>⟧.stands it.command)
-        ∷ (codes "data", option_map ⟦<Value as ToJson>⟧.stands it.«data») ∷ []) };
+        ∷ (codes "data", option_map ⟦<Value as ToJson>⟧.stands it.«data») ∷ []) (option_map view it.more) };
 
     fn to_json(&self, alloc: Global) -> Result<Value, AllocError> {
         Object::new(alloc)
@@ -475,6 +481,7 @@ impl ToJson for CompletionItem {
             .some("commitCharacters", &self.commit_characters)
             .some("command", &self.command)
             .some("data", &self.data)
+            .rest(&self.more)
             .end()
     }
 }
@@ -499,7 +506,8 @@ impl FromJson for CompletionItem {
         and Optional ⟦<Vec<TextEdit> as FromJson>⟧.reads (codes "additionalTextEdits") json it.additional_text_edits
         and Optional ⟦<Vec<String> as FromJson>⟧.reads (codes "commitCharacters") json it.commit_characters
         and Optional ⟦<Command as FromJson>⟧.reads (codes "command") json it.command
-        and Optional ⟦<Value as FromJson>⟧.reads (codes "data") json it.«data» };
+        and Optional ⟦<Value as FromJson>⟧.reads (codes "data") json it.«data»
+        and Beside (codes "label" ∷ codes "labelDetails" ∷ codes "kind" ∷ codes "tags" ∷ codes "detail" ∷ codes "documentation" ∷ codes "deprecated" ∷ codes "preselect" ∷ codes "sortText" ∷ codes "filterText" ∷ codes "insertText" ∷ codes "insertTextFormat" ∷ codes "insertTextMode" ∷ codes "textEdit" ∷ codes "textEditText" ∷ codes "additionalTextEdits" ∷ codes "commitCharacters" ∷ codes "command" ∷ codes "data" ∷ []) json it.more };
 
     fn from_json(alloc: Global, value: &Value) -> Result<CompletionItem, Misfit> {
         match Members::new(alloc, value)
@@ -522,6 +530,27 @@ impl FromJson for CompletionItem {
             .optional("commitCharacters")
             .optional("command")
             .optional("data")
+            .rest(&[
+                "label",
+                "labelDetails",
+                "kind",
+                "tags",
+                "detail",
+                "documentation",
+                "deprecated",
+                "preselect",
+                "sortText",
+                "filterText",
+                "insertText",
+                "insertTextFormat",
+                "insertTextMode",
+                "textEdit",
+                "textEditText",
+                "additionalTextEdits",
+                "commitCharacters",
+                "command",
+                "data",
+            ])
             .end()
         {
             Ok(read) => {
@@ -543,42 +572,48 @@ impl FromJson for CompletionItem {
                                                                             (
                                                                                 (
                                                                                     (
-                                                                                        ((), label),
-                                                                                        label_details,
+                                                                                        (
+                                                                                            (
+                                                                                                (),
+                                                                                                label,
+                                                                                            ),
+                                                                                            label_details,
+                                                                                        ),
+                                                                                        kind,
                                                                                     ),
-                                                                                    kind,
+                                                                                    tags,
                                                                                 ),
-                                                                                tags,
+                                                                                detail,
                                                                             ),
-                                                                            detail,
+                                                                            documentation,
                                                                         ),
-                                                                        documentation,
+                                                                        deprecated,
                                                                     ),
-                                                                    deprecated,
+                                                                    preselect,
                                                                 ),
-                                                                preselect,
+                                                                sort_text,
                                                             ),
-                                                            sort_text,
+                                                            filter_text,
                                                         ),
-                                                        filter_text,
+                                                        insert_text,
                                                     ),
-                                                    insert_text,
+                                                    insert_text_format,
                                                 ),
-                                                insert_text_format,
+                                                insert_text_mode,
                                             ),
-                                            insert_text_mode,
+                                            text_edit,
                                         ),
-                                        text_edit,
+                                        text_edit_text,
                                     ),
-                                    text_edit_text,
+                                    additional_text_edits,
                                 ),
-                                additional_text_edits,
+                                commit_characters,
                             ),
-                            commit_characters,
+                            command,
                         ),
-                        command,
+                        data,
                     ),
-                    data,
+                    more,
                 ) = read;
                 Ok(CompletionItem {
                     label,
@@ -600,6 +635,7 @@ impl FromJson for CompletionItem {
                     commit_characters,
                     command,
                     data,
+                    more,
                 })
             }
             Err(misfit) => Err(misfit),

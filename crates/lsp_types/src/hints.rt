@@ -2,8 +2,9 @@
 // `tools/types` wrote this file from `types.txt`: change that.
 ghost use Rattle.std.specs.Prelude.{◌∷◌, [], Some, codes, option_map};
 ghost use Rattle.serde_json.specs.Data.{number, unsigned};
-ghost use Rattle.lsp_types.specs.Json.{object_of};
-ghost use Rattle.lsp_types.specs.Reads.{IsObject, IsWithin, NoneReads, Optional, Required, ◌and◌};
+ghost use Rattle.serde_json.specs.View.{view};
+ghost use Rattle.lsp_types.specs.Json.{object_of, object_with};
+ghost use Rattle.lsp_types.specs.Reads.{Beside, IsObject, IsWithin, NoneReads, Optional, Required, ◌and◌};
 
 use crate::documents::Location;
 use crate::edits::TextEdit;
@@ -187,6 +188,9 @@ pub struct InlayHint {
     pub padding_right: Option<bool>,
     /// What the client gives back in `inlayHint/resolve`.
     pub data: Option<Value>,
+    /// What LSP 3.17 does not name, as a newer client or server says it: an object, whose members are written beside
+    /// these. On reading, none if there is nothing else. If a field above has the same name, the member here counts.
+    pub more: Option<Value>,
 }
 
 impl InlayHint {
@@ -204,6 +208,7 @@ impl InlayHint {
           padding_left = None;
           padding_right = None;
           «data» = None;
+          more = None;
         } }
     {
         InlayHint {
@@ -215,12 +220,13 @@ impl InlayHint {
             padding_left: None,
             padding_right: None,
             data: None,
+            more: None,
         }
     }
 }
 
 impl ToJson for InlayHint {
-    ghost stands = { λ it. object_of (
+    ghost stands = { λ it. object_with (
         (codes "position", Some (⟦<Position as ToJson>⟧.stands it.position))
         ∷ (codes "label", Some (⟦<InlayHintLabel as ToJson>⟧.stands it.label))
         ∷ (codes "kind", option_map ⟦<InlayHintKind as ToJson>⟧.stands it.kind)
@@ -228,7 +234,7 @@ impl ToJson for InlayHint {
         ∷ (codes "tooltip", option_map ⟦<Documentation as ToJson>⟧.stands it.tooltip)
         ∷ (codes "paddingLeft", option_map ⟦<bool as ToJson>⟧.stands it.padding_left)
         ∷ (codes "paddingRight", option_map ⟦<bool as ToJson>⟧.stands it.padding_right)
-        ∷ (codes "data", option_map ⟦<Value as ToJson>⟧.stands it.«data») ∷ []) };
+        ∷ (codes "data", option_map ⟦<Value as ToJson>⟧.stands it.«data») ∷ []) (option_map view it.more) };
 
     fn to_json(&self, alloc: Global) -> Result<Value, AllocError> {
         Object::new(alloc)
@@ -240,6 +246,7 @@ impl ToJson for InlayHint {
             .some("paddingLeft", &self.padding_left)
             .some("paddingRight", &self.padding_right)
             .some("data", &self.data)
+            .rest(&self.more)
             .end()
     }
 }
@@ -253,7 +260,8 @@ impl FromJson for InlayHint {
         and Optional ⟦<Documentation as FromJson>⟧.reads (codes "tooltip") json it.tooltip
         and Optional ⟦<bool as FromJson>⟧.reads (codes "paddingLeft") json it.padding_left
         and Optional ⟦<bool as FromJson>⟧.reads (codes "paddingRight") json it.padding_right
-        and Optional ⟦<Value as FromJson>⟧.reads (codes "data") json it.«data» };
+        and Optional ⟦<Value as FromJson>⟧.reads (codes "data") json it.«data»
+        and Beside (codes "position" ∷ codes "label" ∷ codes "kind" ∷ codes "textEdits" ∷ codes "tooltip" ∷ codes "paddingLeft" ∷ codes "paddingRight" ∷ codes "data" ∷ []) json it.more };
 
     fn from_json(alloc: Global, value: &Value) -> Result<InlayHint, Misfit> {
         match Members::new(alloc, value)
@@ -265,15 +273,31 @@ impl FromJson for InlayHint {
             .optional("paddingLeft")
             .optional("paddingRight")
             .optional("data")
+            .rest(&[
+                "position",
+                "label",
+                "kind",
+                "textEdits",
+                "tooltip",
+                "paddingLeft",
+                "paddingRight",
+                "data",
+            ])
             .end()
         {
             Ok(read) => {
                 let (
                     (
-                        (((((((), position), label), kind), text_edits), tooltip), padding_left),
-                        padding_right,
+                        (
+                            (
+                                ((((((), position), label), kind), text_edits), tooltip),
+                                padding_left,
+                            ),
+                            padding_right,
+                        ),
+                        data,
                     ),
-                    data,
+                    more,
                 ) = read;
                 Ok(InlayHint {
                     position,
@@ -284,6 +308,7 @@ impl FromJson for InlayHint {
                     padding_left,
                     padding_right,
                     data,
+                    more,
                 })
             }
             Err(misfit) => Err(misfit),

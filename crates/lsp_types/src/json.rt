@@ -4,6 +4,7 @@
 //! or a writer fails: what fails is kept until the object's end, so that nothing is let go half way.
 mod members;
 mod read_lists;
+mod read_rest;
 mod read_values;
 mod reading;
 mod values;

@@ -2,8 +2,8 @@
 //! sends is written (`ToJson`), both by the calls of `lsp_methods`. Nearly all types go both ways. Only written are
 //! `ServerCapabilities` with its options, `InitializeResult` and `ProgressParams`.
 //!
-//! On reading, members that a type lacks are passed over, and a member that may be missing may be null. It is an error if a
-//! required member is missing, if one has another type, or if a number or a name is none that the standard lists. Where the
+//! On reading, members that a type lacks are passed over, or go into its `more`, and a member that may be missing may be null. It is an
+//! error if a required member is missing, if one has another type, or if a number or a name is none that the standard lists. Where the
 //! standard has several forms, the type is an enum, of which the first case that fits is read. What a server offers is in the form that
 //! says most.
 //!

@@ -2,8 +2,9 @@
 // `tools/types` wrote this file from `types.txt`: change that.
 ghost use Rattle.std.specs.Prelude.{◌∷◌, [], Some, codes, option_map};
 ghost use Rattle.serde_json.specs.Data.{number, unsigned};
-ghost use Rattle.lsp_types.specs.Json.{object_of};
-ghost use Rattle.lsp_types.specs.Reads.{IfFits, IsObject, IsWithin, NoneReads, Optional, Required, ◌and◌};
+ghost use Rattle.serde_json.specs.View.{view};
+ghost use Rattle.lsp_types.specs.Json.{object_of, object_with};
+ghost use Rattle.lsp_types.specs.Reads.{Beside, IfFits, IsObject, IsWithin, NoneReads, Optional, Required, ◌and◌};
 
 use crate::documents::{Location, TextDocumentIdentifier};
 use crate::json::{FromJson, Members, Misfit, Object, ToJson, fitting, number_within};
@@ -435,6 +436,9 @@ pub struct WorkspaceSymbol {
     pub location: WorkspaceSymbolLocation,
     /// What the client gives back in `workspaceSymbol/resolve`.
     pub data: Option<Value>,
+    /// What LSP 3.17 does not name, as a newer client or server says it: an object, whose members are written beside
+    /// these. On reading, none if there is nothing else. If a field above has the same name, the member here counts.
+    pub more: Option<Value>,
 }
 
 impl WorkspaceSymbol {
@@ -451,6 +455,7 @@ impl WorkspaceSymbol {
           container_name = None;
           location = Place location;
           «data» = None;
+          more = None;
         } }
     {
         WorkspaceSymbol {
@@ -461,19 +466,20 @@ impl WorkspaceSymbol {
             container_name: None,
             location: WorkspaceSymbolLocation::Place(location),
             data: None,
+            more: None,
         }
     }
 }
 
 impl ToJson for WorkspaceSymbol {
-    ghost stands = { λ it. object_of (
+    ghost stands = { λ it. object_with (
         (codes "name", Some (⟦<String as ToJson>⟧.stands it.name))
         ∷ (codes "kind", Some (⟦<SymbolKind as ToJson>⟧.stands it.kind))
         ∷ (codes "tags", option_map ⟦<Vec<SymbolTag> as ToJson>⟧.stands it.tags)
         ∷ (codes "deprecated", option_map ⟦<bool as ToJson>⟧.stands it.deprecated)
         ∷ (codes "containerName", option_map ⟦<String as ToJson>⟧.stands it.container_name)
         ∷ (codes "location", Some (⟦<WorkspaceSymbolLocation as ToJson>⟧.stands it.location))
-        ∷ (codes "data", option_map ⟦<Value as ToJson>⟧.stands it.«data») ∷ []) };
+        ∷ (codes "data", option_map ⟦<Value as ToJson>⟧.stands it.«data») ∷ []) (option_map view it.more) };
 
     fn to_json(&self, alloc: Global) -> Result<Value, AllocError> {
         Object::new(alloc)
@@ -484,6 +490,7 @@ impl ToJson for WorkspaceSymbol {
             .some("containerName", &self.container_name)
             .member("location", &self.location)
             .some("data", &self.data)
+            .rest(&self.more)
             .end()
     }
 }
@@ -496,7 +503,8 @@ impl FromJson for WorkspaceSymbol {
         and Optional ⟦<bool as FromJson>⟧.reads (codes "deprecated") json it.deprecated
         and Optional ⟦<String as FromJson>⟧.reads (codes "containerName") json it.container_name
         and Required ⟦<WorkspaceSymbolLocation as FromJson>⟧.reads (codes "location") json it.location
-        and Optional ⟦<Value as FromJson>⟧.reads (codes "data") json it.«data» };
+        and Optional ⟦<Value as FromJson>⟧.reads (codes "data") json it.«data»
+        and Beside (codes "name" ∷ codes "kind" ∷ codes "tags" ∷ codes "deprecated" ∷ codes "containerName" ∷ codes "location" ∷ codes "data" ∷ []) json it.more };
 
     fn from_json(alloc: Global, value: &Value) -> Result<WorkspaceSymbol, Misfit> {
         match Members::new(alloc, value)
@@ -507,11 +515,22 @@ impl FromJson for WorkspaceSymbol {
             .optional("containerName")
             .required("location")
             .optional("data")
+            .rest(&[
+                "name",
+                "kind",
+                "tags",
+                "deprecated",
+                "containerName",
+                "location",
+                "data",
+            ])
             .end()
         {
             Ok(read) => {
-                let ((((((((), name), kind), tags), deprecated), container_name), location), data) =
-                    read;
+                let (
+                    ((((((((), name), kind), tags), deprecated), container_name), location), data),
+                    more,
+                ) = read;
                 Ok(WorkspaceSymbol {
                     name,
                     kind,
@@ -520,6 +539,7 @@ impl FromJson for WorkspaceSymbol {
                     container_name,
                     location,
                     data,
+                    more,
                 })
             }
             Err(misfit) => Err(misfit),

@@ -1,8 +1,9 @@
 //! Who calls whom, and which types stand above and below another.
 // `tools/types` wrote this file from `types.txt`: change that.
 ghost use Rattle.std.specs.Prelude.{◌∷◌, [], Some, codes, option_map};
-ghost use Rattle.lsp_types.specs.Json.{object_of};
-ghost use Rattle.lsp_types.specs.Reads.{IfFits, IsObject, Optional, Required, ◌and◌};
+ghost use Rattle.serde_json.specs.View.{view};
+ghost use Rattle.lsp_types.specs.Json.{object_of, object_with};
+ghost use Rattle.lsp_types.specs.Reads.{Beside, IfFits, IsObject, Optional, Required, ◌and◌};
 
 use lsp_text::Range;
 use lsp_types::json::{FromJson, Members, Misfit, Object, ToJson};
@@ -33,6 +34,9 @@ pub struct CallHierarchyItem {
     pub selection_range: Range,
     /// What the client gives back where it asks for calls.
     pub data: Option<Value>,
+    /// What LSP 3.17 does not name, as a newer client or server says it: an object, whose members are written beside
+    /// these. On reading, none if there is nothing else. If a field above has the same name, the member here counts.
+    pub more: Option<Value>,
 }
 
 impl CallHierarchyItem {
@@ -55,6 +59,7 @@ impl CallHierarchyItem {
           range = range;
           selection_range = selection_range;
           «data» = None;
+          more = None;
         } }
     {
         CallHierarchyItem {
@@ -66,12 +71,13 @@ impl CallHierarchyItem {
             range,
             selection_range,
             data: None,
+            more: None,
         }
     }
 }
 
 impl ToJson for CallHierarchyItem {
-    ghost stands = { λ it. object_of (
+    ghost stands = { λ it. object_with (
         (codes "name", Some (⟦<String as ToJson>⟧.stands it.name))
         ∷ (codes "kind", Some (⟦<SymbolKind as ToJson>⟧.stands it.kind))
         ∷ (codes "tags", option_map ⟦<Vec<SymbolTag> as ToJson>⟧.stands it.tags)
@@ -79,7 +85,7 @@ impl ToJson for CallHierarchyItem {
         ∷ (codes "uri", Some (⟦<String as ToJson>⟧.stands it.uri))
         ∷ (codes "range", Some (⟦<Range as ToJson>⟧.stands it.range))
         ∷ (codes "selectionRange", Some (⟦<Range as ToJson>⟧.stands it.selection_range))
-        ∷ (codes "data", option_map ⟦<Value as ToJson>⟧.stands it.«data») ∷ []) };
+        ∷ (codes "data", option_map ⟦<Value as ToJson>⟧.stands it.«data») ∷ []) (option_map view it.more) };
 
     fn to_json(&self, alloc: Global) -> Result<Value, AllocError> {
         Object::new(alloc)
@@ -91,6 +97,7 @@ impl ToJson for CallHierarchyItem {
             .member("range", &self.range)
             .member("selectionRange", &self.selection_range)
             .some("data", &self.data)
+            .rest(&self.more)
             .end()
     }
 }
@@ -104,7 +111,8 @@ impl FromJson for CallHierarchyItem {
         and Required ⟦<String as FromJson>⟧.reads (codes "uri") json it.uri
         and Required ⟦<Range as FromJson>⟧.reads (codes "range") json it.range
         and Required ⟦<Range as FromJson>⟧.reads (codes "selectionRange") json it.selection_range
-        and Optional ⟦<Value as FromJson>⟧.reads (codes "data") json it.«data» };
+        and Optional ⟦<Value as FromJson>⟧.reads (codes "data") json it.«data»
+        and Beside (codes "name" ∷ codes "kind" ∷ codes "tags" ∷ codes "detail" ∷ codes "uri" ∷ codes "range" ∷ codes "selectionRange" ∷ codes "data" ∷ []) json it.more };
 
     fn from_json(alloc: Global, value: &Value) -> Result<CallHierarchyItem, Misfit> {
         match Members::new(alloc, value)
@@ -116,12 +124,22 @@ impl FromJson for CallHierarchyItem {
             .required("range")
             .required("selectionRange")
             .optional("data")
+            .rest(&[
+                "name",
+                "kind",
+                "tags",
+                "detail",
+                "uri",
+                "range",
+                "selectionRange",
+                "data",
+            ])
             .end()
         {
             Ok(read) => {
                 let (
-                    ((((((((), name), kind), tags), detail), uri), range), selection_range),
-                    data,
+                    (((((((((), name), kind), tags), detail), uri), range), selection_range), data),
+                    more,
                 ) = read;
                 Ok(CallHierarchyItem {
                     name,
@@ -132,6 +150,7 @@ impl FromJson for CallHierarchyItem {
                     range,
                     selection_range,
                     data,
+                    more,
                 })
             }
             Err(misfit) => Err(misfit),

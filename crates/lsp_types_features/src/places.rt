@@ -2,8 +2,9 @@
 // `tools/types` wrote this file from `types.txt`: change that.
 ghost use Rattle.std.specs.Prelude.{◌∷◌, [], Some, codes, option_map};
 ghost use Rattle.serde_json.specs.Data.{number, unsigned};
-ghost use Rattle.lsp_types.specs.Json.{object_of};
-ghost use Rattle.lsp_types.specs.Reads.{IfFits, IsObject, IsWithin, Optional, Required, ◌and◌};
+ghost use Rattle.serde_json.specs.View.{view};
+ghost use Rattle.lsp_types.specs.Json.{object_of, object_with};
+ghost use Rattle.lsp_types.specs.Reads.{Beside, IfFits, IsObject, IsWithin, Optional, Required, ◌and◌};
 
 use lsp_text::{Position, Range};
 use lsp_types::json::{FromJson, Members, Misfit, Object, ToJson, number_within};
@@ -443,6 +444,9 @@ pub struct CodeLens {
     pub command: Option<Command>,
     /// What the client gives back in `codeLens/resolve`.
     pub data: Option<Value>,
+    /// What LSP 3.17 does not name, as a newer client or server says it: an object, whose members are written beside
+    /// these. On reading, none if there is nothing else. If a field above has the same name, the member here counts.
+    pub more: Option<Value>,
 }
 
 impl CodeLens {
@@ -454,27 +458,30 @@ impl CodeLens {
           range = range;
           command = None;
           «data» = None;
+          more = None;
         } }
     {
         CodeLens {
             range,
             command: None,
             data: None,
+            more: None,
         }
     }
 }
 
 impl ToJson for CodeLens {
-    ghost stands = { λ it. object_of (
+    ghost stands = { λ it. object_with (
         (codes "range", Some (⟦<Range as ToJson>⟧.stands it.range))
         ∷ (codes "command", option_map ⟦<Command as ToJson>⟧.stands it.command)
-        ∷ (codes "data", option_map ⟦<Value as ToJson>⟧.stands it.«data») ∷ []) };
+        ∷ (codes "data", option_map ⟦<Value as ToJson>⟧.stands it.«data») ∷ []) (option_map view it.more) };
 
     fn to_json(&self, alloc: Global) -> Result<Value, AllocError> {
         Object::new(alloc)
             .member("range", &self.range)
             .some("command", &self.command)
             .some("data", &self.data)
+            .rest(&self.more)
             .end()
     }
 }
@@ -483,21 +490,24 @@ impl FromJson for CodeLens {
     ghost reads = { λ json it. IsObject json
         and Required ⟦<Range as FromJson>⟧.reads (codes "range") json it.range
         and Optional ⟦<Command as FromJson>⟧.reads (codes "command") json it.command
-        and Optional ⟦<Value as FromJson>⟧.reads (codes "data") json it.«data» };
+        and Optional ⟦<Value as FromJson>⟧.reads (codes "data") json it.«data»
+        and Beside (codes "range" ∷ codes "command" ∷ codes "data" ∷ []) json it.more };
 
     fn from_json(alloc: Global, value: &Value) -> Result<CodeLens, Misfit> {
         match Members::new(alloc, value)
             .required("range")
             .optional("command")
             .optional("data")
+            .rest(&["range", "command", "data"])
             .end()
         {
             Ok(read) => {
-                let ((((), range), command), data) = read;
+                let (((((), range), command), data), more) = read;
                 Ok(CodeLens {
                     range,
                     command,
                     data,
+                    more,
                 })
             }
             Err(misfit) => Err(misfit),
@@ -521,6 +531,9 @@ pub struct DocumentLink {
     pub tooltip: Option<String>,
     /// What the client gives back in `documentLink/resolve`.
     pub data: Option<Value>,
+    /// What LSP 3.17 does not name, as a newer client or server says it: an object, whose members are written beside
+    /// these. On reading, none if there is nothing else. If a field above has the same name, the member here counts.
+    pub more: Option<Value>,
 }
 
 impl DocumentLink {
@@ -533,6 +546,7 @@ impl DocumentLink {
           target = None;
           tooltip = None;
           «data» = None;
+          more = None;
         } }
     {
         DocumentLink {
@@ -540,16 +554,17 @@ impl DocumentLink {
             target: None,
             tooltip: None,
             data: None,
+            more: None,
         }
     }
 }
 
 impl ToJson for DocumentLink {
-    ghost stands = { λ it. object_of (
+    ghost stands = { λ it. object_with (
         (codes "range", Some (⟦<Range as ToJson>⟧.stands it.range))
         ∷ (codes "target", option_map ⟦<String as ToJson>⟧.stands it.target)
         ∷ (codes "tooltip", option_map ⟦<String as ToJson>⟧.stands it.tooltip)
-        ∷ (codes "data", option_map ⟦<Value as ToJson>⟧.stands it.«data») ∷ []) };
+        ∷ (codes "data", option_map ⟦<Value as ToJson>⟧.stands it.«data») ∷ []) (option_map view it.more) };
 
     fn to_json(&self, alloc: Global) -> Result<Value, AllocError> {
         Object::new(alloc)
@@ -557,6 +572,7 @@ impl ToJson for DocumentLink {
             .some("target", &self.target)
             .some("tooltip", &self.tooltip)
             .some("data", &self.data)
+            .rest(&self.more)
             .end()
     }
 }
@@ -566,7 +582,8 @@ impl FromJson for DocumentLink {
         and Required ⟦<Range as FromJson>⟧.reads (codes "range") json it.range
         and Optional ⟦<String as FromJson>⟧.reads (codes "target") json it.target
         and Optional ⟦<String as FromJson>⟧.reads (codes "tooltip") json it.tooltip
-        and Optional ⟦<Value as FromJson>⟧.reads (codes "data") json it.«data» };
+        and Optional ⟦<Value as FromJson>⟧.reads (codes "data") json it.«data»
+        and Beside (codes "range" ∷ codes "target" ∷ codes "tooltip" ∷ codes "data" ∷ []) json it.more };
 
     fn from_json(alloc: Global, value: &Value) -> Result<DocumentLink, Misfit> {
         match Members::new(alloc, value)
@@ -574,15 +591,17 @@ impl FromJson for DocumentLink {
             .optional("target")
             .optional("tooltip")
             .optional("data")
+            .rest(&["range", "target", "tooltip", "data"])
             .end()
         {
             Ok(read) => {
-                let (((((), range), target), tooltip), data) = read;
+                let ((((((), range), target), tooltip), data), more) = read;
                 Ok(DocumentLink {
                     range,
                     target,
                     tooltip,
                     data,
+                    more,
                 })
             }
             Err(misfit) => Err(misfit),

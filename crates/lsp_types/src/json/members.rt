@@ -1,7 +1,8 @@
 // The members of an object, as they are read.
-ghost use Rattle.std.specs.Prelude.{◌≡◌};
+ghost use Rattle.std.specs.Prelude.{◌≡◌, map};
 ghost use Rattle.serde_json.specs.View.{view};
 ghost use Rattle.lsp_types.specs.Reads.{
+  Beside,
   Both,
   IfFits,
   IsObject,
@@ -15,6 +16,7 @@ ghost use Rattle.lsp_types.specs.Reads.{
 };
 
 use crate::json::read_lists::those_that_fit;
+use crate::json::read_rest::beside;
 use crate::json::read_values::text_or_empty;
 use crate::json::reading::{if_fits, named};
 use crate::json::{FromJson, Misfit, optional, required};
@@ -107,6 +109,20 @@ impl<'v, A: Drop> Members<'v, A> {
     {
         let Members { alloc, value, read } = self;
         let more = text_or_empty(alloc, value, key);
+        Members {
+            alloc,
+            value,
+            read: and(read, more),
+        }
+    }
+
+    /// And what there is beside the members of these keys, as an object. None if there is nothing.
+    pub fn rest(self, keys: &[&'static str]) -> Members<'v, (A, Option<Value>)>
+        ensures { ReadsMore (Beside (map (λ key. key.now) keys.now))
+            (view self.entry.value.now) self.entry.read (view result.value.now) result.read }
+    {
+        let Members { alloc, value, read } = self;
+        let more = beside(alloc, value, keys);
         Members {
             alloc,
             value,

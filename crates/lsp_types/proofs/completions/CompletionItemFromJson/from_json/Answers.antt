@@ -7,7 +7,7 @@ returns-in-Ok c = c.new.ensures then c.required.ensures then c.optional.ensures 
     c.optional-7.ensures then c.optional-8.ensures then c.optional-9.ensures then c.optional-10.ensures then
     c.optional-11.ensures then c.optional-12.ensures then c.optional-13.ensures then c.optional-14.ensures
     then c.optional-15.ensures then c.optional-16.ensures then c.optional-17.ensures then
-    c.optional-18.ensures ends c.in-Ok.ensures
+    c.optional-18.ensures then c.rest.ensures ends c.in-Ok.ensures
 
 pub returns-in-Err : goal.returns-in-Err
 returns-in-Err c fits it one = (c.new.ensures then c.required.ensures then c.optional.ensures then
@@ -15,4 +15,4 @@ returns-in-Err c fits it one = (c.new.ensures then c.required.ensures then c.opt
     c.optional-6.ensures then c.optional-7.ensures then c.optional-8.ensures then c.optional-9.ensures then
     c.optional-10.ensures then c.optional-11.ensures then c.optional-12.ensures then c.optional-13.ensures
     then c.optional-14.ensures then c.optional-15.ensures then c.optional-16.ensures then
-    c.optional-17.ensures then c.optional-18.ensures ends c.in-Err.ensures) fits _ one
+    c.optional-17.ensures then c.optional-18.ensures then c.rest.ensures ends c.in-Err.ensures) fits _ one

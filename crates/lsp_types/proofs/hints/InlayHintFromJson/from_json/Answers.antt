@@ -4,9 +4,9 @@ use Rattle.lsp_types.proofs.hints.InlayHintFromJson.from_json.Goals as goal
 pub returns-in-Ok : goal.returns-in-Ok
 returns-in-Ok c = c.new.ensures then c.required.ensures then c.required-2.ensures then c.optional.ensures then
     c.optional-2.ensures then c.optional-3.ensures then c.optional-4.ensures then c.optional-5.ensures then
-    c.optional-6.ensures ends c.in-Ok.ensures
+    c.optional-6.ensures then c.rest.ensures ends c.in-Ok.ensures
 
 pub returns-in-Err : goal.returns-in-Err
 returns-in-Err c fits it one = (c.new.ensures then c.required.ensures then c.required-2.ensures then
     c.optional.ensures then c.optional-2.ensures then c.optional-3.ensures then c.optional-4.ensures then
-    c.optional-5.ensures then c.optional-6.ensures ends c.in-Err.ensures) fits _ one
+    c.optional-5.ensures then c.optional-6.ensures then c.rest.ensures ends c.in-Err.ensures) fits _ one

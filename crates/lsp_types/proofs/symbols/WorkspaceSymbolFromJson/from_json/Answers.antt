@@ -3,10 +3,10 @@ use Rattle.lsp_types.proofs.symbols.WorkspaceSymbolFromJson.from_json.Goals as g
 
 pub returns-in-Ok : goal.returns-in-Ok
 returns-in-Ok c = c.new.ensures then c.required.ensures then c.required-2.ensures then c.optional.ensures then
-    c.optional-2.ensures then c.optional-3.ensures then c.required-3.ensures then c.optional-4.ensures ends
-    c.in-Ok.ensures
+    c.optional-2.ensures then c.optional-3.ensures then c.required-3.ensures then c.optional-4.ensures then
+    c.rest.ensures ends c.in-Ok.ensures
 
 pub returns-in-Err : goal.returns-in-Err
 returns-in-Err c fits it one = (c.new.ensures then c.required.ensures then c.required-2.ensures then
     c.optional.ensures then c.optional-2.ensures then c.optional-3.ensures then c.required-3.ensures then
-    c.optional-4.ensures ends c.in-Err.ensures) fits _ one
+    c.optional-4.ensures then c.rest.ensures ends c.in-Err.ensures) fits _ one

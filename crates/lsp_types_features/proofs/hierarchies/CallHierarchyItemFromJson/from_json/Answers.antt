@@ -4,9 +4,9 @@ use Rattle.lsp_types_features.proofs.hierarchies.CallHierarchyItemFromJson.from_
 pub returns-in-Ok : goal.returns-in-Ok
 returns-in-Ok c = c.new.ensures then c.required.ensures then c.required-2.ensures then c.optional.ensures then
     c.optional-2.ensures then c.required-3.ensures then c.required-4.ensures then c.required-5.ensures then
-    c.optional-3.ensures ends c.in-Ok.ensures
+    c.optional-3.ensures then c.rest.ensures ends c.in-Ok.ensures
 
 pub returns-in-Err : goal.returns-in-Err
 returns-in-Err c fits it one = (c.new.ensures then c.required.ensures then c.required-2.ensures then
     c.optional.ensures then c.optional-2.ensures then c.required-3.ensures then c.required-4.ensures then
-    c.required-5.ensures then c.optional-3.ensures ends c.in-Err.ensures) fits _ one
+    c.required-5.ensures then c.optional-3.ensures then c.rest.ensures ends c.in-Err.ensures) fits _ one

@@ -2,9 +2,9 @@ use Rattle.lsp_types.proofs.ReadLemmas.{◌ends◌, ◌then◌}
 use Rattle.lsp_types_features.proofs.places.CodeLensFromJson.from_json.Goals as goal
 
 pub returns-in-Ok : goal.returns-in-Ok
-returns-in-Ok c = c.new.ensures then c.required.ensures then c.optional.ensures then c.optional-2.ensures ends
-    c.in-Ok.ensures
+returns-in-Ok c = c.new.ensures then c.required.ensures then c.optional.ensures then c.optional-2.ensures then
+    c.rest.ensures ends c.in-Ok.ensures
 
 pub returns-in-Err : goal.returns-in-Err
 returns-in-Err c fits it one = (c.new.ensures then c.required.ensures then c.optional.ensures then
-    c.optional-2.ensures ends c.in-Err.ensures) fits _ one
+    c.optional-2.ensures then c.rest.ensures ends c.in-Err.ensures) fits _ one

@@ -3,8 +3,8 @@ use Rattle.lsp_types_features.proofs.places.DocumentLinkFromJson.from_json.Goals
 
 pub returns-in-Ok : goal.returns-in-Ok
 returns-in-Ok c = c.new.ensures then c.required.ensures then c.optional.ensures then c.optional-2.ensures then
-    c.optional-3.ensures ends c.in-Ok.ensures
+    c.optional-3.ensures then c.rest.ensures ends c.in-Ok.ensures
 
 pub returns-in-Err : goal.returns-in-Err
 returns-in-Err c fits it one = (c.new.ensures then c.required.ensures then c.optional.ensures then
-    c.optional-2.ensures then c.optional-3.ensures ends c.in-Err.ensures) fits _ one
+    c.optional-2.ensures then c.optional-3.ensures then c.rest.ensures ends c.in-Err.ensures) fits _ one
