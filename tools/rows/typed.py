@@ -164,6 +164,24 @@ children.fitting = lambda key: []
 children.is_kept = True
 
 
+def offer(value):
+    """Something that a server offers, by a boolean or by options, of which nothing is kept (LSP 3.17, "ServerCapabilities")."""
+    fits(isinstance(value, (bool, dict)))
+    return value is not False
+
+
+def options(how, inside=None):
+    """What a server offers by options. `true` has none set, and `false` offers nothing. If they may be a number, it is one of their members."""
+
+    def read(value):
+        if inside is not None:
+            return read_as(how, {inside: value} if is_number(value) else value)
+        return None if value is False else read_as(how, {} if value is True else value)
+
+    read.fitting = lambda key: sample(how, key)
+    return read
+
+
 def progress(value):
     """LSP 3.17, "Work Done Progress": what its `kind` says."""
     fits(isinstance(value, dict) and value.get("kind") in ("begin", "report", "end"))
@@ -193,7 +211,7 @@ CHOICES = {
     "WorkspaceSymbolLocation": ["Location", "TextDocumentIdentifier"],
 }
 # Types that come back to the side that made them, with what the standard does not name.
-KEPT = "CallHierarchyItem CodeAction CodeLens CompletionItem DocumentLink InlayHint WorkspaceSymbol".split()
+KEPT = "CallHierarchyItem CodeAction CodeLens CompletionItem DocumentLink InlayHint ServerCapabilities WorkspaceSymbol".split()
 DOCUMENT = {"textDocument": "TextDocumentIdentifier"}
 PLACE = {**DOCUMENT, "position": "Position"}
 PART = {**DOCUMENT, "range": "Range"}
@@ -204,6 +222,13 @@ MESSAGE = {"type": among(1, 4), "message": TEXT}
 FULL = {"kind": named("full"), "resultId?": TEXT, "items": some("Diagnostic")}
 UNCHANGED = {"kind": named("unchanged"), "resultId": TEXT}
 RELATED = {"relatedDocuments?": each(either("FullDocumentDiagnosticReport", "UnchangedDocumentDiagnosticReport"))}
+TOLD = {"workDoneProgress?": TRUTH}
+RESOLVE = {"resolveProvider?": TRUTH, **TOLD}
+# What a server offers by a boolean or by options that say nothing more to most servers.
+OFFERED = (
+    "callHierarchy color declaration definition documentFormatting documentHighlight documentRangeFormatting documentSymbol foldingRange hover "
+    "implementation inlayHint inlineValue linkedEditingRange moniker references selectionRange typeDefinition typeHierarchy workspaceSymbol"
+)
 # A name with `?` is of a member that may be missing or null.
 TYPES = {
     "Position": {"line": line, "character": UNSIGNED},
@@ -229,6 +254,57 @@ TYPES = {
     "ReferenceParams": {**PLACE, "context": "ReferenceContext", **PARTS},
     "WorkspaceFolder": {"uri": TEXT, "name?": if_fits(TEXT)},
     "ServerInfo": {"name": TEXT, "version?": TEXT},
+    "InitializeResult": {"capabilities": "ServerCapabilities", "serverInfo?": "ServerInfo"},
+    "ServerCapabilities": {
+        "positionEncoding?": TEXT,
+        "textDocumentSync?": options("TextDocumentSyncOptions", "change"),
+        "notebookDocumentSync?": ANY,
+        "completionProvider?": "CompletionOptions",
+        "signatureHelpProvider?": "SignatureHelpOptions",
+        "codeActionProvider?": options("CodeActionOptions"),
+        "codeLensProvider?": "ResolveOptions",
+        "documentLinkProvider?": "ResolveOptions",
+        "documentOnTypeFormattingProvider?": "DocumentOnTypeFormattingOptions",
+        "renameProvider?": options("RenameOptions"),
+        "executeCommandProvider?": "ExecuteCommandOptions",
+        "semanticTokensProvider?": "SemanticTokensOptions",
+        "diagnosticProvider?": "DiagnosticOptions",
+        "workspace?": "WorkspaceOptions",
+        "experimental?": ANY,
+        **{f"{name}Provider?": offer for name in OFFERED.split()},
+    },
+    "TextDocumentSyncOptions": {
+        "openClose?": TRUTH,
+        "change?": among(0, 2),
+        "willSave?": TRUTH,
+        "willSaveWaitUntil?": TRUTH,
+        "save?": options("SaveOptions"),
+    },
+    "SaveOptions": {"includeText?": TRUTH},
+    "CompletionOptions": {
+        "triggerCharacters?": some(TEXT),
+        "allCommitCharacters?": some(TEXT),
+        "completionItem?": "CompletionItemOptions",
+        **RESOLVE,
+    },
+    "CompletionItemOptions": {"labelDetailsSupport?": TRUTH},
+    "SignatureHelpOptions": {"triggerCharacters?": some(TEXT), "retriggerCharacters?": some(TEXT), **TOLD},
+    "CodeActionOptions": {"codeActionKinds?": some(TEXT), **RESOLVE},
+    "ResolveOptions": RESOLVE,
+    "DocumentOnTypeFormattingOptions": {"firstTriggerCharacter": TEXT, "moreTriggerCharacter?": some(TEXT)},
+    "RenameOptions": {"prepareProvider?": TRUTH, **TOLD},
+    "ExecuteCommandOptions": {"commands": some(TEXT), **TOLD},
+    "SemanticTokensOptions": {
+        "legend": "SemanticTokensLegend",
+        "range?": offer,
+        "full?": options("SemanticTokensFullOptions"),
+        **TOLD,
+    },
+    "SemanticTokensLegend": {"tokenTypes": some(TEXT), "tokenModifiers": some(TEXT)},
+    "SemanticTokensFullOptions": {"delta?": TRUTH},
+    "DiagnosticOptions": {"identifier?": TEXT, "interFileDependencies": TRUTH, "workspaceDiagnostics": TRUTH, **TOLD},
+    "WorkspaceOptions": {"workspaceFolders?": "WorkspaceFoldersServerCapabilities", "fileOperations?": ANY},
+    "WorkspaceFoldersServerCapabilities": {"supported?": TRUTH, "changeNotifications?": either(TRUTH, TEXT)},
     "InitializeParams": {
         "processId": nullable(if_fits(INTEGER)),
         "clientInfo?": if_fits("ServerInfo"),
@@ -439,6 +515,7 @@ TYPES = {
         "collapsedText?": TEXT,
     },
     "Note": {"range": "Range", "text": TEXT},
+    "SelectionRange": {"range": "Range", "parent?": "SelectionRange"},
     "SelectionRangeParams": {**DOCUMENT, "positions": some("Position"), **PARTS},
     "LinkedEditingRanges": {"ranges": some("Range"), "wordPattern?": TEXT},
     "Moniker": {"scheme": TEXT, "identifier": TEXT, "unique": TEXT, "kind?": TEXT},
@@ -534,10 +611,6 @@ TYPES = {
 
 def all_capabilities(characters, names):
     """The members of `ServerCapabilities` that have a field, as the program of rows fills them in."""
-    true = (
-        "callHierarchy color declaration documentFormatting documentHighlight documentRangeFormatting documentSymbol foldingRange hover "
-        "implementation inlayHint inlineValue linkedEditingRange moniker references selectionRange typeDefinition typeHierarchy workspaceSymbol"
-    )
     done = {"workDoneProgress": True}
     resolved = {"resolveProvider": True, **done}
     legend = {"tokenTypes": names, "tokenModifiers": characters}
@@ -558,8 +631,7 @@ def all_capabilities(characters, names):
         "diagnosticProvider": {"identifier": "}", "interFileDependencies": True, "workspaceDiagnostics": False, **done},
         "workspace": {"workspaceFolders": folders, "fileOperations": {"notebook": names}},
         "experimental": {"notebook": names},
-        "definitionProvider": False,
-        **{f"{it}Provider": True for it in true.split()},
+        **{f"{it}Provider": it != "definition" for it in OFFERED.split()},
     }
 
 
@@ -596,8 +668,16 @@ WHOLE = (
     "ColorPresentation InlineValueParams SemanticTokensDeltaParams DocumentDiagnosticParams WorkspaceDiagnosticParams "
     "WorkspaceDiagnosticReport DiagnosticServerCancellationData CreateFilesParams RenameFilesParams FileOperationOptions "
     "DidChangeWatchedFilesRegistrationOptions DidOpenNotebookDocumentParams DidChangeNotebookDocumentParams DidSaveNotebookDocumentParams "
-    "DidCloseNotebookDocumentParams"
+    "DidCloseNotebookDocumentParams InitializeResult"
 )
+
+
+SAMPLE = {"start": {"line": 1, "character": 2}, "end": {"line": 3, "character": 4}}
+
+
+def within(part, levels):
+    """A part of so many levels (LSP 3.17, "SelectionRange")."""
+    return {"range": part, "parent": within(part, levels - 1)} if levels > 1 else {"range": part}
 
 
 def rows():
@@ -616,14 +696,27 @@ def rows():
         for way in ways:
             yield f"typed {name} {ordered(sample(way, 'a'))}"
         yield f"typed {name} {{}}"
-    yield """typed SelectionRange {"ranges": [[1, 2], [0, 9]]}"""
+    for parent in [None, {"range": 5}, [], {"range": SAMPLE, "parent": {"range": SAMPLE, "parent": None}}]:
+        yield f"typed SelectionRange {ordered({'range': SAMPLE, 'parent': parent})}"
+    yield "typed SelectionRange {}"
+    yield f"typed SelectionRange {ordered(within(SAMPLE, 99))}"
     yield "# What the standard does not name comes back, and that alone: a member that may be null does not."
-    for name in KEPT:
+    for name in KEPT[:-2] + KEPT[-1:]:
         whole = sample(name, "")
         needed = {it: whole[it] for it in TYPES[name] if not it.endswith("?")}
         for more in [{"zz": None, "a": {"data": [1, None]}}, {"Data": 1, "data ": 2, "": 3}, {"data": None, "more": {"data": 1}}]:
             yield f"typed {name} {ordered({**needed, **more})}"
         yield f"typed {name} {ordered({**whole, 'tooltips': 'é'})}"
+    yield "# What a server can do, in each form."
+    server = [{}, {"zz": None, "inlineCompletionProvider": True}, {"textDocumentSync": 1}, {"textDocumentSync": 3}, {"textDocumentSync": True}]
+    server += [{"textDocumentSync": {"change": 0, "save": it}} for it in [True, False, {}, {"includeText": True}, 1]]
+    server += [{"hoverProvider": it, "renameProvider": it, "codeActionProvider": it} for it in [True, False, None, {}, {"workDoneProgress": True}]]
+    server += [{name: it} for name in ["hoverProvider", "renameProvider"] for it in [1, "true", []]]
+    legend = {"tokenTypes": ["a"], "tokenModifiers": []}
+    server += [{"semanticTokensProvider": {"legend": legend, "range": it, "full": it}} for it in [True, False, {}, {"delta": True}, 1]]
+    server += [{"workspace": {"workspaceFolders": {"changeNotifications": it}}} for it in [True, "a", 1]]
+    for can in server:
+        yield f"typed InitializeResult {ordered({'capabilities': can})}"
     yield """typed Note {"range":{"start":{"line":1,"character":2},"end":{"line":3,"character":4}},"text":"a"}"""
     yield """typed Note {"text":"a"}"""
     yield "# Acts by methods: params that fit, a line of 0, a key that is missing, one of another type, and a method of another kind."
@@ -671,19 +764,6 @@ def capabilities_answer(value):
     return {**encoding, **all_capabilities(value["characters"], value["names"]), **(more or {})}
 
 
-def result_answer(value):
-    """LSP 3.17, "Initialize Request", of a server that can do nothing."""
-    return {"capabilities": {}, "serverInfo": read_as("ServerInfo", value)}
-
-
-def selection_answer(value):
-    """LSP 3.17, "Selection Range Request", of parts of the first line, each in the one behind it."""
-    found = None
-    for start, end in reversed(value["ranges"]):
-        found = {"range": {"start": {"line": 0, "character": start}, "end": {"line": 0, "character": end}}} | ({"parent": found} if found else {})
-    return found
-
-
 def document_capabilities_answer(params):
     """LSP 3.17, "PositionEncodingKind" and "TextDocumentSyncOptions", of a server that hears of the parts that changed (2)."""
     include_text = params.get("includeText") is True
@@ -698,8 +778,6 @@ def document_capabilities_answers(params):
 
 OTHERS = {
     "ServerCapabilities": capabilities_answer,
-    "InitializeResult": result_answer,
-    "SelectionRange": selection_answer,
 }
 
 

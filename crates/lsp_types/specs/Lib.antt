@@ -1,6 +1,7 @@
 pub mod FileUris
 pub mod Folders
 pub mod Json
+pub mod Offers
 pub mod Reads
 pub mod Symbols
 pub mod Tokens

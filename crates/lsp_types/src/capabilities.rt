@@ -4,8 +4,10 @@ ghost use Rattle.std.specs.Prelude.{◌∷◌, [], Some, codes, option_map};
 ghost use Rattle.serde_json.specs.Data.{number, unsigned};
 ghost use Rattle.serde_json.specs.View.{view};
 ghost use Rattle.lsp_types.specs.Json.{object_of, object_with};
+ghost use Rattle.lsp_types.specs.Offers.{NumberOr, Offered, Options};
+ghost use Rattle.lsp_types.specs.Reads.{Beside, IsObject, IsWithin, NoneReads, Optional, Required, ◌and◌};
 
-use crate::json::{Object, ToJson};
+use crate::json::{FromJson, Members, Misfit, Object, ToJson, fitting, number_within};
 use serde_json::Value;
 use std::alloc::{AllocError, Global};
 
@@ -83,7 +85,8 @@ pub struct ServerCapabilities {
     /// What the standard lacks.
     pub experimental: Option<Value>,
     /// An object, whose members are written beside these, as `{"codeLensProvider": {}}`. Another value is passed over.
-    /// If a field above has the same name, the member here counts: a tree keeps the last of two.
+    /// If a field above has the same name, the member here counts: a tree keeps the last of two. On reading, what has
+    /// no field.
     pub more: Option<Value>,
 }
 
@@ -267,7 +270,276 @@ impl ToJson for ServerCapabilities {
     }
 }
 
-/// How a client tells of changes (LSP 3.17, "TextDocumentSyncKind").
+impl FromJson for ServerCapabilities {
+    ghost reads = { λ json it. IsObject json
+        and Optional ⟦<String as FromJson>⟧.reads (codes "positionEncoding") json it.position_encoding
+        and NumberOr ⟦<TextDocumentSyncOptions as FromJson>⟧.reads (codes "change") (codes "textDocumentSync") json it.text_document_sync
+        and Optional ⟦<Value as FromJson>⟧.reads (codes "notebookDocumentSync") json it.notebook_document_sync
+        and Optional ⟦<CompletionOptions as FromJson>⟧.reads (codes "completionProvider") json it.completion_provider
+        and Offered (codes "hoverProvider") json it.hover_provider
+        and Optional ⟦<SignatureHelpOptions as FromJson>⟧.reads (codes "signatureHelpProvider") json it.signature_help_provider
+        and Offered (codes "declarationProvider") json it.declaration_provider
+        and Offered (codes "definitionProvider") json it.definition_provider
+        and Offered (codes "typeDefinitionProvider") json it.type_definition_provider
+        and Offered (codes "implementationProvider") json it.implementation_provider
+        and Offered (codes "referencesProvider") json it.references_provider
+        and Offered (codes "documentHighlightProvider") json it.document_highlight_provider
+        and Offered (codes "documentSymbolProvider") json it.document_symbol_provider
+        and Options ⟦<CodeActionOptions as FromJson>⟧.reads (codes "codeActionProvider") json it.code_action_provider
+        and Optional ⟦<CodeLensOptions as FromJson>⟧.reads (codes "codeLensProvider") json it.code_lens_provider
+        and Optional ⟦<DocumentLinkOptions as FromJson>⟧.reads (codes "documentLinkProvider") json it.document_link_provider
+        and Offered (codes "colorProvider") json it.color_provider
+        and Offered (codes "documentFormattingProvider") json it.document_formatting_provider
+        and Offered (codes "documentRangeFormattingProvider") json it.document_range_formatting_provider
+        and Optional ⟦<DocumentOnTypeFormattingOptions as FromJson>⟧.reads (codes "documentOnTypeFormattingProvider") json it.document_on_type_formatting_provider
+        and Options ⟦<RenameOptions as FromJson>⟧.reads (codes "renameProvider") json it.rename_provider
+        and Offered (codes "foldingRangeProvider") json it.folding_range_provider
+        and Offered (codes "selectionRangeProvider") json it.selection_range_provider
+        and Optional ⟦<ExecuteCommandOptions as FromJson>⟧.reads (codes "executeCommandProvider") json it.execute_command_provider
+        and Offered (codes "callHierarchyProvider") json it.call_hierarchy_provider
+        and Offered (codes "linkedEditingRangeProvider") json it.linked_editing_range_provider
+        and Optional ⟦<SemanticTokensOptions as FromJson>⟧.reads (codes "semanticTokensProvider") json it.semantic_tokens_provider
+        and Offered (codes "monikerProvider") json it.moniker_provider
+        and Offered (codes "typeHierarchyProvider") json it.type_hierarchy_provider
+        and Offered (codes "inlineValueProvider") json it.inline_value_provider
+        and Offered (codes "inlayHintProvider") json it.inlay_hint_provider
+        and Optional ⟦<DiagnosticOptions as FromJson>⟧.reads (codes "diagnosticProvider") json it.diagnostic_provider
+        and Offered (codes "workspaceSymbolProvider") json it.workspace_symbol_provider
+        and Optional ⟦<WorkspaceOptions as FromJson>⟧.reads (codes "workspace") json it.workspace
+        and Optional ⟦<Value as FromJson>⟧.reads (codes "experimental") json it.experimental
+        and Beside (codes "positionEncoding" ∷ codes "textDocumentSync" ∷ codes "notebookDocumentSync" ∷ codes "completionProvider" ∷ codes "hoverProvider" ∷ codes "signatureHelpProvider" ∷ codes "declarationProvider" ∷ codes "definitionProvider" ∷ codes "typeDefinitionProvider" ∷ codes "implementationProvider" ∷ codes "referencesProvider" ∷ codes "documentHighlightProvider" ∷ codes "documentSymbolProvider" ∷ codes "codeActionProvider" ∷ codes "codeLensProvider" ∷ codes "documentLinkProvider" ∷ codes "colorProvider" ∷ codes "documentFormattingProvider" ∷ codes "documentRangeFormattingProvider" ∷ codes "documentOnTypeFormattingProvider" ∷ codes "renameProvider" ∷ codes "foldingRangeProvider" ∷ codes "selectionRangeProvider" ∷ codes "executeCommandProvider" ∷ codes "callHierarchyProvider" ∷ codes "linkedEditingRangeProvider" ∷ codes "semanticTokensProvider" ∷ codes "monikerProvider" ∷ codes "typeHierarchyProvider" ∷ codes "inlineValueProvider" ∷ codes "inlayHintProvider" ∷ codes "diagnosticProvider" ∷ codes "workspaceSymbolProvider" ∷ codes "workspace" ∷ codes "experimental" ∷ []) json it.more };
+
+    fn from_json(alloc: Global, value: &Value) -> Result<ServerCapabilities, Misfit> {
+        match Members::new(alloc, value)
+            .optional("positionEncoding")
+            .number_or("textDocumentSync", "change")
+            .optional("notebookDocumentSync")
+            .optional("completionProvider")
+            .offered("hoverProvider")
+            .optional("signatureHelpProvider")
+            .offered("declarationProvider")
+            .offered("definitionProvider")
+            .offered("typeDefinitionProvider")
+            .offered("implementationProvider")
+            .offered("referencesProvider")
+            .offered("documentHighlightProvider")
+            .offered("documentSymbolProvider")
+            .options("codeActionProvider")
+            .optional("codeLensProvider")
+            .optional("documentLinkProvider")
+            .offered("colorProvider")
+            .offered("documentFormattingProvider")
+            .offered("documentRangeFormattingProvider")
+            .optional("documentOnTypeFormattingProvider")
+            .options("renameProvider")
+            .offered("foldingRangeProvider")
+            .offered("selectionRangeProvider")
+            .optional("executeCommandProvider")
+            .offered("callHierarchyProvider")
+            .offered("linkedEditingRangeProvider")
+            .optional("semanticTokensProvider")
+            .offered("monikerProvider")
+            .offered("typeHierarchyProvider")
+            .offered("inlineValueProvider")
+            .offered("inlayHintProvider")
+            .optional("diagnosticProvider")
+            .offered("workspaceSymbolProvider")
+            .optional("workspace")
+            .optional("experimental")
+            .rest(&[
+                "positionEncoding",
+                "textDocumentSync",
+                "notebookDocumentSync",
+                "completionProvider",
+                "hoverProvider",
+                "signatureHelpProvider",
+                "declarationProvider",
+                "definitionProvider",
+                "typeDefinitionProvider",
+                "implementationProvider",
+                "referencesProvider",
+                "documentHighlightProvider",
+                "documentSymbolProvider",
+                "codeActionProvider",
+                "codeLensProvider",
+                "documentLinkProvider",
+                "colorProvider",
+                "documentFormattingProvider",
+                "documentRangeFormattingProvider",
+                "documentOnTypeFormattingProvider",
+                "renameProvider",
+                "foldingRangeProvider",
+                "selectionRangeProvider",
+                "executeCommandProvider",
+                "callHierarchyProvider",
+                "linkedEditingRangeProvider",
+                "semanticTokensProvider",
+                "monikerProvider",
+                "typeHierarchyProvider",
+                "inlineValueProvider",
+                "inlayHintProvider",
+                "diagnosticProvider",
+                "workspaceSymbolProvider",
+                "workspace",
+                "experimental",
+            ])
+            .end()
+        {
+            Ok(read) => {
+                let (
+                    (
+                        (
+                            (
+                                (
+                                    (
+                                        (
+                                            (
+                                                (
+                                                    (
+                                                        (
+                                                            (
+                                                                (
+                                                                    (
+                                                                        (
+                                                                            (
+                                                                                (
+                                                                                    (
+                                                                                        (
+                                                                                            (
+                                                                                                (
+                                                                                                    (
+                                                                                                        (
+                                                                                                            (
+                                                                                                                (
+                                                                                                                    (
+                                                                                                                        (
+                                                                                                                            (
+                                                                                                                                (
+                                                                                                                                    (
+                                                                                                                                        (
+                                                                                                                                            (
+                                                                                                                                                (
+                                                                                                                                                    (
+                                                                                                                                                        (
+                                                                                                                                                            (
+                                                                                                                                                                (),
+                                                                                                                                                                position_encoding,
+                                                                                                                                                            ),
+                                                                                                                                                            text_document_sync,
+                                                                                                                                                        ),
+                                                                                                                                                        notebook_document_sync,
+                                                                                                                                                    ),
+                                                                                                                                                    completion_provider,
+                                                                                                                                                ),
+                                                                                                                                                hover_provider,
+                                                                                                                                            ),
+                                                                                                                                            signature_help_provider,
+                                                                                                                                        ),
+                                                                                                                                        declaration_provider,
+                                                                                                                                    ),
+                                                                                                                                    definition_provider,
+                                                                                                                                ),
+                                                                                                                                type_definition_provider,
+                                                                                                                            ),
+                                                                                                                            implementation_provider,
+                                                                                                                        ),
+                                                                                                                        references_provider,
+                                                                                                                    ),
+                                                                                                                    document_highlight_provider,
+                                                                                                                ),
+                                                                                                                document_symbol_provider,
+                                                                                                            ),
+                                                                                                            code_action_provider,
+                                                                                                        ),
+                                                                                                        code_lens_provider,
+                                                                                                    ),
+                                                                                                    document_link_provider,
+                                                                                                ),
+                                                                                                color_provider,
+                                                                                            ),
+                                                                                            document_formatting_provider,
+                                                                                        ),
+                                                                                        document_range_formatting_provider,
+                                                                                    ),
+                                                                                    document_on_type_formatting_provider,
+                                                                                ),
+                                                                                rename_provider,
+                                                                            ),
+                                                                            folding_range_provider,
+                                                                        ),
+                                                                        selection_range_provider,
+                                                                    ),
+                                                                    execute_command_provider,
+                                                                ),
+                                                                call_hierarchy_provider,
+                                                            ),
+                                                            linked_editing_range_provider,
+                                                        ),
+                                                        semantic_tokens_provider,
+                                                    ),
+                                                    moniker_provider,
+                                                ),
+                                                type_hierarchy_provider,
+                                            ),
+                                            inline_value_provider,
+                                        ),
+                                        inlay_hint_provider,
+                                    ),
+                                    diagnostic_provider,
+                                ),
+                                workspace_symbol_provider,
+                            ),
+                            workspace,
+                        ),
+                        experimental,
+                    ),
+                    more,
+                ) = read;
+                Ok(ServerCapabilities {
+                    position_encoding,
+                    text_document_sync,
+                    notebook_document_sync,
+                    completion_provider,
+                    hover_provider,
+                    signature_help_provider,
+                    declaration_provider,
+                    definition_provider,
+                    type_definition_provider,
+                    implementation_provider,
+                    references_provider,
+                    document_highlight_provider,
+                    document_symbol_provider,
+                    code_action_provider,
+                    code_lens_provider,
+                    document_link_provider,
+                    color_provider,
+                    document_formatting_provider,
+                    document_range_formatting_provider,
+                    document_on_type_formatting_provider,
+                    rename_provider,
+                    folding_range_provider,
+                    selection_range_provider,
+                    execute_command_provider,
+                    call_hierarchy_provider,
+                    linked_editing_range_provider,
+                    semantic_tokens_provider,
+                    moniker_provider,
+                    type_hierarchy_provider,
+                    inline_value_provider,
+                    inlay_hint_provider,
+                    diagnostic_provider,
+                    workspace_symbol_provider,
+                    workspace,
+                    experimental,
+                    more,
+                })
+            }
+            Err(misfit) => Err(misfit),
+        }
+    }
+}
+
+/// How a client tells of changes (LSP 3.17, "TextDocumentSyncKind"). On reading, another number is refused.
 #[derive(Clone, Copy, Drop)]
 pub struct TextDocumentSyncKind(pub u32);
 
@@ -285,6 +557,17 @@ impl ToJson for TextDocumentSyncKind {
 
     fn to_json(&self, alloc: Global) -> Result<Value, AllocError> {
         self.0.to_json(alloc)
+    }
+}
+
+impl FromJson for TextDocumentSyncKind {
+    ghost reads = { λ json it. IsWithin 0 2 json it.0 };
+
+    fn from_json(alloc: Global, value: &Value) -> Result<TextDocumentSyncKind, Misfit> {
+        match number_within(alloc, value, 0, 2) {
+            Ok(number) => Ok(TextDocumentSyncKind(number)),
+            Err(misfit) => Err(misfit),
+        }
     }
 }
 
@@ -368,6 +651,38 @@ impl ToJson for TextDocumentSyncOptions {
     }
 }
 
+impl FromJson for TextDocumentSyncOptions {
+    ghost reads = { λ json it. IsObject json
+        and Optional ⟦<bool as FromJson>⟧.reads (codes "openClose") json it.open_close
+        and Optional ⟦<TextDocumentSyncKind as FromJson>⟧.reads (codes "change") json it.change
+        and Optional ⟦<bool as FromJson>⟧.reads (codes "willSave") json it.will_save
+        and Optional ⟦<bool as FromJson>⟧.reads (codes "willSaveWaitUntil") json it.will_save_wait_until
+        and Options ⟦<SaveOptions as FromJson>⟧.reads (codes "save") json it.save };
+
+    fn from_json(alloc: Global, value: &Value) -> Result<TextDocumentSyncOptions, Misfit> {
+        match Members::new(alloc, value)
+            .optional("openClose")
+            .optional("change")
+            .optional("willSave")
+            .optional("willSaveWaitUntil")
+            .options("save")
+            .end()
+        {
+            Ok(read) => {
+                let ((((((), open_close), change), will_save), will_save_wait_until), save) = read;
+                Ok(TextDocumentSyncOptions {
+                    open_close,
+                    change,
+                    will_save,
+                    will_save_wait_until,
+                    save,
+                })
+            }
+            Err(misfit) => Err(misfit),
+        }
+    }
+}
+
 /// What a client tells of saving (LSP 3.17, "SaveOptions").
 #[derive(Clone, Copy, Drop)]
 pub struct SaveOptions {
@@ -396,6 +711,21 @@ impl ToJson for SaveOptions {
         Object::new(alloc)
             .some("includeText", &self.include_text)
             .end()
+    }
+}
+
+impl FromJson for SaveOptions {
+    ghost reads = { λ json it. IsObject json
+        and Optional ⟦<bool as FromJson>⟧.reads (codes "includeText") json it.include_text };
+
+    fn from_json(alloc: Global, value: &Value) -> Result<SaveOptions, Misfit> {
+        match Members::new(alloc, value).optional("includeText").end() {
+            Ok(read) => {
+                let ((), include_text) = read;
+                Ok(SaveOptions { include_text })
+            }
+            Err(misfit) => Err(misfit),
+        }
     }
 }
 
@@ -456,6 +786,44 @@ impl ToJson for CompletionOptions {
     }
 }
 
+impl FromJson for CompletionOptions {
+    ghost reads = { λ json it. IsObject json
+        and Optional ⟦<Vec<String> as FromJson>⟧.reads (codes "triggerCharacters") json it.trigger_characters
+        and Optional ⟦<bool as FromJson>⟧.reads (codes "resolveProvider") json it.resolve_provider
+        and Optional ⟦<Vec<String> as FromJson>⟧.reads (codes "allCommitCharacters") json it.all_commit_characters
+        and Optional ⟦<CompletionItemOptions as FromJson>⟧.reads (codes "completionItem") json it.completion_item
+        and Optional ⟦<bool as FromJson>⟧.reads (codes "workDoneProgress") json it.work_done_progress };
+
+    fn from_json(alloc: Global, value: &Value) -> Result<CompletionOptions, Misfit> {
+        match Members::new(alloc, value)
+            .optional("triggerCharacters")
+            .optional("resolveProvider")
+            .optional("allCommitCharacters")
+            .optional("completionItem")
+            .optional("workDoneProgress")
+            .end()
+        {
+            Ok(read) => {
+                let (
+                    (
+                        ((((), trigger_characters), resolve_provider), all_commit_characters),
+                        completion_item,
+                    ),
+                    work_done_progress,
+                ) = read;
+                Ok(CompletionOptions {
+                    trigger_characters,
+                    resolve_provider,
+                    all_commit_characters,
+                    completion_item,
+                    work_done_progress,
+                })
+            }
+            Err(misfit) => Err(misfit),
+        }
+    }
+}
+
 /// What a server can do of an item (LSP 3.17, "Completion Request").
 #[derive(Clone, Copy, Drop)]
 pub struct CompletionItemOptions {
@@ -486,6 +854,26 @@ impl ToJson for CompletionItemOptions {
         Object::new(alloc)
             .some("labelDetailsSupport", &self.label_details_support)
             .end()
+    }
+}
+
+impl FromJson for CompletionItemOptions {
+    ghost reads = { λ json it. IsObject json
+        and Optional ⟦<bool as FromJson>⟧.reads (codes "labelDetailsSupport") json it.label_details_support };
+
+    fn from_json(alloc: Global, value: &Value) -> Result<CompletionItemOptions, Misfit> {
+        match Members::new(alloc, value)
+            .optional("labelDetailsSupport")
+            .end()
+        {
+            Ok(read) => {
+                let ((), label_details_support) = read;
+                Ok(CompletionItemOptions {
+                    label_details_support,
+                })
+            }
+            Err(misfit) => Err(misfit),
+        }
     }
 }
 
@@ -534,6 +922,32 @@ impl ToJson for SignatureHelpOptions {
     }
 }
 
+impl FromJson for SignatureHelpOptions {
+    ghost reads = { λ json it. IsObject json
+        and Optional ⟦<Vec<String> as FromJson>⟧.reads (codes "triggerCharacters") json it.trigger_characters
+        and Optional ⟦<Vec<String> as FromJson>⟧.reads (codes "retriggerCharacters") json it.retrigger_characters
+        and Optional ⟦<bool as FromJson>⟧.reads (codes "workDoneProgress") json it.work_done_progress };
+
+    fn from_json(alloc: Global, value: &Value) -> Result<SignatureHelpOptions, Misfit> {
+        match Members::new(alloc, value)
+            .optional("triggerCharacters")
+            .optional("retriggerCharacters")
+            .optional("workDoneProgress")
+            .end()
+        {
+            Ok(read) => {
+                let ((((), trigger_characters), retrigger_characters), work_done_progress) = read;
+                Ok(SignatureHelpOptions {
+                    trigger_characters,
+                    retrigger_characters,
+                    work_done_progress,
+                })
+            }
+            Err(misfit) => Err(misfit),
+        }
+    }
+}
+
 /// How code actions are offered (LSP 3.17, "Code Action Request").
 #[derive(Drop)]
 pub struct CodeActionOptions {
@@ -579,6 +993,32 @@ impl ToJson for CodeActionOptions {
     }
 }
 
+impl FromJson for CodeActionOptions {
+    ghost reads = { λ json it. IsObject json
+        and Optional ⟦<Vec<String> as FromJson>⟧.reads (codes "codeActionKinds") json it.code_action_kinds
+        and Optional ⟦<bool as FromJson>⟧.reads (codes "resolveProvider") json it.resolve_provider
+        and Optional ⟦<bool as FromJson>⟧.reads (codes "workDoneProgress") json it.work_done_progress };
+
+    fn from_json(alloc: Global, value: &Value) -> Result<CodeActionOptions, Misfit> {
+        match Members::new(alloc, value)
+            .optional("codeActionKinds")
+            .optional("resolveProvider")
+            .optional("workDoneProgress")
+            .end()
+        {
+            Ok(read) => {
+                let ((((), code_action_kinds), resolve_provider), work_done_progress) = read;
+                Ok(CodeActionOptions {
+                    code_action_kinds,
+                    resolve_provider,
+                    work_done_progress,
+                })
+            }
+            Err(misfit) => Err(misfit),
+        }
+    }
+}
+
 /// How code lenses are offered (LSP 3.17, "Code Lens Request").
 #[derive(Clone, Copy, Drop)]
 pub struct CodeLensOptions {
@@ -615,6 +1055,29 @@ impl ToJson for CodeLensOptions {
             .some("resolveProvider", &self.resolve_provider)
             .some("workDoneProgress", &self.work_done_progress)
             .end()
+    }
+}
+
+impl FromJson for CodeLensOptions {
+    ghost reads = { λ json it. IsObject json
+        and Optional ⟦<bool as FromJson>⟧.reads (codes "resolveProvider") json it.resolve_provider
+        and Optional ⟦<bool as FromJson>⟧.reads (codes "workDoneProgress") json it.work_done_progress };
+
+    fn from_json(alloc: Global, value: &Value) -> Result<CodeLensOptions, Misfit> {
+        match Members::new(alloc, value)
+            .optional("resolveProvider")
+            .optional("workDoneProgress")
+            .end()
+        {
+            Ok(read) => {
+                let (((), resolve_provider), work_done_progress) = read;
+                Ok(CodeLensOptions {
+                    resolve_provider,
+                    work_done_progress,
+                })
+            }
+            Err(misfit) => Err(misfit),
+        }
     }
 }
 
@@ -657,6 +1120,29 @@ impl ToJson for DocumentLinkOptions {
     }
 }
 
+impl FromJson for DocumentLinkOptions {
+    ghost reads = { λ json it. IsObject json
+        and Optional ⟦<bool as FromJson>⟧.reads (codes "resolveProvider") json it.resolve_provider
+        and Optional ⟦<bool as FromJson>⟧.reads (codes "workDoneProgress") json it.work_done_progress };
+
+    fn from_json(alloc: Global, value: &Value) -> Result<DocumentLinkOptions, Misfit> {
+        match Members::new(alloc, value)
+            .optional("resolveProvider")
+            .optional("workDoneProgress")
+            .end()
+        {
+            Ok(read) => {
+                let (((), resolve_provider), work_done_progress) = read;
+                Ok(DocumentLinkOptions {
+                    resolve_provider,
+                    work_done_progress,
+                })
+            }
+            Err(misfit) => Err(misfit),
+        }
+    }
+}
+
 /// How formatting while a user types is offered (LSP 3.17, "Document on Type Formatting Request").
 #[derive(Drop)]
 pub struct DocumentOnTypeFormattingOptions {
@@ -693,6 +1179,29 @@ impl ToJson for DocumentOnTypeFormattingOptions {
             .member("firstTriggerCharacter", &self.first_trigger_character)
             .some("moreTriggerCharacter", &self.more_trigger_character)
             .end()
+    }
+}
+
+impl FromJson for DocumentOnTypeFormattingOptions {
+    ghost reads = { λ json it. IsObject json
+        and Required ⟦<String as FromJson>⟧.reads (codes "firstTriggerCharacter") json it.first_trigger_character
+        and Optional ⟦<Vec<String> as FromJson>⟧.reads (codes "moreTriggerCharacter") json it.more_trigger_character };
+
+    fn from_json(alloc: Global, value: &Value) -> Result<DocumentOnTypeFormattingOptions, Misfit> {
+        match Members::new(alloc, value)
+            .required("firstTriggerCharacter")
+            .optional("moreTriggerCharacter")
+            .end()
+        {
+            Ok(read) => {
+                let (((), first_trigger_character), more_trigger_character) = read;
+                Ok(DocumentOnTypeFormattingOptions {
+                    first_trigger_character,
+                    more_trigger_character,
+                })
+            }
+            Err(misfit) => Err(misfit),
+        }
     }
 }
 
@@ -735,6 +1244,29 @@ impl ToJson for RenameOptions {
     }
 }
 
+impl FromJson for RenameOptions {
+    ghost reads = { λ json it. IsObject json
+        and Optional ⟦<bool as FromJson>⟧.reads (codes "prepareProvider") json it.prepare_provider
+        and Optional ⟦<bool as FromJson>⟧.reads (codes "workDoneProgress") json it.work_done_progress };
+
+    fn from_json(alloc: Global, value: &Value) -> Result<RenameOptions, Misfit> {
+        match Members::new(alloc, value)
+            .optional("prepareProvider")
+            .optional("workDoneProgress")
+            .end()
+        {
+            Ok(read) => {
+                let (((), prepare_provider), work_done_progress) = read;
+                Ok(RenameOptions {
+                    prepare_provider,
+                    work_done_progress,
+                })
+            }
+            Err(misfit) => Err(misfit),
+        }
+    }
+}
+
 /// Which commands there are (LSP 3.17, "Execute a command").
 #[derive(Drop)]
 pub struct ExecuteCommandOptions {
@@ -771,6 +1303,29 @@ impl ToJson for ExecuteCommandOptions {
             .member("commands", &self.commands)
             .some("workDoneProgress", &self.work_done_progress)
             .end()
+    }
+}
+
+impl FromJson for ExecuteCommandOptions {
+    ghost reads = { λ json it. IsObject json
+        and Required ⟦<Vec<String> as FromJson>⟧.reads (codes "commands") json it.commands
+        and Optional ⟦<bool as FromJson>⟧.reads (codes "workDoneProgress") json it.work_done_progress };
+
+    fn from_json(alloc: Global, value: &Value) -> Result<ExecuteCommandOptions, Misfit> {
+        match Members::new(alloc, value)
+            .required("commands")
+            .optional("workDoneProgress")
+            .end()
+        {
+            Ok(read) => {
+                let (((), commands), work_done_progress) = read;
+                Ok(ExecuteCommandOptions {
+                    commands,
+                    work_done_progress,
+                })
+            }
+            Err(misfit) => Err(misfit),
+        }
     }
 }
 
@@ -825,6 +1380,35 @@ impl ToJson for SemanticTokensOptions {
     }
 }
 
+impl FromJson for SemanticTokensOptions {
+    ghost reads = { λ json it. IsObject json
+        and Required ⟦<SemanticTokensLegend as FromJson>⟧.reads (codes "legend") json it.legend
+        and Offered (codes "range") json it.range
+        and Options ⟦<SemanticTokensFullOptions as FromJson>⟧.reads (codes "full") json it.full
+        and Optional ⟦<bool as FromJson>⟧.reads (codes "workDoneProgress") json it.work_done_progress };
+
+    fn from_json(alloc: Global, value: &Value) -> Result<SemanticTokensOptions, Misfit> {
+        match Members::new(alloc, value)
+            .required("legend")
+            .offered("range")
+            .options("full")
+            .optional("workDoneProgress")
+            .end()
+        {
+            Ok(read) => {
+                let (((((), legend), range), full), work_done_progress) = read;
+                Ok(SemanticTokensOptions {
+                    legend,
+                    range,
+                    full,
+                    work_done_progress,
+                })
+            }
+            Err(misfit) => Err(misfit),
+        }
+    }
+}
+
 /// How the semantic tokens of a whole document are offered (LSP 3.17, "SemanticTokensOptions").
 #[derive(Clone, Copy, Drop)]
 pub struct SemanticTokensFullOptions {
@@ -854,6 +1438,21 @@ impl ToJson for SemanticTokensFullOptions {
     }
 }
 
+impl FromJson for SemanticTokensFullOptions {
+    ghost reads = { λ json it. IsObject json
+        and Optional ⟦<bool as FromJson>⟧.reads (codes "delta") json it.delta };
+
+    fn from_json(alloc: Global, value: &Value) -> Result<SemanticTokensFullOptions, Misfit> {
+        match Members::new(alloc, value).optional("delta").end() {
+            Ok(read) => {
+                let ((), delta) = read;
+                Ok(SemanticTokensFullOptions { delta })
+            }
+            Err(misfit) => Err(misfit),
+        }
+    }
+}
+
 /// What the numbers of semantic tokens stand for (LSP 3.17, "SemanticTokensLegend").
 #[derive(Drop)]
 pub struct SemanticTokensLegend {
@@ -873,6 +1472,29 @@ impl ToJson for SemanticTokensLegend {
             .member("tokenTypes", &self.token_types)
             .member("tokenModifiers", &self.token_modifiers)
             .end()
+    }
+}
+
+impl FromJson for SemanticTokensLegend {
+    ghost reads = { λ json it. IsObject json
+        and Required ⟦<Vec<String> as FromJson>⟧.reads (codes "tokenTypes") json it.token_types
+        and Required ⟦<Vec<String> as FromJson>⟧.reads (codes "tokenModifiers") json it.token_modifiers };
+
+    fn from_json(alloc: Global, value: &Value) -> Result<SemanticTokensLegend, Misfit> {
+        match Members::new(alloc, value)
+            .required("tokenTypes")
+            .required("tokenModifiers")
+            .end()
+        {
+            Ok(read) => {
+                let (((), token_types), token_modifiers) = read;
+                Ok(SemanticTokensLegend {
+                    token_types,
+                    token_modifiers,
+                })
+            }
+            Err(misfit) => Err(misfit),
+        }
     }
 }
 
@@ -927,6 +1549,38 @@ impl ToJson for DiagnosticOptions {
     }
 }
 
+impl FromJson for DiagnosticOptions {
+    ghost reads = { λ json it. IsObject json
+        and Optional ⟦<String as FromJson>⟧.reads (codes "identifier") json it.identifier
+        and Required ⟦<bool as FromJson>⟧.reads (codes "interFileDependencies") json it.inter_file_dependencies
+        and Required ⟦<bool as FromJson>⟧.reads (codes "workspaceDiagnostics") json it.workspace_diagnostics
+        and Optional ⟦<bool as FromJson>⟧.reads (codes "workDoneProgress") json it.work_done_progress };
+
+    fn from_json(alloc: Global, value: &Value) -> Result<DiagnosticOptions, Misfit> {
+        match Members::new(alloc, value)
+            .optional("identifier")
+            .required("interFileDependencies")
+            .required("workspaceDiagnostics")
+            .optional("workDoneProgress")
+            .end()
+        {
+            Ok(read) => {
+                let (
+                    ((((), identifier), inter_file_dependencies), workspace_diagnostics),
+                    work_done_progress,
+                ) = read;
+                Ok(DiagnosticOptions {
+                    identifier,
+                    inter_file_dependencies,
+                    workspace_diagnostics,
+                    work_done_progress,
+                })
+            }
+            Err(misfit) => Err(misfit),
+        }
+    }
+}
+
 /// What a server can do with a workspace (LSP 3.17, "ServerCapabilities").
 #[derive(Drop)]
 pub struct WorkspaceOptions {
@@ -966,13 +1620,36 @@ impl ToJson for WorkspaceOptions {
     }
 }
 
+impl FromJson for WorkspaceOptions {
+    ghost reads = { λ json it. IsObject json
+        and Optional ⟦<WorkspaceFoldersServerCapabilities as FromJson>⟧.reads (codes "workspaceFolders") json it.workspace_folders
+        and Optional ⟦<Value as FromJson>⟧.reads (codes "fileOperations") json it.file_operations };
+
+    fn from_json(alloc: Global, value: &Value) -> Result<WorkspaceOptions, Misfit> {
+        match Members::new(alloc, value)
+            .optional("workspaceFolders")
+            .optional("fileOperations")
+            .end()
+        {
+            Ok(read) => {
+                let (((), workspace_folders), file_operations) = read;
+                Ok(WorkspaceOptions {
+                    workspace_folders,
+                    file_operations,
+                })
+            }
+            Err(misfit) => Err(misfit),
+        }
+    }
+}
+
 /// What a server can do with folders (LSP 3.17, "WorkspaceFoldersServerCapabilities").
 #[derive(Drop)]
 pub struct WorkspaceFoldersServerCapabilities {
     /// Whether it can have several.
     pub supported: Option<bool>,
     /// Whether it wants to hear of their changes.
-    pub change_notifications: Option<bool>,
+    pub change_notifications: Option<ChangeNotifications>,
 }
 
 impl Default for WorkspaceFoldersServerCapabilities {
@@ -995,12 +1672,83 @@ impl Default for WorkspaceFoldersServerCapabilities {
 impl ToJson for WorkspaceFoldersServerCapabilities {
     ghost stands = { λ it. object_of (
         (codes "supported", option_map ⟦<bool as ToJson>⟧.stands it.supported)
-        ∷ (codes "changeNotifications", option_map ⟦<bool as ToJson>⟧.stands it.change_notifications) ∷ []) };
+        ∷ (codes "changeNotifications", option_map ⟦<ChangeNotifications as ToJson>⟧.stands it.change_notifications) ∷ []) };
 
     fn to_json(&self, alloc: Global) -> Result<Value, AllocError> {
         Object::new(alloc)
             .some("supported", &self.supported)
             .some("changeNotifications", &self.change_notifications)
             .end()
+    }
+}
+
+impl FromJson for WorkspaceFoldersServerCapabilities {
+    ghost reads = { λ json it. IsObject json
+        and Optional ⟦<bool as FromJson>⟧.reads (codes "supported") json it.supported
+        and Optional ⟦<ChangeNotifications as FromJson>⟧.reads (codes "changeNotifications") json it.change_notifications };
+
+    fn from_json(
+        alloc: Global,
+        value: &Value,
+    ) -> Result<WorkspaceFoldersServerCapabilities, Misfit> {
+        match Members::new(alloc, value)
+            .optional("supported")
+            .optional("changeNotifications")
+            .end()
+        {
+            Ok(read) => {
+                let (((), supported), change_notifications) = read;
+                Ok(WorkspaceFoldersServerCapabilities {
+                    supported,
+                    change_notifications,
+                })
+            }
+            Err(misfit) => Err(misfit),
+        }
+    }
+}
+
+/// Whether a server wants to hear of changes of folders: a boolean, or a string (LSP 3.17,
+/// "WorkspaceFoldersServerCapabilities").
+#[derive(Drop)]
+pub enum ChangeNotifications {
+    /// Whether it does.
+    Wanted(bool),
+    /// It does, and takes this back by the id (`client/unregisterCapability`).
+    Id(String),
+}
+
+impl ToJson for ChangeNotifications {
+    ghost use Rattle.lsp_types.specs.declared.capabilities.ChangeNotifications.TheVariants.{Wanted, Id};
+
+    ghost stands = { elim [
+      | Wanted it ↦ ⟦<bool as ToJson>⟧.stands it
+      | Id it ↦ ⟦<String as ToJson>⟧.stands it
+    ] };
+
+    fn to_json(&self, alloc: Global) -> Result<Value, AllocError> {
+        match self {
+            ChangeNotifications::Wanted(it) => it.to_json(alloc),
+            ChangeNotifications::Id(it) => it.to_json(alloc),
+        }
+    }
+}
+
+impl FromJson for ChangeNotifications {
+    ghost use Rattle.lsp_types.specs.declared.capabilities.ChangeNotifications.TheVariants.{Wanted, Id};
+
+    ghost reads = { λ json. elim [
+      | Wanted it ↦ ⟦<bool as FromJson>⟧.reads json it
+      | Id it ↦ NoneReads ⟦<bool as FromJson>⟧.reads json × ⟦<String as FromJson>⟧.reads json it
+    ] };
+
+    fn from_json(alloc: Global, value: &Value) -> Result<ChangeNotifications, Misfit> {
+        if let Some(it) = fitting(alloc, value)? {
+            return Ok(ChangeNotifications::Wanted(it));
+        }
+        match FromJson::from_json(alloc, value) {
+            Ok(it) => Ok(ChangeNotifications::Id(it)),
+            Err(misfit) => Err(misfit),
+        }
     }
 }

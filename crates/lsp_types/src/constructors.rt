@@ -30,7 +30,7 @@ impl Hover {
 }
 
 impl InitializeResult {
-    ghost use Rattle.std.specs.Prelude.{◌≡◌, None, IfOk, string_bytes};
+    ghost use Rattle.std.specs.Prelude.{◌≡◌, None, Some, IfOk, option_map, string_bytes};
 
     /// What the server can do, and its name. `Err` means that an allocation failed.
     pub fn new(
@@ -39,16 +39,17 @@ impl InitializeResult {
         name: &str,
     ) -> Result<InitializeResult, AllocError>
         ensures capabilities { IfOk result (λ r. r.«capabilities» ≡ «capabilities») }
-        ensures name { IfOk result (λ r. string_bytes r.server_info.«name» ≡ «name».now) }
-        ensures version { IfOk result (λ r. r.server_info.version ≡ None) }
+        ensures name { IfOk result (λ r.
+            option_map (λ info. string_bytes info.«name») r.server_info ≡ Some «name».now) }
+        ensures version { IfOk result (λ r. option_map (λ info. info.version) r.server_info ≡ Some None) }
     {
         match String::from_str(alloc, name) {
             Ok(name) => Ok(InitializeResult {
                 capabilities,
-                server_info: ServerInfo {
+                server_info: Some(ServerInfo {
                     name,
                     version: None,
-                },
+                }),
             }),
             Err(failed) => {
                 drop(capabilities);

@@ -3,6 +3,7 @@
 //! What a type is read as is its `reads`, and what it is written as its `stands`: each has a line for each member. No step of a reader
 //! or a writer fails: what fails is kept until the object's end, so that nothing is let go half way.
 mod members;
+mod offers;
 mod read_lists;
 mod read_rest;
 mod read_values;

@@ -1,11 +1,10 @@
 //! Types of LSP 3.17 that most servers use, under the standard's names. What a client sends is read (`FromJson`), and what a server
-//! sends is written (`ToJson`), both by the calls of `lsp_methods`. Nearly all types go both ways. Only written are
-//! `ServerCapabilities` with its options, `InitializeResult` and `ProgressParams`.
+//! sends is written (`ToJson`), both by the calls of `lsp_methods`. All types go both ways.
 //!
 //! On reading, members that a type lacks are passed over, or go into its `more`, and a member that may be missing may be null. It is an
 //! error if a required member is missing, if one has another type, or if a number or a name is none that the standard lists. Where the
-//! standard has several forms, the type is an enum, of which the first case that fits is read. What a server offers is in the form that
-//! says most.
+//! standard has several forms, the type is an enum, of which the first case that fits is read. What a server offers is read in each
+//! form, and written in the one that says most.
 //!
 //! `Position`, `Range` and `TextDocumentContentChangeEvent` are types of `lsp_text`, so `Text::offset_at` takes a position that was
 //! read, and `TextDocuments::change` of `lsp_documents` the changes.
@@ -47,6 +46,7 @@ pub use actions::CodeActionDisabled;
 pub use actions::CodeActionOrCommand;
 pub use actions::CodeActionParams;
 pub use actions::CodeActionTriggerKind;
+pub use capabilities::ChangeNotifications;
 pub use capabilities::CodeActionOptions;
 pub use capabilities::CodeLensOptions;
 pub use capabilities::CompletionItemOptions;

@@ -199,19 +199,42 @@ pub struct InitializeResult {
     /// What the server can do.
     pub capabilities: ServerCapabilities,
     /// Who it is.
-    pub server_info: ServerInfo,
+    pub server_info: Option<ServerInfo>,
 }
 
 impl ToJson for InitializeResult {
     ghost stands = { λ it. object_of (
         (codes "capabilities", Some (⟦<ServerCapabilities as ToJson>⟧.stands it.capabilities))
-        ∷ (codes "serverInfo", Some (⟦<ServerInfo as ToJson>⟧.stands it.server_info)) ∷ []) };
+        ∷ (codes "serverInfo", option_map ⟦<ServerInfo as ToJson>⟧.stands it.server_info) ∷ []) };
 
     fn to_json(&self, alloc: Global) -> Result<Value, AllocError> {
         Object::new(alloc)
             .member("capabilities", &self.capabilities)
-            .member("serverInfo", &self.server_info)
+            .some("serverInfo", &self.server_info)
             .end()
+    }
+}
+
+impl FromJson for InitializeResult {
+    ghost reads = { λ json it. IsObject json
+        and Required ⟦<ServerCapabilities as FromJson>⟧.reads (codes "capabilities") json it.capabilities
+        and Optional ⟦<ServerInfo as FromJson>⟧.reads (codes "serverInfo") json it.server_info };
+
+    fn from_json(alloc: Global, value: &Value) -> Result<InitializeResult, Misfit> {
+        match Members::new(alloc, value)
+            .required("capabilities")
+            .optional("serverInfo")
+            .end()
+        {
+            Ok(read) => {
+                let (((), capabilities), server_info) = read;
+                Ok(InitializeResult {
+                    capabilities,
+                    server_info,
+                })
+            }
+            Err(misfit) => Err(misfit),
+        }
     }
 }
 

@@ -104,6 +104,26 @@ impl<T: ToJson> ToJson for ProgressParams<T> {
     }
 }
 
+impl<T: FromJson> FromJson for ProgressParams<T> {
+    ghost reads = { λ json it. IsObject json
+        and Required ⟦<ProgressToken as FromJson>⟧.reads (codes "token") json it.token
+        and Required T.reads (codes "value") json it.value };
+
+    fn from_json(alloc: Global, value: &Value) -> Result<ProgressParams<T>, Misfit> {
+        match Members::new(alloc, value)
+            .required("token")
+            .required("value")
+            .end()
+        {
+            Ok(read) => {
+                let (((), token), value) = read;
+                Ok(ProgressParams { token, value })
+            }
+            Err(misfit) => Err(misfit),
+        }
+    }
+}
+
 /// The start of work (LSP 3.17, "Work Done Progress Begin").
 #[derive(Drop)]
 pub struct WorkDoneProgressBegin {

@@ -1,1 +1,2 @@
+mod SelectionLemmas
 mod Selections

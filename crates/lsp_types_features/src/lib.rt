@@ -1,6 +1,6 @@
 //! Types of LSP 3.17 for the language features that fewer servers have: highlights, folds, selections, monikers, lenses, links, hierarchies of
 //! calls and types, colors, inline values, changes of semantic tokens, and diagnostics that a client asks for. As in `lsp_types`, each is safe
-//! and each call returns, and what it is written as is proved; that the keys are the standard's is tested.
+//! and each call returns, and what it is read and written as is proved; that the keys are the standard's is tested.
 #![tactic(auto)]
 
 mod colors;

@@ -1,11 +1,13 @@
-// How parts are written that stand in others.
-ghost use Rattle.std.specs.Prelude.{◌≡◌, IfOk};
+// How parts are read and written that stand in others.
+ghost use Rattle.std.specs.Prelude.{◌≡◌, IfOk, codes, option_map};
+ghost use Rattle.serde_json.specs.Find.{get};
 ghost use Rattle.serde_json.specs.View.{view};
+ghost use Rattle.lsp_types.specs.Reads.{ReadsAs, but_null};
+ghost use Rattle.lsp_types_features.specs.Selections.{IsSelectionWithin};
 ghost use Rattle.lsp_types_features.specs.Written.{selection_range};
 
 use crate::places::SelectionRange;
-use lsp_types::ToJson;
-use lsp_types::json::Object;
+use lsp_types::json::{FromJson, Misfit, Object, ToJson, required};
 use serde_json::Value;
 use std::alloc::{AllocError, Global};
 
@@ -33,5 +35,57 @@ fn selection_to_json(alloc: Global, selection: &SelectionRange) -> Result<Value,
             .member("range", &selection.range)
             .value("parent", None)
             .end(),
+    }
+}
+
+impl FromJson for SelectionRange {
+    ghost reads = { IsSelectionWithin 128 };
+
+    fn from_json(alloc: Global, value: &Value) -> Result<SelectionRange, Misfit> {
+        selection_within(alloc, value, 128)
+    }
+}
+
+/// A part that stands in others, up to so many levels.
+#[tactic(auto, using(crate::proofs::SelectionLemmas::none_within, crate::proofs::SelectionLemmas::made, crate::proofs::SelectionLemmas::unfit_range, crate::proofs::SelectionLemmas::unfit_around))]
+fn selection_within(alloc: Global, value: &Value, levels: u32) -> Result<SelectionRange, Misfit>
+    ensures { ReadsAs (IsSelectionWithin levels (view value.now)) result }
+{
+    if levels == 0 {
+        return Err(Misfit::Wanted("parts that nest less deep"));
+    }
+    let range = match required(alloc, value, "range") {
+        Ok(range) => range,
+        Err(misfit) => return Err(misfit),
+    };
+    let Some(around) = around(value) else {
+        return Ok(SelectionRange {
+            range,
+            parent: None,
+        });
+    };
+    match selection_within(alloc, around, levels - 1) {
+        Ok(parent) => match Box::new(alloc, parent) {
+            Ok(parent) => Ok(SelectionRange {
+                range,
+                parent: Some(parent),
+            }),
+            Err(failed) => {
+                drop(failed);
+                Err(Misfit::Memory)
+            }
+        },
+        Err(misfit) => Err(misfit),
+    }
+}
+
+/// The part around one, if it has a member for it that is not null.
+fn around(value: &Value) -> Option<&Value>
+    ensures { option_map (λ parent. view parent.now) result
+        ≡ but_null (get (codes "parent") (view value.now)) }
+{
+    match value.get("parent") {
+        None | Some(Value::Null) => None,
+        Some(parent) => Some(parent),
     }
 }

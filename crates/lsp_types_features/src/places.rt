@@ -273,7 +273,8 @@ impl FromJson for SelectionRangeParams {
     }
 }
 
-/// A part that a user may select, and what stands around it (LSP 3.17, "SelectionRange").
+/// A part that a user may select, and what stands around it (LSP 3.17, "SelectionRange"). Read, they nest at most 128
+/// levels, and a message of JSON has room for no more.
 #[derive(Drop)]
 pub struct SelectionRange {
     /// The part.

@@ -2,8 +2,7 @@
 use crate::forms::of_edit;
 use crate::own::Note;
 use crate::said::Said;
-use crate::types::{back, get, say_json};
-use lsp_types::{Position, Range};
+use crate::types::back;
 use lsp_types_features::{
     CallHierarchyIncomingCall, CallHierarchyIncomingCallsParams, CallHierarchyItem,
     CallHierarchyOutgoingCall, CodeLens, ColorInformation, ColorPresentation,
@@ -17,12 +16,12 @@ use lsp_types_workspace::{
     DidCloseNotebookDocumentParams, DidOpenNotebookDocumentParams, DidSaveNotebookDocumentParams,
     FileOperationOptions, RenameFilesParams,
 };
-use serde_json::Value;
 
 pub fn of_feature(said: &mut Said, name: &str, text: &str) {
     match name {
         "DocumentHighlight" => back::<DocumentHighlight>(said, text),
         "FoldingRange" => back::<FoldingRange>(said, text),
+        "SelectionRange" => back::<SelectionRange>(said, text),
         "SelectionRangeParams" => back::<SelectionRangeParams>(said, text),
         "LinkedEditingRanges" => back::<LinkedEditingRanges>(said, text),
         "Moniker" => back::<Moniker>(said, text),
@@ -71,38 +70,5 @@ fn of_file(said: &mut Said, name: &str, text: &str) {
         "DidCloseNotebookDocumentParams" => back::<DidCloseNotebookDocumentParams>(said, text),
         "Note" => back::<Note>(said, text),
         _ => of_edit(said, name, text),
-    }
-}
-
-/// Parts of the first line, each within the next.
-pub fn selection(said: &mut Said, found: &Value) {
-    let ranges: Vec<Vec<u32>> = get(said, found, "ranges", Vec::new(said.alloc));
-    let mut around = None;
-    for ends in ranges.as_slice().iter().rev() {
-        if let [start, end] = ends.as_slice() {
-            let range = Range::new(Position::new(0, *start), Position::new(0, *end));
-            around = boxed(
-                said,
-                SelectionRange {
-                    range,
-                    parent: around,
-                },
-            );
-        }
-    }
-    if let Some(selection) = &around {
-        say_json(said, &**selection);
-    }
-    drop(around);
-    drop(ranges);
-}
-
-fn boxed(said: &mut Said, selection: SelectionRange) -> Option<Box<SelectionRange>> {
-    match Box::new(said.alloc, selection) {
-        Ok(kept) => Some(kept),
-        Err(_) => {
-            said.is_short = true;
-            None
-        }
     }
 }

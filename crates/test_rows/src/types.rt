@@ -5,8 +5,8 @@ use crate::said::Said;
 use lsp_documents::Agreed;
 use lsp_types::json::Misfit;
 use lsp_types::{
-    ApplyWorkspaceEditParams, ApplyWorkspaceEditResult, CancelParams, CodeAction,
-    CodeActionOptions, CodeActionParams, CodeLensOptions, Command, CompletionItem,
+    ApplyWorkspaceEditParams, ApplyWorkspaceEditResult, CancelParams, ChangeNotifications,
+    CodeAction, CodeActionOptions, CodeActionParams, CodeLensOptions, Command, CompletionItem,
     CompletionItemOptions, CompletionList, CompletionOptions, CompletionParams,
     ConfigurationParams, DefinitionParams, DiagnosticOptions, DidChangeConfigurationParams,
     DidChangeTextDocumentParams, DidChangeWatchedFilesParams, DidChangeWorkspaceFoldersParams,
@@ -15,16 +15,16 @@ use lsp_types::{
     DocumentOnTypeFormattingParams, DocumentRangeFormattingParams, ExecuteCommandOptions,
     ExecuteCommandParams, FromJson, Hover, HoverParams, InitializeParams, InitializeResult,
     InlayHint, InlayHintParams, Location, LocationLink, LogTraceParams, MessageActionItem,
-    NumberOrString, Position, ProgressParams, PublishDiagnosticsParams, Range, ReferenceParams,
-    RegistrationParams, RenameOptions, RenameParams, SaveOptions, SemanticTokens,
-    SemanticTokensFullOptions, SemanticTokensLegend, SemanticTokensOptions, ServerCapabilities,
-    ServerInfo, SetTraceParams, ShowDocumentParams, ShowDocumentResult, ShowMessageParams,
-    ShowMessageRequestParams, SignatureHelp, SignatureHelpOptions, SignatureHelpParams,
-    TextDocumentParams, TextDocumentPositionParams, TextDocumentRangeParams, TextDocumentSyncKind,
-    TextDocumentSyncOptions, ToJson, UnregistrationParams, WillSaveTextDocumentParams,
-    WorkDoneProgressBegin, WorkDoneProgressCreateParams, WorkDoneProgressEnd,
-    WorkDoneProgressParams, WorkDoneProgressReport, WorkspaceFoldersServerCapabilities,
-    WorkspaceOptions, WorkspaceSymbol, WorkspaceSymbolParams,
+    ProgressParams, PublishDiagnosticsParams, ReferenceParams, RegistrationParams, RenameOptions,
+    RenameParams, SaveOptions, SemanticTokens, SemanticTokensFullOptions, SemanticTokensLegend,
+    SemanticTokensOptions, ServerCapabilities, SetTraceParams, ShowDocumentParams,
+    ShowDocumentResult, ShowMessageParams, ShowMessageRequestParams, SignatureHelp,
+    SignatureHelpOptions, SignatureHelpParams, TextDocumentParams, TextDocumentPositionParams,
+    TextDocumentRangeParams, TextDocumentSyncKind, TextDocumentSyncOptions, ToJson,
+    UnregistrationParams, WillSaveTextDocumentParams, WorkDoneProgressBegin,
+    WorkDoneProgressCreateParams, WorkDoneProgressEnd, WorkDoneProgressParams,
+    WorkDoneProgressReport, WorkspaceFoldersServerCapabilities, WorkspaceOptions, WorkspaceSymbol,
+    WorkspaceSymbolParams,
 };
 use serde::Serialize;
 use serde_json::{Map, Value, to_value};
@@ -202,6 +202,7 @@ fn of_server(said: &mut Said, name: &str, text: &str) {
         "ShowMessageRequestParams" => back::<ShowMessageRequestParams>(said, text),
         "ShowDocumentParams" => back::<ShowDocumentParams>(said, text),
         "LogTraceParams" => back::<LogTraceParams>(said, text),
+        "InitializeResult" => back::<InitializeResult>(said, text),
         "RegistrationParams" => back::<RegistrationParams>(said, text),
         "UnregistrationParams" => back::<UnregistrationParams>(said, text),
         _ => more_types::of_feature(said, name, text),
@@ -221,8 +222,6 @@ pub fn of_other(said: &mut Said, name: &str, text: &str) {
 
 fn of_members(said: &mut Said, name: &str, found: &Value) {
     match name {
-        "InitializeResult" => initialized(said, found),
-        "SelectionRange" => more_types::selection(said, found),
         "ProgressParams" => match text_in(found.pointer("/value/kind")) {
             "begin" => progress::<WorkDoneProgressBegin>(said, found),
             "report" => progress::<WorkDoneProgressReport>(said, found),
@@ -279,31 +278,13 @@ pub fn get<T: FromJson>(said: &mut Said, found: &Value, key: &str, otherwise: T)
 }
 
 fn progress<T: ToJson + FromJson>(said: &mut Said, found: &Value) {
-    let token = get(said, found, "token", NumberOrString::Number(0));
-    match member::<T>(said.alloc, found, "value") {
-        Ok(value) => {
-            let told = ProgressParams { token, value };
+    match ProgressParams::<T>::from_json(said.alloc, found) {
+        Ok(told) => {
             say_json(said, &told);
             drop(told);
         }
-        Err(misfit) => {
-            drop(token);
-            unfit(said, misfit)
-        }
+        Err(misfit) => unfit(said, misfit),
     }
-}
-
-fn initialized(said: &mut Said, found: &Value) {
-    let server_info = ServerInfo {
-        name: get(said, found, "name", String::new(said.alloc)),
-        version: get(said, found, "version", None),
-    };
-    let result = InitializeResult {
-        capabilities: ServerCapabilities::default(),
-        server_info,
-    };
-    say_json(said, &result);
-    drop(result);
 }
 
 /// The object that is given as `more`, if one is.
@@ -370,7 +351,7 @@ fn objects(said: &mut Said, found: &Value) -> ServerCapabilities {
         workspace: Some(WorkspaceOptions {
             workspace_folders: Some(WorkspaceFoldersServerCapabilities {
                 supported: Some(true),
-                change_notifications: Some(false),
+                change_notifications: Some(ChangeNotifications::Wanted(false)),
             }),
             file_operations: Some(notebook(said, found)),
         }),

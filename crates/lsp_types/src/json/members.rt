@@ -1,6 +1,7 @@
 // The members of an object, as they are read.
 ghost use Rattle.std.specs.Prelude.{◌≡◌, map};
 ghost use Rattle.serde_json.specs.View.{view};
+ghost use Rattle.lsp_types.specs.Offers.{NumberOr, Offered, Options};
 ghost use Rattle.lsp_types.specs.Reads.{
   Beside,
   Both,
@@ -15,6 +16,7 @@ ghost use Rattle.lsp_types.specs.Reads.{
   ThoseThatFit,
 };
 
+use crate::json::offers::{number_or, offered, options};
 use crate::json::read_lists::those_that_fit;
 use crate::json::read_rest::beside;
 use crate::json::read_values::text_or_empty;
@@ -123,6 +125,52 @@ impl<'v, A: Drop> Members<'v, A> {
     {
         let Members { alloc, value, read } = self;
         let more = beside(alloc, value, keys);
+        Members {
+            alloc,
+            value,
+            read: and(read, more),
+        }
+    }
+
+    /// And one that offers something, by a boolean or by options, which mean that it does. None if it is missing or null.
+    pub fn offered(self, key: &'static str) -> Members<'v, (A, Option<bool>)>
+        ensures { ReadsMore (Offered key.now)
+            (view self.entry.value.now) self.entry.read (view result.value.now) result.read }
+    {
+        let Members { alloc, value, read } = self;
+        let more = offered(value, key);
+        Members {
+            alloc,
+            value,
+            read: and(read, more),
+        }
+    }
+
+    /// And options, of which `true` has none set. None if they are missing, null or `false`.
+    pub fn options<T: FromJson>(self, key: &'static str) -> Members<'v, (A, Option<T>)>
+        ensures { ReadsMore (Options T.reads key.now)
+            (view self.entry.value.now) self.entry.read (view result.value.now) result.read }
+    {
+        let Members { alloc, value, read } = self;
+        let more = options(alloc, value, key);
+        Members {
+            alloc,
+            value,
+            read: and(read, more),
+        }
+    }
+
+    /// And options, for which a number may stand: that of the member `inside` them alone. None if they are missing or null.
+    pub fn number_or<T: FromJson>(
+        self,
+        key: &'static str,
+        inside: &'static str,
+    ) -> Members<'v, (A, Option<T>)>
+        ensures { ReadsMore (NumberOr T.reads inside.now key.now)
+            (view self.entry.value.now) self.entry.read (view result.value.now) result.read }
+    {
+        let Members { alloc, value, read } = self;
+        let more = number_or(alloc, value, key, inside);
         Members {
             alloc,
             value,

@@ -1,0 +1,10 @@
+use Rattle.lsp_types.proofs.ReadLemmas.{◌ends◌, ◌then◌}
+use Rattle.lsp_types.proofs.capabilities.TextDocumentSyncOptionsFromJson.from_json.Goals as goal
+
+pub returns-in-Ok : goal.returns-in-Ok
+returns-in-Ok c = c.new.ensures then c.optional.ensures then c.optional-2.ensures then c.optional-3.ensures
+    then c.optional-4.ensures then c.options.ensures ends c.in-Ok.ensures
+
+pub returns-in-Err : goal.returns-in-Err
+returns-in-Err c fits it one = (c.new.ensures then c.optional.ensures then c.optional-2.ensures then
+    c.optional-3.ensures then c.optional-4.ensures then c.options.ensures ends c.in-Err.ensures) fits _ one
