@@ -1,4 +1,6 @@
 mod CleanOrder
 mod CleanReplies
 mod Keeping
+mod KeptContent
 mod Refused
+mod RefusedContent

@@ -1,0 +1,134 @@
+-- For each rule of documents and of progress a log and the message that breaks it; and messages that may look wrong and
+-- fit.
+use Rattle.std.proofs.Common.{◌≡◌, List, [], ◌∷◌, Option, Some, None, Ok, Err, option_map, codes, pos, refl, ℕ}
+use Rattle.serde_json.specs.Data.{Data, null, number, string, object, no_members, member, unsigned}
+use Rattle.lsp_message.specs.Id as id
+use Rattle.lsp_message.specs.Message.{Message, request, notification, response}
+use Rattle.lsp_watch.specs.Content.{content_breach_of}
+use Rattle.lsp_watch.specs.Log.{Log, passed}
+use Rattle.lsp_watch.specs.declared.breach.Way.{Way}
+use Rattle.lsp_watch.specs.declared.breach.Way.TheVariants.{ToServer, ToClient}
+use Rattle.lsp_watch.specs.declared.content_rule.ContentRule.{ContentRule}
+use Rattle.lsp_watch.specs.declared.content_rule.ContentRule.TheVariants.{AlreadyOpen, NotOpen, VersionNotHigher}
+use Rattle.lsp_watch.specs.declared.content_rule.ContentRule.TheVariants.{NoSuchToken}
+
+-- the rule that a message breaks, and against the message at which place
+abbrev broken : Log → Way → Message → Option (ContentRule × Option ℕ)
+broken log way m = option_map (λ breach. (breach.rule, breach.against)) (content_breach_of log way m)
+
+-- ---- documents
+
+abbrev with : List ℕ → Data → Data
+with name d = object (member name d no_members)
+
+abbrev told_at : ℕ → Data
+told_at version = with (codes "textDocument") (object (member (codes "uri") (string (codes "a"))
+    (member (codes "version") (number (unsigned version)) no_members)))
+
+abbrev opens : ℕ → Message
+opens version = notification (codes "textDocument/didOpen") (told_at version)
+
+abbrev changes : ℕ → Message
+changes version = notification (codes "textDocument/didChange") (told_at version)
+
+abbrev closes : Message
+closes = notification (codes "textDocument/didClose") (told_at 0)
+
+abbrev begun : Log
+begun = passed ToServer 1 (opens 5) ∷ []
+
+open_already : broken begun ToServer (opens 6) ≡ Some (AlreadyOpen, Some 1)
+open_already = refl
+
+never_opened : broken [] ToServer (changes 6) ≡ Some (NotOpen, None)
+never_opened = refl
+
+closed_before : broken (passed ToServer 2 closes ∷ begun) ToServer closes ≡ Some (NotOpen, None)
+closed_before = refl
+
+version_stays : broken begun ToServer (changes 5) ≡ Some (VersionNotHigher, Some 1)
+version_stays = refl
+
+version_goes_back : broken (passed ToServer 2 (changes 7) ∷ begun) ToServer (changes 6)
+    ≡ Some (VersionNotHigher, Some 2)
+version_goes_back = refl
+
+version_rises : broken begun ToServer (changes 7) ≡ None
+version_rises = refl
+
+-- a document that opens anew may begin at any version
+opens_anew : broken (passed ToServer 2 closes ∷ begun) ToServer (opens 1) ≡ None
+opens_anew = refl
+
+-- nothing is said of one that is saved
+saves : broken [] ToServer (notification (codes "textDocument/didSave") (told_at 1)) ≡ None
+saves = refl
+
+-- and a server may speak of any
+marks : broken [] ToClient (notification (codes "textDocument/didClose") (told_at 1)) ≡ None
+marks = refl
+
+-- ---- progress
+
+abbrev asks : List ℕ → Message
+asks name = request (id.number (pos 1)) (codes "a") (with name (string (codes "t")))
+
+abbrev tells : Data → Message
+tells value = notification (codes "$/progress") (object (member (codes "token") (string (codes "t"))
+    (member (codes "value") value no_members)))
+
+abbrev ends : Message
+ends = tells (with (codes "kind") (string (codes "end")))
+
+abbrev replies : Message
+replies = response (id.number (pos 1)) (Ok null)
+
+abbrev refuses : Message
+refuses = response (id.number (pos 1)) (Err (record { code = pos 1; message = []; details = None }))
+
+abbrev creates : Message
+creates = request (id.number (pos 1)) (codes "window/workDoneProgress/create")
+    (with (codes "token") (string (codes "t")))
+
+nobody_made : broken [] ToClient (tells null) ≡ Some (NoSuchToken, None)
+nobody_made = refl
+
+abbrev working : Log
+working = passed ToServer 1 (asks (codes "workDoneToken")) ∷ []
+
+at_work : broken working ToClient (tells null) ≡ None
+at_work = refl
+
+-- the side that made the token tells no progress under it
+own_token : broken working ToServer (tells null) ≡ Some (NoSuchToken, None)
+own_token = refl
+
+replied : broken (passed ToClient 2 replies ∷ working) ToClient (tells null) ≡ Some (NoSuchToken, None)
+replied = refl
+
+ended : broken (passed ToClient 2 ends ∷ working) ToClient (tells null) ≡ Some (NoSuchToken, None)
+ended = refl
+
+abbrev listing : Log
+listing = passed ToServer 1 (asks (codes "partialResultToken")) ∷ []
+
+-- no part of a result ends the results
+part : broken (passed ToClient 2 ends ∷ listing) ToClient (tells null) ≡ None
+part = refl
+
+part_too_late : broken (passed ToClient 2 replies ∷ listing) ToClient (tells null) ≡ Some (NoSuchToken, None)
+part_too_late = refl
+
+-- a token that was created is open up to its end, and not if the client refused it
+abbrev made : Log
+made = passed ToServer 2 replies ∷ (passed ToClient 1 creates ∷ [])
+
+created : broken made ToClient (tells null) ≡ None
+created = refl
+
+created_ended : broken (passed ToClient 3 ends ∷ made) ToClient ends ≡ Some (NoSuchToken, None)
+created_ended = refl
+
+refused : broken (passed ToServer 2 refuses ∷ (passed ToClient 1 creates ∷ [])) ToClient (tells null)
+    ≡ Some (NoSuchToken, None)
+refused = refl

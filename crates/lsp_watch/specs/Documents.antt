@@ -1,0 +1,95 @@
+-- What a client tells of documents, and which are open (LSP 3.17, "Text Document Synchronization").
+use Rattle.std.specs.Prelude.{ℕ, ℤ, int_lt, Bool, false, not, List, [], ◌∷◌, Option, Some, None, option_map}
+use Rattle.std.specs.Prelude.{option_and_then, if◌then◌else◌, codes}
+use Rattle.std.specs.Str.{bytes_eq}
+use Rattle.serde_json.specs.Data.{Data, null}
+use Rattle.serde_json.specs.Find.{get, as_str, as_number, as_i64}
+use Rattle.lsp_message.specs.Message.{Message, request, notification, response}
+use Rattle.lsp_watch.specs.Log.{Log}
+use Rattle.lsp_watch.specs.declared.content_rule.ContentBreach.{ContentBreach}
+use Rattle.lsp_watch.specs.declared.content_rule.ContentRule.TheVariants.{AlreadyOpen, NotOpen, VersionNotHigher}
+use Rattle.lsp_watch.specs.declared.documents.Deed.{Deed}
+use Rattle.lsp_watch.specs.declared.documents.Deed.TheVariants.{Opens, Changes, Closes}
+use Rattle.lsp_watch.specs.declared.documents.Document.{Document}
+use Rattle.lsp_watch.specs.declared.breach.Way.{Way}
+use Rattle.lsp_watch.specs.declared.breach.Way.TheVariants.{ToServer}
+
+-- ---- what a message tells
+
+abbrev pub text_in : List ℕ → Data → Option (List ℕ)
+text_in name d = option_and_then as_str (get name d)
+
+abbrev pub document_in : Data → Option Data
+document_in params = get (codes "textDocument") params
+
+abbrev pub uri_in : Data → Option (List ℕ)
+uri_in params = option_and_then (text_in (codes "uri")) (document_in params)
+
+-- a version, if one is given that is an integer of 64 bits
+abbrev pub version_in : Data → Option ℤ
+version_in params =
+    option_and_then as_i64 (option_and_then as_number (option_and_then (get (codes "version")) (document_in params)))
+
+abbrev pub deed_named : List ℕ → Option Deed
+deed_named method = if bytes_eq method (codes "textDocument/didOpen") then Some Opens
+    else if bytes_eq method (codes "textDocument/didChange") then Some Changes
+    else if bytes_eq method (codes "textDocument/didClose") then Some Closes
+    else None
+
+-- what the client does with a document by a message, if it does so with one
+abbrev pub deed_in : Way → Message → Option Deed
+deed_in ToServer (notification method params) = deed_named method
+deed_in way m = None
+
+abbrev pub params_in : Message → Data
+params_in (request i method params) = params
+params_in (notification method params) = params
+params_in (response i outcome) = null
+
+abbrev pub is_text : List ℕ → Option (List ℕ) → Bool
+is_text text None = false
+is_text text (Some t) = bytes_eq text t
+
+-- ---- which documents are open
+
+-- a change that gives a version
+abbrev pub changed : ℕ → Option ℤ → Document → Document
+changed place None d = d
+changed place (Some v) d = record { opened = d.opened; told = place; version = Some v }
+
+-- the document after the client did this with it
+abbrev pub after_deed : Option Deed → ℕ → Option ℤ → Option Document → Option Document
+after_deed None place version before = before
+after_deed (Some Opens) place version before =
+    Some (record { opened = place; told = place; version = version })
+after_deed (Some Changes) place version before = option_map (changed place version) before
+after_deed (Some Closes) place version before = None
+
+-- the document of a URI, if it is open: by which `didOpen`, at which version, and which message told that
+abbrev pub document_of : List ℕ → Log → Option Document
+document_of uri [] = None
+document_of uri (p ∷ before) = if is_text uri (uri_in (params_in p.message))
+    then after_deed (deed_in p.way p.message) p.place (version_in (params_in p.message)) (document_of uri before)
+    else document_of uri before
+
+-- ---- the rules
+
+-- both are given, and the first is not higher
+abbrev pub is_not_higher : Option ℤ → Option ℤ → Bool
+is_not_higher (Some v) (Some before) = not (int_lt before v)
+is_not_higher v before = false
+
+abbrev pub deed_finding : Deed → Option ℤ → Option Document → Option ContentBreach
+deed_finding Opens version None = None
+deed_finding Opens version (Some d) = Some (record { rule = AlreadyOpen; against = Some d.opened })
+deed_finding deed version None = Some (record { rule = NotOpen; against = None })
+deed_finding Closes version (Some d) = None
+deed_finding Changes version (Some d) = if is_not_higher version d.version
+    then Some (record { rule = VersionNotHigher; against = Some d.told }) else None
+
+-- what a message breaks of the rules of documents
+abbrev pub document_breach_of : Log → Way → Message → Option ContentBreach
+document_breach_of before way m =
+    option_and_then (λ deed.
+    option_and_then (λ uri. deed_finding deed (version_in (params_in m)) (document_of uri before))
+    (uri_in (params_in m))) (deed_in way m)
