@@ -1,29 +1,20 @@
 -> {"jsonrpc":"2.0","id":0,"method":"initialize"}
 <- {"jsonrpc":"2.0","id":0,"result":null}
 -> {"jsonrpc":"2.0","method":"initialized"}
+-> {"jsonrpc":"2.0","method":"textDocument/didOpen","params":{"textDocument":{"uri":"file:///project/go/main.go","version":7}}}
+<- {"jsonrpc":"2.0","method":"$/progress","params":{"token":"3532344000688779950","value":{"kind":"begin"}}}
+<- {"jsonrpc":"2.0","id":2,"method":"workspace/configuration"}
+-> {"jsonrpc":"2.0","id":2,"result":null}
+-> {"jsonrpc":"2.0","id":1,"method":"textDocument/hover","params":{"textDocument":{"uri":"file:///project/go/main.go"},"partialResultToken":1}}
+<- {"jsonrpc":"2.0","id":1,"result":null}
+-> {"jsonrpc":"2.0","method":"textDocument/didChange","params":{"textDocument":{"uri":"file:///project/go/main.go","version":6}}}
+-> {"jsonrpc":"2.0","id":10,"method":"textDocument/signatureHelp","params":{"textDocument":{"uri":"file:///project/go/main.go"}}}
+<- {"jsonrpc":"2.0","id":10,"result":null}
+-> {"jsonrpc":"2.0","method":"textDocument/didChange","params":{"textDocument":{"uri":"file:///project/go/main.go","version":5}}}
+-> {"jsonrpc":"2.0","method":"textDocument/didChange","params":{"textDocument":{"uri":"file:///project/go/main.go","version":6}}}
 <- {"jsonrpc":"2.0","method":"textDocument/publishDiagnostics"}
--> {"jsonrpc":"2.0","id":11,"method":"textDocument/references"}
-<- {"jsonrpc":"2.0","id":11,"result":null}
--> {"jsonrpc":"2.0","id":24,"method":"textDocument/selectionRange"}
-<- {"jsonrpc":"2.0","id":24,"error":{"code":-32601,"message":"Method Not Found: textDocument/selectionRange"}}
--> {"jsonrpc":"2.0","id":27,"method":"textDocument/rename"}
-<- {"jsonrpc":"2.0","id":27,"result":null}
--> {"jsonrpc":"2.0","id":27,"method":"textDocument/rename"}
--> {"jsonrpc":"2.0","id":28,"method":"workspace/symbol"}
-<- {"jsonrpc":"2.0","id":33,"result":null}
-<- {"jsonrpc":"2.0","id":28,"error":{"code":-32601,"message":"Method Not Found: workspace/symbol"}}
--> {"jsonrpc":"2.0","method":"textDocument/didChange"}
--> {"jsonrpc":"2.0","method":"textDocument/didChange"}
--> {"jsonrpc":"2.0","method":"textDocument/didChange"}
--> {"jsonrpc"ÿ:"2.0","method":"textDocument/didChange"}
--> {"jsonrpc":"2.0","method":"textDocument/didChange"}
--> {"jsonrpc":"2.0","method":"textDocument/didChange"}
--> {"jsonrpc":"2.0","id":33,"method":"textDocument/completion"}
--> {"jsonrpc":"2.0","method":"$/cancelRequest"}
--> {"jsonrpc":"2.0","method":"textDocument/didChange"}
--> {"jsonrpc":"2.0","method":"textDocument/didChange"}
--> {"jsonrpc":"2.0","method":"textDocument/didChange"}
-<- {"jsonrpc":"2.0","id":33,"result":null}
--> {"jsonrpc":"2.0","id":37,"method":"shutdown"}
-<- {"jsonrpc":"2.0","id":37,"error":{"code":-32602,"message":"TypeError: pylsp.python_lsp.PythonLSPServer.m_shutdown() argument after ** must be a mapping, not list","data":{"traceback":["  File \"/python/pylsp_jsonrpc/endpoint.py\", line 117, in consume\n    self._handle_request(message['id'], message['method'], message.get('params'))\n    ~~~~~~~~~~~~~~~~~~~~^^^^^^^^^^^^^^^^^^^^^^^^^^^^^^^^^^^^^^^^^^^^^^^^^^^^^^^^^\n","  File \"/python/pylsp_jsonrpc/endpoint.py\", line 197, in _handle_request\n    handler_result = handler(params)\n","  File \"/python/pylsp_jsonrpc/dispatchers.py\", line 25, in handler\n    return method(**(params or {}))\n"]}}}
--> {"jsonrpc":"2.0","method":"exit"}
+-> {"jsonrpc":"2.0","id":13,"method":"textDocument/formatting","params":{"textDocument":{"uri":"file:///project/go/main.go"}}}
+<- {"jsonrpc":"2.0","id":13,"result":null}
+-> {"jsonrpc":"2.0","id":15,"method":"shutdown"}
+-> {"jsonrpc":"2.0","method":"textDocument/didClose","params":{"textDocument":{"uri":"file:///project/go/main.go"}}}
+<- {"jsonrpc":"2.0","id":15,"result":null}

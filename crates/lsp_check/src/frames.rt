@@ -1,41 +1,41 @@
-// The frames of one way, in a file of their own (LSP 3.17, "Base Protocol").
+// The frames of one way (LSP 3.17, "Base Protocol"), of which pieces come.
 use lsp_message::{Front, Message, ReadFault, front};
 use std::alloc::{AllocError, Global};
 use std::io::{self, BufRead};
 use std::mem;
 
-/// What comes next in a file.
+/// What comes next.
 #[derive(Debug, Drop)]
 pub enum Next {
     Message(Message),
-    /// The file ends behind a frame.
+    /// The next piece tells.
+    More,
+    /// Nothing: all ends behind a frame.
     End,
-    /// The file ends in a frame.
+    /// Nothing: all ends in a frame.
     Cut,
     /// This is wrong with the frame.
     Bad(&'static str),
 }
 
-/// A file of frames, and what comes next in it.
+/// Frames, and what comes next.
 #[derive(Drop)]
-pub struct Frames<R> {
+pub struct Frames {
     alloc: Global,
-    reader: R,
-    /// What was read and is not passed.
+    /// What came and is not passed.
     bytes: Vec<u8>,
     /// How many bytes were passed.
     pub passed: u64,
     pub next: Next,
 }
 
-impl<R: BufRead> Frames<R> {
-    pub fn new(alloc: Global, reader: R) -> Frames<R> {
+impl Frames {
+    pub fn new(alloc: Global) -> Frames {
         Frames {
             alloc,
-            reader,
             bytes: Vec::new(alloc),
             passed: 0,
-            next: Next::End,
+            next: Next::More,
         }
     }
 
@@ -44,7 +44,7 @@ impl<R: BufRead> Frames<R> {
         let Front::Whole(count) = front(self.bytes.as_slice()) else {
             return None;
         };
-        match mem::replace(&mut self.next, Next::End) {
+        match mem::replace(&mut self.next, Next::More) {
             Next::Message(message) => {
                 let place = self.passed;
                 remove_front(&mut self.bytes, count);
@@ -58,40 +58,49 @@ impl<R: BufRead> Frames<R> {
         }
     }
 
-    /// Reads on, until it is known what comes next.
-    pub fn look(&mut self) -> io::Result<()> {
-        for _ in 0..u64::MAX {
-            match front(self.bytes.as_slice()) {
-                Front::Whole(count) => {
-                    self.next = next_in(self.alloc, &self.bytes[..count])?;
-                    return Ok(());
-                }
-                Front::Fault(_) => {
-                    self.next = Next::Bad("the header part of the frame is bad");
-                    return Ok(());
-                }
-                Front::More => {
-                    if !self.read_more()? {
-                        self.next = if self.bytes.is_empty() {
-                            Next::End
-                        } else {
-                            Next::Cut
-                        };
-                        return Ok(());
-                    }
-                }
-            }
-        }
+    /// Looks what comes next, by the pieces that came.
+    pub fn look(&mut self) -> Result<(), AllocError> {
+        self.next = match front(self.bytes.as_slice()) {
+            Front::Whole(count) => next_in(self.alloc, &self.bytes[..count])?,
+            Front::Fault(_) => Next::Bad("the header part of the frame is bad"),
+            Front::More => Next::More,
+        };
         Ok(())
     }
 
-    /// Reads a piece, and says whether there was one.
-    fn read_more(&mut self) -> io::Result<bool> {
-        let piece = self.reader.fill_buf()?;
-        let count = piece.len();
-        self.bytes.extend_from_slice(piece)?;
-        self.reader.consume(count);
-        Ok(count > 0)
+    /// Takes one more piece.
+    pub fn push(&mut self, piece: &[u8]) -> Result<(), AllocError> {
+        self.bytes.extend_from_slice(piece)
+    }
+
+    /// No piece comes any more.
+    pub fn end(&mut self) {
+        if let Next::More = &self.next {
+            self.next = if self.bytes.is_empty() {
+                Next::End
+            } else {
+                Next::Cut
+            };
+        }
+    }
+
+    /// Reads pieces until it is known what comes next.
+    pub fn look_on<R: BufRead>(&mut self, reader: &mut R) -> io::Result<()> {
+        for _ in 0..u64::MAX {
+            self.look()?;
+            let Next::More = &self.next else {
+                return Ok(());
+            };
+            let piece = reader.fill_buf()?;
+            let count = piece.len();
+            self.push(piece)?;
+            reader.consume(count);
+            if count == 0 {
+                self.end();
+                return Ok(());
+            }
+        }
+        Ok(())
     }
 }
 

@@ -1,9 +1,10 @@
 // The judgement of what passed between two ends.
 use crate::line::Passing;
-use crate::report::{Counts, Report, Slowest};
+use crate::report::Report;
+use crate::told::{About, Counts, Slowest, Told};
 use anyhow::Result;
-use lsp_message::{Message, Response};
-use lsp_watch::{Watch, Way};
+use lsp_message::{Message, RequestId, Response};
+use lsp_watch::{Breach, ContentBreach, ContentWatch, Watch, Way, document_uri, progress_token};
 use std::alloc::Global;
 use std::collections::BTreeMap;
 use std::io::Write;
@@ -11,8 +12,9 @@ use std::io::Write;
 /// What was seen so far. Its memory follows what is open.
 #[derive(Drop)]
 pub struct Judgement {
-    pub watch: Watch,
-    pub counts: Counts,
+    watch: Watch,
+    content: ContentWatch,
+    counts: Counts,
     /// When the requests passed that wait, by their places.
     times: BTreeMap<u64, u64>,
 }
@@ -21,6 +23,7 @@ impl Judgement {
     pub fn new(alloc: Global) -> Judgement {
         Judgement {
             watch: Watch::new(alloc),
+            content: ContentWatch::new(alloc),
             counts: Counts {
                 requests: 0,
                 replies: 0,
@@ -32,7 +35,15 @@ impl Judgement {
         }
     }
 
-    /// Sees one more message, and tells the rule that it breaks.
+    /// Whether a message would break no rule if it passed now.
+    pub fn fits(&self, way: Way, message: &Message) -> Result<bool> {
+        Ok(
+            self.watch.breach(way, message)?.is_none()
+                && self.content.breach(way, message)?.is_none(),
+        )
+    }
+
+    /// Sees one more message, and tells the rules that it breaks.
     pub fn see<W: Write>(
         &mut self,
         place: u64,
@@ -49,10 +60,15 @@ impl Judgement {
             }
             Message::Notification(_) => {}
         }
-        let found = self.watch.pass(place, way, message)?;
-        if let Some(breach) = &found {
+        let breach = self.watch.pass(place, way, message)?;
+        let content = self.content.pass(place, way, message)?;
+        if let Some(breach) = &breach {
             self.counts.breaches = self.counts.breaches.saturating_add(1);
-            report.breach(place, way, message, breach, out)?;
+            tell_breach(place, passing, breach, report, out)?;
+        }
+        if let Some(breach) = &content {
+            self.counts.breaches = self.counts.breaches.saturating_add(1);
+            tell_content(place, passing, breach, report, out)?;
         }
         self.time_request(place, passing)
     }
@@ -101,7 +117,17 @@ impl Judgement {
         for id in ids.iter() {
             self.counts.open = self.counts.open.saturating_add(1);
             if let Some(place) = self.watch.place_of(way, id) {
-                report.open(place, way, id, out)?;
+                let told = Told {
+                    kind: "open",
+                    place,
+                    way: Some(way),
+                    rule: None,
+                    method: None,
+                    about: About::Id(id),
+                    text: "has no reply",
+                    against: None,
+                };
+                report.tell(&told, out)?;
             }
         }
         Ok(())
@@ -110,5 +136,73 @@ impl Judgement {
     /// The exit status: 1 where a rule is broken, and else 0.
     pub fn status(&self) -> u8 {
         if self.counts.breaches > 0 { 1 } else { 0 }
+    }
+}
+
+fn tell_breach<W: Write>(
+    place: u64,
+    passing: &Passing,
+    breach: &Breach,
+    report: &Report<'_>,
+    out: &mut W,
+) -> Result<()> {
+    let rule = format!(in report.alloc; "{:?}", breach.rule)?;
+    let text = format!(in report.alloc; "{}", breach.rule)?;
+    let about = match &breach.id {
+        Some(id) => About::Id(id),
+        None => About::Nothing,
+    };
+    let words = (rule.as_str(), text.as_str());
+    report.tell(&broken(place, passing, words, about, breach.against), out)
+}
+
+fn tell_content<W: Write>(
+    place: u64,
+    passing: &Passing,
+    breach: &ContentBreach,
+    report: &Report<'_>,
+    out: &mut W,
+) -> Result<()> {
+    let rule = format!(in report.alloc; "{:?}", breach.rule)?;
+    let text = format!(in report.alloc; "{}", breach.rule)?;
+    let token = progress_token(&passing.message)?;
+    let about = about_in(token.as_ref(), &passing.message);
+    let words = (rule.as_str(), text.as_str());
+    report.tell(&broken(place, passing, words, about, breach.against), out)
+}
+
+/// What a message is about: progress under a token, or a document.
+fn about_in<'t>(token: Option<&'t RequestId>, message: &'t Message) -> About<'t> {
+    if let Some(token) = token {
+        return About::Token(token);
+    }
+    match document_uri(message) {
+        Some(uri) => About::Uri(uri),
+        None => About::Nothing,
+    }
+}
+
+/// A message that breaks a rule: the rule's name, and what it says.
+fn broken<'t>(
+    place: u64,
+    passing: &'t Passing,
+    (rule, text): (&'t str, &'t str),
+    about: About<'t>,
+    against: Option<u64>,
+) -> Told<'t> {
+    let method = match &passing.message {
+        Message::Request(request) => request.method.as_str(),
+        Message::Notification(notification) => notification.method.as_str(),
+        Message::Response(_) => "reply",
+    };
+    Told {
+        kind: "breach",
+        place,
+        way: Some(passing.way),
+        rule: Some(rule),
+        method: Some(method),
+        about,
+        text,
+        against,
     }
 }

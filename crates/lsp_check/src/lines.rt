@@ -26,6 +26,18 @@ pub fn judge_lines<B: BufRead, W: Write>(
     out: &mut W,
 ) -> Result<u8> {
     let mut judged = Judgement::new(report.alloc);
+    let status = judge_all(&mut judged, report, writer, reader, out);
+    drop(judged);
+    status
+}
+
+fn judge_all<B: BufRead, W: Write>(
+    judged: &mut Judgement,
+    report: &Report<'_>,
+    writer: Writer,
+    reader: &mut B,
+    out: &mut W,
+) -> Result<u8> {
     let mut line = Vec::new(report.alloc);
     let mut status = 0;
     for number in 1..u64::MAX {
@@ -36,7 +48,7 @@ pub fn judge_lines<B: BufRead, W: Write>(
         match message_in(report.alloc, writer, line.as_slice()) {
             Ok(None) if line.ends_with(b"\n") => {}
             Ok(None) => report.stop(number, CUT, out)?,
-            Ok(Some(passing)) => see(&mut judged, number, passing, report, out)?,
+            Ok(Some(passing)) => see(judged, number, passing, report, out)?,
             Err(fault) => {
                 status = stop(number, fault, line.ends_with(b"\n"), report, out)?;
                 break;
@@ -82,7 +94,8 @@ fn stop<W: Write>(
             Ok(0)
         }
         fault => {
-            report.stop(number, format!(in report.alloc; "{fault}")?.as_str(), out)?;
+            let why = format!(in report.alloc; "{fault}")?;
+            report.stop(number, why.as_str(), out)?;
             Ok(2)
         }
     }

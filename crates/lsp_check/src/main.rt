@@ -2,25 +2,31 @@
 //! called.
 #![tactic(auto)]
 
+mod between;
 mod frames;
-mod json;
 mod judgement;
 mod line;
 mod lines;
 mod merged;
+mod passing;
 mod report;
 mod time;
+mod told;
 mod words;
 
 use anyhow::{Error, Result};
+use between::judge_between;
 use clap::ArgMatches;
 use frames::Frames;
 use lines::{Writer, judge_lines};
-use merged::judge_frames;
-use report::{Form, Places, Report};
+use merged::{Side, judge_frames};
+use report::{Form, Places, Report, SECOND};
 use std::io::{BufReader, BufWriter, Write};
+use std::net::{Net, OpenListener, TcpListener, TcpStream};
 use std::process::ExitCode;
 use std::rt::{Env, Files};
+use std::sync::Wait;
+use std::thread::Threads;
 use std::{env, fs, io};
 use words::command;
 
@@ -41,13 +47,28 @@ fn refuse<E: Write>(errors: &mut E, what: &str, error: Error) -> u8 {
 /// Judges what the words name, and gives the exit status.
 fn status<R, E: Write>(rt: &R, errors: &mut E) -> Result<u8>
 where
-    R: Env + Files + AllocGlobal + Print + Eprint,
+    R: Env
+        + Files
+        + Net
+        + Threads
+        + Wait
+        + AllocGlobal
+        + Print
+        + Eprint
+        + Copy
+        + Drop
+        + Send
+        + 'static,
+    R::Stream: Send + 'static,
 {
     let words: Vec<String> = env::args(rt)?.collect(rt.alloc())?;
     match command(rt.alloc())?.try_get_matches_from(words.as_slice()) {
         Ok(matches) => {
             let mut out = BufWriter::new(rt.alloc(), io::writer(rt))?;
-            let status = judge(rt, &matches, errors, &mut out)?;
+            let status = match matches.subcommand_matches("between") {
+                Some(matches) => serve(rt, matches, errors, &mut out)?,
+                None => judge(rt, &matches, errors, &mut out)?,
+            };
             out.flush()?;
             Ok(status)
         }
@@ -58,6 +79,72 @@ where
     }
 }
 
+/// Judges the sessions of clients with a server, one after another, and gives the status of the only one.
+fn serve<R, E: Write, W: Write>(
+    rt: &R,
+    matches: &ArgMatches<'_>,
+    errors: &mut E,
+    out: &mut W,
+) -> Result<u8>
+where
+    R: Net + Threads + Wait + AllocGlobal + Copy + Drop + Send + 'static,
+    R::Stream: Send + 'static,
+{
+    let (Some(listen), Some(server)) = (matches.get_str("LISTEN"), matches.get_str("SERVER")) else {
+        return Ok(2);
+    };
+    let form = form_of(matches);
+    let listener = TcpListener::bind(rt, listen)?;
+    for _ in rt.forever() {
+        let (client, _peer) = listener.accept()?;
+        let judged = judge_client(rt, form, client, server, errors, out);
+        if matches.get_flag("once") {
+            return judged;
+        }
+        if let Err(error) = judged {
+            refuse(errors, server, error);
+        }
+    }
+    Ok(0)
+}
+
+/// Judges the session of a client with a server, and gives its status.
+fn judge_client<R, E: Write, W: Write>(
+    rt: &R,
+    form: Form,
+    client: R::Stream,
+    server: &str,
+    errors: &mut E,
+    out: &mut W,
+) -> Result<u8>
+where
+    R: Net + Threads + Wait + AllocGlobal + Copy + Drop + Send + 'static,
+    R::Stream: Send + 'static,
+{
+    let server = TcpStream::connect(rt, server)?;
+    let places = Places {
+        first: "client",
+        second: Some("server"),
+    };
+    let report = Report {
+        alloc: rt.alloc(),
+        form,
+        places,
+    };
+    match form {
+        Form::Text => judge_between(rt, client, server, &report, errors),
+        Form::Json => judge_between(rt, client, server, &report, out),
+    }
+}
+
+fn form_of(matches: &ArgMatches<'_>) -> Form {
+    if matches.get_flag("json") {
+        Form::Json
+    } else {
+        Form::Text
+    }
+}
+
 /// Judges the files up to the first that can't be read, and gives the greatest status.
 fn judge<R: Files + AllocGlobal, E: Write, W: Write>(
     rt: &R,
@@ -65,11 +152,7 @@ fn judge<R: Files + AllocGlobal, E: Write, W: Write>(
     errors: &mut E,
     out: &mut W,
 ) -> Result<u8> {
-    let form = if matches.get_flag("json") {
-        Form::Json
-    } else {
-        Form::Text
-    };
+    let form = form_of(matches);
     let writer = if matches.get_flag("log") {
         Writer::Editor
     } else {
@@ -131,7 +214,15 @@ fn judge_pair<R: Files + AllocGlobal, W: Write>(
         form,
         places,
     };
-    let mut client = Frames::new(alloc, BufReader::new(alloc, fs::open(rt, to_server)?)?);
-    let mut server = Frames::new(alloc, BufReader::new(alloc, fs::open(rt, to_client)?)?);
+    let mut client = Side {
+        reader: BufReader::new(alloc, fs::open(rt, to_server)?)?,
+        frames: Frames::new(alloc),
+        begin: 0,
+    };
+    let mut server = Side {
+        reader: BufReader::new(alloc, fs::open(rt, to_client)?)?,
+        frames: Frames::new(alloc),
+        begin: SECOND,
+    };
     judge_frames(&report, &mut client, &mut server, out)
 }

@@ -4,46 +4,70 @@ use crate::judgement::Judgement;
 use crate::line::Passing;
 use crate::report::{Report, SECOND};
 use anyhow::Result;
-use lsp_watch::{Watch, Way};
+use lsp_message::Message;
+use lsp_watch::Way;
 use std::io::{BufRead, Write};
+
+/// A file of frames, and where its places begin.
+#[derive(Drop)]
+pub struct Side<R> {
+    pub reader: R,
+    pub frames: Frames,
+    pub begin: u64,
+}
 
 /// Judges the messages in an order in which no rule is broken, if there is one. So a breach that is told is one in
 /// each order.
 ///
-/// It takes the next message of the client, unless that breaks a rule, and else the next one of the server. What the
-/// one sends never makes a message wrong that the other has yet to send, so no order is missed.
+/// It takes the next message of the client, unless that breaks a rule or refuses a request, and else the next one of the
+/// server. What the one sends, other than a refusal, never makes a message wrong that the other has yet to send, so no
+/// order is missed.
 pub fn judge_frames<C: BufRead, S: BufRead, W: Write>(
     report: &Report<'_>,
-    client: &mut Frames<C>,
-    server: &mut Frames<S>,
+    client: &mut Side<C>,
+    server: &mut Side<S>,
     out: &mut W,
 ) -> Result<u8> {
     let mut judged = Judgement::new(report.alloc);
-    client.look()?;
-    server.look()?;
+    let status = judge_all(&mut judged, report, client, server, out);
+    drop(judged);
+    status
+}
+
+fn judge_all<C: BufRead, S: BufRead, W: Write>(
+    judged: &mut Judgement,
+    report: &Report<'_>,
+    client: &mut Side<C>,
+    server: &mut Side<S>,
+    out: &mut W,
+) -> Result<u8> {
+    client.frames.look_on(&mut client.reader)?;
+    server.frames.look_on(&mut server.reader)?;
     for _ in 0..u64::MAX {
-        match next_way(&judged.watch, &client.next, &server.next)? {
-            Some(Way::ToServer) => pass(&mut judged, Way::ToServer, 0, client, report, out)?,
-            Some(Way::ToClient) => pass(&mut judged, Way::ToClient, SECOND, server, report, out)?,
+        match next_way(judged, &client.frames.next, &server.frames.next)? {
+            Some(Way::ToServer) => pass(judged, Way::ToServer, client, report, out)?,
+            Some(Way::ToClient) => pass(judged, Way::ToClient, server, report, out)?,
             None => break,
         }
     }
-    let client_status = stop(client, 0, report, out)?;
-    let server_status = stop(server, SECOND, report, out)?;
+    let client_status = tell_stop(&client.frames, client.begin, report, out)?;
+    let server_status = tell_stop(&server.frames, server.begin, report, out)?;
     judged.end(report, out)?;
     Ok(judged.status().max(client_status).max(server_status))
 }
 
 /// The way of the next message. None is judged that breaks a rule where the other file ends too early: what is lost may
 /// have been what it needs.
-fn next_way(watch: &Watch, client: &Next, server: &Next) -> Result<Option<Way>> {
-    if fits(watch, Way::ToServer, client)? {
+fn next_way(judged: &Judgement, client: &Next, server: &Next) -> Result<Option<Way>> {
+    let client_fits = fits(judged, Way::ToServer, client)?;
+    if client_fits && !is_refusal(client) {
         return Ok(Some(Way::ToServer));
     }
-    if fits(watch, Way::ToClient, server)? {
+    if fits(judged, Way::ToClient, server)? {
         return Ok(Some(Way::ToClient));
     }
     Ok(match (client, server) {
+        (Next::Message(_), _) if client_fits => Some(Way::ToServer),
         (Next::Message(_), Next::Message(_) | Next::End) => Some(Way::ToServer),
         (Next::End, Next::Message(_)) => Some(Way::ToClient),
         _ => None,
@@ -51,23 +75,30 @@ fn next_way(watch: &Watch, client: &Next, server: &Next) -> Result<Option<Way>> 
 }
 
 /// Whether there is a message that breaks no rule.
-fn fits(watch: &Watch, way: Way, next: &Next) -> Result<bool> {
+fn fits(judged: &Judgement, way: Way, next: &Next) -> Result<bool> {
     match next {
-        Next::Message(message) => Ok(watch.breach(way, message)?.is_none()),
-        Next::End | Next::Cut | Next::Bad(_) => Ok(false),
+        Next::Message(message) => judged.fits(way, message),
+        Next::More | Next::End | Next::Cut | Next::Bad(_) => Ok(false),
     }
 }
 
-/// Judges the next message of a file, whose places begin there, and looks for the one behind it.
+/// Whether there is a reply with an error.
+fn is_refusal(next: &Next) -> bool {
+    match next {
+        Next::Message(Message::Response(response)) => response.response_result.is_err(),
+        _ => false,
+    }
+}
+
+/// Judges the next message of a file, and looks for the one behind it.
 fn pass<R: BufRead, W: Write>(
     judged: &mut Judgement,
     way: Way,
-    begin: u64,
-    frames: &mut Frames<R>,
+    side: &mut Side<R>,
     report: &Report<'_>,
     out: &mut W,
 ) -> Result<()> {
-    let Some((place, message)) = frames.take() else {
+    let Some((place, message)) = side.frames.take() else {
         return Ok(());
     };
     let passing = Passing {
@@ -75,29 +106,25 @@ fn pass<R: BufRead, W: Write>(
         message,
         time: None,
     };
-    let seen = judged.see(begin.saturating_add(place), &passing, report, out);
+    let seen = judged.see(side.begin.saturating_add(place), &passing, report, out);
     drop(passing);
     seen?;
-    Ok(frames.look()?)
+    Ok(side.frames.look_on(&mut side.reader)?)
 }
 
-/// Tells why a file ends too early, and gives the status: 2 if a frame is bad.
-fn stop<R: BufRead, W: Write>(
-    frames: &Frames<R>,
+/// Tells why the frames of a way end too early, and gives the status: 2 if one is bad.
+pub fn tell_stop<W: Write>(
+    frames: &Frames,
     begin: u64,
     report: &Report<'_>,
     out: &mut W,
 ) -> Result<u8> {
     let place = begin.saturating_add(frames.passed);
-    match frames.next {
-        Next::Cut => {
-            report.stop(place, "the file is cut here", out)?;
-            Ok(0)
-        }
-        Next::Bad(why) => {
-            report.stop(place, why, out)?;
-            Ok(2)
-        }
-        Next::Message(_) | Next::End => Ok(0),
-    }
+    let (why, status) = match frames.next {
+        Next::Cut => ("the file is cut here", 0),
+        Next::Bad(why) => (why, 2),
+        Next::Message(_) | Next::More | Next::End => return Ok(0),
+    };
+    report.stop(place, why, out)?;
+    Ok(status)
 }

@@ -3,7 +3,7 @@ use clap::{Arg, ArgAction, Command};
 use std::alloc::{AllocError, Global};
 
 const ABOUT: &str =
-    "Judges what passed between an LSP client and a server: ids, and the order of the lifecycle";
+    "Judges what passed between an LSP client and a server: ids, the order of the lifecycle, documents and progress";
 
 const MORE: &str = "\
 A line of a recording is `-> ` and a message to the server, or `<- ` and one to the client. In a log of an editor
@@ -15,15 +15,21 @@ that is open at the end is told, and is no breach. Of a file that is cut, what i
 do not say what passed first: a breach is told if each order of their messages has one.
 
 With --json each line is an object. Its \"kind\" is one of
-- \"breach\": a place, \"way\", \"rule\", \"method\" (\"reply\" of a reply), \"text\", perhaps \"id\", and perhaps
-  \"against\", another place
-- \"open\": a place, \"way\", \"id\"
+- \"breach\": a place, \"way\", \"rule\", \"method\" (\"reply\" of a reply), \"text\", perhaps \"id\", \"uri\" or \"token\",
+  and perhaps \"against\", another place
+- \"open\": a place, \"way\", \"id\", \"text\"
 - \"stop\": a place, and as \"text\" why the rest of the file is not judged
 - \"summary\": \"file\", perhaps \"second\", \"requests\", \"replies\", \"open\", \"breaches\", and where times are
   known \"slowest\": \"milliseconds\", and the place of the request
 A place is \"file\" and \"line\", from 1 on, or \"byte\" of frames, from 0 on.
 
 The status is 1 where a rule is broken, 2 where a file can't be read or has a bad line, frame or word, and else 0.
+";
+
+const BETWEEN: &str = "\
+Each client in turn has a session with the server, which is connected to anew. Their bytes pass unchanged. A breach is
+told as it comes, on standard error, or with --json on standard output. Behind bytes that are no frame nothing more is
+judged, and all passes on. A place is counted in the bytes of frames that the client or the server sent.
 ";
 
 pub fn command<'a>(alloc: Global) -> Result<Command<'a>, AllocError> {
@@ -51,7 +57,27 @@ pub fn command<'a>(alloc: Global) -> Result<Command<'a>, AllocError> {
         .arg(json)?
         .arg(to_server)?
         .arg(to_client)?
-        .arg(files)
+        .arg(files)?
+        .subcommand_negates_reqs(true)
+        .subcommand(between(alloc)?)
+}
+
+fn between<'a>(alloc: Global) -> Result<Command<'a>, AllocError> {
+    let listen = Arg::new(alloc, "LISTEN").required(true).help(
+        "The address at which clients connect, such as 127.0.0.1:9257",
+    );
+    let server = Arg::new(alloc, "SERVER")
+        .required(true)
+        .help("The address of the server");
+    let once = flag(alloc, "once", "Ends after one client, with its status");
+    let json = flag(alloc, "json", "Tells it in lines of JSON");
+    Command::new(alloc, "between")
+        .about("Passes on what clients and a server send, and judges it meanwhile")
+        .after_help(BETWEEN)
+        .arg(once)?
+        .arg(json)?
+        .arg(listen)?
+        .arg(server)
 }
 
 fn flag<'a>(alloc: Global, name: &'a str, help: &'a str) -> Arg<'a> {

@@ -1,0 +1,247 @@
+// What passes between clients and a server, judged while it passes.
+use crate::frames::Frames;
+use crate::judgement::Judgement;
+use crate::line::Passing;
+use crate::merged::tell_stop;
+use crate::passing::{Ended, Hears, pass_on};
+use crate::report::{Report, SECOND};
+use anyhow::Result;
+use crossbeam_channel::{Receiver, Sender, bounded};
+use lsp_watch::Way;
+use std::alloc::AllocError;
+use std::io::{self, Read, Write};
+use std::net::{Net, OpenStream, Shutdown};
+use std::sync::Wait;
+use std::thread::{Builder, JoinHandle, Threads};
+use std::time::Duration;
+
+/// How many pieces may wait for the judgement. Beyond these what passes waits for it too.
+const ROOM: usize = 1024;
+
+/// How many seconds a side is listened to that says nothing, once what it says reaches nobody.
+const LAST_SECONDS: u64 = 10;
+
+/// What a thread tells of its way.
+#[derive(Drop)]
+enum Heard {
+    /// This was read, and is written next.
+    Piece(Way, Vec<u8>),
+    /// The side that sends this way has closed.
+    End(Way),
+    /// There was no memory to tell what passes.
+    Lost,
+}
+
+/// Tells the judgement what passes one way.
+#[derive(Drop)]
+struct Teller<R> {
+    rt: R,
+    way: Way,
+    sender: Sender<Heard>,
+}
+
+impl<R: Wait + AllocGlobal> Hears for Teller<R> {
+    fn hear(&mut self, piece: &[u8]) {
+        let mut bytes = Vec::new(self.rt.alloc());
+        let heard = match bytes.extend_from_slice(piece) {
+            Ok(()) => Heard::Piece(self.way, bytes),
+            Err(_) => {
+                drop(bytes);
+                Heard::Lost
+            }
+        };
+        drop(self.sender.send(&self.rt, heard));
+    }
+}
+
+/// Passes the bytes of a client and a server on to each other, judges them, and gives the status at their end.
+pub fn judge_between<R, W: Write>(
+    rt: &R,
+    client: R::Stream,
+    server: R::Stream,
+    report: &Report<'_>,
+    out: &mut W,
+) -> Result<u8>
+where
+    R: Net + Threads + Wait + AllocGlobal + Copy + Drop + Send + 'static,
+    R::Stream: Send + 'static,
+{
+    // A refusal only makes small writes slower.
+    drop(client.set_nodelay(true));
+    drop(server.set_nodelay(true));
+    let (sender, heard) = bounded(rt.alloc(), ROOM)?;
+    let upward = told_by(rt, Way::ToServer, sender.clone()?);
+    let downward = told_by(rt, Way::ToClient, sender);
+    let ends = (client.try_clone()?, server.try_clone()?);
+    let upward = start(rt, upward, client.try_clone()?, server.try_clone()?)?;
+    let downward = match start(rt, downward, server, client) {
+        Ok(downward) => downward,
+        Err(error) => {
+            drop(heard);
+            drop(ends.0.shutdown(Shutdown::Both));
+            drop(ends.1.shutdown(Shutdown::Both));
+            upward.join(rt);
+            return Err(error.into());
+        }
+    };
+    drop(ends);
+    let judged = judge_heard(rt, &heard, report, out);
+    drop(heard);
+    upward.join(rt);
+    downward.join(rt);
+    judged
+}
+
+fn told_by<R: Copy>(rt: &R, way: Way, sender: Sender<Heard>) -> Teller<R> {
+    Teller {
+        rt: *rt,
+        way,
+        sender,
+    }
+}
+
+/// Starts a thread that passes on what one side sends.
+fn start<R, S>(rt: &R, tell: Teller<R>, from: S, to: S) -> io::Result<JoinHandle<()>>
+where
+    R: Threads + Wait + AllocGlobal + Copy + Drop + Send + 'static,
+    S: OpenStream + Read + Write + Drop + Send + 'static,
+{
+    Builder::new().spawn(rt, move || pass_way(tell, from, to))
+}
+
+/// Passes on what one side sends. At its end the other side reads the end. If the other side is gone, the rest is only heard.
+fn pass_way<R, S>(tell: Teller<R>, from: S, to: S)
+where
+    R: Wait + AllocGlobal + Drop,
+    S: OpenStream + Read + Write + Drop,
+{
+    let (mut tell, mut from, mut to) = (tell, from, to);
+    if let Ended::Unwritten = pass_on(&mut tell, &mut from, &mut to) {
+        drop(to.shutdown(Shutdown::Both));
+        drop(from.set_read_timeout(Some(Duration::from_secs(LAST_SECONDS))));
+        pass_on(&mut tell, &mut from, &mut io::sink());
+    }
+    drop(to.shutdown(Shutdown::Write));
+    drop(tell.sender.send(&tell.rt, Heard::End(tell.way)));
+}
+
+/// What is judged of the two ways.
+#[derive(Drop)]
+struct Ways {
+    judged: Judgement,
+    client: Frames,
+    server: Frames,
+    status: u8,
+    /// Whether the rest only passes.
+    is_over: bool,
+}
+
+/// Judges what is heard up to the end of both ways, and gives the status.
+fn judge_heard<R: Wait, W: Write>(
+    rt: &R,
+    heard: &Receiver<Heard>,
+    report: &Report<'_>,
+    out: &mut W,
+) -> Result<u8> {
+    let alloc = report.alloc;
+    let mut ways = Ways {
+        judged: Judgement::new(alloc),
+        client: Frames::new(alloc),
+        server: Frames::new(alloc),
+        status: 0,
+        is_over: false,
+    };
+    let judged = ways.judge(rt, heard, report, out);
+    drop(ways);
+    judged
+}
+
+impl Ways {
+    fn judge<R: Wait, W: Write>(
+        &mut self,
+        rt: &R,
+        heard: &Receiver<Heard>,
+        report: &Report<'_>,
+        out: &mut W,
+    ) -> Result<u8> {
+        for one in heard.iter(rt) {
+            let judged = self.hear(&one, report, out);
+            drop(one);
+            judged?;
+        }
+        self.judged.end(report, out)?;
+        out.flush()?;
+        Ok(self.judged.status().max(self.status))
+    }
+
+    fn hear<W: Write>(&mut self, heard: &Heard, report: &Report<'_>, out: &mut W) -> Result<()> {
+        if self.is_over {
+            return Ok(());
+        }
+        let way = match heard {
+            Heard::Piece(way, bytes) => {
+                self.see(*way, bytes.as_slice(), report, out)?;
+                *way
+            }
+            Heard::End(way) => {
+                self.side(*way).end();
+                *way
+            }
+            Heard::Lost => return Err(AllocError.into()),
+        };
+        self.stop(way, report, out)?;
+        Ok(out.flush()?)
+    }
+
+    /// Judges the messages that a piece ends.
+    fn see<W: Write>(
+        &mut self,
+        way: Way,
+        piece: &[u8],
+        report: &Report<'_>,
+        out: &mut W,
+    ) -> Result<()> {
+        self.side(way).push(piece)?;
+        for _ in 0..u64::MAX {
+            self.side(way).look()?;
+            let Some((place, message)) = self.side(way).take() else {
+                return Ok(());
+            };
+            let passing = Passing {
+                way,
+                message,
+                time: None,
+            };
+            let place = begin_of(way).saturating_add(place);
+            let seen = self.judged.see(place, &passing, report, out);
+            drop(passing);
+            seen?;
+        }
+        Ok(())
+    }
+
+    /// Tells what is wrong with the frame that comes next, if it is bad. Then nothing more is judged.
+    fn stop<W: Write>(&mut self, way: Way, report: &Report<'_>, out: &mut W) -> Result<()> {
+        let status = tell_stop(self.side(way), begin_of(way), report, out)?;
+        if status > 0 {
+            self.status = status;
+            self.is_over = true;
+        }
+        Ok(())
+    }
+
+    fn side(&mut self, way: Way) -> &mut Frames {
+        match way {
+            Way::ToServer => &mut self.client,
+            Way::ToClient => &mut self.server,
+        }
+    }
+}
+
+/// Where the places of a way begin.
+fn begin_of(way: Way) -> u64 {
+    match way {
+        Way::ToServer => 0,
+        Way::ToClient => SECOND,
+    }
+}
