@@ -29,6 +29,9 @@ LAST_WORDS = b'{"jsonrpc":"2.0","method":"bye"}'
 # What the recorder tells of them: a server says nothing before the result of `initialize` (LSP 3.17, "Initialize Request").
 TOO_EARLY = b'1: <- `initialize` has no result yet (LSP 3.17, "Initialize Request")\n'
 
+CHANGE = b'{"jsonrpc":"2.0","method":"textDocument/didChange","params":{"textDocument":{"uri":"file:///a"}}}'
+NOT_OPEN = b'4: -> the document is not open (LSP 3.17, "DidOpenTextDocument Notification")\n'
+
 
 def lines_of(session):
     """The recording of a client that waits for each reply."""
@@ -145,6 +148,18 @@ def check_session(log):
         expect("the end of the recorder", recording.end(), (0, b"", b""))
         expect("the end of the server", demo.end(), (0, b"", b""))
     expect("the recording", log.read_bytes(), lines_of(SESSION))
+
+
+def check_document(log):
+    print("a change of a document that is not open is told while the session goes on")
+    with server() as demo, recorder(demo.port, log) as recording, recording.connect() as client:
+        for sent, wanted in [*SESSION[:2], (CHANGE, None), *SESSION[3:]]:
+            client.sendall(frame(sent))
+            if wanted:
+                receive(client, frame(wanted))
+        client.close()
+        expect("the end of the recorder", recording.end(), (0, b"", NOT_OPEN))
+        expect("the end of the server", demo.end(), (0, b"", b""))
 
 
 def check_early_close(log):
@@ -288,7 +303,7 @@ def main():
             return 2
     try:
         with tempfile.TemporaryDirectory() as folder:
-            for check in [check_session, check_early_close, check_last_words, check_pipes, check_replay, check_replay_in_another_order, check_replay_of_jobs]:
+            for check in [check_session, check_document, check_early_close, check_last_words, check_pipes, check_replay, check_replay_in_another_order, check_replay_of_jobs]:
                 check(Path(folder) / "session.log")
     except Difference as difference:
         print(f"recorder_client.py: FAILED: {difference}", file=sys.stderr)

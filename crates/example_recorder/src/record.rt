@@ -3,7 +3,7 @@ use crate::line::message_of;
 use anyhow::Result;
 use crossbeam_channel::{Receiver, Sender, bounded};
 use lsp_server::{CHANNEL_ROOM, Connection, IoThreads, Message, spawn};
-use lsp_watch::{Watch, Way};
+use lsp_watch::{ContentWatch, Watch, Way};
 use std::alloc::AllocError;
 use std::io::Write;
 use std::sync::Wait;
@@ -146,6 +146,7 @@ fn write_lines<R: Wait + AllocGlobal + Eprint, W: Write>(
     until: Until,
 ) -> Result<()> {
     let mut watch = Watch::new(rt.alloc());
+    let mut content = ContentWatch::new(rt.alloc());
     let mut number: u64 = 0;
     for entry in entries.iter(rt) {
         match entry {
@@ -153,7 +154,10 @@ fn write_lines<R: Wait + AllocGlobal + Eprint, W: Write>(
                 number = number.saturating_add(1);
                 writeln!(log, "{way} {body}")?;
                 log.flush()?;
-                tell_breach(rt, &mut watch, number, way, body.as_str())?;
+                let message = message_of(rt.alloc(), body.as_str())?;
+                let told = tell_breaches(rt, &mut watch, &mut content, number, way, &message);
+                drop(message);
+                told?;
             }
             Entry::End(way) => {
                 if matches!(way, Way::ToClient) && matches!(until, Until::ServerCloses) {
@@ -165,18 +169,19 @@ fn write_lines<R: Wait + AllocGlobal + Eprint, W: Write>(
     Ok(())
 }
 
-/// Shows a message to the watch, and tells the rule that it breaks.
-fn tell_breach<R: AllocGlobal + Eprint>(
+/// Shows a message to the watches, and tells the rules that it breaks.
+fn tell_breaches<R: Eprint>(
     rt: &R,
     watch: &mut Watch,
+    content: &mut ContentWatch,
     number: u64,
     way: Way,
-    body: &str,
+    message: &Message,
 ) -> Result<()> {
-    let message = message_of(rt.alloc(), body)?;
-    let found = watch.pass(number, way, &message);
-    drop(message);
-    if let Some(breach) = found? {
+    if let Some(breach) = &watch.pass(number, way, message)? {
+        eprintln!(rt; "{number}: {way} {breach}")?;
+    }
+    if let Some(breach) = &content.pass(number, way, message)? {
         eprintln!(rt; "{number}: {way} {breach}")?;
     }
     Ok(())
