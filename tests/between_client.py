@@ -122,9 +122,10 @@ def check_clients():
                     client.sendall(frame(INITIALIZE))
                     receive(theirs, frame(INITIALIZE))
                 expect("what a client reads whose server is gone", read_all(client), b"")
-            open_line = b"client:0: -> 1: has no reply\n"
-            expect("what is told", check.process.stderr.readline(), open_line)
-            expect("the summary", check.process.stderr.readline(), summary(1, 0, 0, 1))
+                # (though it stays)
+                open_line = b"client:0: -> 1: has no reply\n"
+                expect("what is told", check.process.stderr.readline(), open_line)
+                expect("the summary", check.process.stderr.readline(), summary(1, 0, 0, 1))
         expect("whether it listens on", check.process.poll(), None)
 
 

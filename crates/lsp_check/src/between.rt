@@ -109,7 +109,8 @@ where
     Builder::new().spawn(rt, move || pass_way(tell, from, to))
 }
 
-/// Passes on what one side sends. At its end the other side reads the end. If the other side is gone, the rest is only heard.
+/// Passes on what one side sends. At its end the other side reads the end. If the other side is gone, the rest is only heard. Of a client
+/// whose server is gone no more is taken.
 fn pass_way<R, S>(tell: Teller<R>, from: S, to: S)
 where
     R: Wait + AllocGlobal + Drop,
@@ -121,7 +122,11 @@ where
         drop(from.set_read_timeout(Some(Duration::from_secs(LAST_SECONDS))));
         pass_on(&mut tell, &mut from, &mut io::sink());
     }
-    drop(to.shutdown(Shutdown::Write));
+    let how = match tell.way {
+        Way::ToServer => Shutdown::Write,
+        Way::ToClient => Shutdown::Both,
+    };
+    drop(to.shutdown(how));
     drop(tell.sender.send(&tell.rt, Heard::End(tell.way)));
 }
 
