@@ -22,6 +22,7 @@ ODD_BODY = b'{ "id" : 1 ,\n "method" : "initialize", "jsonrpc":"2.0" }'
 ODD = b"Content-Type: application/vscode-jsonrpc; charset=utf-8\r\ncontent-length: %d\r\n\r\n%s" % (len(ODD_BODY), ODD_BODY)
 PADDED = b"Content-Length: 0000%d\r\n\r\n%s" % (len(INITIALIZE_REPLY), INITIALIZE_REPLY)
 NO_FRAME = b"\r\n\xff\x00 no frame" * 5000
+LONG_HEADER = b"Content-Type: " + b"x" * 300_000
 
 
 def between(server_port, *words):
@@ -70,6 +71,18 @@ def check_bytes():
             expect("what came back", read_all(client), NO_FRAME[::-1])
             told = f"client:{len(ODD)}: the header part of the frame is bad\n".encode()
             expect("the end of the check", check.end(), (2, b"", told + summary(1, 1, 0)))
+
+
+def check_long_header():
+    print("a header part without an end passes, and is told once")
+    with socket.create_server((HOST, 0)) as listener, between(listener.getsockname()[1], "--once") as check:
+        with check.connect() as client, accept(listener) as theirs:
+            client.sendall(LONG_HEADER)
+            client.shutdown(socket.SHUT_WR)
+            expect("what came", read_all(theirs), LONG_HEADER)
+            theirs.close()
+            told = b"client:0: the header part of the frame is longer than 64 KiB\n"
+            expect("the end of the check", check.end(), (2, b"", told + summary(0, 0, 0)))
 
 
 def check_told_at_once():
@@ -135,7 +148,7 @@ def main():
             print(f"between_client.py: no program {program}: `rt run` in its crate's folder builds it", file=sys.stderr)
             return 2
     try:
-        for check in [check_session, check_bytes, check_told_at_once, check_order, check_clients]:
+        for check in [check_session, check_bytes, check_long_header, check_told_at_once, check_order, check_clients]:
             begun = time.monotonic()
             check()
             expect("whether it took less than a minute", time.monotonic() - begun < 60, True)

@@ -1,5 +1,6 @@
 // The frames of one way (LSP 3.17, "Base Protocol"), of which pieces come.
-use lsp_message::{Front, Message, ReadFault, front};
+use lsp_message::{Front, Limits, Message, ReadFault, front};
+use memchr::memmem;
 use std::alloc::{AllocError, Global};
 use std::io::{self, BufRead};
 use std::mem;
@@ -63,6 +64,9 @@ impl Frames {
         self.next = match front(self.bytes.as_slice()) {
             Front::Whole(count) => next_in(self.alloc, &self.bytes[..count])?,
             Front::Fault(_) => Next::Bad("the header part of the frame is bad"),
+            Front::More if is_long_header(self.bytes.as_slice()) => {
+                Next::Bad("the header part of the frame is longer than 64 KiB")
+            }
             Front::More => Next::More,
         };
         Ok(())
@@ -101,6 +105,15 @@ impl Frames {
             }
         }
         Ok(())
+    }
+}
+
+/// Whether the header part goes on behind the most bytes that it may have. Else each piece of one that never ends would be looked
+/// through again.
+fn is_long_header(bytes: &[u8]) -> bool {
+    match bytes.get(..Limits::HEADER_BYTES as usize) {
+        Some(front) => memmem::find(front, b"\r\n\r\n").is_none(),
+        None => false,
     }
 }
 
