@@ -153,8 +153,8 @@ def path_named(uri):
 class Documents:
     """What a server holds, and what it answers. A document whose text is lost has None for its text and its version."""
 
-    def __init__(self, encoding, include_text=True, standard=False, makes_late=False):
-        self.encoding, self.include_text, self.makes_late = encoding, include_text, makes_late
+    def __init__(self, encoding, include_text=True, standard=False, applies_late=False):
+        self.encoding, self.include_text, self.applies_late = encoding, include_text, applies_late
         self.counting = Counting(encoding, standard)
         # Of each document its version, its language and its text. The version of one that is lost for want of order stays.
         self.open = {}
@@ -303,7 +303,7 @@ class Documents:
         if not is_open and not is_whole:
             return f"{uri}: the document is not open"
         before, language, text = self.open.get(uri, (None, "", None))
-        if is_open and not self.makes_late and None not in (version, before) and version < before:
+        if is_open and not self.applies_late and None not in (version, before) and version < before:
             # Changes of a lower version come behind others that were made without them.
             self.open[uri] = (before, language, None)
             return f"{uri}: changes came out of order"

@@ -21,7 +21,7 @@ type Acts = Vec<Act<()>>;
 impl Server for Speaking {
     ghost use Rattle.serde_json.specs.Data.{null, object, member, no_members};
     ghost use Rattle.std.specs.Prelude.{◌≡◌, ◌∷◌, [], Ok, codes, if◌then◌else◌};
-    ghost use Rattle.lsp_service.specs.Acts.{replies};
+    ghost use Rattle.lsp_acts.specs.Acts.{replies};
 
     type Payload = ();
 

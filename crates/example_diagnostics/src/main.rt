@@ -8,11 +8,11 @@
 #![tactic(auto)]
 
 ghost use Rattle.lsp_session.specs.StreamTransports.{IsUnused, Serves};
-ghost use Rattle.lsp_service.specs.QueuedServer.{ServerSession};
-ghost use Rattle.lsp_service.specs.Stated.{unwoken};
+ghost use Rattle.lsp_acts.specs.QueuedServer.{ServerSession};
+ghost use Rattle.lsp_acts.specs.Stated.{unwoken};
 
 use anyhow::{Result as Answer, bail};
-use lsp_documents::{Agreed, Made, NotMade, TextDocuments};
+use lsp_documents::{Agreed, DocumentUpdate, TextDocuments, UpdateFault};
 use lsp_methods::{Configuration, answer, publish, read, reply};
 use lsp_server::clients::{ClientOptions, serve_clients};
 use lsp_server::{
@@ -40,7 +40,7 @@ struct Checker {
     /// Whether the client was asked, and has not answered yet.
     is_asking: bool,
     documents: TextDocuments,
-    /// What was last logged of a notification that was not made.
+    /// What was last logged of a notification that was not applied.
     complaint: String,
     /// The hovers that wait for the configuration.
     waiting: Vec<Request>,
@@ -57,7 +57,7 @@ type Acts = Vec<Act<Asked>>;
 impl Server for Checker {
     ghost use Rattle.std.specs.Prelude.{◌≡◌, ◌≢◌, ◌∷◌, [], Err, codes};
     ghost use Rattle.lsp_message.specs.Converted.{method_not_found};
-    ghost use Rattle.lsp_service.specs.Acts.{replies};
+    ghost use Rattle.lsp_acts.specs.Acts.{replies};
 
     // A request changes no document. One that is neither a hover nor a definition gets the error -32601 alone.
     ghost requested = { λ old id method _ acts new.
@@ -160,25 +160,25 @@ impl Checker {
 
     /// What the client is told after a notification.
     fn note(&mut self, notification: &Notification, acts: &mut Acts) -> Result<(), AllocError> {
-        match self.documents.hear(notification) {
-            Some(Ok(made)) => self.hear(made, acts),
+        match self.documents.apply(notification) {
+            Some(Ok(update)) => self.follow(update, acts),
             Some(Err(missed)) => self.complain(missed.unless_memory()?, acts),
             None => Ok(()),
         }
     }
 
-    /// What the client is told after a notification that was made: what there is to say of it, and which lines are too long.
-    fn hear(&self, made: Made<'_>, acts: &mut Acts) -> Result<(), AllocError> {
-        if made.remark.is_some() {
-            let line = format!(in self.alloc; "{made}")?;
+    /// What the client is told after a notification that was applied: what there is to say of it, and which lines are too long.
+    fn follow(&self, update: DocumentUpdate<'_>, acts: &mut Acts) -> Result<(), AllocError> {
+        if update.remark.is_some() {
+            let line = format!(in self.alloc; "{update}")?;
             acts.push(Act::log(self.alloc, MessageType::WARNING, line.as_str())?)?;
         }
-        self.mark(acts, made.uri, self.documents.get(made.uri))
+        self.mark(acts, update.uri, self.documents.get(update.uri))
     }
 
-    /// What the client is told after a notification that was not made: why, but not at each keystroke anew, and no marks of a text that
+    /// What the client is told after a notification that was not applied: why, but not at each keystroke anew, and no marks of a text that
     /// was lost by it. Each may be, if no URI is named.
-    fn complain(&mut self, missed: NotMade<'_>, acts: &mut Acts) -> Result<(), AllocError> {
+    fn complain(&mut self, missed: UpdateFault<'_>, acts: &mut Acts) -> Result<(), AllocError> {
         let line = format!(in self.alloc; "{missed}")?;
         if missed.lost || line.as_str() != self.complaint.as_str() {
             acts.push(Act::log(self.alloc, MessageType::ERROR, line.as_str())?)?;
@@ -314,8 +314,8 @@ fn main(rt: HostRuntime) -> Answer<()> {
     let words: Vec<String> = env::args(&rt)?.skip(1).collect(alloc)?;
     let options = ClientOptions::new();
     let served = serve_clients(&rt, words.as_slice(), options, |mut client| {
-        let mut bad_bodies = EndSession;
-        let mut transport = client.transport(alloc, &mut bad_bodies);
+        let mut policy = EndSession;
+        let mut transport = client.transport(alloc, &mut policy);
         let (_checker, answer) = serve(alloc, &mut transport, Checker::new(alloc));
         answer
     })?;

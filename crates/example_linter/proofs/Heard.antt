@@ -23,8 +23,8 @@ use Rattle.lsp_documents.specs.Params.{opened_in, uri_in}
 use Rattle.lsp_documents.specs.Params.{document_in, text_in, version_in}
 use Rattle.lsp_documents.specs.declared.documents.TextDocuments.{TextDocuments}
 use Rattle.lsp_documents.specs.declared.fault.DocumentFault.{DocumentFault}
-use Rattle.lsp_documents.specs.declared.fault.Made.{Made}
-use Rattle.lsp_documents.specs.declared.fault.NotMade.{NotMade}
+use Rattle.lsp_documents.specs.declared.fault.DocumentUpdate.{DocumentUpdate}
+use Rattle.lsp_documents.specs.declared.fault.UpdateFault.{UpdateFault}
 use Rattle.lsp_documents.specs.declared.kept.Open.{Open}
 use Rattle.lsp_documents.specs.declared.method.DocumentMethod.{DocumentMethod}
 use Rattle.lsp_documents.specs.declared.method.DocumentMethod.TheVariants.{DidOpen, DidChange, DidSave, DidClose}
@@ -32,7 +32,7 @@ use Rattle.lsp_jobs.specs.SlotLaw.{LeavesAlone, slot_of}
 use Rattle.lsp_jobs.specs.declared.job_server.SlotChange.{SlotChange}
 use Rattle.lsp_jobs.specs.declared.job_server.SlotChange.TheVariants.{Start, Stop}
 use Rattle.lsp_message.specs.Id.{Id, text, same_id}
-use Rattle.lsp_service.specs.declared.server.Act as rust
+use Rattle.lsp_acts.specs.declared.server.Act as rust
 use Rattle.example_linter.proofs.Lists.{in_list, only, some_and}
 use Rattle.example_linter.specs.Followed.{act_seen, AreChangesOf, Clears, Follow, IsChangeOf, IsCurrent}
 use Rattle.example_linter.specs.declared.Analysis.{Analysis}
@@ -95,14 +95,14 @@ failed_by DidSave before now params fault f = failed_save before now (did_save_i
 failed_by DidClose before now params fault f = failed before now (did_close_in params) (uri_in params) fault
     (one closes (λ uri. refl) (uri_in params)) f
 
-pub touched : (method : DocumentMethod) (before now : TextDocuments) (params : Data) (m : Made)
+pub touched : (method : DocumentMethod) (before now : TextDocuments) (params : Data) (m : DocumentUpdate)
     → Answers method before params (Ok m) now → Touches (documents_of before) (documents_of now) (Some m.uri.now)
 touched method before now params m a =
     let n = some_and (λ (n : Notice). (m.uri.now ≡ n.uri)
     × Took (documents_of before) n m.remark (documents_of now)) (notice_in method params) a.ok in
     subst (λ (uri : List ℕ). Touches (documents_of before) (documents_of now) (Some uri)) (sym n.2.0) n.2.1.makes.others
 
-pub not_made : (method : DocumentMethod) (before now : TextDocuments) (params : Data) (m : NotMade)
+pub not_made : (method : DocumentMethod) (before now : TextDocuments) (params : Data) (m : UpdateFault)
     → Answers method before params (Err m) now
     → Touches (documents_of before) (documents_of now) (option_map (λ s. s.now) m.uri)
 not_made method before now params m a =
@@ -171,28 +171,32 @@ are_left documents changes change e entries is before uri alone =
     ∙ lookup_tail (is_at (λ k. slice_cmp nat_cmp uri (string_bytes k))) e entries
     (subst (λ (s : Id). same_id (text uri) s ≡ false) (slot_is documents (string_bytes e.0) change is) both.1.0)
 
--- what `hear` ensures
-abbrev Heard : Option DocumentMethod → TextDocuments → Data → Option (Result Made NotMade) → TextDocuments → Type 0
+-- what `apply` ensures
+abbrev Heard : Option DocumentMethod → TextDocuments → Data → Option (Result DocumentUpdate UpdateFault)
+    → TextDocuments → Type 0
 Heard found before params result now = MatchOption found ((result ≡ None) × (now ≡ before))
     (λ method. IsSomeAnd result (λ heard. Answers method before params heard now))
 
 heard_as : (found : Option DocumentMethod) (before : TextDocuments) (params : Data)
-    (result : Option (Result Made NotMade)) (heard : Result Made NotMade) (now : TextDocuments)
-    → Heard found before params result now → result ≡ Some heard
+    (result : Option (Result DocumentUpdate UpdateFault)) (heard : Result DocumentUpdate UpdateFault)
+    (now : TextDocuments) → Heard found before params result now → result ≡ Some heard
     → (method : DocumentMethod) × Answers method before params heard now
 heard_as None before params result heard now h e = let no = sym h.0 ∙ e in absurd (cc (no))
-heard_as (Some method) before params result heard now h e =
-    (method, subst (λ (r : Option (Result Made NotMade)). IsSomeAnd r (λ x. Answers method before params x now)) e h)
+heard_as (Some method) before params result heard now h e = (
+  method,
+  subst (λ (r : Option (Result DocumentUpdate UpdateFault)). IsSomeAnd r (λ x. Answers method before params
+      x now)) e h,
+)
 
 pub hears_made : (found : Option DocumentMethod) (before : TextDocuments) (params : Data)
-    (result : Option (Result Made NotMade)) (m : Made) (now : TextDocuments)
+    (result : Option (Result DocumentUpdate UpdateFault)) (m : DocumentUpdate) (now : TextDocuments)
     → Heard found before params result now → result ≡ Some (Ok m)
     → Touches (documents_of before) (documents_of now) (Some m.uri.now)
 hears_made found before params result m now h e =
     let a = heard_as found before params result (Ok m) now h e in touched a.0 before now params m a.1
 
 pub hears_missed : (found : Option DocumentMethod) (before : TextDocuments) (params : Data)
-    (result : Option (Result Made NotMade)) (m : NotMade) (now : TextDocuments)
+    (result : Option (Result DocumentUpdate UpdateFault)) (m : UpdateFault) (now : TextDocuments)
     → Heard found before params result now → result ≡ Some (Err m)
     → Touches (documents_of before) (documents_of now) (option_map (λ s. s.now) m.uri)
 hears_missed found before params result m now h e =

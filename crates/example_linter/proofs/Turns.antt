@@ -12,7 +12,7 @@ use Rattle.lsp_jobs.specs.Pooled.{reply_at}
 use Rattle.lsp_jobs.specs.SlotLaw.{AllLeaveAlone, AreTurns, IsCalled, IsLeft, IsTurn, LastStart, LeavesAlone, Left}
 use Rattle.lsp_jobs.specs.SlotLaw.{SeesLeft, SlotHistory, Stands, StartsLast, Turn, WakeDoes, at_ends}
 use Rattle.lsp_jobs.specs.Stated.{SeesEnd, StatedJobs}
-use Rattle.lsp_jobs.specs.declared.asking.Asked.{Asked}
+use Rattle.lsp_jobs.specs.declared.asking.RequestOrigin.{RequestOrigin}
 use Rattle.lsp_jobs.specs.declared.job_server.JobEnd.{JobEnd}
 use Rattle.lsp_jobs.specs.declared.job_server.JobEnd.TheVariants.{Cancelled, Done, Failed}
 use Rattle.lsp_jobs.specs.declared.job_server.SlotChange.{SlotChange}
@@ -21,9 +21,9 @@ use Rattle.lsp_jobs.specs.declared.names.JobName.{JobName}
 use Rattle.lsp_jobs.specs.declared.names.JobName.TheVariants.{Request, Slot}
 use Rattle.lsp_message.specs.Id.{Id}
 use Rattle.lsp_message.specs.Message.{Message, request, notification, response}
-use Rattle.lsp_service.specs.Acts.{Act, TakesBack, tells, asks, replies, cancels}
-use Rattle.lsp_service.specs.Law.{Call}
-use Rattle.lsp_service.specs.declared.server.Server.{Ghosts as Plain}
+use Rattle.lsp_acts.specs.Acts.{Act, TakesBack, tells, asks, replies, cancels}
+use Rattle.lsp_acts.specs.Law.{Call}
+use Rattle.lsp_acts.specs.declared.server.Server.{Ghosts as Plain}
 use Rattle.lsp_session.specs.Session.{Exchange}
 use Rattle.lsp_text.specs.Documents.{Document}
 use Rattle.lsp_text.specs.Lines.{LinedText}
@@ -38,14 +38,14 @@ use Rattle.example_linter.specs.declared.Linter.{Linter}
 
 -- what is told is what the server told
 told : {P : Type 0} (method : List ℕ) (params : Data) (act : Act P)
-    → ◌≡◌ {A = Act (Asked P)} (tells method params) (by_server act) → act ≡ tells method params
+    → ◌≡◌ {A = Act (RequestOrigin P)} (tells method params) (by_server act) → act ≡ tells method params
 told method params (tells m p) e = cc (e)
 told method params (asks m p payload) e = absurd (cc (e))
 told method params (replies id outcome) e = absurd (cc (e))
 told method params (cancels z) e = absurd (cc (e))
 
 -- nothing was done before no reply
-none_told : {P : Type 0} {acts : List (Act (Asked P))} (first : List (Act P)) → first ≡ []
+none_told : {P : Type 0} {acts : List (Act (RequestOrigin P))} (first : List (Act P)) → first ≡ []
     → acts ≡ map_list by_server (first ++ []) → acts ≡ []
 none_told first none all = all ∙ ap (λ l. map_list by_server (l ++ [])) none
 
@@ -216,7 +216,7 @@ module _ {P : Type 0} (written : Diagnostic → Data) (plain : Plain Linter P)
 
     -- a notification at a wake, after these turns
     module _ (t : Turn plain may) (earlier : List (Turn plain may)) (good : Good earlier t.old)
-        (before after : List (Act (Asked P))) (method : List ℕ) (params : Data)
+        (before after : List (Act (RequestOrigin P))) (method : List ℕ) (params : Data)
         (at : t.call.acts ≡ before ++ tells method params ∷ after) where
       abbrev Held : Type 0
       Held = ShowsHeld {P = P} (documents_of t.old.documents) (tells method params)
@@ -280,8 +280,8 @@ module _ {P : Type 0} (written : Diagnostic → Data) (plain : Plain Linter P)
           (cancels (of_job number)) (sym is ∙ at) in
           absurd (cc (one))
 
-    pub all_shown : (start : Linter) (opening : Exchange) (begun : List (Act (Asked P)))
-        (calls : List (Call (Asked P))) → start.changes.items ≡ []
+    pub all_shown : (start : Linter) (opening : Exchange) (begun : List (Act (RequestOrigin P)))
+        (calls : List (Call (RequestOrigin P))) → start.changes.items ≡ []
         → (history : SlotHistory plain may start opening begun calls)
         → ShowsHeldTexts plain may history.turns
     all_shown start opening begun calls none history earlier later t cut woken before after method params at =

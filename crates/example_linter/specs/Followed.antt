@@ -10,9 +10,9 @@ use Rattle.lsp_jobs.specs.declared.job_server.SlotChange.{SlotChange}
 use Rattle.lsp_jobs.specs.declared.job_server.SlotChange.TheVariants.{Start, Stop}
 use Rattle.lsp_message.specs.Id.{Id, text}
 use Rattle.lsp_methods.specs.Publishing.{publishes}
-use Rattle.lsp_service.specs.Acts.{Act}
-use Rattle.lsp_service.specs.View.{act_view}
-use Rattle.lsp_service.specs.declared.server.Act as rust
+use Rattle.lsp_acts.specs.Acts.{Act}
+use Rattle.lsp_acts.specs.View.{act_view}
+use Rattle.lsp_acts.specs.declared.server.Act as rust
 use Rattle.lsp_text.specs.Documents.{Document}
 use Rattle.example_linter.specs.declared.Analysis.{Analysis}
 

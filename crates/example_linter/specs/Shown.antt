@@ -5,9 +5,9 @@ use Rattle.lsp_documents.specs.Held.{documents_of}
 use Rattle.lsp_documents.specs.Notices.{Documents}
 use Rattle.lsp_jobs.specs.SlotLaw.{Turn}
 use Rattle.lsp_jobs.specs.Stated.{StatedJobs}
-use Rattle.lsp_jobs.specs.declared.asking.Asked.{Asked}
-use Rattle.lsp_service.specs.Acts.{Act, tells}
-use Rattle.lsp_service.specs.declared.server.Server.{Ghosts as Plain}
+use Rattle.lsp_jobs.specs.declared.asking.RequestOrigin.{RequestOrigin}
+use Rattle.lsp_acts.specs.Acts.{Act, tells}
+use Rattle.lsp_acts.specs.declared.server.Server.{Ghosts as Plain}
 use Rattle.lsp_text.specs.Documents.{Document}
 use Rattle.lsp_types.specs.declared.diagnostics.Diagnostic.{Diagnostic}
 use Rattle.example_linter.specs.Followed.{known, shows}
@@ -37,6 +37,6 @@ module _ {P : Type 0} (plain : Plain Linter P) (may : StatedJobs Linter Analysis
   ShowsHeldTexts turns =
       (earlier later : List (Turn plain may)) (t : Turn plain may) → turns ≡ earlier ++ t ∷ later
       → t.call.came ≡ None
-      → (before after : List (Act (Asked P))) (method : List ℕ) (params : Data)
+      → (before after : List (Act (RequestOrigin P))) (method : List ℕ) (params : Data)
       → t.call.acts ≡ before ++ tells method params ∷ after
       → ShowsHeld {P = P} (documents_of t.old.documents) (tells method params)

@@ -10,10 +10,10 @@ ghost use Rattle.std.specs.Prelude.{◌≡◌, ◌<◌, ◌∷◌, ◌++◌, [],
 ghost use Rattle.lsp_documents.specs.Held.{documents_of};
 ghost use Rattle.lsp_jobs.specs.JobLaw.{LawfulJobSession};
 ghost use Rattle.lsp_jobs.specs.SlotLaw.{SlotHistory};
-ghost use Rattle.lsp_jobs.specs.declared.asking.Asked.{Asked};
+ghost use Rattle.lsp_jobs.specs.declared.asking.RequestOrigin.{RequestOrigin};
 ghost use Rattle.lsp_jobs.specs.declared.job_server.SlotChange.{SlotChange as ChangeOfSlot};
-ghost use Rattle.lsp_service.specs.Acts.{Act as PlainAct};
-ghost use Rattle.lsp_service.specs.Law.{Call};
+ghost use Rattle.lsp_acts.specs.Acts.{Act as PlainAct};
+ghost use Rattle.lsp_acts.specs.Law.{Call};
 ghost use Rattle.lsp_session.specs.Session.{Exchange};
 ghost use Rattle.lsp_threads.specs.Passing.{GivenTo, OfTaken, TakenFrom, noted};
 ghost use Rattle.lsp_threads.specs.Threads.{ThreadsTellOver};
@@ -31,8 +31,8 @@ use lsp_jobs::{
 use lsp_methods::publish;
 use lsp_server::clients::{ClientOptions, serve_clients};
 use lsp_server::{
-    Act, ClientStreams, EndSession, Listener, Notification, Request, ResponseError, Server,
-    SessionEnd, StartFault, ThreadOptions, Threaded,
+    Act, BadContentPolicy, ClientStreams, EndSession, Notification, Request, ResponseError, Server,
+    SessionEnd, StartFault, ThreadOptions, ThreadsOutcome,
 };
 use lsp_text::Text;
 use lsp_types::{Diagnostic, DiagnosticSeverity, Position, Range, ToJson};
@@ -186,7 +186,7 @@ impl Slots<Linter, Analysis> for Linter {
 impl Server for Linter {
     ghost use Rattle.std.specs.Prelude.{Err};
     ghost use Rattle.lsp_message.specs.Converted.{method_not_found};
-    ghost use Rattle.lsp_service.specs.Acts.{replies};
+    ghost use Rattle.lsp_acts.specs.Acts.{replies};
 
     type Payload = ();
 
@@ -263,8 +263,8 @@ impl Linter {
             → Follow (documents_of self.old.documents) self.new.changes.items (documents_of self.new.documents)) }
         ensures clear { OnOk result (All (Clears (documents_of self.new.documents)) (map act_seen acts.new.items)) }
     {
-        match self.documents.hear(notification) {
-            Some(Ok(made)) => self.look_at(made.uri, acts),
+        match self.documents.apply(notification) {
+            Some(Ok(update)) => self.look_at(update.uri, acts),
             Some(Err(missed)) => match missed.uri {
                 Some(uri) => self.look_at(uri, acts),
                 None => self.look_at_all(acts),
@@ -330,14 +330,14 @@ fn serve<T, R, W>(
     alloc: Global,
     client: ClientStreams<R, W>,
     linter: Linter,
-    bad_bodies: &mut EndSession,
-) -> (Linter, Result<Threaded<W>, StartFault>)
+    policy: &mut EndSession,
+) -> (Linter, Result<ThreadsOutcome<W>, StartFault>)
 where
     T: Threads + Wait + Copy + Drop + Send + 'static,
     R: BufRead + Drop + Send + 'static,
     W: Write + Drop + Send + 'static,
     ensures told { IfOk result.1 (λ done. OfTaken done.taken.parts (λ text.
-        ThreadsTellOver true ⟦<EndSession as Listener>⟧.hears client.limits (LawfulJobSession T ⟦<Linter as Server>⟧
+        ThreadsTellOver true ⟦<EndSession as BadContentPolicy>⟧.passes client.limits (LawfulJobSession T ⟦<Linter as Server>⟧
         (record {
           sorts = ⟦<Linter as JobServer<Analysis>>⟧.sorts;
           gives = ⟦<Linter as JobServer<Analysis>>⟧.gives;
@@ -350,7 +350,7 @@ where
           reports = ⟦<Analysis as Job>⟧.reports;
           asks = ⟦<Analysis as Job>⟧.asks;
         }) linter result.0)
-        text bad_bodies.old bad_bodies.new (Some []) (noted done.given) done.answer)) }
+        text policy.old policy.new (Some []) (noted done.given) done.answer)) }
     ensures passed { IfOk result.1 (λ done. TakenFrom (R.remaining client.reader) done.taken.parts
         × GivenTo (W.contents client.writer) done.given.parts (W.contents done.writer)) }
 {
@@ -360,15 +360,15 @@ where
     let (reader, writer) = (client.reader, client.writer);
     // Two analyses run at a time, and as many as there are documents may wait.
     let size = PoolSize::from(2);
-    run_jobs(rt, alloc, reader, writer, size, linter, bad_bodies, options)
+    run_jobs(rt, alloc, reader, writer, size, linter, policy, options)
 }
 
 /// What is published at a wake are all the marks of the text that the server holds at that moment for the document, under its URI and with
 /// its version: never those of an older text, and none of a document that was closed. `history` is what a law of the library says of a
 /// session with jobs (`slots_hear_their_last_jobs`).
 fn marks_are_of_held_texts()
-    ensures { (start : Linter) (opening : Exchange) (begun : List (PlainAct (Asked Unit)))
-        (calls : List (Call (Asked Unit))) → start.changes.items ≡ []
+    ensures { (start : Linter) (opening : Exchange) (begun : List (PlainAct (RequestOrigin Unit)))
+        (calls : List (Call (RequestOrigin Unit))) → start.changes.items ≡ []
         → (history : SlotHistory ⟦<Linter as Server>⟧
         (record {
           sorts = ⟦<Linter as JobServer<Analysis>>⟧.sorts;

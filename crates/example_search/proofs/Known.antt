@@ -2,10 +2,10 @@
 use Rattle.std.proofs.Common.{subst}
 use Rattle.std.specs.Prelude.{List, Option}
 use Rattle.lsp_message.specs.Message.{Message}
-use Rattle.lsp_service.proofs.Counting.{used_once}
-use Rattle.lsp_service.specs.Law.{IsWhole, KeepsLaws}
-use Rattle.lsp_service.specs.QueuedServer.{ServerSession, held_by}
-use Rattle.lsp_service.specs.Stated.{Stated}
+use Rattle.lsp_acts.proofs.Counting.{used_once}
+use Rattle.lsp_acts.specs.Law.{IsWhole, KeepsLaws}
+use Rattle.lsp_acts.specs.QueuedServer.{ServerSession, held_by}
+use Rattle.lsp_acts.specs.Stated.{Stated}
 use Rattle.lsp_session.specs.Session.{Exchange, SessionAnswer, Stop}
 use Rattle.example_search.specs.Promise.{AnswersOnce}
 

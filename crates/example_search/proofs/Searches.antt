@@ -14,7 +14,7 @@ use Rattle.lsp_jobs.specs.Ends.{Came, ComesTo, End, Outcome, end_of, ended, foun
 use Rattle.lsp_jobs.specs.JobLaw.{AnswersRequest, AreTakenAt, RepliesItself}
 use Rattle.lsp_jobs.specs.SlotLaw.{AreTurns, IsCalled, IsTurn, Left, MayPass, SeesLeft, Turn}
 use Rattle.lsp_jobs.specs.Stated.{SeesEnd, StatedJobs}
-use Rattle.lsp_jobs.specs.declared.asking.Asked.{Asked}
+use Rattle.lsp_jobs.specs.declared.asking.RequestOrigin.{RequestOrigin}
 use Rattle.lsp_jobs.specs.declared.job_server.JobEnd.{JobEnd}
 use Rattle.lsp_jobs.specs.declared.job_server.SlotChange.{SlotChange}
 use Rattle.lsp_jobs.specs.declared.names.JobName.{JobName}
@@ -22,10 +22,10 @@ use Rattle.lsp_jobs.specs.declared.names.JobName.TheVariants.{Slot}
 use Rattle.lsp_message.specs.Id.{Id}
 use Rattle.lsp_message.specs.Message.{Message, request, notification, response}
 use Rattle.lsp_message.specs.Methods.{is_initialize}
-use Rattle.lsp_service.specs.Acts.{Act, TakesBack, replies}
-use Rattle.lsp_service.specs.Law.{AnswersInitialize, Initializes}
-use Rattle.lsp_service.specs.Stated.{unwoken}
-use Rattle.lsp_service.specs.declared.server.Server.{Ghosts as Plain}
+use Rattle.lsp_acts.specs.Acts.{Act, TakesBack, replies}
+use Rattle.lsp_acts.specs.Law.{AnswersInitialize, Initializes}
+use Rattle.lsp_acts.specs.Stated.{unwoken}
+use Rattle.lsp_acts.specs.declared.server.Server.{Ghosts as Plain}
 use Rattle.lsp_session.specs.Session.{Exchange, came_of}
 use Rattle.example_search.proofs.Symbols.{answered}
 use Rattle.example_search.specs.Open.{AnswersSearch, HasNone, Hears, HearsAll, Makes, SearchesOpenTexts}
@@ -109,7 +109,7 @@ module _ {F P : Type 0} (plain : Plain Sums P) (may : StatedJobs Sums Search F P
         stays old.documents now.documents None
         (ap (λ (s : Sums). s.documents) (at_end old e.0 (end_of e.1) e.2 now e.3).1)
 
-    passed : (old : Sums) (came : Option Message) (acts : List (Act (Asked P))) (new : Sums)
+    passed : (old : Sums) (came : Option Message) (acts : List (Act (RequestOrigin P))) (new : Sums)
         → MayPass plain may old came acts → new ≡ old → Hears old.documents came new.documents
     passed old (Some (request id method params)) acts new passes same =
         stays old.documents new.documents (Some (request id method params)) (ap (λ (s : Sums). s.documents) same)

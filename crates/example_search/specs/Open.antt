@@ -8,8 +8,8 @@ use Rattle.lsp_documents.specs.Held.{documents_of, texts_of}
 use Rattle.lsp_documents.specs.Methods.{method_named}
 use Rattle.lsp_documents.specs.Notices.{MissesAll}
 use Rattle.lsp_documents.specs.declared.documents.TextDocuments.{TextDocuments}
-use Rattle.lsp_documents.specs.declared.fault.Made.{Made}
-use Rattle.lsp_documents.specs.declared.fault.NotMade.{NotMade}
+use Rattle.lsp_documents.specs.declared.fault.DocumentUpdate.{DocumentUpdate}
+use Rattle.lsp_documents.specs.declared.fault.UpdateFault.{UpdateFault}
 use Rattle.lsp_jobs.specs.Ends.{Outcome}
 use Rattle.lsp_jobs.specs.JobLaw.{LastRequest}
 use Rattle.lsp_message.specs.Id.{Id}
@@ -26,7 +26,7 @@ HasNone documents = (uri : List ℕ) → (documents_of documents).held uri ≡ N
 -- A notification of a document makes of the documents what it says, if that can be made. No other message changes them.
 abbrev pub Makes : TextDocuments → Option Message → TextDocuments → Type 0
 Makes before (Some (notification method params)) now = MatchOption (method_named method) (now ≡ before)
-    (λ m. (heard : Result Made NotMade) × Answered m before params heard now)
+    (λ m. (heard : Result DocumentUpdate UpdateFault) × Answered m before params heard now)
 Makes before came now = now ≡ before
 
 -- Where a body was passed over, each text is lost first: it is open again once the client sends it whole.

@@ -4,10 +4,10 @@ use Rattle.lsp_jobs.specs.JobLaw.{LawfulJobSession}
 use Rattle.lsp_jobs.specs.Stated.{StatedJobs}
 use Rattle.lsp_message.specs.Id.{Id}
 use Rattle.lsp_message.specs.Message.{Message}
-use Rattle.lsp_service.specs.Law.{how_many, is_request_under, IsWhole, NeverMore, OnceOrEnded}
-use Rattle.lsp_service.specs.QueuedServer.{ServerSession, held_by}
-use Rattle.lsp_service.specs.Stated.{Stated}
-use Rattle.lsp_service.specs.declared.server.Server.{Ghosts as Plain}
+use Rattle.lsp_acts.specs.Law.{how_many, is_request_under, IsWhole, NeverMore, OnceOrEnded}
+use Rattle.lsp_acts.specs.QueuedServer.{ServerSession, held_by}
+use Rattle.lsp_acts.specs.Stated.{Stated}
+use Rattle.lsp_acts.specs.declared.server.Server.{Ghosts as Plain}
 use Rattle.lsp_session.specs.Session.{Exchange, messages_of, SessionAnswer, Stop}
 use Rattle.example_search.specs.Open.{SearchesOpenTexts}
 

@@ -7,7 +7,7 @@ use Rattle.lsp_jobs.specs.Ends.{Outcome, no_memory}
 use Rattle.lsp_message.specs.ErrorCode.{number_of}
 use Rattle.lsp_message.specs.Message.{ErrorObject}
 use Rattle.lsp_message.specs.declared.msg.code.ErrorCode.TheVariants.{InvalidParams}
-use Rattle.lsp_service.specs.Acts.{canceled}
+use Rattle.lsp_acts.specs.Acts.{canceled}
 use Rattle.lsp_text.specs.Lines.{LinedText}
 use Rattle.example_search.specs.Found.{AreSymbolsOf}
 

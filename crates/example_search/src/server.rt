@@ -11,7 +11,7 @@ ghost use Rattle.example_search.specs.Sources.{FindsSymbols, which_word, word_in
 
 use crate::search::{Search, Silence};
 use crate::sums::{Problem, Word, sheet_of, value_of, word_at};
-use lsp_documents::{Agreed, Made, NotMade, TextDocuments, position_in, uri_in};
+use lsp_documents::{Agreed, DocumentUpdate, TextDocuments, UpdateFault, position_in, uri_in};
 use lsp_jobs::{AnsweredBy, JobServer, NoSlots, WorkDone};
 use lsp_server::{
     Act, ErrorCode, Notification, PassedOver, Request, RequestId, ResponseError, Server,
@@ -42,7 +42,7 @@ pub struct Sums {
     documents: TextDocuments,
     /// Whether a body was passed over, which may have told of any text.
     passed_over: PassedOver,
-    /// What was last logged of a notification that was not made.
+    /// What was last logged of a notification that was not applied.
     complaint: String,
     /// The requests that are answered when nothing is wrong with a text.
     waiting: Vec<Request>,
@@ -195,7 +195,7 @@ impl Sums {
     {
         let mut acts = Vec::new(self.alloc);
         if self.passed_over.take() {
-            self.documents.lose_all();
+            self.documents.invalidate_all();
             self.complaint.clear();
             self.log(1, &"a body was no message: no text is known", &mut acts)?;
             self.mark_all(&mut acts)?;
@@ -279,8 +279,8 @@ impl Sums {
         ensures { Makes self.old.documents (Some (told (string_bytes notification.now.method)
             (view notification.now.params))) self.new.documents }
     {
-        match self.documents.hear(notification) {
-            Some(Ok(made)) => self.hear(made, acts),
+        match self.documents.apply(notification) {
+            Some(Ok(update)) => self.follow(update, acts),
             Some(Err(missed)) => self.complain(missed.unless_memory()?, acts),
             None => match notification.method.as_str() {
                 "workspace/didChangeConfiguration" => self.ask_configuration(acts),
@@ -289,19 +289,19 @@ impl Sums {
         }
     }
 
-    /// What the client is told after a notification that was made: what there is to say of it, and what is wrong with the text.
-    fn hear(&mut self, made: Made<'_>, acts: &mut Acts) -> Result<(), AllocError>
+    /// What the client is told after a notification that was applied: what there is to say of it, and what is wrong with the text.
+    fn follow(&mut self, update: DocumentUpdate<'_>, acts: &mut Acts) -> Result<(), AllocError>
         ensures { self.new.documents ≡ self.old.documents }
     {
-        if made.remark.is_some() {
-            self.log(2, &made, acts)?;
+        if update.remark.is_some() {
+            self.log(2, &update, acts)?;
         }
-        self.check(made.uri, acts)
+        self.check(update.uri, acts)
     }
 
-    /// What the client is told after a notification that was not made: why, but not at each keystroke anew, and no marks of a text that
+    /// What the client is told after a notification that was not applied: why, but not at each keystroke anew, and no marks of a text that
     /// was lost by it. Each may be, if no URI is named.
-    fn complain(&mut self, missed: NotMade<'_>, acts: &mut Acts) -> Result<(), AllocError>
+    fn complain(&mut self, missed: UpdateFault<'_>, acts: &mut Acts) -> Result<(), AllocError>
         ensures { self.new.documents ≡ self.old.documents }
     {
         let line = format!(in self.alloc; "{missed}")?;

@@ -6,7 +6,7 @@ ghost use Rattle.lsp_session.specs.StreamTransports.{IsUnused, Serves};
 ghost use Rattle.lsp_threads.specs.Passing.{GivenTo, OfTaken, TakenFrom, noted};
 ghost use Rattle.lsp_threads.specs.Threads.{ThreadsTell, ThreadsTellOver};
 ghost use Rattle.lsp_jobs.specs.JobLaw.{LawfulJobSession};
-ghost use Rattle.lsp_service.specs.Stated.{unwoken};
+ghost use Rattle.lsp_acts.specs.Stated.{unwoken};
 ghost use Rattle.example_search.specs.Open.{HasNone, SearchesOpenTexts};
 ghost use Rattle.example_search.specs.Promise.{AnswersOnce, SearchSession};
 
@@ -16,8 +16,8 @@ use lsp_jobs::laws::{requests_are_answered_by_their_jobs, session_with_jobs_keep
 use lsp_jobs::{Job, JobServer, NoSlots, PoolSize, Slots, run_jobs};
 use lsp_server::laws::server_keeps_laws;
 use lsp_server::{
-    ClientStreams, Listener, PassedOver, Server, SessionEnd, SessionFault, StartFault,
-    StreamTransport, ThreadOptions, Threaded, run_threads_with, session_with_over,
+    BadContentPolicy, ClientStreams, PassedOver, Server, SessionEnd, SessionFault, StartFault,
+    StreamTransport, ThreadOptions, ThreadsOutcome, run_threads_with, session_with_over,
 };
 use std::alloc::Global;
 use std::io::{BufRead, Write};
@@ -52,13 +52,13 @@ pub fn serve_in_threads<T, R, W>(
     client: ClientStreams<R, W>,
     sums: Sums,
     passed_over: &mut PassedOver,
-) -> (Sums, Result<Threaded<W>, StartFault>)
+) -> (Sums, Result<ThreadsOutcome<W>, StartFault>)
 where
     T: Threads + Wait + Copy + Drop + Send + 'static,
     R: BufRead + Drop + Send + 'static,
     W: Write + Drop + Send + 'static,
     ensures told { IfOk result.1 (λ done. OfTaken done.taken.parts (λ text.
-        ThreadsTell ⟦<PassedOver as Listener>⟧.hears client.limits (AnswersOnce (unwoken ⟦<Sums as Server>⟧) sums result.0)
+        ThreadsTell ⟦<PassedOver as BadContentPolicy>⟧.passes client.limits (AnswersOnce (unwoken ⟦<Sums as Server>⟧) sums result.0)
         text passed_over.old passed_over.new (Some []) (noted done.given) done.answer)) }
     ensures passed { IfOk result.1 (λ done. TakenFrom (R.remaining client.reader) done.taken.parts
         × GivenTo (W.contents client.writer) done.given.parts (W.contents done.writer)) }
@@ -85,14 +85,14 @@ pub fn serve_with_jobs<T, R, W>(
     client: ClientStreams<R, W>,
     sums: Sums,
     passed_over: &mut PassedOver,
-) -> (Sums, Result<Threaded<W>, StartFault>)
+) -> (Sums, Result<ThreadsOutcome<W>, StartFault>)
 where
     T: Threads + Wait + Copy + Drop + Send + 'static,
     R: BufRead + Drop + Send + 'static,
     W: Write + Drop + Send + 'static,
     requires { HasNone sums.documents }
     ensures told { IfOk result.1 (λ done. OfTaken done.taken.parts (λ text.
-        ThreadsTellOver true ⟦<PassedOver as Listener>⟧.hears client.limits (SearchSession T ⟦<Sums as Server>⟧
+        ThreadsTellOver true ⟦<PassedOver as BadContentPolicy>⟧.passes client.limits (SearchSession T ⟦<Sums as Server>⟧
         (record {
           sorts = ⟦<Sums as JobServer<Search>>⟧.sorts;
           gives = ⟦<Sums as JobServer<Search>>⟧.gives;

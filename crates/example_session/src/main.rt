@@ -77,8 +77,8 @@ fn main(rt: HostRuntime) -> Result<()> {
     };
     let reader = BufReader::new(alloc, rt.reader())?;
     let mut client = ClientStreams::new(reader, io::writer(&rt));
-    let mut bad_bodies = EndSession;
-    let mut transport = client.transport(alloc, &mut bad_bodies);
+    let mut policy = EndSession;
+    let mut transport = client.transport(alloc, &mut policy);
     match serve(&mut transport, capabilities, &mut documents)? {
         SessionEnd::ShutDown => Ok(()),
         SessionEnd::Closed => bail!("the client left without a shutdown"),

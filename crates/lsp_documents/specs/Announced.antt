@@ -11,7 +11,7 @@ use Rattle.lsp_documents.specs.declared.options.DocumentOptions.{DocumentOptions
 
 -- how a client is read of which the author says nothing: lines end as editors count them, and late changes are not made
 abbrev pub usual : DocumentOptions
-usual = record { line_ends = LineFeed; makes_late = false }
+usual = record { line_ends = LineFeed; applies_late = false }
 
 -- what the client is to tell of: opening and closing, the parts that changed (2), and saving, with the text or not
 abbrev pub sync_of : Bool → Data

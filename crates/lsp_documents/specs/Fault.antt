@@ -1,9 +1,9 @@
--- What a fault and a remark print, and what a notification prints that was made, or not.
+-- What a fault and a remark print, and what a notification prints that was applied, or not.
 use Rattle.std.specs.Prelude.{ℕ, List, ◌++◌, Option, Some, None, option_map, codes}
 use Rattle.lsp_documents.specs.declared.fault.DocumentFault.{DocumentFault}
 use Rattle.lsp_documents.specs.declared.fault.DocumentFault.TheVariants.{Params, NotOpen, OutOfStep, OutOfOrder, Memory}
-use Rattle.lsp_documents.specs.declared.fault.Made.{Made}
-use Rattle.lsp_documents.specs.declared.fault.NotMade.{NotMade}
+use Rattle.lsp_documents.specs.declared.fault.DocumentUpdate.{DocumentUpdate}
+use Rattle.lsp_documents.specs.declared.fault.UpdateFault.{UpdateFault}
 use Rattle.lsp_documents.specs.declared.fault.Remark.{Remark}
 use Rattle.lsp_documents.specs.declared.fault.Remark.TheVariants.{OpenAlready, VersionNotHigher, PastEnd}
 use Rattle.lsp_documents.specs.declared.fault.Remark.TheVariants.{SavedTextDiffers, WasNotOpen}
@@ -30,12 +30,12 @@ abbrev pub remarked : List ℕ → Option Remark → Option (List ℕ)
 remarked uri None = Some uri
 remarked uri (Some remark) = option_map (said_of uri) (remark_text remark)
 
-abbrev pub made_text : Made → Option (List ℕ)
-made_text made = remarked made.uri.now made.remark
+abbrev pub update_text : DocumentUpdate → Option (List ℕ)
+update_text made = remarked made.uri.now made.remark
 
 abbrev pub faulted : Option (List ℕ) → DocumentFault → Option (List ℕ)
 faulted None fault = fault_text fault
 faulted (Some uri) fault = option_map (said_of uri) (fault_text fault)
 
-abbrev pub not_made_text : NotMade → Option (List ℕ)
-not_made_text missed = faulted (option_map (λ uri. uri.now) missed.uri) missed.fault
+abbrev pub update_fault_text : UpdateFault → Option (List ℕ)
+update_fault_text missed = faulted (option_map (λ uri. uri.now) missed.uri) missed.fault

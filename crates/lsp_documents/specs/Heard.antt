@@ -3,8 +3,8 @@ use Rattle.std.specs.Prelude.{◌≡◌, ℕ, Bool, false, List, Option, option_
 use Rattle.serde_json.specs.Data.{Data}
 use Rattle.lsp_documents.specs.declared.documents.TextDocuments.{TextDocuments}
 use Rattle.lsp_documents.specs.declared.fault.DocumentFault.{DocumentFault}
-use Rattle.lsp_documents.specs.declared.fault.Made.{Made}
-use Rattle.lsp_documents.specs.declared.fault.NotMade.{NotMade}
+use Rattle.lsp_documents.specs.declared.fault.DocumentUpdate.{DocumentUpdate}
+use Rattle.lsp_documents.specs.declared.fault.UpdateFault.{UpdateFault}
 use Rattle.lsp_documents.specs.declared.method.DocumentMethod.{DocumentMethod}
 use Rattle.lsp_documents.specs.declared.method.DocumentMethod.TheVariants.{DidOpen, DidChange, DidSave, DidClose}
 use Rattle.lsp_documents.specs.Held.{documents_of, loses}
@@ -18,7 +18,7 @@ notice_in DidChange params = did_change_in params
 notice_in DidSave params = did_save_in params
 notice_in DidClose params = did_close_in params
 
--- a notification was not made
+-- a notification was not applied
 abbrev pub FailedBy : DocumentMethod → Documents → Data → DocumentFault → Documents → Type 0
 FailedBy DidOpen before params fault now =
     Failed before (did_open_in params) (uri_in params) fault now
@@ -38,7 +38,7 @@ loses_by DidClose before uri now = loses before uri now
 -- what a notification of this method and these params is answered, with the documents before and after it: what the
 -- call of its name says
 pub record Answers (method : DocumentMethod) (before : TextDocuments) (params : Data)
-    (heard : Result Made NotMade) (now : TextDocuments) : Type 0 where
+    (heard : Result DocumentUpdate UpdateFault) (now : TextDocuments) : Type 0 where
   pub ok : IfOk heard (λ m. IsSomeAnd (notice_in method params) (λ n.
       (m.uri.now ≡ n.uri) × Took (documents_of before) n m.remark (documents_of now)))
   pub err : IfErr heard (λ m.

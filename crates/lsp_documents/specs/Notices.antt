@@ -168,9 +168,9 @@ is_lower (Some version) (Some before) = int_lt version before
 
 -- whether changes come late: behind a higher version, unless the author chose to make them all the same
 abbrev pub is_late : Agreed → Option ℤ → Option ℤ → Bool
-is_late a version before = not a.options.makes_late && is_lower version before
+is_late a version before = not a.options.applies_late && is_lower version before
 
--- the same, and what late changes make of it: its text is lost, since it lacked them as those behind them were made
+-- the same, and what late changes make of it: its text is lost, since it lacked them as those behind them were applied
 abbrev pub changed_or_late : Agreed → Open → Option ℤ → List Change → Open
 changed_or_late a o version list =
     if is_late a version (version_of o) then doubted o else changed_in a o version list
@@ -209,7 +209,7 @@ abbrev pub is_past : PositionEncoding → Open → List Change → Bool
 is_past e (Known d) list = past_by e d.text list
 is_past e (Lost r) list = false
 
--- what is said of changes that were made: first that the client's text has to be another one
+-- what is said of changes that were applied: first that the client's text has to be another one
 abbrev pub change_remark : Bool → Bool → Option Remark
 change_remark past not_higher =
     if past then Some PastEnd else (if not_higher then Some VersionNotHigher else None)

@@ -16,7 +16,7 @@ ghost use Rattle.lsp_documents.specs.Params.{uri_in, did_open_in, did_change_in,
 ghost use Rattle.lsp_text.specs.Places.{position_of};
 
 use crate::agreed::Agreed;
-use crate::fault::{DocumentFault, Made, NotMade, Remark};
+use crate::fault::{DocumentFault, DocumentUpdate, Remark, UpdateFault};
 use crate::kept::Open;
 use crate::known::{KnownDocuments, OpenText};
 use crate::lost::LostDocument;
@@ -209,7 +209,7 @@ impl TextDocuments {
         match self.insert(uri, language_id, version, text) {
             Ok(()) => Ok(remark),
             Err(_) => {
-                self.lose(uri);
+                self.invalidate(uri);
                 Err(DocumentFault::Memory)
             }
         }
@@ -376,7 +376,7 @@ impl TextDocuments {
 
     /// Makes the text of the document of a URI unknown, if there is one: something that the client told of it was missed. It comes
     /// back by a `didOpen`, by a change of the whole text, or by the text of a `didSave`.
-    pub fn lose(&mut self, uri: &str)
+    pub fn invalidate(&mut self, uri: &str)
         ensures own { (documents_of self.new).held uri.now
             ≡ missed ((documents_of self.old).held uri.now) }
         ensures others { (q : List ℕ) → bytes_eq q uri.now ≡ false
@@ -391,7 +391,7 @@ impl TextDocuments {
     /// Makes the text of each document unknown: something was missed that the client may have told of any of them. In a session that
     /// reads on after a body which is no message, the server is woken for each such body, and its `woken` calls this: nobody knows
     /// which document the body named.
-    pub fn lose_all(&mut self)
+    pub fn invalidate_all(&mut self)
         ensures held { (q : List ℕ)
             → (documents_of self.new).held q ≡ missed ((documents_of self.old).held q) }
         ensures agreed { self.new.agreed ≡ self.old.agreed }
@@ -472,27 +472,27 @@ impl TextDocuments {
         self.documents.remove(uri)
     }
 
-    /// Hears a notification of a document: `did_open`, `did_change`, `did_save` or `did_close` by its method
+    /// Applies a notification of a document: `did_open`, `did_change`, `did_save` or `did_close` by its method
     /// (`textDocument/didOpen` and so on). One of another method gives `None`, and nothing is changed.
-    pub fn hear<'v>(
+    pub fn apply<'v>(
         &mut self,
         notification: &'v Notification,
-    ) -> Option<Result<Made<'v>, NotMade<'v>>>
+    ) -> Option<Result<DocumentUpdate<'v>, UpdateFault<'v>>>
         ensures { MatchOption (method_named (string_bytes notification.now.method))
             ((result ≡ None) × (self.new ≡ self.old))
             (λ method. IsSomeAnd result (λ heard.
             Answers method self.old (view notification.now.params) heard self.new)) }
     {
         let method = DocumentMethod::named(notification.method.as_str())?;
-        Some(self.hear_as(method, &notification.params))
+        Some(self.apply_as(method, &notification.params))
     }
 
-    /// Hears a notification of this method, by its params.
-    fn hear_as<'v>(
+    /// Applies a notification of this method, by its params.
+    fn apply_as<'v>(
         &mut self,
         method: DocumentMethod,
         params: &'v Value,
-    ) -> Result<Made<'v>, NotMade<'v>>
+    ) -> Result<DocumentUpdate<'v>, UpdateFault<'v>>
         ensures { Answers method self.old (view params.now) result self.new }
     {
         match method {
@@ -506,7 +506,7 @@ impl TextDocuments {
     /// Opens the document that the params of `textDocument/didOpen` tell of (LSP 3.17, `DidOpenTextDocumentParams`), as `open` does.
     /// If they are of another shape the fault is `Params`, and the text of the URI that they name is lost. If they name none
     /// that is each text.
-    pub fn did_open<'v>(&mut self, params: &'v Value) -> Result<Made<'v>, NotMade<'v>>
+    pub fn did_open<'v>(&mut self, params: &'v Value) -> Result<DocumentUpdate<'v>, UpdateFault<'v>>
         ensures ok { IfOk result (λ m.
             IsSomeAnd (did_open_in (view params.now)) (λ n. (m.uri.now ≡ n.uri)
             × Took (documents_of self.old) n m.remark (documents_of self.new))) }
@@ -526,7 +526,7 @@ impl TextDocuments {
             return Err(self.missed(uri, known, DocumentFault::Params));
         };
         match self.open(uri, item.language_id, item.version, item.text) {
-            Ok(remark) => Ok(Made { uri, remark }),
+            Ok(remark) => Ok(DocumentUpdate { uri, remark }),
             Err(fault) => Err(self.unmade(uri, known, fault)),
         }
     }
@@ -534,7 +534,10 @@ impl TextDocuments {
     /// Makes the changes that the params of `textDocument/didChange` tell of (LSP 3.17, `DidChangeTextDocumentParams`), as `change`
     /// does. If they are of another shape the fault is `Params`, and the text of the URI that they name is lost. If they name
     /// none that is each text.
-    pub fn did_change<'v>(&mut self, params: &'v Value) -> Result<Made<'v>, NotMade<'v>>
+    pub fn did_change<'v>(
+        &mut self,
+        params: &'v Value,
+    ) -> Result<DocumentUpdate<'v>, UpdateFault<'v>>
         ensures ok { IfOk result (λ m.
             IsSomeAnd (did_change_in (view params.now)) (λ n. (m.uri.now ≡ n.uri)
             × Took (documents_of self.old) n m.remark (documents_of self.new))) }
@@ -560,7 +563,7 @@ impl TextDocuments {
         }
         match params::content_changes(self.alloc, params) {
             Ok(Some(changes)) => match self.change(uri, version, changes.as_slice()) {
-                Ok(remark) => Ok(Made { uri, remark }),
+                Ok(remark) => Ok(DocumentUpdate { uri, remark }),
                 Err(fault) => Err(self.unmade(uri, known, fault)),
             },
             Ok(None) => Err(self.missed(uri, known, DocumentFault::Params)),
@@ -568,10 +571,10 @@ impl TextDocuments {
         }
     }
 
-    /// Hears that the document was saved that the params of `textDocument/didSave` tell of (LSP 3.17,
+    /// Notes that the document was saved that the params of `textDocument/didSave` tell of (LSP 3.17,
     /// `DidSaveTextDocumentParams`), as `save` does. A text that is no string is none. If the params name no URI the fault is
     /// `Params`, and nothing is changed: a save changes no text.
-    pub fn did_save<'v>(&mut self, params: &'v Value) -> Result<Made<'v>, NotMade<'v>>
+    pub fn did_save<'v>(&mut self, params: &'v Value) -> Result<DocumentUpdate<'v>, UpdateFault<'v>>
         ensures ok { IfOk result (λ m.
             IsSomeAnd (did_save_in (view params.now)) (λ n. (m.uri.now ≡ n.uri)
             × Took (documents_of self.old) n m.remark (documents_of self.new))) }
@@ -583,17 +586,20 @@ impl TextDocuments {
         ensures lost { IfErr result (λ m. m.lost ≡ false) }
     {
         let Some(uri) = params::uri_in(params) else {
-            return Err(not_made(None, DocumentFault::Params, false));
+            return Err(update_fault(None, DocumentFault::Params, false));
         };
         match self.save(uri, params::saved_text(params)) {
-            Ok(remark) => Ok(Made { uri, remark }),
-            Err(fault) => Err(not_made(Some(uri), fault, false)),
+            Ok(remark) => Ok(DocumentUpdate { uri, remark }),
+            Err(fault) => Err(update_fault(Some(uri), fault, false)),
         }
     }
 
     /// Closes the document that the params of `textDocument/didClose` tell of (LSP 3.17, `DidCloseTextDocumentParams`), as `close`
     /// does. If they name no URI the fault is `Params`, and each text is lost: one of them is closed.
-    pub fn did_close<'v>(&mut self, params: &'v Value) -> Result<Made<'v>, NotMade<'v>>
+    pub fn did_close<'v>(
+        &mut self,
+        params: &'v Value,
+    ) -> Result<DocumentUpdate<'v>, UpdateFault<'v>>
         ensures ok { IfOk result (λ m.
             IsSomeAnd (did_close_in (view params.now)) (λ n. (m.uri.now ≡ n.uri)
             × Took (documents_of self.old) n m.remark (documents_of self.new))) }
@@ -610,13 +616,13 @@ impl TextDocuments {
         };
         let known = self.knows(uri);
         match self.close(uri) {
-            Ok(()) => Ok(Made { uri, remark: None }),
+            Ok(()) => Ok(DocumentUpdate { uri, remark: None }),
             Err(fault) => Err(self.unmade(uri, known, fault)),
         }
     }
 
     /// Loses the text of a URI, and says why. It was known before, or not.
-    fn missed<'v>(&mut self, uri: &'v str, known: bool, fault: DocumentFault) -> NotMade<'v>
+    fn missed<'v>(&mut self, uri: &'v str, known: bool, fault: DocumentFault) -> UpdateFault<'v>
         requires { known ≡ is_known (documents_of self.old) uri.now }
         ensures named { option_map (λ s. s.now) result.uri ≡ Some uri.now }
         ensures why { result.fault ≡ fault }
@@ -627,29 +633,29 @@ impl TextDocuments {
             → (documents_of self.new).held q ≡ (documents_of self.old).held q }
         ensures agreed { self.new.agreed ≡ self.old.agreed }
     {
-        self.lose(uri);
-        not_made(Some(uri), fault, known)
+        self.invalidate(uri);
+        update_fault(Some(uri), fault, known)
     }
 
     /// Loses each text, since params name no document.
-    fn missed_all<'v>(&mut self) -> NotMade<'v>
+    fn missed_all<'v>(&mut self) -> UpdateFault<'v>
         ensures named { result.uri ≡ None }
         ensures why { result.fault ≡ Params }
         ensures lost { result.lost ≡ has_known self.old }
         ensures misses { MissesAll (documents_of self.old) (documents_of self.new) }
     {
         let known = self.knows_any();
-        self.lose_all();
-        not_made(None, DocumentFault::Params, known)
+        self.invalidate_all();
+        update_fault(None, DocumentFault::Params, known)
     }
 
-    /// A notification of a document that was not made. Its text was known before, or not.
-    fn unmade<'v>(&self, uri: &'v str, known: bool, fault: DocumentFault) -> NotMade<'v>
+    /// A notification of a document that was not applied. Its text was known before, or not.
+    fn unmade<'v>(&self, uri: &'v str, known: bool, fault: DocumentFault) -> UpdateFault<'v>
         ensures named { option_map (λ s. s.now) result.uri ≡ Some uri.now }
         ensures why { result.fault ≡ fault }
         ensures lost { result.lost ≡ (known && not (is_known (documents_of self.now) uri.now)) }
     {
-        not_made(Some(uri), fault, known && !self.knows(uri))
+        update_fault(Some(uri), fault, known && !self.knows(uri))
     }
 }
 
@@ -742,7 +748,7 @@ fn is_late(agreed: Agreed, version: Option<i32>, before: Option<i32>) -> bool
     ensures { result ≡ late agreed version before }
 {
     match (version, before) {
-        (Some(version), Some(before)) => !agreed.options().makes_late && version < before,
+        (Some(version), Some(before)) => !agreed.options().applies_late && version < before,
         _ => false,
     }
 }
@@ -757,7 +763,7 @@ fn step_fault(kept: &Open, whole: bool) -> Option<DocumentFault>
     }
 }
 
-/// What is said of changes that were made.
+/// What is said of changes that were applied.
 fn change_remark(past: bool, not_higher: bool) -> Option<Remark>
     ensures { result ≡ remark_of_change past not_higher }
 {
@@ -789,11 +795,11 @@ fn has_whole(changes: &[ContentChange]) -> bool
     changes.iter().any(|change| change.range.is_none())
 }
 
-/// A notification that was not made.
-fn not_made<'v>(uri: Option<&'v str>, fault: DocumentFault, lost: bool) -> NotMade<'v>
+/// A notification that was not applied.
+fn update_fault<'v>(uri: Option<&'v str>, fault: DocumentFault, lost: bool) -> UpdateFault<'v>
     ensures named { option_map (λ s. s.now) result.uri ≡ option_map (λ s. s.now) uri.entry }
     ensures why { result.fault ≡ fault }
     ensures lost { result.lost ≡ lost }
 {
-    NotMade { uri, fault, lost }
+    UpdateFault { uri, fault, lost }
 }

@@ -1,9 +1,9 @@
-// Why a notification of a document was not made, and what is to be said of one that was.
+// Why a notification of a document was not applied, and what is to be said of one that was.
 use std::alloc::AllocError;
 use std::error::Error;
 use std::fmt;
 
-/// Why a notification of a document was not made.
+/// Why a notification of a document was not applied.
 ///
 /// It prints `params of another shape`, `the document is not open`, `the document is out of step`, `changes came out of order` or
 /// `out of memory`.
@@ -16,8 +16,8 @@ pub enum DocumentFault {
     /// The document's text is lost, since something that the client told of it was missed, and none of the changes is of the whole
     /// text.
     OutOfStep,
-    /// The changes come behind a higher version, so the text is lost: it lacked them when those behind them were made.
-    /// `DocumentOptions::makes_late` has them made.
+    /// The changes come behind a higher version, so the text is lost: it lacked them when those behind them were applied.
+    /// `DocumentOptions::applies_late` has them applied.
     ///
     /// Helix 25 sends changes of a burst so, and goes on with ranges: its text comes back once it is saved, if the text is asked for
     /// (`Agreed`), or opened anew. An editor that sends whole texts brings it back with the next one that is no older. Neovim 0.10,
@@ -56,8 +56,8 @@ impl From<AllocError> for DocumentFault {
     }
 }
 
-/// What is to be said of a notification that was made: LSP 3.17 forbids it, or it shows that the client's text is another one than
-/// the text that is kept. Where it shows that, `TextDocuments::lose` keeps the server from showing it.
+/// What is to be said of a notification that was applied: LSP 3.17 forbids it, or it shows that the client's text is another one than
+/// the text that is kept. Where it shows that, `TextDocuments::invalidate` keeps the server from showing it.
 ///
 /// It prints `the document was open already`, `the document was not open`, `the version is not higher`, `a position is past the end` or
 /// `the saved text is another one`.
@@ -67,7 +67,7 @@ pub enum Remark {
     OpenAlready,
     /// The document was not open, and a change of the whole text opened it. Nobody said its language, which is the empty text.
     WasNotOpen,
-    /// The version is the document's, or a lower one if the author chose to make late changes.
+    /// The version is the document's, or a lower one if the author chose to apply late changes.
     VersionNotHigher,
     /// A position of a change lies past its line's end, or past the place behind the last line, in the text that is kept. LSP 3.17
     /// takes it for that end (`Position`), but a client has no such place in a text that is the same and that it counts in the same
@@ -93,21 +93,21 @@ impl fmt::Display for Remark {
     }
 }
 
-/// A notification that was made.
+/// A notification that was applied.
 ///
 /// It prints its URI and the remark, as `file:///a: the version is not higher`, or the URI alone.
 #[derive(Clone, Copy, Debug, PartialEq, Eq, Drop)]
-pub struct Made<'v> {
+pub struct DocumentUpdate<'v> {
     /// The document's URI.
     pub uri: &'v str,
     /// What is to be said of it, if anything.
     pub remark: Option<Remark>,
 }
 
-impl fmt::Display for Made<'_> {
-    ghost use Rattle.lsp_documents.specs.Fault.{made_text};
+impl fmt::Display for DocumentUpdate<'_> {
+    ghost use Rattle.lsp_documents.specs.Fault.{update_text};
 
-    ghost output = { made_text };
+    ghost output = { update_text };
 
     fn fmt<W: fmt::Write>(&self, f: &mut fmt::Formatter<W>) -> fmt::Result {
         let uri = self.uri;
@@ -118,11 +118,11 @@ impl fmt::Display for Made<'_> {
     }
 }
 
-/// A notification that was not made.
+/// A notification that was not applied.
 ///
 /// It prints its URI and the fault, as `file:///a: the document is not open`, or the fault alone if no URI is named.
 #[derive(Clone, Copy, Debug, PartialEq, Eq, Drop)]
-pub struct NotMade<'v> {
+pub struct UpdateFault<'v> {
     /// The document's URI, if the params name one.
     pub uri: Option<&'v str>,
     /// Why.
@@ -131,12 +131,12 @@ pub struct NotMade<'v> {
     pub lost: bool,
 }
 
-impl<'v> NotMade<'v> {
+impl<'v> UpdateFault<'v> {
     ghost use Rattle.std.specs.Prelude.{◌≡◌, IfOk, OnOk, OnErr};
     ghost use Rattle.lsp_documents.specs.declared.fault.DocumentFault.TheVariants.{Memory};
 
     /// The same, unless memory ran out: a server that writes `missed.unless_memory()?` gives up then.
-    pub fn unless_memory(self) -> Result<NotMade<'v>, AllocError>
+    pub fn unless_memory(self) -> Result<UpdateFault<'v>, AllocError>
         ensures same { IfOk result (λ missed. missed ≡ self.entry) }
         ensures ok { OnOk result (¬ (self.entry.fault ≡ Memory)) }
         ensures err { OnErr result (self.entry.fault ≡ Memory) }
@@ -148,10 +148,10 @@ impl<'v> NotMade<'v> {
     }
 }
 
-impl fmt::Display for NotMade<'_> {
-    ghost use Rattle.lsp_documents.specs.Fault.{not_made_text};
+impl fmt::Display for UpdateFault<'_> {
+    ghost use Rattle.lsp_documents.specs.Fault.{update_fault_text};
 
-    ghost output = { not_made_text };
+    ghost output = { update_fault_text };
 
     fn fmt<W: fmt::Write>(&self, f: &mut fmt::Formatter<W>) -> fmt::Result {
         let fault = self.fault;

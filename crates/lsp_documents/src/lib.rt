@@ -14,7 +14,7 @@ mod params;
 
 pub use agreed::Agreed;
 pub use documents::TextDocuments;
-pub use fault::{DocumentFault, Made, NotMade, Remark};
+pub use fault::{DocumentFault, DocumentUpdate, Remark, UpdateFault};
 pub use kept::Open;
 pub use known::{KnownDocuments, OpenText};
 pub use lost::LostDocument;

@@ -6,22 +6,22 @@ use lsp_text::LineEnds;
 pub struct DocumentOptions {
     /// What ends a line.
     pub line_ends: LineEnds,
-    /// Whether changes are made that come behind a higher version, with the remark `VersionNotHigher`. If not the text is lost, since it
-    /// lacked them when those behind them were made.
-    pub makes_late: bool,
+    /// Whether changes are applied that come behind a higher version, with the remark `VersionNotHigher`. If not the text is lost, since it
+    /// lacked them when those behind them were applied.
+    pub applies_late: bool,
 }
 
 impl DocumentOptions {
     ghost use Rattle.std.specs.Prelude.{◌≡◌};
     ghost use Rattle.lsp_documents.specs.Announced.{usual};
 
-    /// As editors count: `LineEnds::LineFeed`. Late changes are not made.
+    /// As editors count: `LineEnds::LineFeed`. Late changes are not applied.
     pub fn new() -> DocumentOptions
         ensures { result ≡ usual }
     {
         DocumentOptions {
             line_ends: LineEnds::LineFeed,
-            makes_late: false,
+            applies_late: false,
         }
     }
 }

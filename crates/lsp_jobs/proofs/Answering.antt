@@ -9,13 +9,13 @@ use Rattle.lsp_message.specs.Id.{Id, id_cmp, number}
 use Rattle.lsp_message.specs.IdLaws.{id_decides}
 use Rattle.lsp_message.specs.Message.{Message, request, notification, response}
 use Rattle.lsp_queue.specs.Queue.{count_of, pending_of, ids_where}
-use Rattle.lsp_service.proofs.Counting.{how_many-append, none_cancelled}
-use Rattle.lsp_service.specs.Acts.{Act, Queues, tells, asks, replies, cancels, TakesBack, cancelled_by}
-use Rattle.lsp_service.specs.Acts.{does, does_all, is_spent}
-use Rattle.lsp_service.specs.Law.{Handed, how_many, is_reply_under}
-use Rattle.lsp_service.specs.Stated.{Stated}
-use Rattle.lsp_service.specs.SentByActs.{all_sends, sends_by, acts_done_at, cancelled_answer}
-use Rattle.lsp_service.specs.declared.server.Server.{Ghosts as Plain}
+use Rattle.lsp_acts.proofs.Counting.{how_many-append, none_cancelled}
+use Rattle.lsp_acts.specs.Acts.{Act, Queues, tells, asks, replies, cancels, TakesBack, cancelled_by}
+use Rattle.lsp_acts.specs.Acts.{does, does_all, is_spent}
+use Rattle.lsp_acts.specs.Law.{Handed, how_many, is_reply_under}
+use Rattle.lsp_acts.specs.Stated.{Stated}
+use Rattle.lsp_acts.specs.SentByActs.{all_sends, sends_by, acts_done_at, cancelled_answer}
+use Rattle.lsp_acts.specs.declared.server.Server.{Ghosts as Plain}
 use Rattle.lsp_jobs.proofs.SlotChanges.{spares-append, fewer_requests, unanswered_has, went_all, without_request, Went}
 use Rattle.lsp_jobs.specs.Asking.{by_server, of_job, ByServers}
 use Rattle.lsp_jobs.specs.JobSession.{seen_with_jobs}
@@ -25,8 +25,8 @@ use Rattle.lsp_jobs.specs.Pooled.{unanswered, without_cancelled, ChangesSlots, D
 use Rattle.lsp_jobs.specs.Seen.{seen}
 use Rattle.lsp_jobs.specs.SlotLaw.{concerns, is_that, IsGiven, Left, Spares, at_ends}
 use Rattle.lsp_jobs.specs.Stated.{StatedJobs}
-use Rattle.lsp_jobs.specs.declared.asking.Asked.{Asked}
-use Rattle.lsp_jobs.specs.declared.asking.Asked.TheVariants.{ByJob, ByServer}
+use Rattle.lsp_jobs.specs.declared.asking.RequestOrigin.{RequestOrigin}
+use Rattle.lsp_jobs.specs.declared.asking.RequestOrigin.TheVariants.{ByJob, ByServer}
 use Rattle.lsp_jobs.specs.declared.names.JobName.TheVariants.{Request}
 use Rattle.lsp_jobs.specs.declared.pooled_server.PooledServer.{PooledServer}
 
@@ -189,24 +189,24 @@ module _ {S J F P : Type 0} (plain : Plain S P) (may : StatedJobs S J F P)
       at false is has = (inl (has, is), tt)
 
 module _ (T : Type 0) {S J F P : Type 0} (plain : Plain S P) (may : StatedJobs S J F P) where
-  abbrev W : Stated (PooledServer T S J F) (Asked P)
+  abbrev W : Stated (PooledServer T S J F) (RequestOrigin P)
   W = seen_with_jobs T plain may
 
   abbrev pended : PooledServer T S J F → PendingJobs J
   pended p = pending_jobs p.pool
 
   -- Where a job comes from that is pending for a request, at a call at which these acts are done.
-  abbrev From : PooledServer T S J F → Option Message → List (Act (Asked P)) → Id → J → Type 0
+  abbrev From : PooledServer T S J F → Option Message → List (Act (RequestOrigin P)) → Id → J → Type 0
   From old arrived acts = FromCall (IsGiven plain may old.server acts) (pended old) arrived
 
   -- Where the pending jobs come from, by acts of the server's own that reply under no other ids than these.
-  abbrev Handles : PooledServer T S J F → Option Message → List (Act (Asked P)) → PendingJobs J → Type 0
+  abbrev Handles : PooledServer T S J F → Option Message → List (Act (RequestOrigin P)) → PendingJobs J → Type 0
   Handles old arrived acts new =
       (own : List (Act P)) × ((id : Id) → Spares id own → Spares id acts)
       × AllCome plain may (From old arrived acts) own new
 
   by_servers : (old : PooledServer T S J F) (arrived : Option Message) (new : PendingJobs J)
-      (did : List (Act P) → Type 0) (all : List (Act (Asked P)))
+      (did : List (Act P) → Type 0) (all : List (Act (RequestOrigin P)))
       → ((acts : List (Act P)) → did acts → AllCome plain may (From old arrived all) acts new)
       → ByServers did all → Handles old arrived all new
   by_servers old arrived new did all come b = (
@@ -216,7 +216,7 @@ module _ (T : Type 0) {S J F P : Type 0} (plain : Plain S P) (may : StatedJobs S
   )
 
   -- nothing is started
-  idles : (old did : PooledServer T S J F) (arrived : Option Message) (acts none : List (Act (Asked P)))
+  idles : (old did : PooledServer T S J F) (arrived : Option Message) (acts none : List (Act (RequestOrigin P)))
       → ((id : Id) → concerns id arrived ≡ false)
       → ((id : Id) → Spares id none) → acts ≡ none → pended did ≡ pended old
       → Handles old arrived acts (pended did)
@@ -231,7 +231,7 @@ module _ (T : Type 0) {S J F P : Type 0} (plain : Plain S P) (may : StatedJobs S
   as_seen : (old did : PooledServer T S J F) → seen did ≡ seen old → pended did ≡ pended old
   as_seen old did same = ap (λ (x : S × PendingJobs J). x.1) same
 
-  woken : (old did : PooledServer T S J F) (acts : List (Act (Asked P))) → W.wakes old acts did
+  woken : (old did : PooledServer T S J F) (acts : List (Act (RequestOrigin P))) → W.wakes old acts did
       → Handles old None acts (pended did)
   woken old did acts (inl nothing) = idles old did None acts [] (λ id. refl) (λ id. tt) nothing.0 (as_seen old did
       nothing.1)
@@ -258,8 +258,9 @@ module _ (T : Type 0) {S J F P : Type 0} (plain : Plain S P) (may : StatedJobs S
               (fewer_requests f.name (pended old) i e (unanswered_has f.acts left i e
               (ap (λ (t : PendingJobs J). t (Request i)) (sym f.ended.3) ∙ has)).0)
 
-  long_jobs : (old did : PooledServer T S J F) (id : Id) (method : List ℕ) (params : Data) (acts : List (Act (Asked P)))
-      → may.sorts old.server method params true → TakesLong may (seen old) id method params acts (seen did)
+  long_jobs : (old did : PooledServer T S J F) (id : Id) (method : List ℕ) (params : Data)
+      (acts : List (Act (RequestOrigin P))) → may.sorts old.server method params true
+      → TakesLong may (seen old) id method params acts (seen did)
       → Handles old (Some (request id method params)) acts (pended did)
   long_jobs old did id method params acts long (inl j) = (
     [],
@@ -277,8 +278,9 @@ module _ (T : Type 0) {S J F P : Type 0} (plain : Plain S P) (may : StatedJobs S
         (λ i e has. let own = without_request id (pended old) i e has in (inl own, (own.1, tt))),
   )
 
-  pub handed_jobs : (old did : PooledServer T S J F) (arrived : Option Message) (payload : Option (Asked P))
-      (acts : List (Act (Asked P))) → Handed W old arrived payload acts did → Handles old arrived acts (pended did)
+  pub handed_jobs : (old did : PooledServer T S J F) (arrived : Option Message) (payload : Option (RequestOrigin P))
+      (acts : List (Act (RequestOrigin P))) → Handed W old arrived payload acts did
+      → Handles old arrived acts (pended did)
   handed_jobs old did (Some (request id method params)) payload acts h =
       elim h.0 [
         | inl long ↦ long_jobs old did id method params acts long.0 long.1
@@ -314,20 +316,20 @@ module _ (T : Type 0) {S J F P : Type 0} (plain : Plain S P) (may : StatedJobs S
   handed_jobs old did None payload acts h = woken old did acts h.0
 
   -- each job that is pending for a request then was before, or is given now, and no reply is given under its id
-  pub requests_then : (old did : PooledServer T S J F) (arrived : Option Message) (payload : Option (Asked P))
-      (acts : List (Act (Asked P))) → Handed W old arrived payload acts did → (id : Id) (e : J)
+  pub requests_then : (old did : PooledServer T S J F) (arrived : Option Message) (payload : Option (RequestOrigin P))
+      (acts : List (Act (RequestOrigin P))) → Handed W old arrived payload acts did → (id : Id) (e : J)
       → pended did (Request id) ≡ Some e → From old arrived acts id e × Spares id acts
   requests_then old did arrived payload acts h id e has =
       let all = handed_jobs old did arrived payload acts h in
       let own = all.2 id e has in
       (own.0, all.1 id own.1)
 
-  back_one : (payload : Asked P) (old new : PooledServer T S J F) → W.takes_back old payload new → pending_jobs new.pool
-      ≡ pending_jobs old.pool
+  back_one : (payload : RequestOrigin P) (old new : PooledServer T S J F) → W.takes_back old payload new
+      → pending_jobs new.pool ≡ pending_jobs old.pool
   back_one (ByServer payload) old new back = back.1
   back_one (ByJob n) old new same = as_seen old new same
 
-  pub back_pending : (payloads : List (Asked P)) (old new : PooledServer T S J F)
+  pub back_pending : (payloads : List (RequestOrigin P)) (old new : PooledServer T S J F)
       → TakesBack W.takes_back old payloads new
       → pending_jobs new.pool ≡ pending_jobs old.pool
   back_pending [] old new same = ap pended same

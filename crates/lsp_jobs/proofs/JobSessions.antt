@@ -2,24 +2,24 @@
 use Rattle.std.proofs.Common.{◌≡◌, refl, List, Option}
 use Rattle.lsp_message.specs.Message.{Message}
 use Rattle.lsp_session.specs.Session.{Exchange, SessionAnswer, SessionOut, Stop}
-use Rattle.lsp_service.proofs.Taking.{keeps_laws, woken_session_of}
-use Rattle.lsp_service.specs.Acts.{empty_queues}
-use Rattle.lsp_service.specs.QueuedServer.{woken_with_queues}
-use Rattle.lsp_service.specs.View as queues
-use Rattle.lsp_service.specs.declared.queued_server.WokenQueuedServer.{WokenQueuedServer}
-use Rattle.lsp_service.specs.declared.server.Server.{Ghosts as Plain}
+use Rattle.lsp_acts.proofs.Taking.{keeps_laws, woken_session_of}
+use Rattle.lsp_acts.specs.Acts.{empty_queues}
+use Rattle.lsp_acts.specs.QueuedServer.{woken_with_queues}
+use Rattle.lsp_acts.specs.View as queues
+use Rattle.lsp_acts.specs.declared.queued_server.WokenQueuedServer.{WokenQueuedServer}
+use Rattle.lsp_acts.specs.declared.server.Server.{Ghosts as Plain}
 use Rattle.lsp_jobs.proofs.SessionTurns.{answers_by_jobs}
 use Rattle.lsp_jobs.specs.JobLaw.{LawfulJobSession}
 use Rattle.lsp_jobs.specs.JobSession.{JobSession, seen_with_jobs}
 use Rattle.lsp_jobs.specs.Seen.{seen}
 use Rattle.lsp_jobs.specs.PendingJobs.{no_jobs}
-use Rattle.lsp_jobs.specs.declared.asking.Asked.{Asked}
+use Rattle.lsp_jobs.specs.declared.asking.RequestOrigin.{RequestOrigin}
 use Rattle.lsp_jobs.specs.Stated.{StatedJobs}
 use Rattle.lsp_jobs.specs.declared.pooled_server.PooledServer.{PooledServer}
 
 module _ (T : Type 0) {S J F P : Type 0} (plain : Plain S P) (may : StatedJobs S J F P) where
-  pub job_session : (old new : WokenQueuedServer (PooledServer T S J F) (Asked P)) (pooled : PooledServer T S J F)
-      (first last : S)
+  pub job_session : (old new : WokenQueuedServer (PooledServer T S J F) (RequestOrigin P))
+      (pooled : PooledServer T S J F) (first last : S)
       → queues.seen old.queued ≡ (pooled, empty_queues) → seen pooled ≡ (first, no_jobs) → last
       ≡ new.queued.server.server
       → (xs : List Exchange) (stop : Stop) (shutdown_reply : Option Message) (answer : SessionAnswer)

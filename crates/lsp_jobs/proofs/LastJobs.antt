@@ -6,9 +6,9 @@ use Rattle.std.proofs.Common.{append_assoc, Option, Some}
 use Rattle.lsp_message.specs.Id.{Id}
 use Rattle.lsp_message.specs.Message.{Message, request}
 use Rattle.lsp_session.specs.Session.{Exchange}
-use Rattle.lsp_service.specs.Law.{how_many, is_reply_under}
-use Rattle.lsp_service.specs.SentByActs.{acts_done_at, all_sends}
-use Rattle.lsp_service.specs.declared.server.Server.{Ghosts as Plain}
+use Rattle.lsp_acts.specs.Law.{how_many, is_reply_under}
+use Rattle.lsp_acts.specs.SentByActs.{acts_done_at, all_sends}
+use Rattle.lsp_acts.specs.declared.server.Server.{Ghosts as Plain}
 use Rattle.lsp_jobs.proofs.Answering.{mute, settled_spares}
 use Rattle.lsp_jobs.proofs.Owed.{fewer}
 use Rattle.lsp_jobs.specs.JobLaw.{AreTakenAt, IsQuiet, IsTakenAt, JobOfLast, Leads}

@@ -12,15 +12,15 @@ use Rattle.lsp_message.specs.IdLaws.{id_total, id_decides}
 use Rattle.lsp_message.specs.Message.{Message, request, notification, response}
 use Rattle.lsp_queue.specs.Queue.{Pending}
 use Rattle.lsp_session.specs.Session.{Exchange}
-use Rattle.lsp_service.proofs.Acting.{acts_at, does_push, sent_so}
-use Rattle.lsp_service.proofs.Counting.{due, due_acts, how_many-append, Fresh}
-use Rattle.lsp_service.specs.Acts.{Act, Queues, replies, cancelled_by, canceled, does, does_all}
-use Rattle.lsp_service.specs.Law.{came_with, held_under, how_many, is_reply_under, is_request_under, one_if}
-use Rattle.lsp_service.specs.QueuedServer.{OpensSending, WorksSending}
-use Rattle.lsp_service.specs.SentByActs.{acts_done_at, cancelled_answer, queues_at}
-use Rattle.lsp_service.specs.Stated.{Stated}
-use Rattle.lsp_service.specs.View.{queues_of, seen}
-use Rattle.lsp_service.specs.declared.queued_server.QueuedServer.{QueuedServer}
+use Rattle.lsp_acts.proofs.Acting.{acts_at, does_push, sent_so}
+use Rattle.lsp_acts.proofs.Counting.{due, due_acts, how_many-append, Fresh}
+use Rattle.lsp_acts.specs.Acts.{Act, Queues, replies, cancelled_by, canceled, does, does_all}
+use Rattle.lsp_acts.specs.Law.{came_with, held_under, how_many, is_reply_under, is_request_under, one_if}
+use Rattle.lsp_acts.specs.QueuedServer.{OpensSending, WorksSending}
+use Rattle.lsp_acts.specs.SentByActs.{acts_done_at, cancelled_answer, queues_at}
+use Rattle.lsp_acts.specs.Stated.{Stated}
+use Rattle.lsp_acts.specs.View.{queues_of, seen}
+use Rattle.lsp_acts.specs.declared.queued_server.QueuedServer.{QueuedServer}
 use Rattle.lsp_jobs.specs.Ends.{Outcome}
 use Rattle.lsp_jobs.specs.JobLaw.{IsQuiet, LastRequest}
 use Rattle.lsp_jobs.specs.SlotLaw.{concerns, is_that}

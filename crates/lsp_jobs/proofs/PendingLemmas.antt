@@ -7,14 +7,14 @@ use Rattle.std.specs.Option.{is_some}
 use Rattle.lsp_message.specs.Id.{Id}
 use Rattle.lsp_jobs.proofs.NameLemmas.{name_decides, name_same}
 use Rattle.lsp_message.specs.View.{outcome_view}
-use Rattle.lsp_service.specs.Acts.{Act}
+use Rattle.lsp_acts.specs.Acts.{Act}
 use Rattle.lsp_jobs.specs.Ends.{ComesTo, End, Outcome}
 use Rattle.lsp_jobs.specs.Names.{same_name}
 use Rattle.lsp_jobs.specs.PoolView.{came_view}
 use Rattle.lsp_jobs.specs.PendingJobs.{PendingJobs, no_jobs, without, with_job}
 use Rattle.lsp_jobs.specs.Pooled.{EndsThen, Frees, TakesLong}
 use Rattle.lsp_jobs.specs.Stated.{StatedJobs}
-use Rattle.lsp_jobs.specs.declared.asking.Asked.{Asked}
+use Rattle.lsp_jobs.specs.declared.asking.RequestOrigin.{RequestOrigin}
 use Rattle.lsp_jobs.specs.declared.job.DoneJob.{DoneJob}
 use Rattle.lsp_jobs.specs.declared.job.Interrupted.{Interrupted}
 use Rattle.lsp_jobs.specs.declared.job.Interrupted.TheVariants.{Cancelled, Memory}
@@ -120,7 +120,7 @@ module _ {J : Type 0} where
 
 -- an earlier job under the id of a long request was forgotten
 pub long_again : {S J F P : Type 0} (may : StatedJobs S J F P) (s : S) (pending : PendingJobs J)
-    (id : Id) (method : List ℕ) (params : Data) (all : List (Act (Asked P))) (new : S × PendingJobs J)
+    (id : Id) (method : List ℕ) (params : Data) (all : List (Act (RequestOrigin P))) (new : S × PendingJobs J)
     → TakesLong may (s, without (Request id) pending) id method params all new
     → TakesLong may (s, pending) id method params all new
 long_again {S} may s pending id method params all new (inl j) = inl (record {

@@ -11,12 +11,12 @@ use Rattle.lsp_message.specs.Message.{Message, request, notification, response}
 use Rattle.lsp_queue.specs.Queue.{count_of, pending_of, ids_where}
 use Rattle.lsp_session.proofs.Ran.{messages_both}
 use Rattle.lsp_session.specs.Session.{Exchange, SessionAnswer, Stop, messages_of, sends_of}
-use Rattle.lsp_service.proofs.Counting.{how_many-append}
-use Rattle.lsp_service.specs.Acts.{Act, Queues, tells, asks, replies, cancels, cancelled_by, does, is_spent}
-use Rattle.lsp_service.specs.Acts.{cancel_all, cancel_method, cancel_params}
-use Rattle.lsp_service.specs.Law.{how_many, is_reply_under, is_request_under, one_if}
-use Rattle.lsp_service.specs.SentByActs.{all_sends}
-use Rattle.lsp_service.specs.declared.server.Server.{Ghosts as Plain}
+use Rattle.lsp_acts.proofs.Counting.{how_many-append}
+use Rattle.lsp_acts.specs.Acts.{Act, Queues, tells, asks, replies, cancels, cancelled_by, does, is_spent}
+use Rattle.lsp_acts.specs.Acts.{cancel_all, cancel_method, cancel_params}
+use Rattle.lsp_acts.specs.Law.{how_many, is_reply_under, is_request_under, one_if}
+use Rattle.lsp_acts.specs.SentByActs.{all_sends}
+use Rattle.lsp_acts.specs.declared.server.Server.{Ghosts as Plain}
 use Rattle.lsp_jobs.proofs.LastJobs.{job_of_last}
 use Rattle.lsp_jobs.specs.Asking.{by_server, of_job}
 use Rattle.lsp_jobs.specs.Ends.{Came, ComesTo, End, Outcome, end_of, reply_of, too_many}
@@ -25,8 +25,8 @@ use Rattle.lsp_jobs.specs.JobLaw.{WakeSends}
 use Rattle.lsp_jobs.specs.Pooled.{reply_at, IsAtOnce}
 use Rattle.lsp_jobs.specs.SlotLaw.{AllQuiet, IsCalled, IsTurn, JobSays, LastGiven, Left, MayPass, Spares, Stands, Turn}
 use Rattle.lsp_jobs.specs.SlotLaw.{WakeDoes, at_ends, concerns, is_that}
-use Rattle.lsp_jobs.specs.declared.asking.Asked.{Asked}
-use Rattle.lsp_jobs.specs.declared.asking.Asked.TheVariants.{ByJob}
+use Rattle.lsp_jobs.specs.declared.asking.RequestOrigin.{RequestOrigin}
+use Rattle.lsp_jobs.specs.declared.asking.RequestOrigin.TheVariants.{ByJob}
 use Rattle.lsp_jobs.specs.Stated.{SeesEnd, StatedJobs}
 use Rattle.lsp_jobs.specs.declared.names.JobName.{JobName}
 use Rattle.lsp_jobs.specs.declared.names.JobName.TheVariants.{Request, Slot}
@@ -404,7 +404,7 @@ module _ {S J F P : Type 0} (plain : Plain S P) (may : StatedJobs S J F P) where
       elim long [
         | inl given ↦ (let none : replies id outcome ∷ [] ≡ [] = sym said ∙ given.1.3 in absurd (cc (none)))
         | inr known ↦
-            let same : ◌≡◌ {A = List (Act (Asked P))} (replies id outcome ∷ []) (replies id known.1 ∷ []) =
+            let same : ◌≡◌ {A = List (Act (RequestOrigin P))} (replies id outcome ∷ []) (replies id known.1 ∷ []) =
             sym said ∙ known.3 in
             let it : outcome ≡ known.1 = cc (same) in
             unknown (subst (IsAtOnce may t.old id method params) (sym it) known.2)
@@ -522,7 +522,7 @@ module _ {S J F P : Type 0} (plain : Plain S P) (may : StatedJobs S J F P) where
     ]
       where
         at : (name : JobName) (job : J) → Stands plain may earlier name job → (came : Came F)
-            → ◌≡◌ {A = List (Act (Asked P))} (replies id outcome ∷ [])
+            → ◌≡◌ {A = List (Act (RequestOrigin P))} (replies id outcome ∷ [])
             (map_list by_server (([] ++ reply_at name came) ++ [])) → ⊥
         at (Slot slot) job stands came e = absurd (cc (e))
         at (Request i) job stands came e =

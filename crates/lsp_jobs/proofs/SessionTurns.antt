@@ -16,16 +16,16 @@ use Rattle.lsp_session.specs.Replies.{IsEarlyReply}
 use Rattle.lsp_session.specs.Session.{Exchange, SessionAnswer, Stop, Phase, starting, replied as in_reply, serving}
 use Rattle.lsp_session.specs.Session.{phase_after, Step}
 use Rattle.lsp_session.specs.SessionLaws.{EndsWithResult}
-use Rattle.lsp_service.proofs.Acting.{acts_at}
-use Rattle.lsp_service.proofs.Counting.{Fresh}
-use Rattle.lsp_service.specs.Acts.{Act, Queues, TakesBack, unsent}
-use Rattle.lsp_service.specs.Law.{AnswersInitialize, Call, Initializes}
-use Rattle.lsp_service.specs.QueuedServer.{with_queues, OpensSending, WorksSending}
-use Rattle.lsp_service.specs.Stated.{Stated, unwoken}
-use Rattle.lsp_service.specs.SentByActs.{ActsAt, acts_done_at, all_sends, queues_at}
-use Rattle.lsp_service.specs.View as queues
-use Rattle.lsp_service.specs.declared.queued_server.QueuedServer.{QueuedServer}
-use Rattle.lsp_service.specs.declared.server.Server.{Ghosts as Plain}
+use Rattle.lsp_acts.proofs.Acting.{acts_at}
+use Rattle.lsp_acts.proofs.Counting.{Fresh}
+use Rattle.lsp_acts.specs.Acts.{Act, Queues, TakesBack, unsent}
+use Rattle.lsp_acts.specs.Law.{AnswersInitialize, Call, Initializes}
+use Rattle.lsp_acts.specs.QueuedServer.{with_queues, OpensSending, WorksSending}
+use Rattle.lsp_acts.specs.Stated.{Stated, unwoken}
+use Rattle.lsp_acts.specs.SentByActs.{ActsAt, acts_done_at, all_sends, queues_at}
+use Rattle.lsp_acts.specs.View as queues
+use Rattle.lsp_acts.specs.declared.queued_server.QueuedServer.{QueuedServer}
+use Rattle.lsp_acts.specs.declared.server.Server.{Ghosts as Plain}
 use Rattle.lsp_jobs.proofs.Answering.{back_pending, requests_then, sent_all}
 use Rattle.lsp_jobs.proofs.Owed.{replies_at_wake, waits_called, waits_opened, HeldWaits}
 use Rattle.lsp_jobs.proofs.SlotTurns.{AllStand, TurnOf, handed_turn, opened as opening_turn, stands_after}
@@ -36,7 +36,7 @@ use Rattle.lsp_jobs.specs.PendingJobs.{PendingJobs, no_jobs}
 use Rattle.lsp_jobs.specs.PoolView.{pending_jobs}
 use Rattle.lsp_jobs.specs.SlotLaw.{AreTurns, IsTurn, Turn}
 use Rattle.lsp_jobs.specs.Stated.{StatedJobs}
-use Rattle.lsp_jobs.specs.declared.asking.Asked.{Asked}
+use Rattle.lsp_jobs.specs.declared.asking.RequestOrigin.{RequestOrigin}
 use Rattle.lsp_jobs.specs.declared.pooled_server.PooledServer.{PooledServer}
 
 -- `initialized` cancels no request
@@ -90,16 +90,16 @@ module _ {S J F P : Type 0} (plain : Plain S P) (may : StatedJobs S J F P) where
   }
 
 module _ (T : Type 0) {S J F P : Type 0} (plain : Plain S P) (may : StatedJobs S J F P) (first : S) where
-  abbrev W : Stated (PooledServer T S J F) (Asked P)
+  abbrev W : Stated (PooledServer T S J F) (RequestOrigin P)
   W = seen_with_jobs T plain may
 
   abbrev Working : Type 0
-  Working = QueuedServer (PooledServer T S J F) (Asked P)
+  Working = QueuedServer (PooledServer T S J F) (RequestOrigin P)
 
   abbrev pending : Working → PendingJobs J
   pending w = pending_jobs w.server.pool
 
-  abbrev queues_in : Working → Queues (Asked P)
+  abbrev queues_in : Working → Queues (RequestOrigin P)
   queues_in w = queues.queues_of w.queues
 
   -- the turns that led here, and that each job which is pending stands
@@ -126,8 +126,9 @@ module _ (T : Type 0) {S J F P : Type 0} (plain : Plain S P) (may : StatedJobs S
 
   -- the turn of the server's at an exchange
   stood_on : (earlier : List Exchange) (x : Exchange) (old did : PooledServer T S J F) (w' : Working)
-      (call : Call (Asked P)) (turns : List (Turn plain may)) (count : ℕ) → (t : TurnOf T plain may old did call)
-      → Leads plain may first earlier turns old.server → IsTakenAt plain may x t.turn
+      (call : Call (RequestOrigin P)) (turns : List (Turn plain may)) (count : ℕ)
+      → (t : TurnOf T plain may old did call) → Leads plain may first earlier turns old.server
+      → IsTakenAt plain may x t.turn
       → TakesBack W.takes_back did (unsent count call.acts) w'.server
       → AllStand plain may (turns ++ t.turn ∷ []) (pending_jobs did.pool) → Stood (earlier ++ x ∷ []) w'
   stood_on earlier x old did w' call turns count t led taken back stand = record {
@@ -159,7 +160,7 @@ module _ (T : Type 0) {S J F P : Type 0} (plain : Plain S P) (may : StatedJobs S
           (subst (λ (l : Option Message). WorksSending W (queues.seen w) l full (queues.seen w')) none gives),
     ),
     (
-      ap (λ (y : PooledServer T S J F × Queues (Asked P)). y.1.sent) gives.3,
+      ap (λ (y : PooledServer T S J F × Queues (RequestOrigin P)). y.1.sent) gives.3,
       stood_on earlier x w.server a.did w' call s.turns (count_of (queues_in w).asked) t s.led taken a.back
           (stands_after T plain may w.server a.did s.turns call t s.stand
           (requests_then T plain may w.server a.did x.came a.payload a.acts a.handed)),
@@ -173,22 +174,22 @@ module _ (T : Type 0) {S J F P : Type 0} (plain : Plain S P) (may : StatedJobs S
       s : Stood earlier w
       s = ready.1
 
-      call : Call (Asked P)
+      call : Call (RequestOrigin P)
       call = record { came = x.came; payload = a.payload; acts = a.acts }
 
       t : TurnOf T plain may w.server a.did call
       t = handed_turn T plain may w.server a.did x.came a.payload a.acts a.handed
 
-      asked : Queues (Asked P)
+      asked : Queues (RequestOrigin P)
       asked = queues_at (queues_in w) x.came a.payload
 
       taken : IsTakenAt plain may x t.turn
       taken = (
-        ap (λ (c : Call (Asked P)). c.came) t.of_call,
+        ap (λ (c : Call (RequestOrigin P)). c.came) t.of_call,
         (
           asked,
           more,
-          ap (λ (c : Call (Asked P)). all_sends asked (acts_done_at x.came c.acts)) t.of_call
+          ap (λ (c : Call (RequestOrigin P)). all_sends asked (acts_done_at x.came c.acts)) t.of_call
               ∙ sym (a.sent ∙ ap (λ (l : List Message). l ++ all_sends asked (acts_done_at x.came a.acts)) ready.0)
               ∙ sym part,
         ),
@@ -201,17 +202,17 @@ module _ (T : Type 0) {S J F P : Type 0} (plain : Plain S P) (may : StatedJobs S
   opened earlier w w' x m full more there begins part early ends o = (
     (λ none. absurd (cc (there, none))),
     (
-      ap (λ (y : PooledServer T S J F × Queues (Asked P)). y.1.sent) o.3,
+      ap (λ (y : PooledServer T S J F × Queues (RequestOrigin P)). y.1.sent) o.3,
       stood_on earlier x w.server o.1.1 w' call [] (count_of (queues_in w).asked) t led taken
           (subst (λ (p : PooledServer T S J F). TakesBack W.takes_back o.1.1
           (unsent (count_of (queues_in w).asked) o.1.0) p)
-          (sym (ap (λ (y : PooledServer T S J F × Queues (Asked P)). y.0) o.3)) o.1.3)
+          (sym (ap (λ (y : PooledServer T S J F × Queues (RequestOrigin P)). y.0) o.3)) o.1.3)
           (stands_opened T plain may w.server o.1.1 call early.1 o.1.2 t),
       λ id. waits_opened W id (earlier ++ x ∷ []) w w' full early.0 o,
     ),
   )
     where
-      call : Call (Asked P)
+      call : Call (RequestOrigin P)
       call = record { came = Some m; payload = None; acts = o.1.0 }
 
       t : TurnOf T plain may w.server o.1.1 call
@@ -230,16 +231,16 @@ module _ (T : Type 0) {S J F P : Type 0} (plain : Plain S P) (may : StatedJobs S
       }
 
       sent : full ≡ all_sends (queues_in w) o.1.0
-      sent = o.2 ∙ ap (λ (d : Queues (Asked P)). d.sent) o.1.4 ∙ sent_all (queues_in w) o.1.0
-          ∙ ap (λ (d : Queues (Asked P)). d.sent ++ all_sends (queues_in w) o.1.0) early.0
+      sent = o.2 ∙ ap (λ (d : Queues (RequestOrigin P)). d.sent) o.1.4 ∙ sent_all (queues_in w) o.1.0
+          ∙ ap (λ (d : Queues (RequestOrigin P)). d.sent ++ all_sends (queues_in w) o.1.0) early.0
 
       taken : IsTakenAt plain may x t.turn
       taken = (
-        ap (λ (c : Call (Asked P)). c.came) t.of_call ∙ sym there,
+        ap (λ (c : Call (RequestOrigin P)). c.came) t.of_call ∙ sym there,
         (
           queues_in w,
           more,
-          ap (λ (c : Call (Asked P)). all_sends (queues_in w) (acts_done_at x.came c.acts)) t.of_call
+          ap (λ (c : Call (RequestOrigin P)). all_sends (queues_in w) (acts_done_at x.came c.acts)) t.of_call
               ∙ ap (λ (l : Option Message). all_sends (queues_in w) (acts_done_at l o.1.0)) there
               ∙ ap (all_sends (queues_in w)) (no_cancel m o.1.0 begins) ∙ sym sent ∙ sym part,
         ),
@@ -389,7 +390,7 @@ pub answers_by_jobs : (T : Type 0) {S J F P : Type 0} (plain : Plain S P) (may :
     → JobSession T plain may first last xs stop shutdown_reply answer → AnswersByJobs plain may first xs
 answers_by_jobs T {S} {J} {F} {P} plain may first last xs stop shutdown_reply answer session =
     let s = session.session in
-    let began = ap (λ (y : PooledServer T S J F × Queues (Asked P)). y.0) s.from_first in
+    let began = ap (λ (y : PooledServer T S J F × Queues (RequestOrigin P)). y.0) s.from_first in
     let none : pending_jobs s.old.server.pool ≡ no_jobs =
     ap (λ (p : PooledServer T S J F). pending_jobs p.pool) began
     ∙ ap (λ (y : S × PendingJobs J). y.1) session.from_first in
@@ -397,4 +398,4 @@ answers_by_jobs T {S} {J} {F} {P} plain may first last xs stop shutdown_reply an
     ap (λ (p : PooledServer T S J F). p.server) began ∙ ap (λ (y : S × PendingJobs J). y.0) session.from_first in
     at_each T plain may first [] xs (run_wakes T plain may first stop [] xs starting s.out.last s.old s.out.after
     (reaches_ran (with_queues (seen_with_jobs T plain may)) stop starting s.out.last s.old s.out.after xs s.out.reached)
-    (ap (λ (y : PooledServer T S J F × Queues (Asked P)). y.1) s.from_first, none, same))
+    (ap (λ (y : PooledServer T S J F × Queues (RequestOrigin P)). y.1) s.from_first, none, same))

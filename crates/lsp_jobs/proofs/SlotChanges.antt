@@ -7,8 +7,8 @@ use Rattle.std.specs.Ordering.{eq_by_cmp}
 use Rattle.std.specs.Prelude.{MatchOption}
 use Rattle.lsp_message.specs.Id.{Id, id_cmp, same_id}
 use Rattle.lsp_message.specs.IdLaws.{id_decides}
-use Rattle.lsp_service.specs.Acts.{Act, tells, asks, replies, cancels}
-use Rattle.lsp_service.specs.declared.server.Server.{Ghosts as Plain}
+use Rattle.lsp_acts.specs.Acts.{Act, tells, asks, replies, cancels}
+use Rattle.lsp_acts.specs.declared.server.Server.{Ghosts as Plain}
 use Rattle.lsp_jobs.specs.Ends.{End, ended}
 use Rattle.lsp_jobs.specs.PendingJobs.{PendingJobs, without}
 use Rattle.lsp_jobs.specs.Pooled.{unanswered, Changes, EndsThen, Frees, StartsOne}

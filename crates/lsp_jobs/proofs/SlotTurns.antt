@@ -8,10 +8,10 @@ use Rattle.lsp_message.specs.Id.{Id}
 use Rattle.lsp_message.specs.Message.{Message, request, notification, response}
 use Rattle.lsp_message.specs.Methods.{is_initialize, is_initialized}
 use Rattle.lsp_session.specs.Session.{Exchange}
-use Rattle.lsp_service.specs.Acts.{Act, TakesBack, cancelled_by, unsent}
-use Rattle.lsp_service.specs.Law.{AnswersInitialize, Call, Handed, Initializes, TakesCalls, TakesPart, ids_after_all}
-use Rattle.lsp_service.specs.Stated.{Stated}
-use Rattle.lsp_service.specs.declared.server.Server.{Ghosts as Plain}
+use Rattle.lsp_acts.specs.Acts.{Act, TakesBack, cancelled_by, unsent}
+use Rattle.lsp_acts.specs.Law.{AnswersInitialize, Call, Handed, Initializes, TakesCalls, TakesPart, ids_after_all}
+use Rattle.lsp_acts.specs.Stated.{Stated}
+use Rattle.lsp_acts.specs.declared.server.Server.{Ghosts as Plain}
 use Rattle.lsp_jobs.proofs.Answering.{back_pending, does_jobs, requests_then, FromCall}
 use Rattle.lsp_jobs.proofs.SlotChanges.{fewer_slots, moves_all, unanswered_slot, went_all, Went}
 use Rattle.lsp_jobs.specs.Asking.{by_server, ByServers}
@@ -24,8 +24,8 @@ use Rattle.lsp_jobs.specs.Seen.{seen}
 use Rattle.lsp_jobs.specs.SlotLaw.{AllLeaveAlone, AllQuiet, AreTurns, IsCalled, IsGiven, IsTurn, LeavesAlone, Left}
 use Rattle.lsp_jobs.specs.SlotLaw.{MayPass, SeesLeft, SlotHistory, Spares, Stands, StartsLast, Turn, WakeDoes, at_ends}
 use Rattle.lsp_jobs.specs.SlotLaw.{concerns}
-use Rattle.lsp_jobs.specs.declared.asking.Asked.{Asked}
-use Rattle.lsp_jobs.specs.declared.asking.Asked.TheVariants.{ByJob, ByServer}
+use Rattle.lsp_jobs.specs.declared.asking.RequestOrigin.{RequestOrigin}
+use Rattle.lsp_jobs.specs.declared.asking.RequestOrigin.TheVariants.{ByJob, ByServer}
 use Rattle.lsp_jobs.specs.Stated.{SeesEnd, StatedJobs}
 use Rattle.lsp_jobs.specs.declared.job_server.SlotChange.{SlotChange}
 use Rattle.lsp_jobs.specs.declared.names.JobName.{JobName}
@@ -148,14 +148,14 @@ module _ {S J F P : Type 0} (plain : Plain S P) (may : StatedJobs S J F P) where
       ]
 
 module _ (T : Type 0) {S J F P : Type 0} (plain : Plain S P) (may : StatedJobs S J F P) where
-  abbrev W : Stated (PooledServer T S J F) (Asked P)
+  abbrev W : Stated (PooledServer T S J F) (RequestOrigin P)
   W = seen_with_jobs T plain may
 
   abbrev pended : PooledServer T S J F → PendingJobs J
   pended p = pending_jobs p.pool
 
   -- a call as a turn
-  pub record TurnOf (old did : PooledServer T S J F) (call : Call (Asked P)) : Type 0 where
+  pub record TurnOf (old did : PooledServer T S J F) (call : Call (RequestOrigin P)) : Type 0 where
     pub turn : Turn plain may
     pub of_call : turn.call ≡ call
     pub from : turn.old ≡ old.server
@@ -167,7 +167,7 @@ module _ (T : Type 0) {S J F P : Type 0} (plain : Plain S P) (may : StatedJobs S
         → WakeDoes plain may earlier turn
 
   -- the server did nothing
-  passes : (old did : PooledServer T S J F) (call : Call (Asked P))
+  passes : (old did : PooledServer T S J F) (call : Call (RequestOrigin P))
       → MayPass plain may old.server call.came call.acts → did.server ≡ old.server
       → ((slot : Id) → pended did (Slot slot) ≡ pended old (Slot slot))
       → ((turn : Turn plain may) → turn.call ≡ call → (earlier : List (Turn plain may))
@@ -195,7 +195,7 @@ module _ (T : Type 0) {S J F P : Type 0} (plain : Plain S P) (may : StatedJobs S
       }
 
   -- at a wake, or at a reply, nothing changed
-  stays : (old did : PooledServer T S J F) (call : Call (Asked P))
+  stays : (old did : PooledServer T S J F) (call : Call (RequestOrigin P))
       → MayPass plain may old.server call.came call.acts → seen did ≡ seen old
       → ((turn : Turn plain may) → turn.call ≡ call → (earlier : List (Turn plain may))
       → AllStand plain may earlier (pended old) → call.came ≡ None → WakeDoes plain may earlier turn)
@@ -205,7 +205,7 @@ module _ (T : Type 0) {S J F P : Type 0} (plain : Plain S P) (may : StatedJobs S
       (λ slot. ap (λ (x : S × PendingJobs J). x.1 (Slot slot)) same)
 
   -- the server was called, and then asked for changes
-  called : (old did : PooledServer T S J F) (call : Call (Asked P)) (asked : S) (mid : PendingJobs J)
+  called : (old did : PooledServer T S J F) (call : Call (RequestOrigin P)) (asked : S) (mid : PendingJobs J)
       (acts own : List (Act P)) → call.acts ≡ map_list by_server own
       → IsCalled plain may old.server call.came acts asked
       → ((slot : Id) (e : J) → mid (Slot slot) ≡ Some e → pended old (Slot slot) ≡ Some e)
@@ -238,7 +238,7 @@ module _ (T : Type 0) {S J F P : Type 0} (plain : Plain S P) (may : StatedJobs S
       }
 
   -- a call of the server, in which it did what it stated
-  does_turn : (old did : PooledServer T S J F) (call : Call (Asked P)) (pending : PendingJobs J)
+  does_turn : (old did : PooledServer T S J F) (call : Call (RequestOrigin P)) (pending : PendingJobs J)
       (stated : List (Act P) → S → Type 0) → ByServers (λ own. Does may stated pending own (seen did)) call.acts
       → ((acts : List (Act P)) (mid : S) → stated acts mid → IsCalled plain may old.server call.came acts mid)
       → ((slot : Id) (e : J) → pending (Slot slot) ≡ Some e → pended old (Slot slot) ≡ Some e)
@@ -254,8 +254,9 @@ module _ (T : Type 0) {S J F P : Type 0} (plain : Plain S P) (may : StatedJobs S
   slots_cancelled (Some id) pending slot e has = has
 
   -- a long request came
-  long_turn : (old did : PooledServer T S J F) (id : Id) (method : List ℕ) (params : Data) (payload : Option (Asked P))
-      (acts : List (Act (Asked P))) → may.sorts old.server method params true
+  long_turn : (old did : PooledServer T S J F) (id : Id) (method : List ℕ) (params : Data)
+      (payload : Option (RequestOrigin P)) (acts : List (Act (RequestOrigin P)))
+      → may.sorts old.server method params true
       → TakesLong may (seen old) id method params acts (seen did)
       → TurnOf old did (record { came = Some (request id method params); payload = payload; acts = acts })
   long_turn old did id method params payload acts long (inl j) =
@@ -270,8 +271,9 @@ module _ (T : Type 0) {S J F P : Type 0} (plain : Plain S P) (may : StatedJobs S
       (λ turn is earlier stand none. absurd (cc (none)))
 
   -- a job came to something
-  finishes_turn : (old did : PooledServer T S J F) (payload : Option (Asked P)) (acts : List (Act (Asked P)))
-      (own : List (Act P)) → acts ≡ map_list by_server own → Finishes may (seen old) own (seen did)
+  finishes_turn : (old did : PooledServer T S J F) (payload : Option (RequestOrigin P))
+      (acts : List (Act (RequestOrigin P))) (own : List (Act P)) → acts ≡ map_list by_server own
+      → Finishes may (seen old) own (seen did)
       → TurnOf old did (record { came = None; payload = payload; acts = acts })
   finishes_turn old did payload acts own by_own f =
       called old did (record { came = None; payload = payload; acts = acts }) f.did.0 f.did.1 f.acts own by_own
@@ -302,14 +304,14 @@ module _ (T : Type 0) {S J F P : Type 0} (plain : Plain S P) (may : StatedJobs S
           f.comes,
           subst (λ (x : S × S). SeesEnd may x.0 f.name (end_of f.came) f.ended.0 x.1)
               (λ k. (sym from k, sym asked k)) f.ended.1,
-          ap (λ (c : Call (Asked P)). c.acts) is ∙ by_own ∙ ap (map_list by_server) all
+          ap (λ (c : Call (RequestOrigin P)). c.acts) is ∙ by_own ∙ ap (map_list by_server) all
               ∙ ap (λ (ls : List (Left may)). map_list by_server ((f.ended.0 ++ reply_at f.name f.came)
               ++ at_ends may ls)) (sym left),
         )),
       ))
 
-  pub handed_turn : (old did : PooledServer T S J F) (arrived : Option Message) (payload : Option (Asked P))
-      (acts : List (Act (Asked P))) → Handed W old arrived payload acts did
+  pub handed_turn : (old did : PooledServer T S J F) (arrived : Option Message) (payload : Option (RequestOrigin P))
+      (acts : List (Act (RequestOrigin P))) → Handed W old arrived payload acts did
       → TurnOf old did (record { came = arrived; payload = payload; acts = acts })
   handed_turn old did (Some (request id method params)) payload acts h = elim h.0 [
     | inl long ↦ long_turn old did id method params payload acts long.0 long.1
@@ -337,31 +339,31 @@ module _ (T : Type 0) {S J F P : Type 0} (plain : Plain S P) (may : StatedJobs S
       (λ turn is earlier stand none. absurd (cc (none)))
   handed_turn old did None payload acts h = woken h.0
     where
-      now : Call (Asked P)
+      now : Call (RequestOrigin P)
       now = record { came = None; payload = payload; acts = acts }
 
       woken : W.wakes old acts did → TurnOf old did now
       woken (inl nothing) = stays old did now tt nothing.1 (λ turn is earlier stand none.
-          inl (ap (λ (c : Call (Asked P)). c.acts) is ∙ nothing.0))
+          inl (ap (λ (c : Call (RequestOrigin P)). c.acts) is ∙ nothing.0))
       woken (inr (inl r)) = stays old did now tt r.same (λ turn is earlier stand none. inr (inl (
         r.name,
         r.job,
         stand r.name r.job r.waits,
-        inl (r.method, r.params, r.reports, ap (λ (c : Call (Asked P)). c.acts) is ∙ r.acts),
+        inl (r.method, r.params, r.reports, ap (λ (c : Call (RequestOrigin P)). c.acts) is ∙ r.acts),
       )))
       woken (inr (inr (inl a))) = stays old did now tt a.same (λ turn is earlier stand none. inr (inl (
         a.name,
         a.job,
         stand a.name a.job a.waits,
-        inr (inl (a.method, a.params, a.number, a.may_ask, ap (λ (c : Call (Asked P)). c.acts) is ∙ a.acts)),
+        inr (inl (a.method, a.params, a.number, a.may_ask, ap (λ (c : Call (RequestOrigin P)). c.acts) is ∙ a.acts)),
       )))
       woken (inr (inr (inr (inl b)))) = finishes_turn old did payload acts b.0 b.1 b.2
       woken (inr (inr (inr (inr w)))) = stays old did now tt w.same (λ turn is earlier stand none.
-          inr (inr (w.number, ap (λ (c : Call (Asked P)). c.acts) is ∙ w.acts)))
+          inr (inr (w.number, ap (λ (c : Call (RequestOrigin P)). c.acts) is ∙ w.acts)))
 
   -- what the server took back
-  pub took_back : (payloads : List (Asked P)) (old new : PooledServer T S J F) → TakesBack W.takes_back old payloads new
-      → (own : List P) × TakesBack plain.takes_back old.server own new.server
+  pub took_back : (payloads : List (RequestOrigin P)) (old new : PooledServer T S J F)
+      → TakesBack W.takes_back old payloads new → (own : List P) × TakesBack plain.takes_back old.server own new.server
   took_back [] old new same = ([], ap (λ (p : PooledServer T S J F). p.server) same)
   took_back (ByServer payload ∷ payloads) old new back =
       let rest = took_back payloads back.0 new back.2 in
@@ -374,26 +376,26 @@ module _ (T : Type 0) {S J F P : Type 0} (plain : Plain S P) (may : StatedJobs S
       )
 
   -- each job that is pending for a request then was before, or is given in this turn
-  comes_at : (old did : PooledServer T S J F) (call : Call (Asked P)) (turn : Turn plain may) → turn.call ≡ call
+  comes_at : (old did : PooledServer T S J F) (call : Call (RequestOrigin P)) (turn : Turn plain may) → turn.call ≡ call
       → turn.old ≡ old.server → ((id : Id) (e : J) → pended did (Request id) ≡ Some e
       → FromCall (IsGiven plain may old.server call.acts) (pended old) call.came id e × Spares id call.acts)
       → Comes plain may turn (pended old) (pended did)
   comes_at old did call turn is from comes id e has =
-      subst (λ (x : Call (Asked P) × S). FromCall (IsGiven plain may x.1 x.0.acts) (pended old) x.0.came id e
+      subst (λ (x : Call (RequestOrigin P) × S). FromCall (IsGiven plain may x.1 x.0.acts) (pended old) x.0.came id e
       × Spares id x.0.acts) (λ k. (sym is k, sym from k)) (comes id e has)
 
   -- and each job that is pending then stands
-  pub stands_after : (old did : PooledServer T S J F) (earlier : List (Turn plain may)) (call : Call (Asked P))
+  pub stands_after : (old did : PooledServer T S J F) (earlier : List (Turn plain may)) (call : Call (RequestOrigin P))
       (t : TurnOf old did call) → AllStand plain may earlier (pended old)
       → ((id : Id) (e : J) → pended did (Request id) ≡ Some e
       → FromCall (IsGiven plain may old.server call.acts) (pended old) call.came id e × Spares id call.acts)
       → AllStand plain may (earlier ++ t.turn ∷ []) (pended did)
   stands_after old did earlier call t stand comes =
       stand_on plain may earlier t.turn (pended old) (pended did) stand t.moves
-      (t.gave ∙ ap (λ (c : Call (Asked P)). given_at plain may c.came (pended did)) (sym t.of_call))
+      (t.gave ∙ ap (λ (c : Call (RequestOrigin P)). given_at plain may c.came (pended did)) (sym t.of_call))
       (comes_at old did call t.turn t.of_call t.from comes)
 
-  record Turns (start : S) (earlier : List (Turn plain may)) (calls : List (Call (Asked P))) : Type 0 where
+  record Turns (start : S) (earlier : List (Turn plain may)) (calls : List (Call (RequestOrigin P))) : Type 0 where
     turns : List (Turn plain may)
     are : map_list (λ (t : Turn plain may). t.call) turns ≡ calls
     last : S
@@ -416,8 +418,9 @@ module _ (T : Type 0) {S J F P : Type 0} (plain : Plain S P) (may : StatedJobs S
       never [] later t e = absurd (cc (e))
       never (x ∷ before) later t e = absurd (cc (e))
 
-  one_turn : (start : S) (old did : PooledServer T S J F) (earlier : List (Turn plain may)) (call : Call (Asked P))
-      (calls : List (Call (Asked P))) → ((own : List P) × TakesBack plain.takes_back start own old.server)
+  one_turn : (start : S) (old did : PooledServer T S J F) (earlier : List (Turn plain may))
+      (call : Call (RequestOrigin P)) (calls : List (Call (RequestOrigin P)))
+      → ((own : List P) × TakesBack plain.takes_back start own old.server)
       → (t : TurnOf old did call) → AllStand plain may earlier (pended old)
       → Turns did.server (earlier ++ t.turn ∷ []) calls → Turns start earlier (call ∷ calls)
   one_turn start old did earlier call calls between t stand rest = record {
@@ -436,7 +439,7 @@ module _ (T : Type 0) {S J F P : Type 0} (plain : Plain S P) (may : StatedJobs S
           → x.call.came ≡ None → WakeDoes plain may (earlier ++ before) x
       at [] later x e none =
           let same : t.turn ≡ x = cc (e) in
-          let came : call.came ≡ None = ap (λ (c : Call (Asked P)). c.came) (sym t.of_call)
+          let came : call.came ≡ None = ap (λ (c : Call (RequestOrigin P)). c.came) (sym t.of_call)
           ∙ ap (λ (y : Turn plain may). y.call.came) same ∙ none in
           subst (λ (y : List (Turn plain may) × Turn plain may). WakeDoes plain may y.0 y.1)
           (λ k. (sym (append-nil earlier) k, same k)) (t.wake earlier stand came)
@@ -447,7 +450,7 @@ module _ (T : Type 0) {S J F P : Type 0} (plain : Plain S P) (may : StatedJobs S
           (append_assoc earlier (t.turn ∷ []) before
           ∙ ap (λ (y : Turn plain may). earlier ++ y ∷ before) same) (rest.wakes before later x more none)
 
-  all_turns : (count : ℕ) (calls : List (Call (Asked P))) (start : S) (old last : PooledServer T S J F)
+  all_turns : (count : ℕ) (calls : List (Call (RequestOrigin P))) (start : S) (old last : PooledServer T S J F)
       (earlier : List (Turn plain may)) → ((own : List P) × TakesBack plain.takes_back start own old.server)
       → AllStand plain may earlier (pended old) → TakesCalls W count old calls last → Turns start earlier calls
   all_turns count [] start old last earlier between stand same = no_turns start old.server earlier between
@@ -469,7 +472,7 @@ module _ (T : Type 0) {S J F P : Type 0} (plain : Plain S P) (may : StatedJobs S
   no_job start none name e has = let no = ap (λ (p : PendingJobs J). p name) (sym none) ∙ has in absurd (cc (no))
 
   -- `initialized` came
-  pub opened : (start did : PooledServer T S J F) (m : Message) (acts : List (Act (Asked P)))
+  pub opened : (start did : PooledServer T S J F) (m : Message) (acts : List (Act (RequestOrigin P)))
       → is_initialized m ≡ true → W.at_initialized start acts did
       → TurnOf start did (record { came = Some m; payload = None; acts = acts })
   opened start did m acts begins began = does_turn start did (record { came = Some m; payload = None; acts = acts })
@@ -482,7 +485,7 @@ module _ (T : Type 0) {S J F P : Type 0} (plain : Plain S P) (may : StatedJobs S
       is_called (request id method params) begins acts mid does = absurd (cc (begins))
       is_called (response id outcome) begins acts mid does = absurd (cc (begins))
 
-  pub stands_opened : (start did : PooledServer T S J F) (call : Call (Asked P)) → pended start ≡ no_jobs
+  pub stands_opened : (start did : PooledServer T S J F) (call : Call (RequestOrigin P)) → pended start ≡ no_jobs
       → W.at_initialized start call.acts did → (t : TurnOf start did call)
       → AllStand plain may (t.turn ∷ []) (pended did)
   stands_opened start did call none began t =
@@ -514,7 +517,7 @@ module _ (T : Type 0) {S J F P : Type 0} (plain : Plain S P) (may : StatedJobs S
       part.took_calls) in
       record { turns = all.turns; are = all.are; last = all.last; linked = all.linked; wakes = all.wakes }
     where
-      now : Call (Asked P)
+      now : Call (RequestOrigin P)
       now = record { came = opening.came; payload = None; acts = part.begun }
 
   -- up to the result of `initialize` no job is started

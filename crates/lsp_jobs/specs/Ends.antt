@@ -4,7 +4,7 @@ use Rattle.std.specs.Prelude.{Err, None, Option, Result, Some, codes}
 use Rattle.lsp_message.specs.ErrorCode.{number_of}
 use Rattle.lsp_message.specs.Message.{ErrorObject}
 use Rattle.lsp_message.specs.declared.msg.code.ErrorCode.TheVariants.{InternalError, RequestFailed}
-use Rattle.lsp_service.specs.Acts.{canceled}
+use Rattle.lsp_acts.specs.Acts.{canceled}
 use Rattle.lsp_jobs.specs.declared.job_server.JobEnd.{JobEnd}
 use Rattle.lsp_jobs.specs.declared.job_server.JobEnd.TheVariants.{Cancelled, Done, Failed}
 

@@ -5,12 +5,12 @@ use Rattle.lsp_message.specs.Id.{Id}
 use Rattle.lsp_message.specs.Message.{Message, request}
 use Rattle.lsp_session.specs.Session.{Exchange, SessionAnswer, Stop}
 use Rattle.lsp_session.specs.SessionLaws.{EndsWithResult}
-use Rattle.lsp_service.specs.Acts.{Act, Queues, replies}
-use Rattle.lsp_service.specs.Law.{AnswersInitialize, KeepsLaws, how_many, is_reply_under}
-use Rattle.lsp_service.specs.QueuedServer.{held_by}
-use Rattle.lsp_service.specs.SentByActs.{acts_done_at, all_sends}
-use Rattle.lsp_service.specs.Stated.{unwoken}
-use Rattle.lsp_service.specs.declared.server.Server.{Ghosts as Plain}
+use Rattle.lsp_acts.specs.Acts.{Act, Queues, replies}
+use Rattle.lsp_acts.specs.Law.{AnswersInitialize, KeepsLaws, how_many, is_reply_under}
+use Rattle.lsp_acts.specs.QueuedServer.{held_by}
+use Rattle.lsp_acts.specs.SentByActs.{acts_done_at, all_sends}
+use Rattle.lsp_acts.specs.Stated.{unwoken}
+use Rattle.lsp_acts.specs.declared.server.Server.{Ghosts as Plain}
 use Rattle.lsp_jobs.specs.Ends.{Came, ComesTo, End, Outcome, reply_of}
 use Rattle.lsp_jobs.specs.JobSession.{JobSession, seen_with_jobs}
 use Rattle.lsp_jobs.specs.SlotLaw.{AreTurns, IsTurn, Turn, WakeDoes, concerns}

@@ -1,4 +1,4 @@
-pub mod AskedLaws
+pub mod RequestOriginLaws
 pub mod Asking
 pub mod Ends
 pub mod JobLaw

@@ -3,15 +3,15 @@ use Rattle.serde_json.specs.Data.{Data}
 use Rattle.std.specs.List.{FoldsTo}
 use Rattle.std.specs.Prelude.{◌≡◌, ◌⊎◌, ℕ, true, false, List, [], ◌∷◌, ◌++◌, Option, Some, None, Err, MatchOption}
 use Rattle.lsp_message.specs.Id.{Id}
-use Rattle.lsp_service.specs.Acts.{Act, tells, asks, replies, cancels, cancelled_by}
-use Rattle.lsp_service.specs.Stated.{Stated}
-use Rattle.lsp_service.specs.declared.server.Server.{Ghosts as Plain}
+use Rattle.lsp_acts.specs.Acts.{Act, tells, asks, replies, cancels, cancelled_by}
+use Rattle.lsp_acts.specs.Stated.{Stated}
+use Rattle.lsp_acts.specs.declared.server.Server.{Ghosts as Plain}
 use Rattle.lsp_jobs.specs.Asking.{ByServers, WhoseAsked, of_job}
 use Rattle.lsp_jobs.specs.Ends.{Came, ComesTo, End, Outcome, end_of, ended, no_memory, reply_of, too_many}
 use Rattle.lsp_jobs.specs.PendingJobs.{PendingJobs, no_jobs, without, with_job}
 use Rattle.lsp_jobs.specs.Stated.{SeesEnd, StatedJobs}
-use Rattle.lsp_jobs.specs.declared.asking.Asked.{Asked}
-use Rattle.lsp_jobs.specs.declared.asking.Asked.TheVariants.{ByJob}
+use Rattle.lsp_jobs.specs.declared.asking.RequestOrigin.{RequestOrigin}
+use Rattle.lsp_jobs.specs.declared.asking.RequestOrigin.TheVariants.{ByJob}
 use Rattle.lsp_jobs.specs.declared.job_server.JobEnd.TheVariants.{Refused, Replaced, Stopped}
 use Rattle.lsp_jobs.specs.declared.job_server.SlotChange.{SlotChange}
 use Rattle.lsp_jobs.specs.declared.job_server.SlotChange.TheVariants.{Start, Stop}
@@ -89,7 +89,7 @@ module _ {S J F P : Type 0} (may : StatedJobs S J F P) where
 
   -- The request is answered at once, and nothing else is done.
   pub record AnswersAtOnce (old : S × PendingJobs J) (id : Id) (method : List ℕ) (params : Data)
-      (all : List (Act (Asked P))) (new : S × PendingJobs J) : Type 0 where
+      (all : List (Act (RequestOrigin P))) (new : S × PendingJobs J) : Type 0 where
     pub outcome : Outcome
     pub is : IsAtOnce old.0 id method params outcome
     pub acts : all ≡ replies id outcome ∷ []
@@ -97,7 +97,7 @@ module _ {S J F P : Type 0} (may : StatedJobs S J F P) where
 
   -- A job that is for the request is started, and nothing else is done.
   pub record StartsJob (old : S × PendingJobs J) (id : Id) (method : List ℕ) (params : Data)
-      (all : List (Act (Asked P))) (new : S × PendingJobs J) : Type 0 where
+      (all : List (Act (RequestOrigin P))) (new : S × PendingJobs J) : Type 0 where
     pub job : J
     pub is_for : may.is_for job method params
     pub gives : may.gives old.0 id method params job
@@ -105,7 +105,8 @@ module _ {S J F P : Type 0} (may : StatedJobs S J F P) where
     pub started : new ≡ (old.0, with_job (Request id) job old.1)
 
   -- What is done at a long request. An earlier job under its id is forgotten.
-  abbrev pub TakesLong : S × PendingJobs J → Id → List ℕ → Data → List (Act (Asked P)) → S × PendingJobs J → Type 0
+  abbrev pub TakesLong : S × PendingJobs J → Id → List ℕ → Data → List (Act (RequestOrigin P))
+      → S × PendingJobs J → Type 0
   TakesLong old id method params all new =
       StartsJob old id method params all new ⊎ AnswersAtOnce old id method params all new
 
@@ -122,7 +123,8 @@ module _ {S J F P : Type 0} (may : StatedJobs S J F P) where
     pub others : ChangesSlots did acts all new
 
   -- A pending job reports.
-  pub record Reports (old : S × PendingJobs J) (all : List (Act (Asked P))) (new : S × PendingJobs J) : Type 0 where
+  pub record Reports (old : S × PendingJobs J) (all : List (Act (RequestOrigin P)))
+      (new : S × PendingJobs J) : Type 0 where
     pub name : JobName
     pub job : J
     pub method : List ℕ
@@ -133,7 +135,8 @@ module _ {S J F P : Type 0} (may : StatedJobs S J F P) where
     pub same : new ≡ old
 
   -- A pending job asks the client, and waits for the reply under this number.
-  pub record Asks (old : S × PendingJobs J) (all : List (Act (Asked P))) (new : S × PendingJobs J) : Type 0 where
+  pub record Asks (old : S × PendingJobs J) (all : List (Act (RequestOrigin P)))
+      (new : S × PendingJobs J) : Type 0 where
     pub name : JobName
     pub job : J
     pub method : List ℕ
@@ -145,14 +148,15 @@ module _ {S J F P : Type 0} (may : StatedJobs S J F P) where
     pub same : new ≡ old
 
   -- The request of one job to the client is cancelled, if it has no reply yet.
-  pub record Withdraws (old : S × PendingJobs J) (all : List (Act (Asked P))) (new : S × PendingJobs J) : Type 0 where
+  pub record Withdraws (old : S × PendingJobs J) (all : List (Act (RequestOrigin P)))
+      (new : S × PendingJobs J) : Type 0 where
     pub number : ℕ
     pub acts : all ≡ cancels (of_job number) ∷ []
     pub same : new ≡ old
 
   -- At a wake nothing is done, or a job reports, or asks the client, or came to something. Or what a job asked that
   -- waits no more is cancelled.
-  abbrev pub Wakes : S × PendingJobs J → List (Act (Asked P)) → S × PendingJobs J → Type 0
+  abbrev pub Wakes : S × PendingJobs J → List (Act (RequestOrigin P)) → S × PendingJobs J → Type 0
   Wakes old all new = ((all ≡ []) × (new ≡ old))
       ⊎ (Reports old all new
       ⊎ (Asks old all new ⊎ (ByServers (λ acts. Finishes old acts new) all ⊎ Withdraws old all new)))
@@ -160,7 +164,7 @@ module _ {S J F P : Type 0} (may : StatedJobs S J F P) where
   -- What a server with its jobs may do. A request that the server may call long is answered by a job that is for it,
   -- or at once; another by the server. A reply to a request of a job is not told to the server. At `shutdown` no job
   -- is started, and none is pending any more.
-  abbrev pub with_jobs : Plain S P → Stated (S × PendingJobs J) (Asked P)
+  abbrev pub with_jobs : Plain S P → Stated (S × PendingJobs J) (RequestOrigin P)
   with_jobs plain = record {
     initializes = λ old params outcome new. plain.initializes old.0 params outcome new.0
         × (new.1 ≡ old.1);

@@ -7,14 +7,14 @@ use Rattle.lsp_message.specs.Id.{Id, id_cmp, same_id}
 use Rattle.lsp_message.specs.Message.{Message, request, notification, response}
 use Rattle.lsp_message.specs.Methods.{is_initialized}
 use Rattle.lsp_session.specs.Session.{Exchange}
-use Rattle.lsp_service.specs.Acts.{Act, tells, asks, replies, cancels, cancelled_by, TakesBack}
-use Rattle.lsp_service.specs.Law.{Call}
-use Rattle.lsp_service.specs.declared.server.Server.{Ghosts as Plain}
+use Rattle.lsp_acts.specs.Acts.{Act, tells, asks, replies, cancels, cancelled_by, TakesBack}
+use Rattle.lsp_acts.specs.Law.{Call}
+use Rattle.lsp_acts.specs.declared.server.Server.{Ghosts as Plain}
 use Rattle.lsp_jobs.specs.Asking.{by_server, of_job}
 use Rattle.lsp_jobs.specs.Ends.{Came, ComesTo, End, Outcome, end_of, ended}
 use Rattle.lsp_jobs.specs.Pooled.{reply_at, IsAtOnce}
-use Rattle.lsp_jobs.specs.declared.asking.Asked.{Asked}
-use Rattle.lsp_jobs.specs.declared.asking.Asked.TheVariants.{ByJob}
+use Rattle.lsp_jobs.specs.declared.asking.RequestOrigin.{RequestOrigin}
+use Rattle.lsp_jobs.specs.declared.asking.RequestOrigin.TheVariants.{ByJob}
 use Rattle.lsp_jobs.specs.Stated.{SeesEnd, StatedJobs}
 use Rattle.lsp_jobs.specs.declared.job_server.JobEnd.TheVariants.{Refused, Replaced, Stopped}
 use Rattle.lsp_jobs.specs.declared.job_server.SlotChange.{SlotChange}
@@ -90,7 +90,7 @@ module _ {S J F P : Type 0} (plain : Plain S P) (may : StatedJobs S J F P) where
   -- asked for changes of its slots. These took it to `made`. Then it saw how jobs ended. `given` is the job that it
   -- gave for a long request.
   pub record Turn : Type 0 where
-    pub call : Call (Asked P)
+    pub call : Call (RequestOrigin P)
     pub old : S
     pub given : Option J
     pub asked : S
@@ -113,13 +113,13 @@ module _ {S J F P : Type 0} (plain : Plain S P) (may : StatedJobs S J F P) where
       × SeesEnd may old name (end_of came) first new × (acts ≡ first ++ reply_at name came)
 
   -- The server calls this request long and gives this job, which is for it. Nothing is done yet.
-  abbrev pub IsGiven : S → List (Act (Asked P)) → Id → List ℕ → Data → J → Type 0
+  abbrev pub IsGiven : S → List (Act (RequestOrigin P)) → Id → List ℕ → Data → J → Type 0
   IsGiven server acts id method params job =
       may.sorts server method params true × may.gives server id method params job × may.is_for job method params
       × (acts ≡ [])
 
   -- The server calls this request long. It gives a job. Or this is the reply at once.
-  abbrev pub IsLong : S → Id → List ℕ → Data → List (Act (Asked P)) → Type 0
+  abbrev pub IsLong : S → Id → List ℕ → Data → List (Act (RequestOrigin P)) → Type 0
   IsLong server id method params acts =
       ((job : J) × IsGiven server acts id method params job)
       ⊎ (may.sorts server method params true × (outcome : Outcome)
@@ -127,7 +127,7 @@ module _ {S J F P : Type 0} (plain : Plain S P) (may : StatedJobs S J F P) where
 
   -- It may come that the server does nothing: at a long request; at a reply to a job, or to nobody; at a wake at which
   -- no job ended.
-  abbrev pub MayPass : S → Option Message → List (Act (Asked P)) → Type 0
+  abbrev pub MayPass : S → Option Message → List (Act (RequestOrigin P)) → Type 0
   MayPass server (Some (request id method params)) acts = IsLong server id method params acts
   MayPass server (Some (notification method params)) acts = ⊥
   MayPass server (Some (response id outcome)) acts = acts ≡ []
@@ -204,8 +204,8 @@ module _ {S J F P : Type 0} (plain : Plain S P) (may : StatedJobs S J F P) where
 
   -- From the state at the result of `initialize` on, these are the turns of a server: what it began at `initialized`,
   -- and its calls. At each wake only the last job of a slot has a say, and only the job that a request waits for.
-  pub record SlotHistory (start : S) (opening : Exchange) (begun : List (Act (Asked P)))
-      (calls : List (Call (Asked P))) : Type 0 where
+  pub record SlotHistory (start : S) (opening : Exchange) (begun : List (Act (RequestOrigin P)))
+      (calls : List (Call (RequestOrigin P))) : Type 0 where
     pub turns : List Turn
     pub are : map (λ (t : Turn). t.call) turns
         ≡ record { came = opening.came; payload = None; acts = begun } ∷ calls

@@ -2,7 +2,7 @@
 use Rattle.serde_json.specs.Data.{Data}
 use Rattle.std.specs.Prelude.{ℕ, Bool, List, Option}
 use Rattle.lsp_message.specs.Id.{Id}
-use Rattle.lsp_service.specs.Acts.{Act}
+use Rattle.lsp_acts.specs.Acts.{Act}
 use Rattle.lsp_jobs.specs.Ends.{End, Outcome, ended, found}
 use Rattle.lsp_jobs.specs.declared.job.Job.{Ghosts as OfJob}
 use Rattle.lsp_jobs.specs.declared.job_server.JobEnd.{JobEnd}

@@ -10,30 +10,30 @@ use std::time::Duration;
 
 /// Who sent a request to the client. It is kept for the reply.
 #[derive(Drop)]
-pub enum Asked<P> {
+pub enum RequestOrigin<P> {
     /// The server, which kept this for the reply.
     ByServer(P),
     /// A job, which waits for the reply under this number.
     ByJob(u64),
 }
 
-impl<P: PartialEq> PartialEq for Asked<P> {
-    ghost use Rattle.lsp_jobs.specs.AskedLaws.{same_asked_laws};
-    ghost use Rattle.lsp_jobs.specs.Asking.{same_asked};
+impl<P: PartialEq> PartialEq for RequestOrigin<P> {
+    ghost use Rattle.lsp_jobs.specs.RequestOriginLaws.{same_origin_laws};
+    ghost use Rattle.lsp_jobs.specs.Asking.{same_origin};
 
-    ghost eq = { same_asked P.eq };
+    ghost eq = { same_origin P.eq };
 
-    ghost laws = { same_asked_laws P.eq P.laws };
+    ghost laws = { same_origin_laws P.eq P.laws };
 
-    fn eq(&self, other: &Asked<P>) -> bool {
+    fn eq(&self, other: &RequestOrigin<P>) -> bool {
         match other {
-            Asked::ByServer(payload) => match self {
-                Asked::ByServer(kept) => *kept == *payload,
-                Asked::ByJob(_) => false,
+            RequestOrigin::ByServer(payload) => match self {
+                RequestOrigin::ByServer(kept) => *kept == *payload,
+                RequestOrigin::ByJob(_) => false,
             },
-            Asked::ByJob(number) => match self {
-                Asked::ByServer(_) => false,
-                Asked::ByJob(asked) => *asked == *number,
+            RequestOrigin::ByJob(number) => match self {
+                RequestOrigin::ByServer(_) => false,
+                RequestOrigin::ByJob(asked) => *asked == *number,
             },
         }
     }

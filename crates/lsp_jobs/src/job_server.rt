@@ -3,15 +3,15 @@ ghost use Rattle.serde_json.specs.View.{view};
 ghost use Rattle.std.specs.Prelude.{◌≡◌, map, Err, IfOk, MatchResult, Ok, Result, string_bytes};
 ghost use Rattle.lsp_message.specs.View.{outcome_view};
 ghost use Rattle.lsp_message.specs.declared.msg.ResponseError.{ResponseError as ReadError};
-ghost use Rattle.lsp_service.specs.Answering.{IsRead};
-ghost use Rattle.lsp_service.specs.View.{act_view};
+ghost use Rattle.lsp_acts.specs.Answering.{IsRead};
+ghost use Rattle.lsp_acts.specs.View.{act_view};
 ghost use Rattle.lsp_jobs.specs.ServerView.{AnsweredSo};
 ghost use Rattle.lsp_jobs.specs.declared.job_server.AnsweredBy.TheVariants.{Job as ByJob, Reply as AtOnce};
 
 use crate::job::Job;
 use crate::names::{JobName, Slot};
+use lsp_acts::{Act, Server};
 use lsp_message::{Request, ResponseError};
-use lsp_service::{Act, Server};
 use serde::DeserializeOwned;
 use serde_json::Value;
 use std::alloc::{AllocError, Global};
@@ -27,7 +27,7 @@ pub enum AnsweredBy<J> {
 
 impl<J: Drop> AnsweredBy<J> {
     /// Reads a long request's params as a type of your own, and gives the job that `make` makes of them. Params that do not fit are refused
-    /// at once with the error -32602, whose text names a key that is missing, as `lsp_service::Act::answer` does (JSON-RPC 2.0, section 5.1).
+    /// at once with the error -32602, whose text names a key that is missing, as `lsp_acts::Act::answer` does (JSON-RPC 2.0, section 5.1).
     ///
     /// `Err` means that an allocation failed. Which params fit, no contract says: test it.
     pub fn with_params<T, F>(
@@ -128,7 +128,7 @@ pub enum JobEnd {
 /// its id used again.
 pub trait Slots<S: Server, J: Job> {
     ghost use Rattle.std.specs.Prelude.{List};
-    ghost use Rattle.lsp_service.specs.Acts.{Act as PlainAct};
+    ghost use Rattle.lsp_acts.specs.Acts.{Act as PlainAct};
     ghost use Rattle.lsp_jobs.specs.declared.job_server.JobEnd.{JobEnd as HowEnded};
     ghost use Rattle.lsp_jobs.specs.declared.job_server.SlotChange.{SlotChange as Change};
     ghost use Rattle.lsp_jobs.specs.declared.names.JobName.{JobName as Name};

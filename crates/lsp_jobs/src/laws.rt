@@ -4,7 +4,7 @@ ghost use Rattle.lsp_message.specs.Id.{Id};
 ghost use Rattle.lsp_message.specs.Message.{Message, response};
 ghost use Rattle.lsp_message.specs.Methods.{is_initialized};
 ghost use Rattle.lsp_message.specs.declared.frame.limits.Limits.{Limits};
-ghost use Rattle.lsp_service.specs.Law.{AnswersInitialize, TakesPart};
+ghost use Rattle.lsp_acts.specs.Law.{AnswersInitialize, TakesPart};
 ghost use Rattle.lsp_session.specs.PassingBytes.{PassesNothingOver};
 ghost use Rattle.lsp_session.specs.Session.{Exchange, SessionAnswer, Stop};
 ghost use Rattle.lsp_session.specs.declared.loops.handler.SessionEnd.{SessionEnd as EndOfSession};
@@ -21,14 +21,14 @@ ghost use Rattle.lsp_jobs.specs.declared.pooled_server.PooledServer.{PooledServe
 
 use crate::job::Job;
 use crate::job_server::{JobServer, Slots};
-use lsp_session::Listener;
+use lsp_session::BadContentPolicy;
 use std::sync::Wait;
 
 /// A session that was run by `run_jobs`, with a limit or without one, and that passes over nothing. At each exchange since the result of
 /// `initialize` the server took a turn. At each wake nothing is sent, or one notification or request of a pending job, or what is done at
 /// its outcome, or the request of one job is cancelled. A job that is pending for a request is the one that was given for it, one in a slot
 /// the last that was started there: see `AnswersByJobs`. And it keeps the laws of
-/// `lsp_service::laws::server_keeps_laws`: under no id more replies than requests, whatever jobs come to and when; one reply for the last
+/// `lsp_acts::laws::server_keeps_laws`: under no id more replies than requests, whatever jobs come to and when; one reply for the last
 /// request under an id, unless it is still held or the session ended at it, and one for each that was cancelled; and before `initialized` nothing but errors and the result of `initialize`, nothing after the reply to `shutdown`.
 pub fn session_with_jobs_keeps_laws<T: Wait + Drop, S: JobServer<J>, J: Job>()
     ensures exchanges { (first last : S) (exchanges : List Exchange) (stop : Stop)
@@ -45,28 +45,28 @@ pub fn session_with_jobs_keeps_laws<T: Wait + Drop, S: JobServer<J>, J: Job>()
         text before after answer }
 {}
 
-/// `session_with_jobs_keeps_laws` of a session with a listener: a fact of each session that was run by `run_jobs`. At a wake for a content
-/// part that was passed over the laws say what they say of each wake. With a listener that passes over nothing, such as `EndSession`, each
+/// `session_with_jobs_keeps_laws` of a session with a policy: a fact of each session that was run by `run_jobs`. At a wake for a content
+/// part that was passed over the laws say what they say of each wake. With a policy that passes over nothing, such as `EndSession`, each
 /// frame is a message (`nothing_passed`).
 pub fn session_with_jobs_that_asks_keeps_laws<
     T: Wait + Drop,
     S: JobServer<J>,
     J: Job,
-    L: Listener,
+    L: BadContentPolicy,
 >()
-    ensures bytes { (limit : Limits) (first last : S) (text : List ℕ) (heard heard_last : L)
+    ensures bytes { (limit : Limits) (first last : S) (text : List ℕ) (policy policy_last : L)
         (before after : Option (List ℕ)) (answer : Result EndOfSession FaultOfSession)
-        → ThreadsTellOver true L.hears limit
-        (JobSession T S.Server (stated_jobs S.JobServer.own ⟦<S::Slots as Slots<S, J>>⟧ J.Job) first last) text heard heard_last before
+        → ThreadsTellOver true L.passes limit
+        (JobSession T S.Server (stated_jobs S.JobServer.own ⟦<S::Slots as Slots<S, J>>⟧ J.Job) first last) text policy policy_last before
         after answer
-        → ThreadsTellOver true L.hears limit
-        (LawfulJobSession T S.Server (stated_jobs S.JobServer.own ⟦<S::Slots as Slots<S, J>>⟧ J.Job) first last) text heard heard_last
+        → ThreadsTellOver true L.passes limit
+        (LawfulJobSession T S.Server (stated_jobs S.JobServer.own ⟦<S::Slots as Slots<S, J>>⟧ J.Job) first last) text policy policy_last
         before after answer }
-    ensures nothing_passed { (limit : Limits) (first last : S) (text : List ℕ) (heard heard_last : L)
+    ensures nothing_passed { (limit : Limits) (first last : S) (text : List ℕ) (policy policy_last : L)
         (before after : Option (List ℕ)) (answer : Result EndOfSession FaultOfSession)
-        → PassesNothingOver L.hears
-        → ThreadsTellOver true L.hears limit
-        (JobSession T S.Server (stated_jobs S.JobServer.own ⟦<S::Slots as Slots<S, J>>⟧ J.Job) first last) text heard heard_last before
+        → PassesNothingOver L.passes
+        → ThreadsTellOver true L.passes limit
+        (JobSession T S.Server (stated_jobs S.JobServer.own ⟦<S::Slots as Slots<S, J>>⟧ J.Job) first last) text policy policy_last before
         after answer
         → ThreadsGiveOver true limit (JobSession T S.Server (stated_jobs S.JobServer.own ⟦<S::Slots as Slots<S, J>>⟧ J.Job) first last) text
         before after answer }
@@ -87,7 +87,7 @@ pub fn requests_are_answered_by_their_jobs<S: JobServer<J>, J: Job>()
         ⊎ RepliesItself (stated_jobs S.JobServer.own ⟦<S::Slots as Slots<S, J>>⟧ J.Job) id outcome }
 {}
 
-/// Of the jobs that a server starts, from the state at the result of `initialize` on (`GoesOn` in `lsp_service::laws`). Its turns are what
+/// Of the jobs that a server starts, from the state at the result of `initialize` on (`GoesOn` in `lsp_acts::laws`). Its turns are what
 /// it did at `initialized` and at its calls, each from the state that the one before left. At a request that it calls long, the server
 /// stays as it is. Nothing is sent, since it gave a job for the request; or one reply: what it knows (`knows`), or the error -32803,
 /// `too many requests are waiting`, or -32603, `out of memory`. At each wake nothing is done, or what a job asked is cancelled, or one

@@ -19,7 +19,7 @@ mod untaken_messages;
 mod waiting_jobs;
 mod workers;
 
-pub use asking::Asked;
+pub use asking::RequestOrigin;
 pub use job::{DoneJob, Interrupted, Job, JobContext, JobResult};
 pub use job_server::{AnsweredBy, JobEnd, JobServer, NoSlots, SlotChange, Slots};
 pub use names::{JobName, Slot};

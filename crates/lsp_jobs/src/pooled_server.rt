@@ -6,9 +6,9 @@ ghost use Rattle.std.specs.List.{FoldsTo};
 ghost use Rattle.lsp_message.specs.ErrorCode.{number_of};
 ghost use Rattle.lsp_message.specs.View.{error_view, outcome_view};
 ghost use Rattle.lsp_message.specs.declared.msg.code.ErrorCode.TheVariants.{InternalError as CodeOfInternal};
-ghost use Rattle.lsp_service.specs.Acts.{canceled, cancelled_by, replies};
-ghost use Rattle.lsp_service.specs.View.{act_view};
-ghost use Rattle.lsp_jobs.specs.Asking.{by_server, same_asked, ByServers};
+ghost use Rattle.lsp_acts.specs.Acts.{canceled, cancelled_by, replies};
+ghost use Rattle.lsp_acts.specs.View.{act_view};
+ghost use Rattle.lsp_jobs.specs.Asking.{by_server, same_origin, ByServers};
 ghost use Rattle.lsp_jobs.specs.Ends.{end_of, end_with, ended, no_memory, reply_of, too_many};
 ghost use Rattle.lsp_jobs.specs.PendingJobs.{with_job, without};
 ghost use Rattle.lsp_jobs.specs.PoolView.{came_view, pending_jobs};
@@ -18,13 +18,13 @@ ghost use Rattle.lsp_jobs.specs.Stated.{stated_jobs};
 ghost use Rattle.lsp_jobs.specs.declared.names.JobName.TheVariants.{Request as OfRequest};
 ghost use Rattle.lsp_jobs.specs.Seen.{seen};
 
-use crate::asking::Asked;
+use crate::asking::RequestOrigin;
 use crate::job::{DoneJob, Interrupted, Job, Ran};
 use crate::job_server::{AnsweredBy, JobEnd, JobServer, SlotChange, Slots};
 use crate::names::JobName;
 use crate::pool::{JobMessage, JobPool, SubmitFault};
+use lsp_acts::{Act, Server, WokenServer, cancelled_id};
 use lsp_message::{ErrorCode, Notification, Request, RequestId, ResponseError, ResultText};
-use lsp_service::{Act, Server, WokenServer, cancelled_id};
 use serde_json::Value;
 use std::alloc::{AllocError, Global};
 use std::sync::Wait;
@@ -163,11 +163,14 @@ where
     }
 
     /// Has a job answer a long request, or answers it at once.
-    fn take_long(&mut self, request: Request) -> Result<Vec<Act<Asked<S::Payload>>>, AllocError>
+    fn take_long(
+        &mut self,
+        request: Request,
+    ) -> Result<Vec<Act<RequestOrigin<S::Payload>>>, AllocError>
         requires { pending_jobs self.old.pool (OfRequest request.id) ≡ None }
         ensures { IfOk result (λ all. TakesLong (stated_jobs S.JobServer.own ⟦<S::Slots as Slots<S, J>>⟧ J.Job) (seen self.old) request.id
             (string_bytes request.method) (view request.params)
-            (map (act_view (same_asked S.Payload.eq)) all.items) (seen self.new)) }
+            (map (act_view (same_origin S.Payload.eq)) all.items) (seen self.new)) }
     {
         let id = request.id.clone()?;
         match self.answer_to(request)? {
@@ -200,13 +203,13 @@ where
         &mut self,
         id: RequestId,
         job: J,
-    ) -> Result<Vec<Act<Asked<S::Payload>>>, AllocError>
+    ) -> Result<Vec<Act<RequestOrigin<S::Payload>>>, AllocError>
         ensures { IfOk result (λ all.
-            ((map (act_view (same_asked S.Payload.eq)) all.items ≡ []) × (seen self.new ≡ (
+            ((map (act_view (same_origin S.Payload.eq)) all.items ≡ []) × (seen self.new ≡ (
               self.old.server,
               with_job (OfRequest id) «job» (pending_jobs self.old.pool),
             )))
-            ⊎ ((map (act_view (same_asked S.Payload.eq)) all.items ≡ replies id (Err no_memory) ∷ []) × (seen self.new ≡ (
+            ⊎ ((map (act_view (same_origin S.Payload.eq)) all.items ≡ replies id (Err no_memory) ∷ []) × (seen self.new ≡ (
               self.old.server,
               without (OfRequest id) (pending_jobs self.old.pool),
             )))) }
@@ -222,10 +225,10 @@ where
     fn acts_with_changes(
         &mut self,
         acts: Vec<Act<S::Payload>>,
-    ) -> Result<Vec<Act<Asked<S::Payload>>>, AllocError>
+    ) -> Result<Vec<Act<RequestOrigin<S::Payload>>>, AllocError>
         ensures { IfOk result (λ all. ByServers (λ own.
             ChangesSlots (stated_jobs S.JobServer.own ⟦<S::Slots as Slots<S, J>>⟧ J.Job) (seen self.old) (map (act_view S.Payload.eq) acts.items) own
-            (seen self.new)) (map (act_view (same_asked S.Payload.eq)) all.items)) }
+            (seen self.new)) (map (act_view (same_origin S.Payload.eq)) all.items)) }
     {
         let all = self.change_slots(acts)?;
         acts_by_server(self.alloc, all)
@@ -412,9 +415,9 @@ fn canceled_error(alloc: Global) -> Result<ResponseError, AllocError>
 fn acts_by_server<P: Drop + PartialEq>(
     alloc: Global,
     acts: Vec<Act<P>>,
-) -> Result<Vec<Act<Asked<P>>>, AllocError>
+) -> Result<Vec<Act<RequestOrigin<P>>>, AllocError>
     ensures { IfOk result (λ all.
-        map (act_view (same_asked P.eq)) all.items
+        map (act_view (same_origin P.eq)) all.items
         ≡ map by_server (map (act_view P.eq) acts.items)) }
 {
     let mut all = Vec::with_capacity(alloc, acts.len())?;
@@ -426,11 +429,11 @@ fn acts_by_server<P: Drop + PartialEq>(
 
 /// Adds an act of the server.
 fn push_by_server<P: Drop + PartialEq>(
-    all: &mut Vec<Act<Asked<P>>>,
+    all: &mut Vec<Act<RequestOrigin<P>>>,
     act: Act<P>,
 ) -> Result<(), AllocError>
-    ensures { IfOk result (λ _. map (act_view (same_asked P.eq)) all.new.items
-        ≡ map (act_view (same_asked P.eq)) all.old.items ++ by_server (act_view P.eq «act») ∷ []) }
+    ensures { IfOk result (λ _. map (act_view (same_origin P.eq)) all.new.items
+        ≡ map (act_view (same_origin P.eq)) all.old.items ++ by_server (act_view P.eq «act») ∷ []) }
 {
     match all.push(act_by_server(act)) {
         Ok(()) => Ok(()),
@@ -439,15 +442,19 @@ fn push_by_server<P: Drop + PartialEq>(
 }
 
 /// An act of the server.
-fn act_by_server<P: Drop + PartialEq>(act: Act<P>) -> Act<Asked<P>>
-    ensures { act_view (same_asked P.eq) result ≡ by_server (act_view P.eq «act») }
+fn act_by_server<P: Drop + PartialEq>(act: Act<P>) -> Act<RequestOrigin<P>>
+    ensures { act_view (same_origin P.eq) result ≡ by_server (act_view P.eq «act») }
 {
     match act {
         Act::Tell(notification) => Act::Tell(notification),
-        Act::Ask(method, params, payload) => Act::Ask(method, params, Asked::ByServer(payload)),
+        Act::Ask(method, params, payload) => Act::Ask(
+            method,
+            params,
+            RequestOrigin::ByServer(payload),
+        ),
         Act::Reply(id, outcome) => Act::Reply(id, outcome),
         Act::ReplyText(id, text) => Act::ReplyText(id, text),
-        Act::Cancel(payload) => Act::Cancel(Asked::ByServer(payload)),
+        Act::Cancel(payload) => Act::Cancel(RequestOrigin::ByServer(payload)),
     }
 }
 
@@ -470,7 +477,7 @@ where
 {
     ghost use Rattle.lsp_jobs.specs.JobSession.{seen_with_jobs};
 
-    type Payload = Asked<S::Payload>;
+    type Payload = RequestOrigin<S::Payload>;
 
     ghost initializes = { (seen_with_jobs T S.Server (stated_jobs S.JobServer.own ⟦<S::Slots as Slots<S, J>>⟧ J.Job)).initializes };
 
@@ -490,12 +497,15 @@ where
         self.server.initialize(params)
     }
 
-    fn initialized(&mut self) -> Result<Vec<Act<Asked<S::Payload>>>, AllocError> {
+    fn initialized(&mut self) -> Result<Vec<Act<RequestOrigin<S::Payload>>>, AllocError> {
         let acts = self.server.initialized()?;
         self.acts_with_changes(acts)
     }
 
-    fn request(&mut self, request: Request) -> Result<Vec<Act<Asked<S::Payload>>>, AllocError> {
+    fn request(
+        &mut self,
+        request: Request,
+    ) -> Result<Vec<Act<RequestOrigin<S::Payload>>>, AllocError> {
         self.pool.forget(&JobName::Request(request.id.clone()?));
         if self.server.is_long(&request) {
             return self.take_long(request);
@@ -507,7 +517,7 @@ where
     fn notification(
         &mut self,
         notification: Notification,
-    ) -> Result<Vec<Act<Asked<S::Payload>>>, AllocError> {
+    ) -> Result<Vec<Act<RequestOrigin<S::Payload>>>, AllocError> {
         self.forget_cancelled(&notification)?;
         self.stop_progress(&notification)?;
         let acts = self.server.notification(notification)?;
@@ -516,31 +526,34 @@ where
 
     fn response(
         &mut self,
-        payload: Asked<S::Payload>,
+        payload: RequestOrigin<S::Payload>,
         outcome: Result<Value, ResponseError>,
-    ) -> Result<Vec<Act<Asked<S::Payload>>>, AllocError> {
+    ) -> Result<Vec<Act<RequestOrigin<S::Payload>>>, AllocError> {
         match payload {
-            Asked::ByServer(payload) => {
+            RequestOrigin::ByServer(payload) => {
                 let acts = self.server.response(payload, outcome)?;
                 self.acts_with_changes(acts)
             }
-            Asked::ByJob(number) => {
+            RequestOrigin::ByJob(number) => {
                 self.pool.reply(number, outcome);
                 Ok(Vec::new(self.alloc))
             }
         }
     }
 
-    fn shutdown(&mut self, alloc: Global) -> Result<Vec<Act<Asked<S::Payload>>>, AllocError> {
+    fn shutdown(
+        &mut self,
+        alloc: Global,
+    ) -> Result<Vec<Act<RequestOrigin<S::Payload>>>, AllocError> {
         self.pool.forget_all();
         let acts = self.server.shutdown(alloc)?;
         acts_by_server(self.alloc, acts)
     }
 
-    fn unsent(&mut self, payload: Asked<S::Payload>) -> Result<(), AllocError> {
+    fn unsent(&mut self, payload: RequestOrigin<S::Payload>) -> Result<(), AllocError> {
         match payload {
-            Asked::ByServer(payload) => self.server.unsent(payload),
-            Asked::ByJob(number) => {
+            RequestOrigin::ByServer(payload) => self.server.unsent(payload),
+            RequestOrigin::ByJob(number) => {
                 self.pool.give_up(number);
                 Ok(())
             }
@@ -558,9 +571,9 @@ where
 
     ghost wakes = { (seen_with_jobs T S.Server (stated_jobs S.JobServer.own ⟦<S::Slots as Slots<S, J>>⟧ J.Job)).wakes };
 
-    fn woken(&mut self, alloc: Global) -> Result<Vec<Act<Asked<S::Payload>>>, AllocError> {
+    fn woken(&mut self, alloc: Global) -> Result<Vec<Act<RequestOrigin<S::Payload>>>, AllocError> {
         if let Some(number) = self.pool.take_unneeded() {
-            return one_act(alloc, Act::Cancel(Asked::ByJob(number)));
+            return one_act(alloc, Act::Cancel(RequestOrigin::ByJob(number)));
         }
         let Some(said) = self.pool.take_message() else {
             return Ok(Vec::new(alloc));
@@ -569,7 +582,10 @@ where
         match message {
             JobMessage::Report(notification) => one_act(alloc, Act::Tell(notification)),
             JobMessage::Ask(method, params, number) => {
-                one_act(alloc, Act::Ask(method, params, Asked::ByJob(number)))
+                one_act(
+                    alloc,
+                    Act::Ask(method, params, RequestOrigin::ByJob(number)),
+                )
             }
             JobMessage::Ran(ran) => {
                 let acts = self.end_run(name, ran)?;

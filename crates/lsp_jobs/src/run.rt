@@ -9,11 +9,11 @@ use crate::job::Job;
 use crate::job_server::{JobServer, Slots};
 use crate::pool::{PoolSize, start_pool};
 use crate::pooled_server::PooledServer;
+use lsp_acts::WokenQueuedServer;
 use lsp_relay::relay;
-use lsp_service::WokenQueuedServer;
-use lsp_session::Listener;
+use lsp_session::BadContentPolicy;
 use lsp_threads::{
-    Contents, ContentsPlan, StartFault, ThreadOptions, Threaded, run_threads_of_service_over,
+    Contents, ContentsPlan, StartFault, ThreadOptions, ThreadsOutcome, run_threads_of_service_over,
 };
 use std::alloc::Global;
 use std::io::{BufRead, Write};
@@ -38,7 +38,7 @@ const ROOM: usize = 256;
 ///   ends as `JobContext::check` tells it, its request gets the error -32800, `canceled by client`, and the server is told.
 /// - Reports and outcomes are sent up to `shutdown`. There all jobs are cancelled: what they say later is dropped, and their requests get the
 ///   error -32800, `canceled by shutdown`, before the reply to `shutdown`.
-/// - At a content part that is no message (see `lsp_session::is_of_body`) the listener `bad_bodies` is asked, at once and on your thread,
+/// - At a content part that is no message (see `lsp_session::is_of_content`) `policy` is asked, at once and on your thread,
 ///   from `initialized` up to `shutdown`. If it reads on, nothing is answered, the server is not told, and the next frame follows. Where
 ///   it ends the session, and before and after in any case, such a part is `SessionFault::Read`.
 /// - At the end all jobs are to end, and all threads are joined: it returns only when the jobs that run do.
@@ -52,9 +52,9 @@ pub fn run_jobs<T, R, W, S, J, L>(
     writer: W,
     size: PoolSize,
     server: S,
-    bad_bodies: &mut L,
+    policy: &mut L,
     options: ThreadOptions,
-) -> (S, Result<Threaded<W>, StartFault>)
+) -> (S, Result<ThreadsOutcome<W>, StartFault>)
 where
     T: Threads + Wait + Copy + Drop + Send + 'static,
     R: BufRead + Drop + Send + 'static,
@@ -62,17 +62,17 @@ where
     S: JobServer<J> + Drop,
     J: Job + Send + 'static,
     J::Found: Send + 'static,
-    L: Listener,
+    L: BadContentPolicy,
     ensures told { IfOk result.1 (λ done. OfTaken done.taken.parts (λ text.
-        ThreadsTellOver true L.hears options.limits
+        ThreadsTellOver true L.passes options.limits
         (JobSession T S.Server (stated_jobs S.JobServer.own ⟦<S::Slots as Slots<S, J>>⟧ J.Job) server result.0) text
-        bad_bodies.old bad_bodies.new (Some []) (noted done.given) done.answer)) }
+        policy.old policy.new (Some []) (noted done.given) done.answer)) }
     ensures passed { IfOk result.1 (λ done. TakenFrom (R.remaining reader) done.taken.parts
         × GivenTo (W.contents writer) done.given.parts (W.contents done.writer)) }
     ensures session { IfSome (R.remaining reader) (λ text. IfOk result.1 (λ done.
-        ThreadsTellOver true L.hears options.limits
+        ThreadsTellOver true L.passes options.limits
         (JobSession T S.Server (stated_jobs S.JobServer.own ⟦<S::Slots as Slots<S, J>>⟧ J.Job) server result.0) text
-        bad_bodies.old bad_bodies.new (W.contents writer) (W.contents done.writer) done.answer)) }
+        policy.old policy.new (W.contents writer) (W.contents done.writer) done.answer)) }
 {
     let Ok((mut tx, rx)) = relay::<Contents, ContentsPlan>(alloc, ROOM) else {
         return (server, Err(StartFault::Memory));
@@ -94,7 +94,7 @@ where
         reader,
         writer,
         &mut queued,
-        bad_bodies,
+        policy,
         options,
     );
     let (server, pool) = queued.into_server().into_parts();

@@ -3,7 +3,7 @@ use Rattle.std.specs.Prelude.{Bool, false, List, ℕ, [], ◌∷◌, Option, Non
 use Rattle.serde_json.specs.Data.{Data, array, string}
 use Rattle.serde_json.specs.Find.{as_bool, get, pointer}
 use Rattle.serde_json.specs.View.{items_of}
-use Rattle.lsp_service.specs.Acts.{Act, asks}
+use Rattle.lsp_acts.specs.Acts.{Act, asks}
 use Rattle.lsp_types.specs.Json.{object_of}
 
 -- a member that is true

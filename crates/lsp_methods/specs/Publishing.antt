@@ -2,7 +2,7 @@
 use Rattle.std.specs.Prelude.{List, ℕ, ℤ, [], ◌∷◌, Option, Some, codes, option_map}
 use Rattle.serde_json.specs.Data.{Data, number, string}
 use Rattle.serde_json.specs.Find.{of_integer}
-use Rattle.lsp_service.specs.Acts.{Act, tells}
+use Rattle.lsp_acts.specs.Acts.{Act, tells}
 use Rattle.lsp_types.specs.Json.{object_of}
 
 -- what shows the client what is wrong with a document (LSP 3.17, "PublishDiagnostics Notification")

@@ -3,11 +3,11 @@ ghost use Rattle.std.specs.Prelude.{◌≡◌, ◌≢◌, true, false, None, Ok,
 ghost use Rattle.serde_json.specs.Find.{get};
 ghost use Rattle.serde_json.specs.View.{view};
 ghost use Rattle.lsp_methods.specs.Configuring.{asks_for, settings_of};
-ghost use Rattle.lsp_service.specs.View.{act_view};
+ghost use Rattle.lsp_acts.specs.View.{act_view};
 
-use crate::speaking::{ask, read_result};
+use crate::sending::{ask, read_result};
+use lsp_acts::Act;
 use lsp_message::{ResponseError, read_as};
-use lsp_service::Act;
 use lsp_types::methods::ConfigurationRequest;
 use lsp_types::{ConfigurationParams, DidChangeConfigurationParams};
 use serde::DeserializeOwned;

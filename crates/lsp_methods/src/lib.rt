@@ -3,17 +3,17 @@
 //! `HoverRequest::METHOD =>` of a `match` by itself.
 //!
 //! What is sent is what a value stands for (`ToJson`), and what comes is read as its type says (`FromJson`): the contracts have both. For
-//! params and results of your own by `serde` take the calls of `lsp_service` and `lsp_message`.
+//! params and results of your own by `serde` take the calls of `lsp_acts` and `lsp_message`.
 #![tactic(auto)]
 
 mod configuration;
-mod hearing;
 mod params;
 mod publishing;
-mod speaking;
+mod receiving;
+mod sending;
 
 pub use configuration::Configuration;
-pub use hearing::{answer, on_notification, on_request, read_params, try_answer};
 pub use params::read;
 pub use publishing::publish;
-pub use speaking::{ask, read_result, reply, tell};
+pub use receiving::{answer, on_notification, on_request, read_params, try_answer};
+pub use sending::{ask, read_result, reply, tell};

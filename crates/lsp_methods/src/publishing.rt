@@ -1,10 +1,10 @@
 // What is wrong with a document.
 ghost use Rattle.std.specs.Prelude.{◌≡◌, IfOk, string_bytes};
 ghost use Rattle.lsp_methods.specs.Publishing.{publishes};
-ghost use Rattle.lsp_service.specs.View.{act_view};
+ghost use Rattle.lsp_acts.specs.View.{act_view};
 
-use crate::speaking::tell;
-use lsp_service::Act;
+use crate::sending::tell;
+use lsp_acts::Act;
 use lsp_types::methods::PublishDiagnosticsNotification;
 use lsp_types::{Diagnostic, PublishDiagnosticsParams, ToJson};
 use std::alloc::{AllocError, Global};

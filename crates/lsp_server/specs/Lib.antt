@@ -45,8 +45,8 @@ pub use Rattle.lsp_queue.specs.Queue
 pub use Rattle.lsp_queue.specs.QueueRun
 pub use Rattle.lsp_queue.specs.Registering
 pub use Rattle.lsp_relay.specs.Relay
-pub use Rattle.lsp_service.specs.Law
-pub use Rattle.lsp_service.specs.QueuedServer
+pub use Rattle.lsp_acts.specs.Law
+pub use Rattle.lsp_acts.specs.QueuedServer
 pub use Rattle.lsp_session.specs.Answered
 pub use Rattle.lsp_session.specs.Boxes
 pub use Rattle.lsp_session.specs.Event
@@ -63,7 +63,7 @@ pub use Rattle.lsp_session.specs.ProtocolError
 pub use Rattle.lsp_session.specs.ProtocolErrorLaws
 pub use Rattle.lsp_session.specs.ReadLoop
 pub use Rattle.lsp_session.specs.Replies
-pub use Rattle.lsp_session.specs.Served
+pub use Rattle.lsp_session.specs.SessionOutcome
 pub use Rattle.lsp_session.specs.Session
 pub use Rattle.lsp_session.specs.SessionBytes
 pub use Rattle.lsp_session.specs.SessionFault

@@ -145,8 +145,8 @@ pub type Streams<R> = ClientStreams<
 /// ```rust
 /// let options = ClientOptions::new();
 /// let served = serve_clients(&rt, words.as_slice(), options, |mut client| {
-///     let mut bad_bodies = EndSession;
-///     let mut transport = client.transport(alloc, &mut bad_bodies);
+///     let mut policy = EndSession;
+///     let mut transport = client.transport(alloc, &mut policy);
 ///     let (_checker, answer) = serve(alloc, &mut transport, Checker::new(alloc));
 ///     answer
 /// })?;

@@ -21,7 +21,7 @@ use Rattle.lsp_session.specs.FrameBoxes.{FrameOutboxSends}
 use Rattle.lsp_session.specs.Session.{Exchange, came_of, messages_of, sends_of, SessionAnswer, SessionPart, Stop}
 use Rattle.lsp_session.specs.Session.{decided, no_more, timed_out, refused, exhausted}
 use Rattle.lsp_session.specs.SessionBytes.{ReadsMessage, IsUnsent, LeftWithin, Ends, Wrote, Gives as SessionGives}
-use Rattle.lsp_session.specs.Served.{reason_of, StopsFor}
+use Rattle.lsp_session.specs.SessionOutcome.{reason_of, StopsFor}
 use Rattle.lsp_session.specs.SessionFault.{session_answer}
 use Rattle.lsp_session.specs.SessionRun.{came_in, is_open, Brings, Runs}
 use Rattle.lsp_session.specs.Streams.{Stream, StreamReads, Reads}
@@ -29,10 +29,10 @@ use Rattle.lsp_session.specs.declared.loops.ReadEnd.TheVariants.{Exit}
 use Rattle.lsp_session.specs.declared.loops.ReadEnd.{ReadEnd}
 use Rattle.lsp_session.specs.declared.loops.frame_outbox.FrameOutbox.{FrameOutbox}
 use Rattle.lsp_session.specs.declared.loops.handler.SessionEnd.{SessionEnd}
-use Rattle.lsp_session.specs.declared.loops.served.StopReason.{StopReason}
+use Rattle.lsp_session.specs.declared.loops.session_outcome.StopReason.{StopReason}
 use Rattle.lsp_session.specs.declared.loops.stream_session.SessionFault.TheVariants.{Write, Memory}
 use Rattle.lsp_session.specs.declared.loops.stream_session.SessionFault.{SessionFault}
-use Rattle.lsp_session.specs.Passing.{is_of_body, TolerantGives}
+use Rattle.lsp_session.specs.Passing.{is_of_content, TolerantGives}
 use Rattle.lsp_session.specs.PassingBoxes.{stream_of, TolerantInboxGives}
 use Rattle.lsp_session.specs.PassingBytes.{PassesNothingOver, PassesOver, ReadsFrame, HearsLast, GivesAndTells}
 use Rattle.lsp_session.specs.declared.loops.tolerant_inbox.TolerantInbox.{TolerantInbox}
@@ -44,52 +44,52 @@ use Rattle.std.specs.Prelude.{Result, Ok, Err, MatchOption, if◌then◌else◌}
 
 -- the first frame of a text is a message, or is passed over; or others woke the session, if they can, and nothing was
 -- read
-abbrev pub ReadsFrameOr : (others : Type 0) {L : Type 0} (hears : L → ReadFault → L → Type 0) (limit : Limits) → List ℕ
+abbrev pub ReadsFrameOr : (others : Type 0) {L : Type 0} (passes : L → ReadFault → L → Type 0) (limit : Limits) → List ℕ
     × L → Option Message → List ℕ × L → Type 0
-ReadsFrameOr others hears limit old (Some m) new = ReadsFrame hears limit old (Some m) new
-ReadsFrameOr others hears limit old None new = (others × (new ≡ old)) ⊎ PassesOver hears limit old new
+ReadsFrameOr others passes limit old (Some m) new = ReadsFrame passes limit old (Some m) new
+ReadsFrameOr others passes limit old None new = (others × (new ≡ old)) ⊎ PassesOver passes limit old new
 
 -- what an inbox gives that passes over content parts, and that others wake, if they can
-abbrev pub GivesOr : (others : Type 0) {L : Type 0} (hears : L → ReadFault → L → Type 0) (limit : Limits) → Stream × L
+abbrev pub GivesOr : (others : Type 0) {L : Type 0} (passes : L → ReadFault → L → Type 0) (limit : Limits) → Stream × L
     → Event → Stream × L → Type 0
-GivesOr others hears limit old woken new = (others × (old.0.end ≡ None) × (new ≡ old)) ⊎ TolerantGives hears limit old
+GivesOr others passes limit old woken new = (others × (old.0.end ≡ None) × (new ≡ old)) ⊎ TolerantGives passes limit old
     woken new
-GivesOr others hears limit old event new = TolerantGives hears limit old event new
+GivesOr others passes limit old event new = TolerantGives passes limit old event new
 
 -- the first frames of a text, one after another
-abbrev pub ReadsFrames : (others : Type 0) {L : Type 0} (hears : L → ReadFault → L → Type 0) (limit : Limits) → List ℕ
+abbrev pub ReadsFrames : (others : Type 0) {L : Type 0} (passes : L → ReadFault → L → Type 0) (limit : Limits) → List ℕ
     × L → List (Option Message) → List ℕ × L → Type 0
-ReadsFrames others hears limit = FoldsTo (ReadsFrameOr others hears limit)
+ReadsFrames others passes limit = FoldsTo (ReadsFrameOr others passes limit)
 
 -- the messages of what came
 abbrev messages_in : List (Option Message) → List Message
 messages_in came = filter_map (λ (c : Option Message). c) came
 
-module _ (others : Type 0) {L : Type 0} (hears : L → ReadFault → L → Type 0) (limit : Limits) where
+module _ (others : Type 0) {L : Type 0} (passes : L → ReadFault → L → Type 0) (limit : Limits) where
   abbrev Gives : Stream × L → Event → Stream × L → Type 0
-  Gives = GivesOr others hears limit
+  Gives = GivesOr others passes limit
 
   -- what one that nobody wakes gives
-  given : (event : Event) (old new : Stream × L) → TolerantGives hears limit old event new → Gives old event new
+  given : (event : Event) (old new : Stream × L) → TolerantGives passes limit old event new → Gives old event new
   given woken old new gives = inr gives
   given event old new gives = gives
 
   -- receives from an inbox, as they are seen, and the reader that it was lent
   seen_all : {R : Type 0} (remaining : R → Option (List ℕ)) (events : List Event) (old new : TolerantInbox R L)
       → old.limits ≡ limit
-      → FoldsTo (TolerantInboxGives remaining hears) old events new
-      → FoldsTo Gives (stream_of remaining old, old.listener.now) events (stream_of remaining new, new.listener.now)
-      × (new.reader.ghost_name ≡ old.reader.ghost_name) × (new.listener.ghost_name ≡ old.listener.ghost_name)
+      → FoldsTo (TolerantInboxGives remaining passes) old events new
+      → FoldsTo Gives (stream_of remaining old, old.policy.now) events (stream_of remaining new, new.policy.now)
+      × (new.reader.ghost_name ≡ old.reader.ghost_name) × (new.policy.ghost_name ≡ old.policy.ghost_name)
   seen_all remaining [] old new limited run = (
-    ap (λ (s : TolerantInbox _ L). (stream_of remaining s, s.listener.now))
+    ap (λ (s : TolerantInbox _ L). (stream_of remaining s, s.policy.now))
         run,
     rw run refl,
     rw run refl,
   )
   seen_all remaining (event ∷ events) old new limited run =
       let rest = seen_all remaining events run.0 new (run.1.1.2 ∙ limited) run.2 in
-      let mid : Stream × L = (stream_of remaining run.0, run.0.listener.now) in
-      let first = given event (stream_of remaining old, old.listener.now) mid (rw limited at run.1.0) in
+      let mid : Stream × L = (stream_of remaining run.0, run.0.policy.now) in
+      let first = given event (stream_of remaining old, old.policy.now) mid (rw limited at run.1.0) in
       ((mid, first, rest.0), rest.1 ∙ run.1.1.0, rest.2 ∙ run.1.1.1)
 
   unread : (fault : ReadFault) (text : List ℕ) → (reading_within limit text).outcome ≡ Err fault
@@ -97,7 +97,7 @@ module _ (others : Type 0) {L : Type 0} (hears : L → ReadFault → L → Type 
   unread fault text is = ap (λ o. record { outcome = o; rest = (reading_within limit text).rest }) is
 
   -- a content part that was passed over
-  of_body : (fault : ReadFault) (text : List ℕ) (left : Option (List ℕ)) → is_of_body fault ≡ true
+  of_body : (fault : ReadFault) (text : List ℕ) (left : Option (List ℕ)) → is_of_content fault ≡ true
       → Reads limit (Some text) (Err fault) left
       → (reading_within limit text ≡ record { outcome = Err fault; rest = (reading_within limit text).rest })
       × (left ≡ Some (reading_within limit text).rest)
@@ -107,16 +107,16 @@ module _ (others : Type 0) {L : Type 0} (hears : L → ReadFault → L → Type 
   of_body Batch text left is reads = (unread Batch text reads.0.0, reads.0.1)
   of_body fault text left is reads = absurd (cc (is))
 
-  passed : (fault : ReadFault) (text : List ℕ) (first last : L) (left : Option (List ℕ)) → is_of_body fault ≡ true
-      → Reads limit (Some text) (Err fault) left → hears first fault last
-      → PassesOver hears limit (text, first) ((reading_within limit text).rest, last)
+  passed : (fault : ReadFault) (text : List ℕ) (first last : L) (left : Option (List ℕ)) → is_of_content fault ≡ true
+      → Reads limit (Some text) (Err fault) left → passes first fault last
+      → PassesOver passes limit (text, first) ((reading_within limit text).rest, last)
       × (left ≡ Some (reading_within limit text).rest)
-  passed fault text first last left is reads heard = let read = of_body fault text left is reads in (
+  passed fault text first last left is reads policy = let read = of_body fault text left is reads in (
     (
       fault,
       is,
       read.0,
-      heard,
+      policy,
     ),
     read.1,
   )
@@ -140,7 +140,7 @@ module _ (others : Type 0) {L : Type 0} (hears : L → ReadFault → L → Type 
   -- what an inbox brought that may bring more, what it has left, and whether an `exit` came
   record Brought (text : List ℕ) (first : L) (came : List (Option Message)) (new : Stream × L) : Type 0 where
     at : List ℕ
-    read : ReadsFrames others hears limit (text, first) came (at, new.1)
+    read : ReadsFrames others passes limit (text, first) came (at, new.1)
     left : new.0.remaining ≡ Some at
     end : new.0.end ≡ (if list_all is_no_exit (messages_in came) then None else Some Exit)
 
@@ -227,7 +227,7 @@ module _ (others : Type 0) {L : Type 0} (hears : L → ReadFault → L → Type 
     -- what was left when the inbox told that no more come
     record ClosedAt (came : List (Option Message)) : Type 0 where
       at : List ℕ
-      read : ReadsFrames others hears limit (text, old.1) came (at, new.1)
+      read : ReadsFrames others passes limit (text, old.1) came (at, new.1)
       reads : StreamReads limit (Some at) closed new.0.end new.0.remaining
 
     closed_at : (earlier : List Event) (came : List (Option Message)) → events ≡ earlier ++ closed ∷ []
@@ -247,15 +247,15 @@ module _ (others : Type 0) {L : Type 0} (hears : L → ReadFault → L → Type 
         let unended' : last.0.0.end ≡ None = rw (brought.end, no_exit) refl in
         record {
           at = brought.at;
-          read = subst (λ heard. ReadsFrames others hears limit (text, old.1) came (brought.at, heard)) (sym last.2.1)
-              brought.read;
+          read = subst (λ policy. ReadsFrames others passes limit (text, old.1) came (brought.at, policy))
+              (sym last.2.1) brought.read;
           reads = rw (unended', brought.left) at last.2.0;
         }
 
-    -- what a session read, what was left of it, and what the listener heard
+    -- what a session read, what was left of it, and what the policy policy
     abbrev pub Reached : List (Option Message) → Stop → (List ℕ × L → Type 0) → Type 0
-    Reached came stop Left = (at : List ℕ × L) × ReadsFrames others hears limit (text, old.1) came at
-        × HearsLast hears limit stop at new.1 × Left at
+    Reached came stop Left = (at : List ℕ × L) × ReadsFrames others passes limit (text, old.1) came at
+        × HearsLast passes limit stop at new.1 × Left at
 
     abbrev pub Within : List ℕ × L → Type 0
     Within at = StopsWithin new.0.remaining (reading_within limit at.0)
@@ -264,9 +264,9 @@ module _ (others : Type 0) {L : Type 0} (hears : L → ReadFault → L → Type 
     open_within came b = rw b.left (frame_unread body_means limit b.at)
 
     -- an allocation failed at a wake
-    last_woken : (came : List (Option Message)) (before : List ℕ × L) (at : List ℕ) → ReadsFrames others hears limit
+    last_woken : (came : List (Option Message)) (before : List ℕ × L) (at : List ℕ) → ReadsFrames others passes limit
         (text, old.1) came before → new.0.remaining ≡ Some at
-        → ReadsFrameOr others hears limit before None (at, new.1) → Reached came exhausted Within
+        → ReadsFrameOr others passes limit before None (at, new.1) → Reached came exhausted Within
     last_woken came before at read left (inl same) =
         let rest : at ≡ before.0 = ap (λ (a : List ℕ × L). a.0) same.1 in (
           before,
@@ -294,12 +294,12 @@ module _ (others : Type 0) {L : Type 0} (hears : L → ReadFault → L → Type 
     left_within came timed_out brought facts = absurd (no_timeout brought.1.0 old new (rw brought.1.1 at run))
     left_within came exhausted (None, brought, still_open) facts =
         let all = open_brought (came ++ None ∷ []) brought still_open in
-        let parts = FoldsTo-split (ReadsFrameOr others hears limit) came (None ∷ []) (text, old.1) (all.at, new.1)
+        let parts = FoldsTo-split (ReadsFrameOr others passes limit) came (None ∷ []) (text, old.1) (all.at, new.1)
         all.read in
         last_woken came parts.0 all.at parts.1 all.left (rw parts.2.2 at parts.2.1)
     left_within came exhausted (Some next, brought, still_open) facts =
         let all = open_brought (came ++ Some next ∷ []) brought still_open in
-        let parts = FoldsTo-split (ReadsFrameOr others hears limit) came (Some next ∷ []) (text, old.1) (all.at, new.1)
+        let parts = FoldsTo-split (ReadsFrameOr others passes limit) came (Some next ∷ []) (text, old.1) (all.at, new.1)
         all.read in
         let step = rw parts.2.2 at parts.2.1 in
         (parts.0, parts.1, inl step.1, ([], all.left ∙ ap (λ (r : Reading Message). Some r.rest) (sym step.0)))
@@ -373,10 +373,10 @@ module _ (others : Type 0) {L : Type 0} (hears : L → ReadFault → L → Type 
           (left.0, left.1, left.2, (left.3, inl wrote))
 
 -- A session that nobody wakes.
-module _ {L : Type 0} (hears : L → ReadFault → L → Type 0) (limit : Limits) where
+module _ {L : Type 0} (passes : L → ReadFault → L → Type 0) (limit : Limits) where
   -- so each wake is of a frame that was passed over
-  alone : (came : List (Option Message)) (from to : List ℕ × L) → ReadsFrames ⊥ hears limit from came to
-      → FoldsTo (ReadsFrame hears limit) from came to
+  alone : (came : List (Option Message)) (from to : List ℕ × L) → ReadsFrames ⊥ passes limit from came to
+      → FoldsTo (ReadsFrame passes limit) from came to
   alone [] from to run = run
   alone (Some m ∷ came) from to run = (run.0, run.1, alone came run.0 to run.2)
   alone (None ∷ came) from to run = elim run.1 [
@@ -392,7 +392,7 @@ module _ {L : Type 0} (hears : L → ReadFault → L → Type 0) (limit : Limits
       (inbox inbox' : TolerantInbox R L) (outbox outbox' : FrameOutbox W) (unended : inbox.end ≡ None)
       (limited : inbox.limits ≡ limit)
       (unfailed : outbox.fault ≡ None)
-      (answer : SessionAnswer) (runs : Runs (TolerantInboxGives remaining hears) (FrameOutboxSends contents) P (
+      (answer : SessionAnswer) (runs : Runs (TolerantInboxGives remaining passes) (FrameOutboxSends contents) P (
         inbox,
         outbox,
       ) answer (inbox', outbox')) where
@@ -403,14 +403,14 @@ module _ {L : Type 0} (hears : L → ReadFault → L → Type 0) (limit : Limits
     new = contents outbox'.writer.now
 
     abbrev before : Stream × L
-    before = (stream_of remaining inbox, inbox.listener.now)
+    before = (stream_of remaining inbox, inbox.policy.now)
 
     abbrev after : Stream × L
-    after = (stream_of remaining inbox', inbox'.listener.now)
+    after = (stream_of remaining inbox', inbox'.policy.now)
 
     -- what a session over boxes comes to in bytes
     runs_give : (text : List ℕ) → remaining inbox.reader.now ≡ Some text
-        → GivesAndTells hears limit Q text (remaining inbox'.reader.now) inbox.listener.now inbox'.listener.now
+        → GivesAndTells passes limit Q text (remaining inbox'.reader.now) inbox.policy.now inbox'.policy.now
         (contents outbox.writer.now)
         (contents outbox'.writer.now)
         (session_answer reason answer inbox'.end outbox'.fault)
@@ -419,24 +419,24 @@ module _ {L : Type 0} (hears : L → ReadFault → L → Type 0) (limit : Limits
         (λ f. IsUnsent runs.stop runs.shutdown_reply × GetsPart f sends old new)) runs.all (gets_written contents outbox
         outbox' runs.output runs.shutdown_reply unfailed runs.stop runs.got))
       where
-        run : FoldsTo (GivesOr ⊥ hears limit) before runs.events after
-        run = (seen_all ⊥ hears limit remaining runs.events inbox inbox' limited runs.received).0
+        run : FoldsTo (GivesOr ⊥ passes limit) before runs.events after
+        run = (seen_all ⊥ passes limit remaining runs.events inbox inbox' limited runs.received).0
 
         known_of : Q runs.exchanges runs.stop runs.shutdown_reply answer × StopsFor reason runs.exchanges runs.stop
             runs.shutdown_reply answer × Facts runs.stop (messages_of runs.exchanges)
         known_of = knows runs.exchanges runs.stop runs.shutdown_reply answer runs.part
 
         gives : (result : Result SessionEnd SessionFault)
-            → (at : List ℕ × L) × ReadsFrames ⊥ hears limit (text, inbox.listener.now) (came_of runs.exchanges) at
-            × HearsLast hears limit runs.stop at inbox'.listener.now
+            → (at : List ℕ × L) × ReadsFrames ⊥ passes limit (text, inbox.policy.now) (came_of runs.exchanges) at
+            × HearsLast passes limit runs.stop at inbox'.policy.now
             × Ends limit (remaining inbox'.reader.now) result answer runs.stop runs.shutdown_reply at.0
             → Wrote old new result runs.stop runs.shutdown_reply (sends_of runs.exchanges)
-            → GivesAndTells hears limit Q text (remaining inbox'.reader.now) inbox.listener.now inbox'.listener.now old
+            → GivesAndTells passes limit Q text (remaining inbox'.reader.now) inbox.policy.now inbox'.policy.now old
             new result
         gives result reached wrote = record {
           exchanges = runs.exchanges;
           at = reached.0;
-          read = alone (came_of runs.exchanges) (text, inbox.listener.now) reached.0 reached.1;
+          read = alone (came_of runs.exchanges) (text, inbox.policy.now) reached.0 reached.1;
           stop = runs.stop;
           shutdown_reply = runs.shutdown_reply;
           answer = answer;
@@ -449,11 +449,11 @@ module _ {L : Type 0} (hears : L → ReadFault → L → Type 0) (limit : Limits
             → MatchOption fault (NotRefused runs.stop × GetsFrames (sends_of runs.exchanges) old new) (λ f. IsUnsent
             runs.stop runs.shutdown_reply
             × GetsPart f (sends_of runs.exchanges) old new)
-            → GivesAndTells hears limit Q text (remaining inbox'.reader.now) inbox.listener.now
-            inbox'.listener.now old new
+            → GivesAndTells passes limit Q text (remaining inbox'.reader.now) inbox.policy.now
+            inbox'.policy.now old new
             (session_answer reason answer inbox'.end fault)
         at None written =
-            let all = frames_end ⊥ hears limit text before after unended known runs.events run (came_of runs.exchanges)
+            let all = frames_end ⊥ passes limit text before after unended known runs.events run (came_of runs.exchanges)
             runs.shutdown_reply answer
             (sends_of runs.exchanges) old new written.1
             runs.stop runs.brought written.0 known_of.2 in
@@ -465,26 +465,26 @@ module _ {L : Type 0} (hears : L → ReadFault → L → Type 0) (limit : Limits
             ) all.3.1)
         at (Some (Output kind)) unwritten =
             gives (Err (Write (Output kind)))
-            (left_after ⊥ hears limit text before after unended known runs.events run (came_of runs.exchanges) runs.stop
-            runs.brought known_of.2)
+            (left_after ⊥ passes limit text before after unended known runs.events run (came_of runs.exchanges)
+            runs.stop runs.brought known_of.2)
             (tt, unwritten.0, unwritten.1.0, unwritten.1.1, unwritten.1.2, unwritten.1.3)
         at (Some NoMemory) unwritten =
-            gives (Err Memory) (left_after ⊥ hears limit text before after unended known runs.events run
+            gives (Err Memory) (left_after ⊥ passes limit text before after unended known runs.events run
             (came_of runs.exchanges) runs.stop runs.brought known_of.2)
             (inr (unwritten.0, unwritten.1))
 
-    -- the same of the reader and the writer that were lent, and of the listener
-    pub session_gives : (first last : R) (first' last' : W) (heard heard' : L) → inbox.reader.now ≡ first
+    -- the same of the reader and the writer that were lent, and of the policy
+    pub session_gives : (first last : R) (first' last' : W) (policy policy' : L) → inbox.reader.now ≡ first
         → outbox.writer.now ≡ first'
-        → inbox.listener.now ≡ heard
+        → inbox.policy.now ≡ policy
         → (inbox'.reader.ghost_name ≡ inbox.reader.ghost_name → last ≡ inbox'.reader.now)
-        → (inbox'.listener.ghost_name ≡ inbox.listener.ghost_name → heard' ≡ inbox'.listener.now)
+        → (inbox'.policy.ghost_name ≡ inbox.policy.ghost_name → policy' ≡ inbox'.policy.now)
         → (outbox'.writer.ghost_name ≡ outbox.writer.ghost_name → last' ≡ outbox'.writer.now)
-        → IfSome (remaining first) (λ text. GivesAndTells hears limit Q text (remaining last) heard heard'
+        → IfSome (remaining first) (λ text. GivesAndTells passes limit Q text (remaining last) policy policy'
         (contents first') (contents last')
         (session_answer reason answer inbox'.end outbox'.fault))
-    session_gives first last first' last' heard heard' same same' untold named hearing named' =
-        let seen = seen_all ⊥ hears limit remaining runs.events inbox inbox' limited runs.received in
+    session_gives first last first' last' policy policy' same same' untold named hearing named' =
+        let seen = seen_all ⊥ passes limit remaining runs.events inbox inbox' limited runs.received in
         rw (
           named seen.1,
           hearing seen.2,
@@ -497,17 +497,17 @@ module _ {L : Type 0} (hears : L → ReadFault → L → Type 0) (limit : Limits
         (at (remaining inbox.reader.now) refl)
       where
         at : (known : Option (List ℕ)) → remaining inbox.reader.now ≡ known
-            → IfSome known (λ text. GivesAndTells hears limit Q text (remaining inbox'.reader.now) inbox.listener.now
-            inbox'.listener.now
+            → IfSome known (λ text. GivesAndTells passes limit Q text (remaining inbox'.reader.now) inbox.policy.now
+            inbox'.policy.now
             (contents outbox.writer.now)
             (contents outbox'.writer.now) (session_answer reason answer inbox'.end outbox'.fault))
         at None is = tt
         at (Some text) is = runs_give text is
 
--- A listener that passes over nothing: each frame is a message.
-module _ {L : Type 0} (hears : L → ReadFault → L → Type 0) (never : PassesNothingOver hears) (limit : Limits) where
-  reads_messages : (came : List (Option Message)) (from to : List ℕ × L) → FoldsTo (ReadsFrame hears limit) from came to
-      → FoldsTo (ReadsMessage limit) from.0 came to.0
+-- A policy that passes over nothing: each frame is a message.
+module _ {L : Type 0} (passes : L → ReadFault → L → Type 0) (never : PassesNothingOver passes) (limit : Limits) where
+  reads_messages : (came : List (Option Message)) (from to : List ℕ × L)
+      → FoldsTo (ReadsFrame passes limit) from came to → FoldsTo (ReadsMessage limit) from.0 came to.0
   reads_messages [] from to run = ap (λ (at : List ℕ × L). at.0) run
   reads_messages (Some m ∷ came) from to run = (run.0.0, run.1.0, reads_messages came run.0 to run.2)
   reads_messages (None ∷ came) from to run = absurd (never from.1 run.1.0 run.0.1 run.1.3)
@@ -515,7 +515,7 @@ module _ {L : Type 0} (hears : L → ReadFault → L → Type 0) (never : Passes
   -- so the session passes over nothing
   pub none_passed : (P : SessionPart) (text : List ℕ) (left : Option (List ℕ)) (first last : L) (before after : Option
       (List ℕ)) (result : Result SessionEnd SessionFault)
-      → GivesAndTells hears limit P text left first last before after result → SessionGives limit P text left before
+      → GivesAndTells passes limit P text left first last before after result → SessionGives limit P text left before
       after result
   none_passed P text left first last held written result g = record {
     exchanges = g.exchanges;
@@ -532,7 +532,7 @@ module _ {L : Type 0} (hears : L → ReadFault → L → Type 0) (never : Passes
   -- if the bytes are known
   pub untold : (P : SessionPart) (known left : Option (List ℕ)) (first last : L) (before after : Option (List ℕ))
       (result : Result SessionEnd SessionFault)
-      → IfSome known (λ text. GivesAndTells hears limit P text left first last before after result)
+      → IfSome known (λ text. GivesAndTells passes limit P text left first last before after result)
       → IfSome known (λ text. SessionGives limit P text left before after result)
   untold P None left first last held written result gives = tt
   untold P (Some text) left first last held written result g = none_passed P text left first last held written result g
@@ -541,10 +541,10 @@ module _ {L : Type 0} (hears : L → ReadFault → L → Type 0) (never : Passes
 pub told_as : (P Q : SessionPart)
     (to : (xs : List Exchange) (stop : Stop) (shutdown_reply : Option Message) (answer : SessionAnswer)
     → P xs stop shutdown_reply answer → Q xs stop shutdown_reply answer)
-    {L : Type 0} (hears : L → ReadFault → L → Type 0) (limit : Limits) (known left : Option (List ℕ)) (first last : L)
+    {L : Type 0} (passes : L → ReadFault → L → Type 0) (limit : Limits) (known left : Option (List ℕ)) (first last : L)
     (before after : Option (List ℕ)) (result : Result SessionEnd SessionFault)
-    → IfSome known (λ text. GivesAndTells hears limit P text left first last before after result)
-    → IfSome known (λ text. GivesAndTells hears limit Q text left first last before after result)
-told_as P Q to hears limit None left first last held written result gives = tt
-told_as P Q to hears limit (Some text) left first last held written result gives = over_as P Q to (ReadsFrame hears
+    → IfSome known (λ text. GivesAndTells passes limit P text left first last before after result)
+    → IfSome known (λ text. GivesAndTells passes limit Q text left first last before after result)
+told_as P Q to passes limit None left first last held written result gives = tt
+told_as P Q to passes limit (Some text) left first last held written result gives = over_as P Q to (ReadsFrame passes
     limit) (text, first) _ _ gives

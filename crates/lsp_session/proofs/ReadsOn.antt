@@ -1,4 +1,4 @@
--- A session over a transport whose listener ends nothing is not ended by a content part that is no message while it
+-- A session over a transport whose policy ends nothing is not ended by a content part that is no message while it
 -- serves its client.
 use Rattle.lsp_message.specs.Message.{Message}
 use Rattle.lsp_message.specs.Methods.{is_exit}
@@ -6,8 +6,8 @@ use Rattle.lsp_message.specs.declared.frame.ReadFault.{ReadFault}
 use Rattle.lsp_message.specs.declared.frame.limits.Limits.{Limits}
 use Rattle.lsp_session.specs.Boxes.{Takes, WaitsFor, is_timeout}
 use Rattle.lsp_session.specs.Event.{Event, message, timeout, closed, woken}
-use Rattle.lsp_session.specs.Passing.{ended_at_body}
-use Rattle.lsp_session.specs.PassingBoxes.{EndsAtBody, MayEnd}
+use Rattle.lsp_session.specs.Passing.{ended_at_content}
+use Rattle.lsp_session.specs.PassingBoxes.{EndsAtContent, MayEnd}
 use Rattle.lsp_session.specs.Prompt.{event_of, Meets, EndsTalk, Talks}
 use Rattle.lsp_session.specs.Session.{SessionAnswer, SessionPart, Exchange, Stop, decided, no_more, timed_out, refused}
 use Rattle.lsp_session.specs.Session.{exhausted, Phase, starting, serving}
@@ -29,19 +29,19 @@ no_close : (came : Option Message) → event_of came ≡ closed → ⊥
 no_close None e = cc (e)
 no_close (Some m) e = cc (e)
 
-by_exit : (b : Bool) → ended_at_body (if b then Some Exit else None) ≡ false
+by_exit : (b : Bool) → ended_at_content (if b then Some Exit else None) ≡ false
 by_exit true = refl
 by_exit false = refl
 
 module _ (limit : Limits) (known rest : Option (List ℕ)) (old new : Option ReadEnd) where
   -- what one read that is no wake makes of the end
   at_message : (m : Message) → MatchOption old (StreamReads limit known (message m) new rest) (λ end. (message m
-      ≡ closed) × (new ≡ Some end) × Keeps known rest) → ended_at_body new ≡ false
+      ≡ closed) × (new ≡ Some end) × Keeps known rest) → ended_at_content new ≡ false
   at_message m gives = by old gives
     where
       by : (e : Option ReadEnd) → MatchOption e (StreamReads limit known (message m) new rest) (λ end. (message m
-          ≡ closed) × (new ≡ Some end) × Keeps known rest) → ended_at_body new ≡ false
-      by None reads = ap (λ (e : Option ReadEnd). ended_at_body e) reads.0 ∙ by_exit (is_exit m)
+          ≡ closed) × (new ≡ Some end) × Keeps known rest) → ended_at_content new ≡ false
+      by None reads = ap (λ (e : Option ReadEnd). ended_at_content e) reads.0 ∙ by_exit (is_exit m)
       by (Some end) none = absurd (cc (none.0))
 
   no_timeout : MatchOption old (StreamReads limit known timeout new rest) (λ end. (timeout ≡ closed) × (new ≡ Some end)
@@ -53,21 +53,21 @@ module _ (limit : Limits) (known rest : Option (List ℕ)) (old new : Option Rea
       by None reads = reads
       by (Some end) none = cc (none.0)
 
-module _ {R W L : Type 0} (remaining : R → Option (List ℕ)) (hears : L → ReadFault → L → Type 0) (ends : L → ReadFault
+module _ {R W L : Type 0} (remaining : R → Option (List ℕ)) (passes : L → ReadFault → L → Type 0) (ends : L → ReadFault
     → Type 0) (contents : W → Option (List ℕ))
     (never : (l : L) (fault : ReadFault) → ends l fault → ⊥) where
   abbrev Transport : Type 0
   Transport = StreamTransport R W L
 
   abbrev gives : Transport → Event → Transport → Type 0
-  gives = StreamTransportGives remaining hears
+  gives = StreamTransportGives remaining passes
 
   abbrev listens : Transport → Event → Transport → Type 0
   listens = StreamTransportListens ends
 
   -- no content part ended the messages
   abbrev Open : Transport → Type 0
-  Open transport = ended_at_body transport.end ≡ false
+  Open transport = ended_at_content transport.end ≡ false
 
   given : (event : Event) (old new : Transport) → gives old event new → (event ≡ closed → ⊥) → Open new
   given (message m) old new g other = at_message old.limits (remaining old.reader.now) (remaining new.reader.now)
@@ -75,7 +75,7 @@ module _ {R W L : Type 0} (remaining : R → Option (List ℕ)) (hears : L → R
   given timeout old new g other = absurd (no_timeout old.limits (remaining old.reader.now) (remaining new.reader.now)
       old.end new.end g.0.0.0)
   given closed old new g other = absurd (other refl)
-  given woken old new g other = ap (λ (e : Option ReadEnd). ended_at_body e) g.0.0.5
+  given woken old new g other = ap (λ (e : Option ReadEnd). ended_at_content e) g.0.0.5
 
   waited : (event : Event) (old new : Transport) → WaitsFor gives old event new → (event ≡ closed → ⊥) → Open new
   waited event old new waits other = by waits.passed waits.only_timeouts waits.received
@@ -94,7 +94,7 @@ module _ {R W L : Type 0} (remaining : R → Option (List ℕ)) (hears : L → R
       → Open old → Open new
   taken [] old new run open_so = subst (λ (transport : Transport). Open transport) run open_so
   taken (m ∷ ms) old new run open_so =
-      taken ms run.0 new run.2 (ap (λ (inbox : TolerantInbox R L). ended_at_body inbox.end) run.1.1 ∙ open_so)
+      taken ms run.0 new run.2 (ap (λ (inbox : TolerantInbox R L). ended_at_content inbox.end) run.1.1 ∙ open_so)
 
   met : (xs : List Exchange) (old new : Phase × Transport) → FoldsTo (Meets gives listens (StreamTransportSends
       contents)) old xs new → Open old.1 → Open new.1
@@ -111,27 +111,27 @@ module _ {R W L : Type 0} (remaining : R → Option (List ℕ)) (hears : L → R
   no_end l (Some ReadClosed) may = may
   no_end l (Some ReadMemory) may = may
 
-  listened : (old new : Transport) → EndsAtBody ends (inbox_of old) (inbox_of new) → Open old → Open new
-  listened old new hears_so open_so = by (ended_at_body new.end) refl
+  listened : (old new : Transport) → EndsAtContent ends (inbox_of old) (inbox_of new) → Open old → Open new
+  listened old new hears_so open_so = by (ended_at_content new.end) refl
     where
-      by : (b : Bool) → ended_at_body new.end ≡ b → ended_at_body new.end ≡ false
+      by : (b : Bool) → ended_at_content new.end ≡ b → ended_at_content new.end ≡ false
       by false e = e
       by true e = elim (hears_so e) [
-        | inl same ↦ ap (λ (o : Option ReadEnd). ended_at_body o) same ∙ open_so
-        | inr may ↦ absurd (no_end old.listener.now new.end may)
+        | inl same ↦ ap (λ (o : Option ReadEnd). ended_at_content o) same ∙ open_so
+        | inr may ↦ absurd (no_end old.policy.now new.end may)
       ]
 
   ended : (count : ℕ) (stop : Stop) (last : List Exchange) (mid after : Transport)
       → EndsTalk gives listens (StreamTransportSends contents) serving count stop None last mid after → Open mid
       → Open after
   ended count (refused fault) last mid after e open_so =
-      ap (λ (inbox : TolerantInbox R L). ended_at_body inbox.end) e.refuses.1
+      ap (λ (inbox : TolerantInbox R L). ended_at_content inbox.end) e.refuses.1
       ∙ taken e.part e.met e.mid e.taken (waited (event_of e.came) mid e.met e.waited.0 (no_close e.came))
-  ended count decided last mid after e open_so = ap (λ (transport : Transport). ended_at_body transport.end) e.1
+  ended count decided last mid after e open_so = ap (λ (transport : Transport). ended_at_content transport.end) e.1
       ∙ open_so
   ended count no_more last mid after e open_so = elim e.1 [
     | inl waits ↦ listened mid after waits.1 open_so
-    | inr all ↦ ap (λ (transport : Transport). ended_at_body transport.end) all.1 ∙ open_so
+    | inr all ↦ ap (λ (transport : Transport). ended_at_content transport.end) all.1 ∙ open_so
   ]
   ended count exhausted last mid after e open_so = waited (event_of e.1) mid after e.2.0 (no_close e.1)
   ended count timed_out last mid after e open_so = absurd e
@@ -139,7 +139,7 @@ module _ {R W L : Type 0} (remaining : R → Option (List ℕ)) (hears : L → R
   -- while it serves its client
   pub reads_on : (P : SessionPart) (answer : SessionAnswer) (before after : Transport) → IsUnused before
       → (talks : Talks gives listens (StreamTransportSends contents) starting P before answer after)
-      → talks.reached ≡ serving → talks.shutdown_reply ≡ None → ended_at_body after.end ≡ false
+      → talks.reached ≡ serving → talks.shutdown_reply ≡ None → ended_at_content after.end ≡ false
   reads_on P answer before after unused talks serves none =
       ended (length talks.whole) talks.stop talks.last talks.mid after
       (subst (λ (o : Option Message). EndsTalk gives listens (StreamTransportSends contents) serving
@@ -147,4 +147,4 @@ module _ {R W L : Type 0} (remaining : R → Option (List ℕ)) (hears : L → R
       (subst (λ (p : Phase). EndsTalk gives listens (StreamTransportSends contents) p (length talks.whole) talks.stop
       talks.shutdown_reply talks.last talks.mid after) serves talks.ends))
       (met talks.whole (starting, before) (talks.reached, talks.mid) talks.prompt
-      (ap (λ (o : Option ReadEnd). ended_at_body o) unused.0))
+      (ap (λ (o : Option ReadEnd). ended_at_content o) unused.0))

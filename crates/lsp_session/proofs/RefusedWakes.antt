@@ -7,12 +7,12 @@ use Rattle.lsp_session.proofs.Waiting.{waits_none}
 use Rattle.lsp_session.specs.Boxes.{Sends, Receives, Takes}
 use Rattle.lsp_session.specs.Event.{Event, message, woken}
 use Rattle.lsp_session.specs.Prompt.{event_of, passed_over, next_phase, WaitsIn, Meets, EndsTalk, Talks}
-use Rattle.lsp_session.specs.Served.{StopsFor}
+use Rattle.lsp_session.specs.SessionOutcome.{StopsFor}
 use Rattle.lsp_session.specs.Session.{Behavior, SessionAnswer, SessionPart, Exchange, came_of, Stop, decided, no_more}
 use Rattle.lsp_session.specs.Session.{timed_out, refused, exhausted, Phase, serving, SessionFrom}
 use Rattle.lsp_session.specs.SessionLaws.{Both}
 use Rattle.lsp_session.specs.declared.loops.handler.SessionEnd.TheVariants.{Closed}
-use Rattle.lsp_session.specs.declared.loops.served.StopReason.TheVariants.{Decided}
+use Rattle.lsp_session.specs.declared.loops.session_outcome.StopReason.TheVariants.{Decided}
 use Rattle.std.proofs.Common.{◌≡◌, refl, sym, ◌∙◌, ap, Bool, true, false, List, [], ◌∷◌, ◌++◌, length, map, Option}
 use Rattle.std.proofs.Common.{Some, None}
 use Rattle.std.specs.List.{FoldsTo, list_all}

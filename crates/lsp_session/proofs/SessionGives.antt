@@ -15,7 +15,7 @@ use Rattle.lsp_session.specs.Finish.{FinishAnswer, FinishesAt}
 use Rattle.lsp_session.specs.FrameBoxes.{FrameOutboxSends, Told, kept_write}
 use Rattle.lsp_session.specs.Session.{SessionAnswer, Stop, decided, no_more, refused}
 use Rattle.lsp_session.specs.SessionBytes.{IsUnsent, LeftAfter, Ends, Wrote, GetsAllButLast}
-use Rattle.lsp_session.specs.Served.{reason_of}
+use Rattle.lsp_session.specs.SessionOutcome.{reason_of}
 use Rattle.lsp_session.specs.SessionFault.{session_answer}
 use Rattle.lsp_session.specs.SessionRun.{all_of, OffersLast, RefusesLast, Gets}
 use Rattle.lsp_session.specs.StreamBoxes.{stream_of, StreamInboxGives}
@@ -25,7 +25,7 @@ use Rattle.lsp_session.specs.declared.lifecycle.SendFault.{SendFault}
 use Rattle.lsp_session.specs.declared.loops.ReadEnd.TheVariants.{End, Fault}
 use Rattle.lsp_session.specs.declared.loops.ReadEnd.{ReadEnd}
 use Rattle.lsp_session.specs.declared.loops.frame_outbox.FrameOutbox.{FrameOutbox}
-use Rattle.lsp_session.specs.declared.loops.served.StopReason.TheVariants.{Decided, NoMore}
+use Rattle.lsp_session.specs.declared.loops.session_outcome.StopReason.TheVariants.{Decided, NoMore}
 use Rattle.lsp_session.specs.declared.loops.stream_inbox.StreamInbox.{StreamInbox}
 use Rattle.std.proofs.Common.{◌≡◌, refl, ◌∙◌, ap, inl, inr, ℕ, List, [], ◌∷◌, ◌++◌, Some, None, Option}
 use Rattle.std.proofs.KnownBytes.{Appends-trans}

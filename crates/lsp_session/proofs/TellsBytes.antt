@@ -14,7 +14,7 @@ use Rattle.lsp_session.specs.Passing.{TolerantGives}
 use Rattle.lsp_session.specs.PassingBoxes.{stream_of}
 use Rattle.lsp_session.specs.Prompt.{Talks}
 use Rattle.lsp_session.specs.Session.{Behavior, starting, SessionAnswer, SessionPart, Exchange, Stop, SessionOut}
-use Rattle.lsp_session.specs.Served.{StopsFor}
+use Rattle.lsp_session.specs.SessionOutcome.{StopsFor}
 use Rattle.lsp_session.specs.SessionFault.{session_answer}
 use Rattle.lsp_session.specs.Streams.{Stream, StreamReads}
 use Rattle.lsp_session.specs.SessionLaws.{Both}
@@ -25,7 +25,7 @@ use Rattle.lsp_session.specs.declared.lifecycle.SendFault.{SendFault}
 use Rattle.lsp_session.specs.declared.loops.ReadEnd.{ReadEnd}
 use Rattle.lsp_session.specs.declared.loops.handler.SessionEnd.{SessionEnd}
 use Rattle.lsp_session.specs.declared.loops.stream_session.SessionFault.{SessionFault}
-use Rattle.lsp_session.specs.declared.loops.served.StopReason.{StopReason}
+use Rattle.lsp_session.specs.declared.loops.session_outcome.StopReason.{StopReason}
 use Rattle.lsp_message.specs.declared.frame.WriteFault.{WriteFault}
 use Rattle.lsp_message.specs.declared.frame.limits.Limits.{Limits}
 use Rattle.lsp_session.specs.declared.loops.frame_outbox.FrameOutbox.{FrameOutbox}
@@ -86,24 +86,24 @@ tells_sent limit end old new m (Ok done) parts sent = ((new, sent, refl), refl, 
 tells_sent limit end old new m (Err fault) parts sent = ((new, sent, refl), refl, append-nil (concat parts))
 
 -- what ended the messages
-ends_after : {L : Type 0} (hears : L → ReadFault → L → Type 0) (limit : Limits) (old new : Stream × L) (event : Event)
-    → TolerantGives hears limit old event new → EndsAfter limit old.0.end event new.0.end
-ends_after hears limit old new woken gives = rw (gives.4) gives.5
-ends_after hears limit old new timeout gives = at old.0.end gives.0
+ends_after : {L : Type 0} (passes : L → ReadFault → L → Type 0) (limit : Limits) (old new : Stream × L) (event : Event)
+    → TolerantGives passes limit old event new → EndsAfter limit old.0.end event new.0.end
+ends_after passes limit old new woken gives = rw (gives.4) gives.5
+ends_after passes limit old new timeout gives = at old.0.end gives.0
   where
     at : (end : Option ReadEnd) → MatchOption end (StreamReads limit old.0.remaining timeout new.0.end new.0.remaining)
         (λ e. (timeout ≡ closed) × (new.0.end ≡ Some e) × Keeps old.0.remaining new.0.remaining)
         → EndsAfter limit end timeout new.0.end
     at None reads = tt
     at (Some e) ended = ended.1
-ends_after hears limit old new closed gives = at old.0.end gives.0
+ends_after passes limit old new closed gives = at old.0.end gives.0
   where
     at : (end : Option ReadEnd) → MatchOption end (StreamReads limit old.0.remaining closed new.0.end new.0.remaining)
         (λ e. (closed ≡ closed) × (new.0.end ≡ Some e) × Keeps old.0.remaining new.0.remaining)
         → EndsAfter limit end closed new.0.end
     at None reads = tt
     at (Some e) ended = ended.1
-ends_after hears limit old new (message m) gives = at old.0.end gives.0
+ends_after passes limit old new (message m) gives = at old.0.end gives.0
   where
     at : (end : Option ReadEnd) → MatchOption end (StreamReads limit old.0.remaining (message m) new.0.end
         new.0.remaining) (λ e. (message m ≡ closed) × (new.0.end ≡ Some e) × Keeps old.0.remaining new.0.remaining)
@@ -111,7 +111,7 @@ ends_after hears limit old new (message m) gives = at old.0.end gives.0
     at None reads = reads.0
     at (Some e) ended = ended.1
 
-module _ {R W L : Type 0} (remaining : R → Option (List ℕ)) (hears : L → ReadFault → L → Type 0) (contents : W
+module _ {R W L : Type 0} (remaining : R → Option (List ℕ)) (passes : L → ReadFault → L → Type 0) (contents : W
     → Option (List ℕ)) where
   -- what ended the messages and the writes
   abbrev ended : StreamTransport R W L → Ends
@@ -151,7 +151,7 @@ module _ {R W L : Type 0} (remaining : R → Option (List ℕ)) (hears : L → R
   )
 
   tells_received : (a : StreamTransport R W L) (event : Event) (b : StreamTransport R W L) → StreamTransportGives
-      remaining hears a event b → Tells a b
+      remaining passes a event b → Tells a b
   tells_received a event b gives =
       let told = gives.3 in (
         gives.0.1.2,
@@ -160,10 +160,10 @@ module _ {R W L : Type 0} (remaining : R → Option (List ℕ)) (hears : L → R
         (
           b.end,
           told.3,
-          ends_after hears a.limits (stream_of remaining (inbox_of a), a.listener.now) (
+          ends_after passes a.limits (stream_of remaining (inbox_of a), a.policy.now) (
             stream_of remaining
                 (inbox_of b),
-            b.listener.now,
+            b.policy.now,
           ) event gives.0.0,
           ap (λ (o : FrameOutbox W). (b.end, o.fault)) gives.1,
         ),
@@ -198,10 +198,10 @@ module _ {R W L : Type 0} (remaining : R → Option (List ℕ)) (hears : L → R
 
   module _ {S : Type 0} (may : Behavior S) (listens : Receives (StreamTransport R W L)) (s s' : S)
       (old new : StreamTransport R W L) (unused : IsUnused old) (reason : StopReason) (answer : SessionAnswer)
-      (talks : Talks (StreamTransportGives remaining hears) listens (StreamTransportSends contents) starting
+      (talks : Talks (StreamTransportGives remaining passes) listens (StreamTransportSends contents) starting
       (Both (SessionOut may s s') (StopsFor reason)) old answer new) where
     tells : Tells old new
-    tells = talks_keeps (StreamTransportGives remaining hears) listens (StreamTransportSends contents) Tells tells_own
+    tells = talks_keeps (StreamTransportGives remaining passes) listens (StreamTransportSends contents) Tells tells_own
         tells_then tells_received tells_sending starting (Both (SessionOut may s s') (StopsFor reason)) old new
         answer talks
 
@@ -224,8 +224,8 @@ module _ {R W L : Type 0} (remaining : R → Option (List ℕ)) (hears : L → R
     pub told_session : ToldSession old.limits (SessionOut may s s') (notes_of new.transcript.now) (session_answer reason
         answer new.end new.fault)
     told_session =
-        let t = talks_in_order (StreamTransportGives remaining hears) listens (StreamTransportSends contents)
-        (λ (t : StreamTransport R W L). account_of t) (keeps_account remaining hears contents) starting
+        let t = talks_in_order (StreamTransportGives remaining passes) listens (StreamTransportSends contents)
+        (λ (t : StreamTransport R W L). account_of t) (keeps_account remaining passes contents) starting
         (Both (SessionOut may s s') (StopsFor reason)) old new answer talks in
         let all : t.0 ≡ acts_in (notes_of new.transcript.now) = sym (t.1 ∙ ap (λ (notes : List Note). acts_in notes
         ++ t.0) unused.2) in
@@ -249,7 +249,7 @@ module _ {R W L : Type 0} (remaining : R → Option (List ℕ)) (hears : L → R
     pub serves : Serves (SessionOut may s s') old (session_answer reason answer new.end new.fault) new
     serves = record {
       told = told_session;
-      same_ends = keeps_ends remaining hears contents may listens s s' old new
+      same_ends = keeps_ends remaining passes contents may listens s s' old new
           unused reason answer talks;
     }
 

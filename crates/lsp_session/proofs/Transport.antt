@@ -17,7 +17,7 @@ use Rattle.lsp_session.specs.Prompt.{event_of, passed_over, behind, StopsAfterSh
 use Rattle.lsp_session.specs.Prompt.{EndsTalk, Talks}
 use Rattle.lsp_session.specs.ProtocolError.{ProtocolFault, disconnected, out_of_memory}
 use Rattle.lsp_session.specs.Replies.{null_reply}
-use Rattle.lsp_session.specs.Served.{reason_of, reason_of_fault, StopsFor}
+use Rattle.lsp_session.specs.SessionOutcome.{reason_of, reason_of_fault, StopsFor}
 use Rattle.lsp_session.specs.Session.{Behavior, SessionAnswer, SessionPart, Exchange, Stop, decided, no_more, timed_out}
 use Rattle.lsp_session.specs.Session.{refused, exhausted, Phase, starting, replied, serving, asked, ended}
 use Rattle.lsp_session.specs.Session.{shutdown_reply_of, phase_after, is_reply, is_served, request_id, is_initialize}
@@ -30,8 +30,8 @@ use Rattle.lsp_session.specs.Turns.{Turn, stopped, got}
 use Rattle.lsp_session.specs.declared.lifecycle.SendFault.{SendFault}
 use Rattle.lsp_session.specs.declared.lifecycle.SendFault.TheVariants.{Closed as IsClosed, Memory as IsFull}
 use Rattle.lsp_session.specs.declared.loops.handler.SessionEnd.TheVariants.{ShutDown, Closed}
-use Rattle.lsp_session.specs.declared.loops.served.StopReason.{StopReason}
-use Rattle.lsp_session.specs.declared.loops.served.StopReason.TheVariants.{Decided, NoMore, Exhausted, Refused}
+use Rattle.lsp_session.specs.declared.loops.session_outcome.StopReason.{StopReason}
+use Rattle.lsp_session.specs.declared.loops.session_outcome.StopReason.TheVariants.{Decided, NoMore, Exhausted, Refused}
 use Rattle.serde_json.specs.Data.{Data}
 use Rattle.std.proofs.Common.{◌≡◌, refl, sym, ap, ◌∙◌, inl, inr, ◌⊎◌, ◌≤◌, ◌+◌, ◌-◌, ◌^◌, ℕ, Bool, true, false, not}
 use Rattle.std.proofs.Common.{◌&&◌, List, [], ◌∷◌, ◌++◌, length, map, length-append, append_assoc, append-nil, arith}

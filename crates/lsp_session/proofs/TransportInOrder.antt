@@ -13,7 +13,7 @@ use Rattle.lsp_session.specs.PassingBoxes.{TolerantInboxGives}
 use Rattle.lsp_session.specs.PassingBytes.{GivesAndTells}
 use Rattle.lsp_session.specs.Prompt.{Talks}
 use Rattle.lsp_session.specs.Session.{Behavior, starting, SessionAnswer, SessionPart, SessionOut}
-use Rattle.lsp_session.specs.Served.{StopsFor}
+use Rattle.lsp_session.specs.SessionOutcome.{StopsFor}
 use Rattle.lsp_session.specs.SessionFault.{session_answer}
 use Rattle.lsp_session.specs.SessionLaws.{Both}
 use Rattle.lsp_session.specs.SessionRun.{Runs}
@@ -21,15 +21,15 @@ use Rattle.lsp_session.specs.StreamTransports.{account_of, inbox_of, outbox_of, 
 use Rattle.lsp_session.specs.StreamTransports.{StreamTransportGives, StreamTransportSends, GivesInOrder}
 use Rattle.lsp_session.proofs.Noting.{acts_grown}
 use Rattle.lsp_session.specs.declared.loops.frame_outbox.FrameOutbox.{FrameOutbox}
-use Rattle.lsp_session.specs.declared.loops.served.StopReason.{StopReason}
+use Rattle.lsp_session.specs.declared.loops.session_outcome.StopReason.{StopReason}
 use Rattle.lsp_session.specs.declared.loops.stream_transport.StreamTransport.{StreamTransport}
 use Rattle.lsp_session.specs.declared.loops.tolerant_inbox.TolerantInbox.{TolerantInbox}
 use Rattle.std.proofs.Common.{◌≡◌, refl, sym, ◌∙◌, ap, subst, ℕ, List, ◌++◌, Option, IfSome}
 
-module _ {R W L : Type 0} (remaining : R → Option (List ℕ)) (hears : L → ReadFault → L → Type 0) (contents : W
+module _ {R W L : Type 0} (remaining : R → Option (List ℕ)) (passes : L → ReadFault → L → Type 0) (contents : W
     → Option (List ℕ)) where
   -- the transport adds each act to its transcript when it is done
-  pub keeps_account : KeepsAccount {L = StreamTransport R W L} (StreamTransportGives remaining hears)
+  pub keeps_account : KeepsAccount {L = StreamTransport R W L} (StreamTransportGives remaining passes)
       (StreamTransportSends contents) (λ t. account_of t)
   keeps_account = record {
     receiving = λ old event new gives. acts_grown _ _ _ gives.3.1;
@@ -41,30 +41,30 @@ module _ {R W L : Type 0} (remaining : R → Option (List ℕ)) (hears : L → R
   ends t = (inbox_of t, outbox_of t)
 
   abbrev names : StreamTransport R W L → ℕ × ℕ × ℕ × ℕ
-  names t = (t.reader.ghost_name, t.writer.ghost_name, t.listener.ghost_name, t.transcript.ghost_name)
+  names t = (t.reader.ghost_name, t.writer.ghost_name, t.policy.ghost_name, t.transcript.ghost_name)
 
   module _ {S : Type 0} (may : Behavior S) (listens : Receives (StreamTransport R W L)) (s s' : S)
       (old new : StreamTransport R W L) (unused : IsUnused old) (reason : StopReason) (answer : SessionAnswer)
-      (talks : Talks (StreamTransportGives remaining hears) listens (StreamTransportSends contents) starting
+      (talks : Talks (StreamTransportGives remaining passes) listens (StreamTransportSends contents) starting
       (Both (SessionOut may s s') (StopsFor reason)) old answer new) where
     -- of the acts of the session, which are all of the transcript
     abbrev Turns : List Act → SessionPart
     Turns acts = Both (Both (SessionOut may s s') (StopsFor reason)) (InOrder acts)
 
-    in_order : Talks (StreamTransportGives remaining hears) listens (StreamTransportSends contents) starting
+    in_order : Talks (StreamTransportGives remaining passes) listens (StreamTransportSends contents) starting
         (Turns (account_of new)) old answer new
     in_order =
-        let t = talks_in_order (StreamTransportGives remaining hears) listens (StreamTransportSends contents)
+        let t = talks_in_order (StreamTransportGives remaining passes) listens (StreamTransportSends contents)
         (λ (t : StreamTransport R W L). account_of t) keeps_account starting (Both (SessionOut may s s')
         (StopsFor reason)) old new answer talks in
         let all : account_of new ≡ t.0 = t.1 ∙ ap (λ (notes : List Note). acts_in notes ++ t.0) unused.2 in
-        subst (λ (acts : List Act). Talks (StreamTransportGives remaining hears) listens (StreamTransportSends contents)
-        starting (Turns acts) old answer new) (sym all) t.2
+        subst (λ (acts : List Act). Talks (StreamTransportGives remaining passes) listens
+        (StreamTransportSends contents) starting (Turns acts) old answer new) (sym all) t.2
 
-    ran : Runs (TolerantInboxGives remaining hears) (FrameOutboxSends contents) (Turns (account_of new)) (ends old)
+    ran : Runs (TolerantInboxGives remaining passes) (FrameOutboxSends contents) (Turns (account_of new)) (ends old)
         answer (ends new) × (names new ≡ names old)
-    ran = transport_runs (TolerantInboxGives remaining hears) (FrameOutboxSends contents) (StreamTransportGives
-        remaining hears) listens (StreamTransportSends contents) ends names
+    ran = transport_runs (TolerantInboxGives remaining passes) (FrameOutboxSends contents) (StreamTransportGives
+        remaining passes) listens (StreamTransportSends contents) ends names
         (λ a event b gives. (
           gives.0,
           gives.1,
@@ -82,16 +82,16 @@ module _ {R W L : Type 0} (remaining : R → Option (List ℕ)) (hears : L → R
             takes.0.1,
             ap (λ (i : TolerantInbox R L). i.reader.ghost_name)
                 takes.1,
-            ap (λ (i : TolerantInbox R L). i.listener.ghost_name) takes.1,
+            ap (λ (i : TolerantInbox R L). i.policy.ghost_name) takes.1,
             takes.2,
           ) refl,
         ))
         starting (Turns (account_of new)) old answer new in_order
 
     -- a session over a transport, in bytes
-    pub gives_in_order : GivesInOrder remaining hears contents (SessionOut may s s') old (session_answer reason answer
+    pub gives_in_order : GivesInOrder remaining passes contents (SessionOut may s s') old (session_answer reason answer
         new.end new.fault) new
-    gives_in_order = session_gives hears old.limits remaining contents (Turns (account_of new))
+    gives_in_order = session_gives passes old.limits remaining contents (Turns (account_of new))
         (Both (SessionOut may s s') (InOrder (account_of new))) reason
         (λ xs stop shutdown_reply answer both. (
           (both.0.0, both.1),
@@ -100,20 +100,20 @@ module _ {R W L : Type 0} (remaining : R → Option (List ℕ)) (hears : L → R
               stop shutdown_reply answer both.0.0,
         ))
         (inbox_of old) (inbox_of new) (outbox_of old) (outbox_of new) unused.0 refl unused.1 answer ran.0
-        old.reader.now new.reader.now old.writer.now new.writer.now old.listener.now new.listener.now
+        old.reader.now new.reader.now old.writer.now new.writer.now old.policy.now new.policy.now
         refl refl refl (λ same. refl) (λ same. refl) (λ same. refl)
 
-    -- the same of the reader, the writer and the listener that were lent
-    pub lent_gives : (limit : Limits) → old.limits ≡ limit → (first last : R) (first' last' : W) (heard heard' : L)
+    -- the same of the reader, the writer and the policy that were lent
+    pub lent_gives : (limit : Limits) → old.limits ≡ limit → (first last : R) (first' last' : W) (policy policy' : L)
         → old.reader.now ≡ first → old.writer.now ≡ first'
-        → old.listener.now ≡ heard
+        → old.policy.now ≡ policy
         → (new.reader.ghost_name ≡ old.reader.ghost_name → last ≡ new.reader.now)
-        → (new.listener.ghost_name ≡ old.listener.ghost_name → heard' ≡ new.listener.now)
+        → (new.policy.ghost_name ≡ old.policy.ghost_name → policy' ≡ new.policy.now)
         → (new.writer.ghost_name ≡ old.writer.ghost_name → last' ≡ new.writer.now)
-        → IfSome (remaining first) (λ text. GivesAndTells hears limit (SessionOut may s s') text (remaining last) heard
-        heard' (contents first') (contents last')
+        → IfSome (remaining first) (λ text. GivesAndTells passes limit (SessionOut may s s') text (remaining last)
+        policy policy' (contents first') (contents last')
         (session_answer reason answer new.end new.fault))
-    lent_gives limit limited = session_gives hears limit remaining contents (Turns (account_of new)) (SessionOut may s
+    lent_gives limit limited = session_gives passes limit remaining contents (Turns (account_of new)) (SessionOut may s
         s') reason
         (λ xs stop shutdown_reply answer both. (
           both.0.0,

@@ -16,12 +16,12 @@ use Rattle.lsp_message.specs.declared.msg.Message as msg
 use Rattle.lsp_message.specs.declared.frame.limits.Limits.{Limits}
 use Rattle.lsp_session.specs.Account.{Act, gave, took, lost, ActsInOrder}
 use Rattle.lsp_session.specs.Event.{Event, message, closed, woken}
-use Rattle.lsp_session.specs.Passing.{is_of_body}
-use Rattle.lsp_session.specs.Served.{StopsFor}
+use Rattle.lsp_session.specs.Passing.{is_of_content}
+use Rattle.lsp_session.specs.SessionOutcome.{StopsFor}
 use Rattle.lsp_session.specs.Session.{Exchange, SessionAnswer, SessionPart, Stop}
 use Rattle.lsp_session.specs.SessionFault.{session_answer}
 use Rattle.lsp_session.specs.declared.loops.handler.SessionEnd.{SessionEnd}
-use Rattle.lsp_session.specs.declared.loops.served.StopReason.{StopReason}
+use Rattle.lsp_session.specs.declared.loops.session_outcome.StopReason.{StopReason}
 use Rattle.lsp_session.specs.declared.loops.stream_session.SessionFault.{SessionFault}
 use Rattle.lsp_session.specs.declared.loops.ReadEnd.{ReadEnd}
 use Rattle.lsp_session.specs.declared.loops.ReadEnd.TheVariants.{Exit, End, Fault}
@@ -57,7 +57,7 @@ module _ (limit : Limits) where
   -- taken.
   abbrev pub EventParts : Option ReadEnd → Event → Option ReadEnd → Parts → Type 0
   EventParts None (message m) new parts = AreOf (Ok (Some m)) parts
-  EventParts None woken new parts = (fault : ReadFault) × (is_of_body fault ≡ true) × AreOf (Err fault) parts
+  EventParts None woken new parts = (fault : ReadFault) × (is_of_content fault ≡ true) × AreOf (Err fault) parts
   EventParts None closed (Some End) parts = AreOf (Ok None) parts
   EventParts None closed (Some (Fault fault)) parts = AreOf (Err fault) parts
   EventParts None event new parts = ⊥

@@ -2,7 +2,7 @@
 use Rattle.std.specs.Prelude.{ℕ, ◌+◌, ◌-◌, ◌^◌, min}
 use Rattle.lsp_message.specs.declared.frame.ReadFault.{ReadFault}
 use Rattle.lsp_message.specs.declared.frame.ReadFault.TheVariants.{BodyNotText, NoJson, NoMessage, Batch}
-use Rattle.lsp_session.specs.declared.loops.listener.FaultCounts.{FaultCounts}
+use Rattle.lsp_session.specs.declared.loops.bad_content_policy.FaultCounts.{FaultCounts}
 
 abbrev pub no_faults : FaultCounts
 no_faults = record { not_text = 0; no_json = 0; no_message = 0; batches = 0 }

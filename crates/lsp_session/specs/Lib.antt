@@ -24,7 +24,7 @@ pub mod ProtocolError
 pub mod ProtocolErrorLaws
 pub mod ReadLoop
 pub mod Replies
-pub mod Served
+pub mod SessionOutcome
 pub mod Session
 pub mod SessionBytes
 pub mod SessionFault

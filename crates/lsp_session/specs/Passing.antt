@@ -9,25 +9,25 @@ use Rattle.lsp_session.specs.declared.loops.ReadEnd.{ReadEnd}
 use Rattle.lsp_session.specs.declared.loops.ReadEnd.TheVariants.{Fault}
 
 -- The content part was read to its end and is no message: it is not UTF-8, no JSON, another tree, or a batch.
-abbrev pub is_of_body : ReadFault → Bool
-is_of_body BodyNotText = true
-is_of_body NoJson = true
-is_of_body NoMessage = true
-is_of_body Batch = true
-is_of_body fault = false
+abbrev pub is_of_content : ReadFault → Bool
+is_of_content BodyNotText = true
+is_of_content NoJson = true
+is_of_content NoMessage = true
+is_of_content Batch = true
+is_of_content fault = false
 
 -- such a content part ended the messages
-abbrev pub ended_at_body : Option ReadEnd → Bool
-ended_at_body (Some (Fault fault)) = is_of_body fault
-ended_at_body end = false
+abbrev pub ended_at_content : Option ReadEnd → Bool
+ended_at_content (Some (Fault fault)) = is_of_content fault
+ended_at_content end = false
 
-module _ {L : Type 0} (hears : L → ReadFault → L → Type 0) (limit : Limits) where
-  -- What one receive gives. For a wake the bytes begin with a content part that is no message, the listener hears its
+module _ {L : Type 0} (passes : L → ReadFault → L → Type 0) (limit : Limits) where
+  -- What one receive gives. For a wake the bytes begin with a content part that is no message, the policy passes its
   -- fault, and what follows it is left. Each other event is that of an inbox which passes over nothing, and the
-  -- listener hears nothing.
+  -- policy passes nothing.
   abbrev pub TolerantGives : Stream × L → Event → Stream × L → Type 0
   TolerantGives old woken new =
-      (fault : ReadFault) × (is_of_body fault ≡ true)
-      × Reads limit old.0.remaining (Err fault) new.0.remaining × hears old.1 fault new.1
+      (fault : ReadFault) × (is_of_content fault ≡ true)
+      × Reads limit old.0.remaining (Err fault) new.0.remaining × passes old.1 fault new.1
       × (old.0.end ≡ None) × (new.0.end ≡ None)
   TolerantGives old event new = StreamGives limit old.0 event new.0 × (new.1 ≡ old.1)

@@ -5,25 +5,25 @@ use Rattle.lsp_message.specs.View.{message_view}
 use Rattle.lsp_message.specs.declared.msg.Message as msg
 use Rattle.lsp_session.specs.Event.{Event, message, closed}
 use Rattle.lsp_session.specs.Streams.{Stream, StreamGives, Reads}
-use Rattle.lsp_session.specs.Passing.{ended_at_body, TolerantGives}
+use Rattle.lsp_session.specs.Passing.{ended_at_content, TolerantGives}
 use Rattle.lsp_session.specs.declared.loops.ReadEnd.{ReadEnd}
 use Rattle.lsp_session.specs.declared.loops.ReadEnd.TheVariants.{Fault}
 use Rattle.lsp_session.specs.declared.loops.tolerant_inbox.TolerantInbox.{TolerantInbox}
 
 -- A call ended the messages at no content part that is no message. For a private clause.
-abbrev pub NeverEndsAtBody : {R L : Type 0} → TolerantInbox R L → TolerantInbox R L → Type 0
-NeverEndsAtBody old new = ended_at_body new.end ≡ true → new.end ≡ old.end
+abbrev pub NeverEndsAtContent : {R L : Type 0} → TolerantInbox R L → TolerantInbox R L → Type 0
+NeverEndsAtContent old new = ended_at_content new.end ≡ true → new.end ≡ old.end
 
--- the listener may end the messages so
+-- the policy may end the messages so
 abbrev pub MayEnd : {L : Type 0} → (L → ReadFault → Type 0) → L → Option ReadEnd → Type 0
 MayEnd ends l (Some (Fault fault)) = ends l fault
 MayEnd ends l end = ⊥
 
--- A call ended the messages at a content part that is no message only if the listener may end them.
-abbrev pub EndsAtBody : {R L : Type 0} → (L → ReadFault → Type 0) → TolerantInbox R L
+-- A call ended the messages at a content part that is no message only if the policy may end them.
+abbrev pub EndsAtContent : {R L : Type 0} → (L → ReadFault → Type 0) → TolerantInbox R L
     → TolerantInbox R L → Type 0
-EndsAtBody ends old new = ended_at_body new.end ≡ true → (new.end ≡ old.end)
-    ⊎ MayEnd ends old.listener.now new.end
+EndsAtContent ends old new = ended_at_content new.end ≡ true → (new.end ≡ old.end)
+    ⊎ MayEnd ends old.policy.now new.end
 
 -- what a read gives that did not fail
 abbrev pub next_view : Option msg.Message → Event
@@ -35,27 +35,27 @@ module _ {R L : Type 0} (remaining : R → Option (List ℕ)) where
   abbrev pub stream_of : TolerantInbox R L → Stream
   stream_of inbox = record { remaining = remaining inbox.reader.now; end = inbox.end }
 
-  -- the reader and the listener that were lent are kept, and the limit
+  -- the reader and the policy that were lent are kept, and the limit
   abbrev pub KeepsLent : TolerantInbox R L → TolerantInbox R L → Type 0
   KeepsLent old new =
       (new.reader.ghost_name ≡ old.reader.ghost_name)
-      × (new.listener.ghost_name ≡ old.listener.ghost_name) × (new.limits ≡ old.limits)
+      × (new.policy.ghost_name ≡ old.policy.ghost_name) × (new.limits ≡ old.limits)
 
-  -- One read gives a message, or that no more come, or a fault that ends nothing yet. The listener hears nothing. For a
+  -- One read gives a message, or that no more come, or a fault that ends nothing yet. The policy passes nothing. For a
   -- private clause.
   abbrev pub ReadsNext : TolerantInbox R L → Result (Option msg.Message) ReadFault
       → TolerantInbox R L → Type 0
   ReadsNext old (Ok next) new =
       StreamGives old.limits (stream_of old) (next_view next) (stream_of new)
-      × (new.listener.now ≡ old.listener.now) × KeepsLent old new
+      × (new.policy.now ≡ old.policy.now) × KeepsLent old new
   ReadsNext old (Err fault) new =
       Reads old.limits (remaining old.reader.now) (Err fault) (remaining new.reader.now)
       × (old.end ≡ None) × (new.end ≡ None)
-      × (new.listener.now ≡ old.listener.now) × KeepsLent old new
+      × (new.policy.now ≡ old.policy.now) × KeepsLent old new
 
   -- one receive
   abbrev pub TolerantInboxGives : (L → ReadFault → L → Type 0) → TolerantInbox R L → Event
       → TolerantInbox R L → Type 0
-  TolerantInboxGives hears old event new =
-      TolerantGives hears old.limits (stream_of old, old.listener.now) event
-      (stream_of new, new.listener.now) × KeepsLent old new
+  TolerantInboxGives passes old event new =
+      TolerantGives passes old.limits (stream_of old, old.policy.now) event
+      (stream_of new, new.policy.now) × KeepsLent old new

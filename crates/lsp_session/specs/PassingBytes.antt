@@ -1,4 +1,4 @@
--- A session that asks a listener at content parts which are no messages: bytes in to bytes out (LSP 3.17, "Base
+-- A session that asks a policy at content parts which are no messages: bytes in to bytes out (LSP 3.17, "Base
 -- Protocol" and "Server lifecycle").
 use Rattle.std.specs.Prelude.{◌≡◌, ◌⊎◌, ℕ, true, List, Option, Some, None, Result, Err}
 use Rattle.lsp_message.specs.Frame.{Begins, reading_within}
@@ -9,28 +9,28 @@ use Rattle.lsp_session.specs.Session.{SessionPart, Stop, exhausted}
 use Rattle.lsp_session.specs.SessionBytes.{SessionOver, Ends, Wrote}
 use Rattle.lsp_session.specs.declared.loops.handler.SessionEnd.{SessionEnd}
 use Rattle.lsp_session.specs.declared.loops.stream_session.SessionFault.{SessionFault}
-use Rattle.lsp_session.specs.Passing.{is_of_body}
+use Rattle.lsp_session.specs.Passing.{is_of_content}
 
--- a listener with this clause never passes over anything
+-- a policy with this clause never passes over anything
 abbrev pub PassesNothingOver : {L : Type 0} → (L → ReadFault → L → Type 0) → Type 0
-PassesNothingOver {L} hears = (old : L) (fault : ReadFault) (new : L) → hears old fault new → ⊥
+PassesNothingOver {L} passes = (old : L) (fault : ReadFault) (new : L) → passes old fault new → ⊥
 
--- of a text and a listener, if content parts have at most so many bytes
-module _ {L : Type 0} (hears : L → ReadFault → L → Type 0) (limit : Limits) where
-  -- The text begins with a content part that is no message. The listener hears its fault, and what follows it is left.
+-- of a text and a policy, if content parts have at most so many bytes
+module _ {L : Type 0} (passes : L → ReadFault → L → Type 0) (limit : Limits) where
+  -- The text begins with a content part that is no message. The policy passes its fault, and what follows it is left.
   abbrev pub PassesOver : List ℕ × L → List ℕ × L → Type 0
   PassesOver old new =
-      (fault : ReadFault) × (is_of_body fault ≡ true)
+      (fault : ReadFault) × (is_of_content fault ≡ true)
       × (reading_within limit old.0 ≡ record { outcome = Err fault; rest = new.0 })
-      × hears old.1 fault new.1
+      × passes old.1 fault new.1
 
-  -- The first frame of the text is this message, and the listener hears nothing; or it is passed over, and the session
+  -- The first frame of the text is this message, and the policy passes nothing; or it is passed over, and the session
   -- is woken.
   abbrev pub ReadsFrame : List ℕ × L → Option Message → List ℕ × L → Type 0
   ReadsFrame old (Some m) new = Begins limit old.0 m new.0 × (new.1 ≡ old.1)
   ReadsFrame old None new = PassesOver old new
 
-  -- The listener hears no more, but perhaps of the frame at which an allocation failed.
+  -- The policy passes no more, but perhaps of the frame at which an allocation failed.
   abbrev pub HearsLast : Stop → List ℕ × L → L → Type 0
   HearsLast exhausted now last = (last ≡ now.1) ⊎ ((rest : List ℕ) × PassesOver now (rest, last))
   HearsLast stop now last = last ≡ now.1

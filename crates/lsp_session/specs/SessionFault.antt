@@ -10,8 +10,8 @@ use Rattle.lsp_session.specs.Session.{SessionAnswer}
 use Rattle.lsp_session.specs.declared.loops.ReadEnd.{ReadEnd}
 use Rattle.lsp_session.specs.declared.loops.ReadEnd.TheVariants.{Fault}
 use Rattle.lsp_session.specs.declared.loops.handler.SessionEnd.{SessionEnd}
-use Rattle.lsp_session.specs.declared.loops.served.StopReason.{StopReason}
-use Rattle.lsp_session.specs.declared.loops.served.StopReason.TheVariants.{NoMore, Exhausted}
+use Rattle.lsp_session.specs.declared.loops.session_outcome.StopReason.{StopReason}
+use Rattle.lsp_session.specs.declared.loops.session_outcome.StopReason.TheVariants.{NoMore, Exhausted}
 use Rattle.lsp_session.specs.declared.loops.stream_session.SessionFault.{SessionFault}
 use Rattle.lsp_session.specs.declared.loops.stream_session.SessionFault.TheVariants.{Protocol, Read, Write, Memory}
 

@@ -7,7 +7,7 @@ use Rattle.lsp_session.specs.Account.{Act, gave, sending, InOrder}
 use Rattle.lsp_session.specs.ActBytes.{Note, EventParts, SentParts, Passes, ToldSession, acts_in}
 use Rattle.lsp_session.specs.Event.{Event}
 use Rattle.lsp_session.specs.FrameBoxes.{FrameOutboxSends}
-use Rattle.lsp_session.specs.PassingBoxes.{EndsAtBody, TolerantInboxGives}
+use Rattle.lsp_session.specs.PassingBoxes.{EndsAtContent, TolerantInboxGives}
 use Rattle.lsp_session.specs.PassingBytes.{GivesAndTells}
 use Rattle.lsp_session.specs.Session.{SessionPart}
 use Rattle.lsp_session.specs.SessionLaws.{Both}
@@ -22,7 +22,7 @@ use Rattle.lsp_session.specs.declared.loops.tolerant_inbox.TolerantInbox.{Tolera
 module _ {R W L : Type 0} where
   -- the transport as an inbox
   abbrev pub inbox_of : StreamTransport R W L → TolerantInbox R L
-  inbox_of t = record { alloc = t.alloc; reader = t.reader; listener = t.listener; limits = t.limits; end = t.end }
+  inbox_of t = record { alloc = t.alloc; reader = t.reader; policy = t.policy; limits = t.limits; end = t.end }
 
   -- the transport as an outbox
   abbrev pub outbox_of : StreamTransport R W L → FrameOutbox W
@@ -36,29 +36,29 @@ module _ {R W L : Type 0} where
   abbrev pub IsUnused : StreamTransport R W L → Type 0
   IsUnused t = (t.end ≡ None) × (t.fault ≡ None) × (notes_of t.transcript.now ≡ [])
 
-  -- It reads from the same reader, writes to the same writer, asks the same listener, and adds to the same transcript.
+  -- It reads from the same reader, writes to the same writer, asks the same policy, and adds to the same transcript.
   abbrev pub KeepsEnds : StreamTransport R W L → StreamTransport R W L → Type 0
   KeepsEnds old new =
       (new.reader.ghost_name ≡ old.reader.ghost_name) × (new.writer.ghost_name ≡ old.writer.ghost_name)
-      × (new.listener.ghost_name ≡ old.listener.ghost_name)
+      × (new.policy.ghost_name ≡ old.policy.ghost_name)
       × (new.transcript.ghost_name ≡ old.transcript.ghost_name)
 
   -- One receive reads as an inbox over the reader does, writes nothing, and is added to the transcript with the bytes
   -- that were taken for it.
   abbrev pub StreamTransportGives : (R → Option (List ℕ)) → (L → ReadFault → L → Type 0)
       → StreamTransport R W L → Event → StreamTransport R W L → Type 0
-  StreamTransportGives remaining hears old event new =
-      TolerantInboxGives remaining hears (inbox_of old) event (inbox_of new)
+  StreamTransportGives remaining passes old event new =
+      TolerantInboxGives remaining passes (inbox_of old) event (inbox_of new)
       × (outbox_of new ≡ outbox_of old) × (new.transcript.ghost_name ≡ old.transcript.ghost_name)
       × ((parts : Parts) × (notes_of new.transcript.now ≡ notes_of old.transcript.now ++ (gave event, parts) ∷ [])
       × Takes parts [] parts (remaining old.reader.now) (remaining new.reader.now)
       × EventParts old.limits old.end event new.end parts)
 
-  -- A wait that also gives wakes ended the messages at a content part that is no message only if the listener may end
+  -- A wait that also gives wakes ended the messages at a content part that is no message only if the policy may end
   -- them.
   abbrev pub StreamTransportListens : (L → ReadFault → Type 0) → StreamTransport R W L → Event
       → StreamTransport R W L → Type 0
-  StreamTransportListens ends old event new = EndsAtBody ends (inbox_of old) (inbox_of new)
+  StreamTransportListens ends old event new = EndsAtContent ends (inbox_of old) (inbox_of new)
 
   -- One send writes as an outbox over the writer does, reads nothing, and is added to the transcript with the bytes
   -- that were given for it.
@@ -92,9 +92,9 @@ module _ {R W L : Type 0} where
   abbrev pub GivesInOrder : (R → Option (List ℕ)) → (L → ReadFault → L → Type 0)
       → (W → Option (List ℕ)) → SessionPart → StreamTransport R W L → Result SessionEnd SessionFault
       → StreamTransport R W L → Type 0
-  GivesInOrder remaining hears contents P old result new =
+  GivesInOrder remaining passes contents P old result new =
       IfSome (remaining old.reader.now) (λ text.
-      GivesAndTells hears old.limits (Both P (InOrder (account_of new))) text
+      GivesAndTells passes old.limits (Both P (InOrder (account_of new))) text
       (remaining new.reader.now)
-      old.listener.now new.listener.now (contents old.writer.now)
+      old.policy.now new.policy.now (contents old.writer.now)
       (contents new.writer.now) result)

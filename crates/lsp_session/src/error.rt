@@ -1,7 +1,7 @@
 //! Why a handshake, or the end of a session, failed.
 ghost use Rattle.std.specs.Prelude.{◌≡◌, ◌⊎◌, IfOk};
 ghost use Rattle.lsp_session.specs.ProtocolError.{disconnected, expected_initialize, aborted, expected_initialized, unexpected_in_shutdown, shutdown_timeout, shutdown_disconnected, out_of_memory, Shows};
-ghost use Rattle.lsp_session.specs.Served.{reason_of_fault};
+ghost use Rattle.lsp_session.specs.SessionOutcome.{reason_of_fault};
 
 use crate::beginning::beginning_of;
 use crate::lifecycle::SendFault;

@@ -15,9 +15,10 @@ pub use lifecycle::{
     without_result,
 };
 pub use loops::{
-    ClientStreams, EndSession, FaultCounts, FrameOutbox, Handler, HandlerService, Ignore, Listener,
-    Output, PassedOver, ReadEnd, Served, Service, SessionEnd, SessionFault, StopReason,
-    StreamInbox, StreamTransport, ToSend, TolerantInbox, Transcript, WriteEnd, initialize_result,
-    is_of_body, read_loop, read_loop_within, serve, serve_service, serve_transport, session,
-    session_answer, session_of_service, session_transcribed, session_within, write_loop,
+    BadContentPolicy, ClientStreams, EndSession, FaultCounts, FrameOutbox, Handler, HandlerService,
+    Ignore, Output, PassedOver, ReadEnd, Service, SessionEnd, SessionFault, SessionOutcome,
+    StopReason, StreamInbox, StreamTransport, ToSend, TolerantInbox, Transcript, WriteEnd,
+    initialize_result, is_of_content, read_loop, read_loop_within, serve, serve_service,
+    serve_transport, session, session_answer, session_of_service, session_transcribed,
+    session_within, write_loop,
 };

@@ -11,15 +11,15 @@ use std::alloc::Global;
 use std::io::{BufRead, ErrorKind};
 
 mod account;
+mod bad_content_policy;
 mod both_ends;
 mod client_streams;
 mod frame_outbox;
 mod handler;
 mod handler_service;
-mod listener;
 mod passed_over;
-mod served;
 mod service;
+mod session_outcome;
 mod stream_inbox;
 mod stream_session;
 mod stream_transport;
@@ -29,21 +29,21 @@ mod transport;
 mod unwoken;
 mod write;
 
+pub use bad_content_policy::{BadContentPolicy, EndSession, FaultCounts, Ignore};
 pub use both_ends::serve_service;
 pub use client_streams::ClientStreams;
 pub use frame_outbox::FrameOutbox;
 pub use handler::{Handler, SessionEnd, initialize_result, serve};
 pub use handler_service::HandlerService;
-pub use listener::{EndSession, FaultCounts, Ignore, Listener};
 pub use passed_over::PassedOver;
-pub use served::{Served, StopReason};
 pub use service::{Output, Service, ToSend};
+pub use session_outcome::{SessionOutcome, StopReason};
 pub use stream_inbox::StreamInbox;
 pub use stream_session::{
     SessionFault, session, session_answer, session_of_service, session_transcribed, session_within,
 };
 pub use stream_transport::StreamTransport;
-pub use tolerant_inbox::{TolerantInbox, is_of_body};
+pub use tolerant_inbox::{TolerantInbox, is_of_content};
 pub use transcript::Transcript;
 pub use transport::serve_transport;
 pub use write::{WriteEnd, write_loop};

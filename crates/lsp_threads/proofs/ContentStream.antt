@@ -23,7 +23,7 @@ use Rattle.lsp_relay.specs.declared.ends.Parcel.{Parcel}
 use Rattle.lsp_relay.specs.declared.ends.Parcel.TheVariants as parcel
 use Rattle.lsp_session.proofs.Passing.{GivesOr}
 use Rattle.lsp_session.specs.Event.{Event, message, closed, woken}
-use Rattle.lsp_session.specs.Passing.{is_of_body}
+use Rattle.lsp_session.specs.Passing.{is_of_content}
 use Rattle.lsp_session.specs.Streams.{Stream, StreamReads, Reads}
 use Rattle.lsp_session.specs.declared.loops.ReadEnd.{ReadEnd}
 use Rattle.lsp_session.specs.declared.loops.ReadEnd.TheVariants.{Exit, End, Fault}
@@ -41,10 +41,10 @@ collected old_taken taken old_waiting waiting collects = (collects.0, sym collec
 gives_collected : (event : Event) (old new : Receiving) → GivesContent old new event → IsPrefix old.taken new.taken
 gives_collected event old new gives = collected old.taken new.taken old.waiting (gives.0 ∷ new.waiting) gives.1.0
 
--- of an inbox and its listener
-module _ {L : Type 0} (hears : L → ReadFault → L → Type 0) where
+-- of an inbox and its policy
+module _ {L : Type 0} (passes : L → ReadFault → L → Type 0) where
   abbrev Run : Receiving × L → List Event → Receiving × L → Type 0
-  Run = FoldsTo (ContentsGive hears)
+  Run = FoldsTo (ContentsGive passes)
 
   -- an inbox keeps the relay
   pub gives_relay : (events : List Event) (old new : Receiving × L) → Run old events new → new.0.relay ≡ old.0.relay
@@ -56,7 +56,7 @@ module _ {L : Type 0} (hears : L → ReadFault → L → Type 0) where
   wakes_grow [] old new run = omega (arith, ap (λ (t : Receiving × L). t.0.wakes) run)
   wakes_grow (event ∷ events) old new run = omega (arith, run.1.1, wakes_grow events run.0 new run.2)
 
-  open_grows : (event : Event) (old new : Receiving × L) → OpenGives hears old event new → IsPrefix old.0.taken
+  open_grows : (event : Event) (old new : Receiving × L) → OpenGives passes old event new → IsPrefix old.0.taken
       new.0.taken
   open_grows (message m) old new gives = gives_collected (message m) old.0 new.0 gives.0
   open_grows closed old new gives = elim gives.0 [
@@ -69,7 +69,7 @@ module _ {L : Type 0} (hears : L → ReadFault → L → Type 0) where
   open_grows event old new gives = absurd gives
 
   gives_grow : (event : Event) (old new : Receiving × L) (over : Bool) → MatchBool over ((event ≡ closed) × (new ≡ old))
-      (OpenGives hears old event new)
+      (OpenGives passes old event new)
       → IsPrefix old.0.taken new.0.taken
   gives_grow event old new true same = ([], append-nil old.0.taken ∙ ap (λ (t : Receiving × L). t.0.taken) (sym same.1))
   gives_grow event old new false gives = open_grows event old new gives
@@ -148,7 +148,7 @@ module _ (limit : Limits) where
       let left = rest_is at content rest begins in
       ((content_read at content rest begins ∙ ap found means, ap Some (sym left)), rw left at (front at))
 
-  passes_read : (fault : ReadFault) (at content rest : List ℕ) → is_of_body fault ≡ true → BeginsWithContent limit at
+  passes_read : (fault : ReadFault) (at content rest : List ℕ) → is_of_content fault ≡ true → BeginsWithContent limit at
       content rest → body_means content ≡ Err fault
       → Reads limit (Some at) (Err fault) (Some rest)
   passes_read BodyNotText at content rest is begins means = read_as BodyNotText at content rest begins means
@@ -176,7 +176,7 @@ module _ (limit : Limits) where
   closes end at stops = absurd stops
 
   -- an inbox that ends as `new`, if these parcels follow up to End; a wake that was taken tells that others can wake it
-  module _ {L : Type 0} (hears : L → ReadFault → L → Type 0) (others : Type 0) (read : ReadEnd) (new : Receiving × L)
+  module _ {L : Type 0} (passes : L → ReadFault → L → Type 0) (others : Type 0) (read : ReadEnd) (new : Receiving × L)
       (woke : 1 ≤ new.0.wakes → others)
       (rest : List (Parcel Contents)) (parcels : List Contents) (whole : new.0.taken ++ rest ≡ ended parcels) where
     -- these content parts come after those that were given
@@ -186,11 +186,11 @@ module _ (limit : Limits) where
 
     -- what comes first of them, and what comes then
     comes : (events : List Event) (old mid : Receiving × L) (contents waiting : List (List ℕ)) → Collects old.0.taken
-        old.0.waiting mid.0.taken waiting → Run hears mid events new
+        old.0.waiting mid.0.taken waiting → Run passes mid events new
         → ToCome old.0 contents → (later : List (Parcel Contents)) × (new.0.taken ++ rest ≡ mid.0.taken ++ later)
         × (contents ≡ waiting ++ contents_of later)
     comes events old mid contents waiting collects run to_come =
-        let grown = grows hears events mid new run in
+        let grown = grows passes events mid new run in
         let later = grown.0 ++ rest in
         let after : new.0.taken ++ rest ≡ mid.0.taken ++ later = ap (λ l. l ++ rest) (sym grown.1)
         ∙ append_assoc mid.0.taken grown.0 rest in
@@ -207,14 +207,14 @@ module _ (limit : Limits) where
 
     -- an inbox over a text did the same, and ended so
     abbrev Over : List Event → Stream × L → Stream × L → Type 0
-    Over events old s = FoldsTo (GivesOr others hears limit) old events s × (s.0.end ≡ session_end new.0.end
+    Over events old s = FoldsTo (GivesOr others passes limit) old events s × (s.0.end ≡ session_end new.0.end
         (has_end new.0.taken) read) × (s.1 ≡ new.1)
 
     abbrev going : List ℕ → L → Stream × L
-    going at heard = (record { remaining = Some at; end = None }, heard)
+    going at policy = (record { remaining = Some at; end = None }, policy)
 
     abbrev done : ReadEnd → Option (List ℕ) → L → Stream × L
-    done end left heard = (record { remaining = left; end = Some end }, heard)
+    done end left policy = (record { remaining = left; end = Some end }, policy)
 
     keeps : (left : Option (List ℕ)) → Keeps left left
     keeps None = tt
@@ -222,7 +222,7 @@ module _ (limit : Limits) where
 
     when_over : (events : List Event) (old : Receiving × L) (end : ReadEnd) (left : Option (List ℕ))
         → is_over old.0 ≡ true
-        → session_end old.0.end (has_end old.0.taken) read ≡ Some end → Run hears old events new
+        → session_end old.0.end (has_end old.0.taken) read ≡ Some end → Run passes old events new
         → Over events (done end left old.1) (done end left old.1)
     when_over [] old end left over ends run = (
       refl,
@@ -236,14 +236,14 @@ module _ (limit : Limits) where
     when_over (event ∷ events) old end left over ends run = let same = rw over at run.1.2 in absurd (cc (same.0))
 
     -- after a content part that is a message
-    module _ (m : Message) (events : List Event) (heard : L) (mid : Receiving × L) (at content next : List ℕ)
+    module _ (m : Message) (events : List Event) (policy : L) (mid : Receiving × L) (at content next : List ℕ)
         (still_open : has_end mid.0.taken ≡ false)
-        (begins : BeginsWithContent limit at content next) (means : body_means content ≡ Ok m) (same : mid.1 ≡ heard)
-        (run : Run hears mid events new) where
+        (begins : BeginsWithContent limit at content next) (means : body_means content ≡ Ok m) (same : mid.1 ≡ policy)
+        (run : Run passes mid events new) where
       after_message : (b : Bool) → is_exit m ≡ b → ArrivesAs content (message m) mid.0.end
           → (is_exit m ≡ false → is_over mid.0 ≡ false → mid.0.end ≡ None → (s : Stream × L)
           × Over events (going next mid.1) s)
-          → (s : Stream × L) × Over (message m ∷ events) (going at heard) s
+          → (s : Stream × L) × Over (message m ∷ events) (going at policy) s
       after_message true exits arrives again =
           let end : mid.0.end ≡ Some Exit = rw exits at arrives.1 in
           let later = when_over events mid Exit (Some next) (rw (still_open, end) refl) (rw (still_open, end)
@@ -272,7 +272,7 @@ module _ (limit : Limits) where
 
     goes_on : (events : List Event) (old : Receiving × L) (at : List ℕ) (contents : List (List ℕ)) → is_over old.0
         ≡ false → ToCome old.0 contents
-        → ReadsContents limit at read contents → Run hears old events new → (s : Stream × L)
+        → ReadsContents limit at read contents → Run passes old events new → (s : Stream × L)
         × Over events (going at old.1) s
     goes_on [] old at contents over to_come reads run =
         let none = neither (has_end old.0.taken) (is_some old.0.end) over in (
@@ -318,7 +318,7 @@ module _ (limit : Limits) where
             )
         bad same content collects still_open end ends arrives = absurd arrives
 
-        pick : OpenGives hears old closed run.0 → (s : Stream × L) × Over (closed ∷ events) (going at old.1) s
+        pick : OpenGives passes old closed run.0 → (s : Stream × L) × Over (closed ∷ events) (going at old.1) s
         pick (inl drains, same) =
             let next = comes events old run.0 contents [] drains.0 run.2 to_come in
             let none = nothing_after parcels run.0.0.taken next.0 (sym next.1 ∙ whole) drains.1 in
@@ -329,14 +329,14 @@ module _ (limit : Limits) where
             (done read left.0 run.0.1, ((done read left.0 run.0.1, (left.1, same), later.0), later.1, later.2))
         pick (inr gives, same) = bad same gives.0 gives.1.0 gives.1.1 run.0.0.end refl gives.2
     goes_on (woken ∷ events) old at contents over to_come reads run =
-        let gives : OpenGives hears old woken run.0 = rw over at run.1.2 in
+        let gives : OpenGives passes old woken run.0 = rw over at run.1.2 in
         elim gives [
           | inl came ↦
               let wakes = came.0 in
               let next = comes events old run.0 contents run.0.0.waiting wakes.0 run.2 to_come in
               let later = goes_on events run.0 at contents (rw (wakes.1, wakes.2) refl) (next.0, next.1, sym next.2)
               reads run.2 in
-              let may = woke (omega (arith, wakes.3, wakes_grow hears events run.0 new run.2)) in
+              let may = woke (omega (arith, wakes.3, wakes_grow passes events run.0 new run.2)) in
               (later.0, ((going at run.0.1, inl (may, refl, ap (going at) came.1), later.1.0), later.1.1, later.1.2))
           | inr passes ↦
               let content = passes.0 in
@@ -369,23 +369,23 @@ module _ (limit : Limits) where
         (sym more.1) ∙ settled.1,
   )
 
-  module _ {L : Type 0} (hears : L → ReadFault → L → Type 0) (others : Type 0) (inbox inbox' : Receiving × L)
+  module _ {L : Type 0} (passes : L → ReadFault → L → Type 0) (others : Type 0) (inbox inbox' : Receiving × L)
       (none : inbox.0.taken ≡ []) (all_given : inbox.0.waiting ≡ []) (unended : inbox.0.end ≡ None)
-      (events : List Event) (run : Run hears inbox events inbox') (woke : 1 ≤ inbox'.0.wakes → others)
+      (events : List Event) (run : Run passes inbox events inbox') (woke : 1 ≤ inbox'.0.wakes → others)
       (taken : List (Parcel Contents)) (tx back : Sending Contents)
       (drained : MatchBool (has_end inbox'.0.taken) (taken ≡ inbox'.0.taken) ((more : List Contents)
       × (taken ≡ inbox'.0.taken ++ ended more)))
       (settled : IsPrefix taken back.sent) (read : ReadEnd) where
     -- what the inbox did over the relay, as an inbox over the text
     pub as_stream : (text : List ℕ) → HandsWhole limit text tx read back
-        → (s : Stream × L) × (FoldsTo (GivesOr others hears limit) (
+        → (s : Stream × L) × (FoldsTo (GivesOr others passes limit) (
           record { remaining = Some text; end = None },
           inbox.1,
         ) events s
         × (s.0.end ≡ session_end inbox'.0.end (has_end inbox'.0.taken) read) × (s.1 ≡ inbox'.1))
     as_stream text handed =
         let begun = taken_first (has_end inbox'.0.taken) inbox'.0.taken taken back.sent drained settled in
-        goes_on hears others read inbox' woke begun.0 handed.0.0 (begun.1 ∙ handed.0.1) events inbox text
+        goes_on passes others read inbox' woke begun.0 handed.0.0 (begun.1 ∙ handed.0.1) events inbox text
         (contents_of back.sent) (rw (none, unended) refl)
         (back.sent, begun.1 ∙ ap (λ l. l ++ back.sent) (sym none), ap (λ l. l ++ contents_of back.sent) all_given)
         handed.1 run

@@ -93,15 +93,15 @@ module _ {L : Type 0} (old mid new : Receiving × L) (passed : PassesWakes old m
       at true over same = let step = rw (same, over) at comes.0.2 in absurd (cc (step.0))
       at false going (collects, still_open, told) = more collects told (rw still_open at comes.0.2)
 
-  module _ (hears : L → ReadFault → L → Type 0) where
+  module _ (passes : L → ReadFault → L → Type 0) where
     -- what comes after them
-    pub message_after : (m : Message) → ComesNext mid (Ok (message m)) new → ContentsGive hears old (message m) new
+    pub message_after : (m : Message) → ComesNext mid (Ok (message m)) new → ContentsGive passes old (message m) new
     message_after m comes =
         let gives = comes.0 in
         (gives.0 ∙ passed.0, omega (arith, passed.1, gives.1), at (is_over old.0) refl passed.2)
       where
         at : (b : Bool) → is_over old.0 ≡ b → Passed b → MatchBool b ((message m ≡ closed) × (new ≡ old))
-            (OpenGives hears old (message m) new)
+            (OpenGives passes old (message m) new)
         at true over same = let step = rw (same, over) at comes.0.2 in absurd (cc (step.0))
         at false going (collects, still_open, told) =
             let step : OpenGives HearsNothing mid (message m) new = rw still_open at comes.0.2 in
@@ -110,13 +110,13 @@ module _ {L : Type 0} (old mid new : Receiving × L) (passed : PassesWakes old m
             ∷ new.0.waiting) collects step.0.1.0 in
             ((content, (all, step.0.1.1), step.0.2), step.1 ∙ told)
 
-    pub closed_after : ComesNext mid (Ok closed) new → ContentsGive hears old closed new
+    pub closed_after : ComesNext mid (Ok closed) new → ContentsGive passes old closed new
     closed_after comes =
         let gives = comes.0 in
         (gives.0 ∙ passed.0, omega (arith, passed.1, gives.1), at (is_over old.0) refl passed.2)
       where
         more : Collects old.0.taken old.0.waiting mid.0.taken mid.0.waiting → mid.1 ≡ old.1 → OpenGives HearsNothing mid
-            closed new → OpenGives hears old closed new
+            closed new → OpenGives passes old closed new
         more collects told (inl drains, same) = (
           inl (
             collects_then old.0.taken mid.0.taken new.0.taken old.0.waiting mid.0.waiting [] collects drains.0,
@@ -131,19 +131,19 @@ module _ {L : Type 0} (old mid new : Receiving × L) (passed : PassesWakes old m
             ∷ new.0.waiting) collects step.1.0 in
             (inr (content, (all, step.1.1), step.2), same ∙ told)
 
-        at : (b : Bool) → is_over old.0 ≡ b → Passed b → MatchBool b ((closed ≡ closed) × (new ≡ old)) (OpenGives hears
+        at : (b : Bool) → is_over old.0 ≡ b → Passed b → MatchBool b ((closed ≡ closed) × (new ≡ old)) (OpenGives passes
             old closed new)
         at true over same = let step = rw (same, over) at comes.0.2 in step
         at false going (collects, still_open, told) = more collects told (rw still_open at comes.0.2)
 
     -- what is no message ends the messages, or an allocation that failed
-    pub fault_after : (fault : ReadFault) → ComesNext mid (Err fault) new → ContentsGive hears old closed
+    pub fault_after : (fault : ReadFault) → ComesNext mid (Err fault) new → ContentsGive passes old closed
         (record new.0 { end = Some (Fault fault) }, new.1)
     fault_after fault comes = (comes.4 ∙ passed.0, omega (arith, passed.1, comes.3), at (is_over old.0) refl passed.2)
       where
         at : (b : Bool) → is_over old.0 ≡ b → Passed b
             → MatchBool b ((closed ≡ closed) × ((record new.0 { end = Some (Fault fault) }, new.1) ≡ old))
-            (OpenGives hears old closed (record new.0 { end = Some (Fault fault) }, new.1))
+            (OpenGives passes old closed (record new.0 { end = Some (Fault fault) }, new.1))
         at true over same = absurd (true≢false (sym over ∙ ap (λ (t : Receiving × L). is_over t.0) (sym same)
             ∙ comes.0))
         at false going (collects, still_open, told) =

@@ -45,7 +45,7 @@ pub refuses_a_wait_with_a_held_reply : {R L : Type 0} (ends : ThreadEnds R L) (b
     → ends.parts.now.waiting ≡ [] → ends.outbox.now.held ≡ byte ∷ bytes → IsReadyToWait ends → ⊥
 refuses_a_wait_with_a_held_reply ends byte bytes none held ready = absurd (cc (held, ready none))
 
-pub refuses_a_reply_held_over_a_wait : {R L : Type 0} (hears : L → ReadFault → L → Type 0) (old new : ThreadEnds R L)
+pub refuses_a_reply_held_over_a_wait : {R L : Type 0} (passes : L → ReadFault → L → Type 0) (old new : ThreadEnds R L)
     (event : Event) (byte : ℕ) (bytes : List ℕ) → old.parts.now.waiting ≡ [] → new.outbox.now.held ≡ byte ∷ bytes
-    → EndsGive hears old event new → ⊥
-refuses_a_reply_held_over_a_wait hears old new event byte bytes none held gives = absurd (cc (held, gives.2 none))
+    → EndsGive passes old event new → ⊥
+refuses_a_reply_held_over_a_wait passes old new event byte bytes none held gives = absurd (cc (held, gives.2 none))

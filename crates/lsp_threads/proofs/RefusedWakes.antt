@@ -1,5 +1,5 @@
--- Wakes that nobody gave: a session in threads that nobody can wake and whose listener passes over nothing tells of
--- none, and what came to it is what it read. And what a listener may not hear.
+-- Wakes that nobody gave: a session in threads that nobody can wake and whose policy passes over nothing tells of
+-- none, and what came to it is what it read. And what a policy may not hear.
 use Rattle.std.proofs.Common.{◌≡◌, refl, Bool, true, false, ap, sym, ◌∙◌, subst, inl, inr, ℕ, List, [], ◌∷◌, ◌++◌}
 use Rattle.std.proofs.Common.{Option, Some, None, Result, Ok, Err}
 use Rattle.std.specs.List.{FoldsTo}
@@ -8,7 +8,7 @@ use Rattle.lsp_message.specs.Message.{Message}
 use Rattle.lsp_message.specs.Reading.{Reading}
 use Rattle.lsp_message.specs.declared.frame.ReadFault.{ReadFault}
 use Rattle.lsp_message.specs.declared.frame.limits.Limits.{Limits}
-use Rattle.lsp_session.specs.Passing.{is_of_body}
+use Rattle.lsp_session.specs.Passing.{is_of_content}
 use Rattle.lsp_session.specs.PassingBytes.{HearsLast, PassesNothingOver}
 use Rattle.lsp_session.specs.Session.{Exchange, came_of, no_more, SessionPart}
 use Rattle.lsp_session.specs.SessionBytes.{ReadsMessage}
@@ -55,23 +55,23 @@ module _ (limit : Limits) where
   pub wake_reads : (text rest : List ℕ) → ReadsOrWakes true limit text None rest → rest ≡ text
   wake_reads text rest woken = woken.1
 
-  -- of a session that asks a listener
-  module _ {L : Type 0} (hears : L → ReadFault → L → Type 0) where
+  -- of a session that asks a policy
+  module _ {L : Type 0} (passes : L → ReadFault → L → Type 0) where
     abbrev outcome_at : (text : List ℕ) → Result (Option Message) ReadFault
     outcome_at text = (reading_within limit text).outcome
 
-    -- its listener passes over nothing, as `EndSession`, nobody can wake it, and it answers a wake
-    pub passes_with_no_leave : PassesNothingOver hears → (P : SessionPart) (text : List ℕ) (first last : L)
+    -- its policy passes over nothing, as `EndSession`, nobody can wake it, and it answers a wake
+    pub passes_with_no_leave : PassesNothingOver passes → (P : SessionPart) (text : List ℕ) (first last : L)
         (before after : Option (List ℕ)) (result : Result SessionEnd SessionFault)
-        → ThreadsTell hears limit (Both P TellsAWake) text first last before after result → ⊥
+        → ThreadsTell passes limit (Both P TellsAWake) text first last before after result → ⊥
     passes_with_no_leave never P text first last before after result tells =
-        refuses_a_wake P text before after result (none_passed false hears limit first last never (Both P TellsAWake)
+        refuses_a_wake P text before after result (none_passed false passes limit first last never (Both P TellsAWake)
         text before after result tells)
 
     -- nobody can wake it, a message comes next, and it answers a wake
     pub wakes_at_a_message : (text rest : List ℕ) (m : Message) (first : L) (new : List ℕ × L)
         → Begins limit text m rest
-        → ReadsFrameOrWakes false hears limit (text, first) None new → ⊥
+        → ReadsFrameOrWakes false passes limit (text, first) None new → ⊥
     wakes_at_a_message text rest m first new begins (inl others) = let e : false ≡ true = others.0 in cc (e)
     wakes_at_a_message text rest m first new begins (inr passes) =
         let e : Ok (Some m) ≡ Err passes.0 = sym (ap (λ (r : Reading Message). r.outcome) begins)
@@ -80,25 +80,25 @@ module _ (limit : Limits) where
 
     -- nobody can wake it, the text has ended, and it answers a wake
     pub wakes_at_the_end : (text : List ℕ) (first : L) (new : List ℕ × L) → outcome_at text ≡ Ok None
-        → ReadsFrameOrWakes false hears limit (text, first) None new → ⊥
+        → ReadsFrameOrWakes false passes limit (text, first) None new → ⊥
     wakes_at_the_end text first new ended (inl others) = let e : false ≡ true = others.0 in cc (e)
     wakes_at_the_end text first new ended (inr passes) =
         let e : Ok None ≡ Err passes.0 = sym ended ∙ ap (λ (r : Reading Message). r.outcome) passes.2 in
         cc (e)
 
-    -- others wake it, and bytes are read; or no part is passed over, and its listener hears something
-    pub wake_takes_nothing : (text : List ℕ) (first : L) (new : List ℕ × L) → ((fault : ReadFault) → is_of_body fault
+    -- others wake it, and bytes are read; or no part is passed over, and its policy passes something
+    pub wake_takes_nothing : (text : List ℕ) (first : L) (new : List ℕ × L) → ((fault : ReadFault) → is_of_content fault
         ≡ true → outcome_at text ≡ Err fault → ⊥)
-        → ReadsFrameOrWakes true hears limit (text, first) None new → new ≡ (text, first)
+        → ReadsFrameOrWakes true passes limit (text, first) None new → new ≡ (text, first)
     wake_takes_nothing text first new no_bad_part (inl others) = others.1
     wake_takes_nothing text first new no_bad_part (inr passes) = absurd (no_bad_part passes.0 passes.1
         (ap (λ (r : Reading Message). r.outcome) passes.2))
 
-    -- the listener hears something of a message
+    -- the policy passes something of a message
     pub hears_a_message : (wakeable : Bool) (text rest : List ℕ) (m : Message) (old new : L) → (new ≡ old → ⊥)
-        → ReadsFrameOrWakes wakeable hears limit (text, old) (Some m) (rest, new) → ⊥
+        → ReadsFrameOrWakes wakeable passes limit (text, old) (Some m) (rest, new) → ⊥
     hears_a_message wakeable text rest m old new other read = other read.1
 
-    -- the listener hears more after the text has ended
-    pub hears_on : (at : List ℕ × L) (last : L) → (last ≡ at.1 → ⊥) → HearsLast hears limit no_more at last → ⊥
-    hears_on at last other heard = other heard
+    -- the policy passes more after the text has ended
+    pub hears_on : (at : List ℕ × L) (last : L) → (last ≡ at.1 → ⊥) → HearsLast passes limit no_more at last → ⊥
+    hears_on at last other policy = other policy

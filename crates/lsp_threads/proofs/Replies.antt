@@ -20,14 +20,14 @@ use Rattle.lsp_session.specs.PassingBytes.{HearsLast}
 use Rattle.lsp_session.specs.Session.{came_of, messages_of, sends_of, Exchange, SessionAnswer, SessionPart, Stop}
 use Rattle.lsp_session.specs.Session.{refused}
 use Rattle.lsp_session.specs.SessionBytes.{LeftWithin, Wrote}
-use Rattle.lsp_session.specs.Served.{reason_of, StopsFor}
+use Rattle.lsp_session.specs.SessionOutcome.{reason_of, StopsFor}
 use Rattle.lsp_session.specs.SessionFault.{session_answer}
 use Rattle.lsp_session.specs.SessionRun.{all_of, Gets, OffersLast, RefusesLast, Runs}
 use Rattle.lsp_session.specs.Streams.{Stream}
 use Rattle.lsp_session.specs.declared.lifecycle.SendFault.{SendFault}
 use Rattle.lsp_session.specs.declared.lifecycle.SendFault.TheVariants.{Closed as Shut, Memory as IsFull}
 use Rattle.lsp_session.specs.declared.loops.handler.SessionEnd.{SessionEnd}
-use Rattle.lsp_session.specs.declared.loops.served.StopReason.{StopReason}
+use Rattle.lsp_session.specs.declared.loops.session_outcome.StopReason.{StopReason}
 use Rattle.lsp_session.specs.declared.loops.stream_session.SessionFault.{SessionFault}
 use Rattle.lsp_session.specs.declared.loops.stream_session.SessionFault.TheVariants.{Write, Memory}
 use Rattle.lsp_threads.proofs.Frames.{breaks, same_parcels}
@@ -201,7 +201,7 @@ not_refused : (stop : Stop) → IsWhole stop → NotRefused stop
 not_refused (refused fault) whole = absurd whole
 not_refused stop whole = tt
 
-module _ {I O L : Type 0} (receives : Receives I) (sends : Sends O) (wakeable : Bool) (hears : L → ReadFault → L
+module _ {I O L : Type 0} (receives : Receives I) (sends : Sends O) (wakeable : Bool) (passes : L → ReadFault → L
     → Type 0) (limit : Limits) (P Q : SessionPart) (reason : StopReason)
     (knows : (xs : List Exchange) (stop : Stop) (shutdown_reply : Option Message) (answer : SessionAnswer)
     → P xs stop shutdown_reply answer
@@ -217,25 +217,25 @@ module _ {I O L : Type 0} (receives : Receives I) (sends : Sends O) (wakeable : 
   Others = wakeable ≡ true
 
   -- what was read of a text
-  reads_all : (came : List (Option Message)) (from to : List ℕ × L) → ReadsFrames Others hears limit from came to
-      → FoldsTo (ReadsFrameOrWakes wakeable hears limit) from came to
+  reads_all : (came : List (Option Message)) (from to : List ℕ × L) → ReadsFrames Others passes limit from came to
+      → FoldsTo (ReadsFrameOrWakes wakeable passes limit) from came to
   reads_all [] from to run = run
   reads_all (Some m ∷ came) from to run = (run.0, run.1, reads_all came run.0 to run.2)
   reads_all (None ∷ came) from to run = (run.0, run.1, reads_all came run.0 to run.2)
 
   -- what came in, as an inbox over the text brings it
   module _ (text : List ℕ) (first : L) (s : Stream × L)
-      (run : FoldsTo (GivesOr Others hears limit) (record { remaining = Some text; end = None }, first) runs.events
+      (run : FoldsTo (GivesOr Others passes limit) (record { remaining = Some text; end = None }, first) runs.events
       s) where
     abbrev start : Stream × L
     start = (record { remaining = Some text; end = None }, first)
 
-    over : (result : Result SessionEnd SessionFault) (at : List ℕ × L) → ReadsFrames Others hears limit (text, first)
+    over : (result : Result SessionEnd SessionFault) (at : List ℕ × L) → ReadsFrames Others passes limit (text, first)
         (came_of runs.exchanges) at
-        → HearsLast hears limit runs.stop at s.1 → EndsInThreads limit result answer runs.stop runs.shutdown_reply at.0
+        → HearsLast passes limit runs.stop at s.1 → EndsInThreads limit result answer runs.stop runs.shutdown_reply at.0
         → WroteInThreads a b result runs.stop runs.shutdown_reply (sends_of runs.exchanges) → ThreadsTellOver wakeable
-        hears limit Q text first s.1 a b result
-    over result at read heard ends wrote = record {
+        passes limit Q text first s.1 a b result
+    over result at read policy ends wrote = record {
       exchanges = runs.exchanges;
       at = at;
       read = reads_all (came_of runs.exchanges) (text, first) at read;
@@ -243,20 +243,20 @@ module _ {I O L : Type 0} (receives : Receives I) (sends : Sends O) (wakeable : 
       shutdown_reply = runs.shutdown_reply;
       answer = answer;
       part = known_of.0;
-      ends = (ends, heard);
+      ends = (ends, policy);
       wrote = wrote;
     }
 
-    read : (at : List ℕ × L) × ReadsFrames Others hears limit (text, first) (came_of runs.exchanges) at
-        × HearsLast hears limit runs.stop at s.1
+    read : (at : List ℕ × L) × ReadsFrames Others passes limit (text, first) (came_of runs.exchanges) at
+        × HearsLast passes limit runs.stop at s.1
         × LeftWithin limit runs.stop at.0 s.0.remaining
-    read = left_after Others hears limit text start s refl refl runs.events run (came_of runs.exchanges) runs.stop
+    read = left_after Others passes limit text start s refl refl runs.events run (came_of runs.exchanges) runs.stop
         runs.brought known_of.2
 
     pub session_gives : (fault : Option WriteFault) → WritesReplies runs.stop (sends_of runs.exchanges) fault a b
-        → ThreadsTellOver wakeable hears limit Q text first s.1 a b (session_answer reason answer s.0.end fault)
+        → ThreadsTellOver wakeable passes limit Q text first s.1 a b (session_answer reason answer s.0.end fault)
     session_gives None (whole, written) =
-        let all = frames_end Others hears limit text start s refl refl runs.events run (came_of runs.exchanges)
+        let all = frames_end Others passes limit text start s refl refl runs.events run (came_of runs.exchanges)
         runs.shutdown_reply answer (sends_of runs.exchanges) a b written
         runs.stop runs.brought (not_refused runs.stop whole) known_of.2 in
         let result = session_answer (reason_of runs.stop) answer s.0.end None in

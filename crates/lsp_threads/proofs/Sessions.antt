@@ -14,13 +14,13 @@ use Rattle.lsp_session.proofs.Lending.{over_as}
 use Rattle.lsp_session.proofs.Ran.{Facts}
 use Rattle.lsp_session.specs.PassingBytes.{PassesNothingOver}
 use Rattle.lsp_session.specs.Session.{came_of, Exchange, messages_of, SessionAnswer, SessionPart, sends_of, Stop}
-use Rattle.lsp_session.specs.Served.{StopsFor}
+use Rattle.lsp_session.specs.SessionOutcome.{StopsFor}
 use Rattle.lsp_session.specs.SessionFault.{session_answer}
 use Rattle.lsp_session.specs.SessionRun.{Runs}
 use Rattle.lsp_session.specs.declared.loops.ReadEnd.{ReadEnd}
 use Rattle.lsp_session.specs.declared.loops.handler.SessionEnd.{SessionEnd}
 use Rattle.lsp_session.specs.declared.loops.handler_service.HandlerService.{HandlerService}
-use Rattle.lsp_session.specs.declared.loops.served.StopReason.{StopReason}
+use Rattle.lsp_session.specs.declared.loops.session_outcome.StopReason.{StopReason}
 use Rattle.lsp_session.specs.declared.loops.stream_session.SessionFault.{SessionFault}
 use Rattle.lsp_threads.proofs.ContentStream.{as_stream}
 use Rattle.lsp_threads.proofs.Replies.{all_replied, replies_written, session_gives}
@@ -33,12 +33,12 @@ use Rattle.lsp_threads.specs.Replies.{Replying, RepliesSend, reply_fault, Writes
 use Rattle.lsp_threads.specs.Threads.{ReadsFrameOrWakes, ReadsOrWakes, session_end, ThreadsGiveOver, ThreadsTellOver}
 
 -- over what is seen of the inbox and of the outbox
-module _ {L : Type 0} (hears : L → ReadFault → L → Type 0) (limit : Limits) (P Q : SessionPart) (reason : StopReason)
+module _ {L : Type 0} (passes : L → ReadFault → L → Type 0) (limit : Limits) (P Q : SessionPart) (reason : StopReason)
     (knows : (xs : List Exchange) (stop : Stop) (shutdown_reply : Option Sent) (answer : SessionAnswer)
     → P xs stop shutdown_reply answer
     → Q xs stop shutdown_reply answer × StopsFor reason xs stop shutdown_reply answer × Facts stop (messages_of xs))
     (a b : Option (List ℕ)) (inbox inbox' : Receiving × L) (outbox outbox' : Replying) (answer : SessionAnswer)
-    (runs : Runs (ContentsGive hears) RepliesSend P (inbox, outbox) answer (inbox', outbox')) where
+    (runs : Runs (ContentsGive passes) RepliesSend P (inbox, outbox) answer (inbox', outbox')) where
   -- what the threads of a session come to in bytes
   module _ (none : inbox.0.taken ≡ []) (all_given : inbox.0.waiting ≡ [])
       (unended : inbox.0.end ≡ None) (unsent : outbox.bytes ≡ [])
@@ -64,20 +64,20 @@ module _ {L : Type 0} (hears : L → ReadFault → L → Type 0) (limit : Limits
     woke false silent' some = absurd (omega (arith, silent' refl, some))
 
     pub threads_tell : (known : Option (List ℕ)) → IfSome known (λ text. HandsWhole limit text tx read back)
-        → IfSome known (λ text. ThreadsTellOver tx.wakeable hears limit Q text inbox.1 inbox'.1 a b
+        → IfSome known (λ text. ThreadsTellOver tx.wakeable passes limit Q text inbox.1 inbox'.1 a b
         (session_answer reason answer (session_end inbox'.0.end (has_end inbox'.0.taken) read)
         (reply_fault fault outbox'.failed)))
     threads_tell None handed = tt
     threads_tell (Some text) handed =
-        let s = as_stream limit hears (tx.wakeable ≡ true) inbox inbox' none all_given unended
+        let s = as_stream limit passes (tx.wakeable ≡ true) inbox inbox' none all_given unended
         runs.events runs.received
         (woke tx.wakeable (λ e. silent (handed.2 ∙ e))) taken tx back drained settled read text handed in
-        subst (λ heard. ThreadsTellOver tx.wakeable hears limit Q text inbox.1 heard a b
+        subst (λ policy. ThreadsTellOver tx.wakeable passes limit Q text inbox.1 policy a b
         (session_answer reason answer (session_end inbox'.0.end (has_end inbox'.0.taken) read)
         (reply_fault fault outbox'.failed))) s.1.2
-        (subst (λ end. ThreadsTellOver tx.wakeable hears limit Q text inbox.1 s.0.1 a b (session_answer reason
+        (subst (λ end. ThreadsTellOver tx.wakeable passes limit Q text inbox.1 s.0.1 a b (session_answer reason
         answer end (reply_fault fault outbox'.failed))) s.1.1
-        (session_gives (ContentsGive hears) RepliesSend tx.wakeable hears limit P Q reason knows a b (inbox, outbox)
+        (session_gives (ContentsGive passes) RepliesSend tx.wakeable passes limit P Q reason knows a b (inbox, outbox)
         (inbox', outbox') answer runs
         text inbox.1 s.0 s.1.0 (reply_fault fault outbox'.failed) output_written))
 
@@ -96,16 +96,16 @@ module _ (P Q : SessionPart)
   started_as contents answer_of (Some text) old (Ok done) gives = over_as P Q to _ text _ _ gives
   started_as contents answer_of (Some text) old (Err fault) gives = tt
 
--- The same of one that asks a listener.
-module _ (wakeable : Bool) {L : Type 0} (hears : L → ReadFault → L → Type 0) (limit : Limits) (first last : L) where
+-- The same of one that asks a policy.
+module _ (wakeable : Bool) {L : Type 0} (passes : L → ReadFault → L → Type 0) (limit : Limits) (first last : L) where
   pub started_told_as : (P Q : SessionPart)
       (to : (xs : List Exchange) (stop : Stop) (shutdown_reply : Option Sent) (answer : SessionAnswer)
       → P xs stop shutdown_reply answer → Q xs stop shutdown_reply answer)
       {T F : Type 0} (contents : T → Option (List ℕ)) (answer_of : T → Result SessionEnd SessionFault)
       (known old : Option (List ℕ)) (result : Result T F)
-      → IfSome known (λ text. IfOk result (λ done. ThreadsTellOver wakeable hears limit P text first last old
+      → IfSome known (λ text. IfOk result (λ done. ThreadsTellOver wakeable passes limit P text first last old
       (contents done) (answer_of done)))
-      → IfSome known (λ text. IfOk result (λ done. ThreadsTellOver wakeable hears limit Q text first last old
+      → IfSome known (λ text. IfOk result (λ done. ThreadsTellOver wakeable passes limit Q text first last old
       (contents done) (answer_of done)))
   started_told_as P Q to contents answer_of None old result tells = tt
   started_told_as P Q to contents answer_of (Some text) old (Ok done) tells = over_as P Q to _ (text, first) _ _ tells
@@ -117,9 +117,9 @@ module _ (wakeable : Bool) {L : Type 0} (hears : L → ReadFault → L → Type 
       → P xs stop shutdown_reply answer → Q xs stop shutdown_reply answer)
       {T F : Type 0} (taken : T → Parts) (given : T → Option (List ℕ)) (answer_of : T → Result SessionEnd SessionFault)
       (result : Result T F)
-      → IfOk result (λ done. OfTaken (taken done) (λ text. ThreadsTellOver wakeable hears limit P text first last
+      → IfOk result (λ done. OfTaken (taken done) (λ text. ThreadsTellOver wakeable passes limit P text first last
       (Some []) (given done) (answer_of done)))
-      → IfOk result (λ done. OfTaken (taken done) (λ text. ThreadsTellOver wakeable hears limit Q text first last
+      → IfOk result (λ done. OfTaken (taken done) (λ text. ThreadsTellOver wakeable passes limit Q text first last
       (Some []) (given done) (answer_of done)))
   taken_told_as P Q to taken given answer_of (Ok done) tells = λ rest ends. over_as P Q to _ (
     concat (taken done)
@@ -128,9 +128,9 @@ module _ (wakeable : Bool) {L : Type 0} (hears : L → ReadFault → L → Type 
   ) _ _ (tells rest ends)
   taken_told_as P Q to taken given answer_of (Err fault) tells = tt
 
-  -- A listener that passes over nothing: each frame is a message, and each wake is given by others.
-  module _ (never : PassesNothingOver hears) where
-    reads_or_wakes : (came : List (Option Sent)) (from to : List ℕ × L) → FoldsTo (ReadsFrameOrWakes wakeable hears
+  -- A policy that passes over nothing: each frame is a message, and each wake is given by others.
+  module _ (never : PassesNothingOver passes) where
+    reads_or_wakes : (came : List (Option Sent)) (from to : List ℕ × L) → FoldsTo (ReadsFrameOrWakes wakeable passes
         limit) from came to
         → FoldsTo (ReadsOrWakes wakeable limit) from.0 came to.0
     reads_or_wakes [] from to run = ap (λ (at : List ℕ × L). at.0) run
@@ -142,7 +142,7 @@ module _ (wakeable : Bool) {L : Type 0} (hears : L → ReadFault → L → Type 
 
     pub none_passed : (P : SessionPart) (text : List ℕ) (old new : Option (List ℕ)) (result : Result SessionEnd
         SessionFault)
-        → ThreadsTellOver wakeable hears limit P text first last old new result → ThreadsGiveOver wakeable limit P text
+        → ThreadsTellOver wakeable passes limit P text first last old new result → ThreadsGiveOver wakeable limit P text
         old new result
     none_passed P text old new result tells = record {
       exchanges = tells.exchanges;
@@ -159,7 +159,7 @@ module _ (wakeable : Bool) {L : Type 0} (hears : L → ReadFault → L → Type 
     -- if the bytes are known, and both threads were started
     pub started_untold : (P : SessionPart) {T F : Type 0} (contents : T → Option (List ℕ)) (answer_of : T
         → Result SessionEnd SessionFault) (known old : Option (List ℕ)) (result : Result T F)
-        → IfSome known (λ text. IfOk result (λ done. ThreadsTellOver wakeable hears limit P text first last old
+        → IfSome known (λ text. IfOk result (λ done. ThreadsTellOver wakeable passes limit P text first last old
         (contents done) (answer_of done)))
         → IfSome known (λ text. IfOk result (λ done. ThreadsGiveOver wakeable limit P text old (contents done)
         (answer_of done)))
@@ -174,7 +174,7 @@ module _ (wakeable : Bool) {L : Type 0} (hears : L → ReadFault → L → Type 
         → P xs stop shutdown_reply answer → Q xs stop shutdown_reply answer)
         {T F : Type 0} (taken : T → Parts) (given : T → Option (List ℕ)) (answer_of : T → Result SessionEnd
         SessionFault) (result : Result T F)
-        → IfOk result (λ done. OfTaken (taken done) (λ text. ThreadsTellOver wakeable hears limit P text first last
+        → IfOk result (λ done. OfTaken (taken done) (λ text. ThreadsTellOver wakeable passes limit P text first last
         (Some []) (given done) (answer_of done)))
         → IfOk result (λ done. OfTaken (taken done) (λ text. ThreadsGiveOver wakeable limit Q text (Some [])
         (given done) (answer_of done)))

@@ -172,11 +172,11 @@ module _ (all : List ℕ) (old new : Option (List ℕ)) (given : Appends old new
   wrote_known (Err Full) stop shutdown_reply sends first = (first.0, first.1, first.2, gets_known first.0 first.3)
   wrote_known result stop shutdown_reply sends gets = gets_known sends gets
 
-  pub session_known : (wakeable : Bool) {L : Type 0} (hears : L → ReadFault → L → Type 0) (limit : Limits)
+  pub session_known : (wakeable : Bool) {L : Type 0} (passes : L → ReadFault → L → Type 0) (limit : Limits)
       (P : SessionPart) (first last : L) (result : Result SessionEnd SessionFault) (text : List ℕ)
-      → ThreadsTellOver wakeable hears limit P text first last (Some []) (Some all) result → ThreadsTellOver wakeable
-      hears limit P text first last old new result
-  session_known wakeable hears limit P first last result text tells = record {
+      → ThreadsTellOver wakeable passes limit P text first last (Some []) (Some all) result → ThreadsTellOver wakeable
+      passes limit P text first last old new result
+  session_known wakeable passes limit P first last result text tells = record {
     exchanges = tells.exchanges;
     at = tells.at;
     read = tells.read;
@@ -233,13 +233,13 @@ pumped_known limit known taken given old new answer told from to =
     to.appended limit (concat taken ++ rest) answer (told rest ends)) from
 
 -- What a session says of all bytes, at those that are known.
-pub told_known : (wakeable : Bool) {L : Type 0} (hears : L → ReadFault → L → Type 0) (limit : Limits) (P : SessionPart)
+pub told_known : (wakeable : Bool) {L : Type 0} (passes : L → ReadFault → L → Type 0) (limit : Limits) (P : SessionPart)
     (first last : L) (answer : Result SessionEnd SessionFault)
     (known : Option (List ℕ)) (taken : Parts) (given : Passed) (old new : Option (List ℕ))
-    → OfTaken taken (λ text. ThreadsTellOver wakeable hears limit P text first last (Some []) (noted given) answer)
+    → OfTaken taken (λ text. ThreadsTellOver wakeable passes limit P text first last (Some []) (noted given) answer)
     → TakenFrom known taken → GivenTo old given.parts new
-    → IfSome known (λ text. ThreadsTellOver wakeable hears limit P text first last old new answer)
-told_known wakeable hears limit P first last answer known taken given old new told from to =
-    of_known known taken (λ text. ThreadsTellOver wakeable hears limit P text first last old new answer)
-    (λ rest ends. session_known (concat given.parts) old new to.appended wakeable hears limit P first last answer
+    → IfSome known (λ text. ThreadsTellOver wakeable passes limit P text first last old new answer)
+told_known wakeable passes limit P first last answer known taken given old new told from to =
+    of_known known taken (λ text. ThreadsTellOver wakeable passes limit P text first last old new answer)
+    (λ rest ends. session_known (concat given.parts) old new to.appended wakeable passes limit P first last answer
     (concat taken ++ rest) (told rest ends)) from

@@ -23,18 +23,18 @@ module _ {R L : Type 0} where
 
   module _ (old mid new : ThreadEnds R L) (event : Event) (untaken : seen_of mid ≡ seen_of old)
       (unsent : mid.outbox.now.replies ≡ old.outbox.now.replies) (ready : IsReadyToWait mid) (lent : KeepsLent old mid)
-      (hears : L → ReadFault → L → Type 0) (gives : GivesNext hears mid event new) where
+      (passes : L → ReadFault → L → Type 0) (gives : GivesNext passes mid event new) where
     -- a receive, once all was handed over that had to be
-    pub ends_give : EndsGive hears old event new
+    pub ends_give : EndsGive passes old event new
     ends_give = (
-      subst (λ (s : Receiving × L). ContentsGive hears s event (seen_of new)) untaken gives.0,
+      subst (λ (s : Receiving × L). ContentsGive passes s event (seen_of new)) untaken gives.0,
       ap (λ (b : Gathered). b.replies) gives.1.0 ∙ unsent,
       λ none. ap (λ (b : Gathered). b.held) gives.1.0 ∙ ready (ap (λ (s : Receiving × L). s.0.waiting) untaken ∙ none),
       lent_on old mid new lent gives.1.1,
     )
 
-    pub ends_wait : WaitsFor (EndsGive hears) old event new
-    ends_wait = waits_none (EndsGive hears) old new event ends_give
+    pub ends_wait : WaitsFor (EndsGive passes) old event new
+    ends_wait = waits_none (EndsGive passes) old new event ends_give
 
     pub ends_listen : (ends : L → ReadFault → Type 0) → EndsListen ends mid event new → EndsListen ends old event new
     ends_listen ends listens = subst (λ (s : Receiving × L). ContentsListen ends s event (seen_of new)) untaken listens
@@ -42,15 +42,15 @@ module _ {R L : Type 0} where
   pub ruleset ready_waits = (ends_give, ends_wait, ends_listen)
 
   -- a session over both ends
-  pub ends_run : (hears : L → ReadFault → L → Type 0) (listens : Receives (ThreadEnds R L)) (phase : Phase)
+  pub ends_run : (passes : L → ReadFault → L → Type 0) (listens : Receives (ThreadEnds R L)) (phase : Phase)
       (P : SessionPart) (old new : ThreadEnds R L) (answer : SessionAnswer)
-      → Talks (EndsGive hears) listens EndsSend phase P old answer new
-      → Runs (ContentsGive hears) RepliesSend P (seen_of old, old.outbox.now.replies) answer
+      → Talks (EndsGive passes) listens EndsSend phase P old answer new
+      → Runs (ContentsGive passes) RepliesSend P (seen_of old, old.outbox.now.replies) answer
       (seen_of new, new.outbox.now.replies) × KeepsLent old new
-  ends_run hears listens phase P old new answer talks =
-      let run = transport_runs (ContentsGive hears) RepliesSend (EndsGive hears) listens EndsSend
+  ends_run passes listens phase P old new answer talks =
+      let run = transport_runs (ContentsGive passes) RepliesSend (EndsGive passes) listens EndsSend
       (λ (b : ThreadEnds R L). (seen_of b, b.outbox.now.replies))
-      (λ (b : ThreadEnds R L). (b.parts.ghost_name, b.listener.ghost_name, b.outbox.ghost_name))
+      (λ (b : ThreadEnds R L). (b.parts.ghost_name, b.policy.ghost_name, b.outbox.ghost_name))
       (λ a event b gives. (gives.0, gives.1, rw (gives.3.0, gives.3.1, gives.3.2) refl))
       (λ a m outcome b takes. (takes.0, takes.1, rw (takes.2.0, takes.2.1, takes.2.2) refl)) phase P old answer new
       talks in

@@ -14,14 +14,14 @@ use Rattle.lsp_message.specs.declared.frame.ReadFault.{ReadFault}
 use Rattle.lsp_message.specs.declared.frame.ReadFault.TheVariants.{Input, Memory as NoMemory}
 use Rattle.lsp_message.specs.declared.frame.limits.Limits.{Limits}
 use Rattle.lsp_session.specs.Event.{Event, message, closed, woken}
-use Rattle.lsp_session.specs.Passing.{ended_at_body, is_of_body}
+use Rattle.lsp_session.specs.Passing.{ended_at_content, is_of_content}
 use Rattle.lsp_session.specs.PassingBoxes.{MayEnd}
 use Rattle.lsp_session.specs.declared.loops.ReadEnd.{ReadEnd}
 use Rattle.lsp_session.specs.declared.loops.ReadEnd.TheVariants.{Exit, End, Fault}
 use Rattle.lsp_relay.specs.Relay.{Relay, ended, has_end, IsOpen, Sending, Source}
 use Rattle.lsp_relay.specs.declared.ends.Parcel.{Parcel}
 use Rattle.lsp_relay.specs.declared.ends.Parcel.TheVariants as parcel
-use Rattle.lsp_threads.specs.declared.content_outbox.Contents as outbox
+use Rattle.lsp_threads.specs.declared.content_batch.Contents as outbox
 use Rattle.lsp_threads.specs.declared.content_parts.Next.{Next}
 use Rattle.lsp_threads.specs.declared.content_parts.Next.TheVariants as next
 use Rattle.lsp_threads.specs.Passing.{OfTaken, TakenFrom}
@@ -65,7 +65,7 @@ module _ (limit : Limits) where
   StopsAt text (Fault (Input kind)) = Unit {0}
   StopsAt text (Fault NoMemory) = Unit {0}
   StopsAt text (Fault fault) =
-      (is_of_body fault ≡ false) × (rest : List ℕ)
+      (is_of_content fault ≡ false) × (rest : List ℕ)
       × (reading_within limit text ≡ record { outcome = Err fault; rest = rest })
   StopsAt text end = ⊥
 
@@ -220,18 +220,18 @@ module _ (old new : Receiving) where
   TakesWake = Collects old.taken old.waiting new.taken new.waiting × (has_end new.taken ≡ false)
       × (new.end ≡ None) × (new.wakes ≡ old.wakes + 1)
 
--- of an inbox and its listener
-module _ {L : Type 0} (hears : L → ReadFault → L → Type 0) where
-  -- The next content part is no message. The listener heard of it, and the messages go on. No wake of the relay was
+-- of an inbox and its policy
+module _ {L : Type 0} (passes : L → ReadFault → L → Type 0) where
+  -- The next content part is no message. The policy policy of it, and the messages go on. No wake of the relay was
   -- taken.
   abbrev pub PassesPart : Receiving × L → Receiving × L → Type 0
   PassesPart old new =
       (content : List ℕ) × (fault : ReadFault) × TakesContent old.0 new.0 content
       × (new.0.end ≡ None) × (new.0.wakes ≡ old.0.wakes)
-      × (is_of_body fault ≡ true) × (body_means content ≡ Err fault) × hears old.1 fault new.1
+      × (is_of_content fault ≡ true) × (body_means content ≡ Err fault) × passes old.1 fault new.1
 
   -- Of an open inbox: it gives the message that the next content part is. It gives a wake for one of the relay, or for
-  -- a content part that was passed over, and the listener hears nothing but of such a part. After `exit`, after a
+  -- a content part that was passed over, and the policy passes nothing but of such a part. After `exit`, after a
   -- content part that is no message and was not passed over, and once End was taken it is over.
   abbrev pub OpenGives : Receiving × L → Event → Receiving × L → Type 0
   OpenGives old (message m) new = GivesContent old.0 new.0 (message m) × (new.1 ≡ old.1)
@@ -252,25 +252,25 @@ abbrev pub CountsWakes : Event → ℕ → ℕ → Type 0
 CountsWakes woken old new = new ≤ old + 1
 CountsWakes event old new = new ≡ old
 
--- A wait for wakes too passes over none, and the messages end at a content part that is no message only if the listener
+-- A wait for wakes too passes over none, and the messages end at a content part that is no message only if the policy
 -- may end them.
 abbrev pub ContentsListen : {L : Type 0} → (L → ReadFault → Type 0) → Receiving × L → Event
     → Receiving × L → Type 0
 ContentsListen ends old event new =
     CountsWakes event old.0.wakes new.0.wakes
-    × (ended_at_body new.0.end ≡ true → (new.0.end ≡ old.0.end) ⊎ MayEnd ends old.1 new.0.end)
+    × (ended_at_content new.0.end ≡ true → (new.0.end ≡ old.0.end) ⊎ MayEnd ends old.1 new.0.end)
 
--- For private clauses: a listener that is not asked hears nothing.
+-- For private clauses: a policy that is not asked passes nothing.
 abbrev pub HearsNothing : {L : Type 0} → L → ReadFault → L → Type 0
 HearsNothing old fault new = ⊥
 
--- For private clauses: what comes next, before the listener is asked. At a fault a content part came that is no
+-- For private clauses: what comes next, before the policy is asked. At a fault a content part came that is no
 -- message, or an allocation failed at it, and nothing has ended yet.
 abbrev pub ComesNext : {L : Type 0} → Receiving × L → Result Event ReadFault → Receiving × L
     → Type 0
 ComesNext old (Ok event) new =
     ContentsGive HearsNothing old event new × CountsWakes event old.0.wakes new.0.wakes
-    × (ended_at_body new.0.end ≡ true → new.0.end ≡ old.0.end)
+    × (ended_at_content new.0.end ≡ true → new.0.end ≡ old.0.end)
 ComesNext old (Err fault) new =
     (is_over old.0 ≡ false)
     × ((content : List ℕ) × TakesContent old.0 new.0 content

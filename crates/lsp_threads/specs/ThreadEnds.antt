@@ -10,7 +10,7 @@ use Rattle.lsp_threads.specs.Replies.{RepliesSend}
 use Rattle.lsp_threads.specs.declared.thread_ends.ThreadEnds.{ThreadEnds}
 
 module _ {R L : Type 0} where
-  -- what is seen of the inbox, and its listener
+  -- what is seen of the inbox, and its policy
   abbrev pub seen_of : ThreadEnds R L → Receiving × L
   seen_of inbox =
       let parts = inbox.parts.now in (
@@ -21,13 +21,13 @@ module _ {R L : Type 0} where
           end = inbox.end;
           wakes = parts.wakes;
         },
-        inbox.listener.now,
+        inbox.policy.now,
       )
 
-  -- the relay's end, the listener and the outbox that were lent are kept
+  -- the relay's end, the policy and the outbox that were lent are kept
   abbrev pub KeepsLent : ThreadEnds R L → ThreadEnds R L → Type 0
   KeepsLent old new = (new.parts.ghost_name ≡ old.parts.ghost_name)
-      × (new.listener.ghost_name ≡ old.listener.ghost_name)
+      × (new.policy.ghost_name ≡ old.policy.ghost_name)
       × (new.outbox.ghost_name ≡ old.outbox.ghost_name)
 
   -- nothing that was sent is held, unless a content part is at hand
@@ -36,7 +36,7 @@ module _ {R L : Type 0} where
 
   -- One receive. It sends nothing, and if no content part was at hand, nothing that was sent is held.
   abbrev pub EndsGive : (L → ReadFault → L → Type 0) → ThreadEnds R L → Event → ThreadEnds R L → Type 0
-  EndsGive hears old event new = ContentsGive hears (seen_of old) event (seen_of new)
+  EndsGive passes old event new = ContentsGive passes (seen_of old) event (seen_of new)
       × (new.outbox.now.replies ≡ old.outbox.now.replies)
       × (old.parts.now.waiting ≡ [] → new.outbox.now.held ≡ []) × KeepsLent old new
 
@@ -56,10 +56,10 @@ module _ {R L : Type 0} where
   LeavesOutbox old new = (new.outbox.now ≡ old.outbox.now) × KeepsLent old new
 
   abbrev pub GivesNext : (L → ReadFault → L → Type 0) → ThreadEnds R L → Event → ThreadEnds R L → Type 0
-  GivesNext hears old event new = ContentsGive hears (seen_of old) event (seen_of new)
+  GivesNext passes old event new = ContentsGive passes (seen_of old) event (seen_of new)
       × LeavesOutbox old new
 
-  -- before the listener is asked
+  -- before the policy is asked
   abbrev pub ReadsNext : ThreadEnds R L → Result Arrival ReadFault → ThreadEnds R L → Type 0
   ReadsNext old (Ok arrival) new = ComesNext (seen_of old) (Ok (arrival_view arrival)) (seen_of new)
       × LeavesOutbox old new

@@ -59,14 +59,14 @@ abbrev pub ThreadsGive : Limits → SessionPart → List ℕ → Option (List �
     → Result SessionEnd SessionFault → Type 0
 ThreadsGive = ThreadsGiveOver false
 
--- of a session that asks a listener at content parts which are no messages, and that others can wake or not
-module _ (wakeable : Bool) {L : Type 0} (hears : L → ReadFault → L → Type 0) (limit : Limits) where
-  -- The first frame of the text is this message, and the listener hears nothing. Or the session is woken: by others, if
-  -- they can, and nothing was read; or since the first frame is passed over, of which the listener hears.
+-- of a session that asks a policy at content parts which are no messages, and that others can wake or not
+module _ (wakeable : Bool) {L : Type 0} (passes : L → ReadFault → L → Type 0) (limit : Limits) where
+  -- The first frame of the text is this message, and the policy passes nothing. Or the session is woken: by others, if
+  -- they can, and nothing was read; or since the first frame is passed over, of which the policy passes.
   abbrev pub ReadsFrameOrWakes : List ℕ × L → Option Message → List ℕ × L → Type 0
   ReadsFrameOrWakes old (Some m) new = Begins limit old.0 m new.0 × (new.1 ≡ old.1)
   ReadsFrameOrWakes old None new = ((wakeable ≡ true) × (new ≡ old))
-      ⊎ PassesOver hears limit old new
+      ⊎ PassesOver passes limit old new
 
   -- Bytes in to bytes out. Of its end and of what was written the same is said as of a session that passes over
   -- nothing.
@@ -75,7 +75,7 @@ module _ (wakeable : Bool) {L : Type 0} (hears : L → ReadFault → L → Type 
   ThreadsTellOver P text first last old new result =
       SessionOver ReadsFrameOrWakes P (text, first)
       (λ answer stop shutdown_reply at. EndsInThreads limit result answer stop shutdown_reply at.0
-      × HearsLast hears limit stop at last) (WroteInThreads old new result)
+      × HearsLast passes limit stop at last) (WroteInThreads old new result)
 
 -- nobody can wake the session but for a content part that is passed over
 abbrev pub ThreadsTell : {L : Type 0} → (L → ReadFault → L → Type 0) → Limits → SessionPart → List ℕ → L

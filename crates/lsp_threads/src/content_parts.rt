@@ -4,8 +4,8 @@ ghost use Rattle.lsp_relay.specs.Relay.{has_end};
 ghost use Rattle.lsp_threads.specs.Contents.{bytes_of, parts_of, NextIs};
 
 use crate::backlog::Takes;
-use crate::content_outbox::{ContentsRx, weight};
-use crate::relay_boxes::collect_or_wake;
+use crate::content_batch::{ContentsRx, weight};
+use crate::parcels::collect_or_wake;
 use lsp_message::Passed;
 use lsp_relay::Parcel;
 use std::alloc::Global;

@@ -4,7 +4,7 @@ ghost use Rattle.lsp_threads.specs.Contents.{ReadsContents, ReadsFor, TellsConte
 ghost use Rattle.lsp_threads.specs.Passing.{OfTaken, TakenFrom};
 
 use crate::backlog::Backlog;
-use crate::content_outbox::{ContentOutbox, Contents, ContentsPlan, ContentsTx};
+use crate::content_batch::{ContentBatch, Contents, ContentsPlan, ContentsTx};
 use crate::goes_on::surely_goes_on;
 use crate::peeking_reader::PeekingReader;
 use crate::workers::ReadsInto;
@@ -22,7 +22,7 @@ use std::sync::Wait;
 fn read_contents<R: Wait + Drop, S: BufRead>(
     alloc: Global,
     reader: &mut PeekingReader<S>,
-    outbox: &mut ContentOutbox<R>,
+    outbox: &mut ContentBatch<R>,
     limits: Limits,
     taken: &mut Passed,
 ) -> ReadEnd
@@ -85,7 +85,7 @@ impl ReadsInto for RelayTx<Contents, ContentsPlan> {
             result.0 }
     {
         let mut reader = PeekingReader::new(reader);
-        let mut outbox = ContentOutbox::new(rt, alloc, self, backlog);
+        let mut outbox = ContentBatch::new(rt, alloc, self, backlog);
         let mut taken = Passed::new();
         let end = read_contents(alloc, &mut reader, &mut outbox, limits, &mut taken);
         (outbox.finish(), end, taken)

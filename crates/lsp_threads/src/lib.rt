@@ -3,17 +3,17 @@
 #![tactic(auto)]
 
 mod backlog;
-mod content_outbox;
+mod content_batch;
 mod content_parts;
 mod content_reader;
+mod frame_batch;
 pub mod give_back;
 mod goes_on;
 pub mod laws;
+mod parcels;
 mod peeking_reader;
 mod pump_frames;
 mod pumping;
-mod relay_boxes;
-mod relay_texts;
 mod reply_outbox;
 mod run;
 mod serving;
@@ -21,10 +21,10 @@ mod thread_ends;
 mod watched_writer;
 mod workers;
 
-pub use content_outbox::{Contents, ContentsPlan, ContentsRx, ContentsTx};
-pub use pumping::{PumpFault, Pumped, pump, pump_by, pump_telling, pump_within};
+pub use content_batch::{Contents, ContentsPlan, ContentsRx, ContentsTx};
+pub use pumping::{PumpFault, PumpOutcome, pump, pump_by, pump_telling, pump_within};
 pub use run::{
-    ThreadOptions, Threaded, UNREAD_BYTES, UNWRITTEN_BYTES, run_threads, run_threads_of_service,
-    run_threads_of_service_over, run_threads_within,
+    ThreadOptions, ThreadsOutcome, UNREAD_BYTES, UNWRITTEN_BYTES, run_threads,
+    run_threads_of_service, run_threads_of_service_over, run_threads_within,
 };
 pub use workers::StartFault;

@@ -4,8 +4,8 @@ ghost use Rattle.lsp_threads.specs.Framing.{HandsSome, TellsFrames};
 ghost use Rattle.lsp_threads.specs.Passing.{OfTaken, TakenFrom};
 
 use crate::backlog::Backlog;
+use crate::frame_batch::FrameBatch;
 use crate::peeking_reader::PeekingReader;
-use crate::relay_texts::FramingOutbox;
 use crate::workers::ReadsInto;
 use lsp_message::{Limits, Message, Passed, ReadFault};
 use lsp_relay::RelayTx;
@@ -19,7 +19,7 @@ use std::sync::Wait;
 fn read_frames<R: Wait + Drop, S: BufRead>(
     alloc: Global,
     reader: &mut PeekingReader<S>,
-    outbox: &mut FramingOutbox<R>,
+    outbox: &mut FrameBatch<R>,
     limits: Limits,
     taken: &mut Passed,
 ) -> ReadEnd
@@ -72,7 +72,7 @@ impl ReadsInto for RelayTx<String> {
         ensures told { TellsFrames limits (S.remaining reader) self result.1 result.2.parts result.0 }
     {
         let mut reader = PeekingReader::new(reader);
-        let mut outbox = FramingOutbox::new(rt, alloc, self, backlog);
+        let mut outbox = FrameBatch::new(rt, alloc, self, backlog);
         let mut taken = Passed::new();
         let end = read_frames(alloc, &mut reader, &mut outbox, limits, &mut taken);
         (outbox.finish(), end, taken)

@@ -5,7 +5,7 @@ ghost use Rattle.lsp_threads.specs.Passing.{GivenTo, OfTaken, TakenFrom, noted};
 ghost use Rattle.lsp_threads.specs.Pump.{Pumps, pump_answer};
 
 use crate::backlog::bounded_backlog;
-use crate::relay_texts::write_texts;
+use crate::frame_batch::write_texts;
 use crate::workers::{StartFault, start_reader};
 use lsp_message::{Limits, Passed, ReadFault, WriteFault};
 use lsp_relay::{AnyPlan, RelayTx, relay, settle_all};
@@ -121,7 +121,7 @@ where
 /// What a pump did: its answer, and accounts of the bytes that it took and gave, which clauses alone see.
 #[derive(Drop)]
 #[derive_where(Debug)]
-pub struct Pumped {
+pub struct PumpOutcome {
     /// The bytes that were taken from the reader.
     #[derive_where(skip)]
     pub taken: Passed,
@@ -142,7 +142,7 @@ pub fn pump_telling<T, R, W>(
     reader: R,
     writer: &mut W,
     limits: Limits,
-) -> Pumped
+) -> PumpOutcome
 where
     T: Threads + Wait + Copy + Drop + Send + 'static,
     R: BufRead + Drop + Send + 'static,
@@ -168,7 +168,7 @@ where
     let (rx, unwritten) = write_texts(rt, alloc, rx, writer, &mut given, &takes);
     let (tx, read, taken) = reading.join(rt);
     settle_all(rt, rx, tx);
-    Pumped {
+    PumpOutcome {
         taken,
         given,
         answer: answer_of(read, unwritten),
@@ -176,11 +176,11 @@ where
 }
 
 /// Nothing was read or written.
-fn not_started(fault: StartFault) -> Pumped
+fn not_started(fault: StartFault) -> PumpOutcome
     ensures answer { result.answer ≡ Err (PumpFault.Start fault) }
     ensures nothing { (result.taken.parts ≡ []) × (result.given.parts ≡ []) }
 {
-    Pumped {
+    PumpOutcome {
         taken: Passed::new(),
         given: Passed::new(),
         answer: Err(PumpFault::Start(fault)),

@@ -10,8 +10,8 @@ ghost use Rattle.lsp_threads.specs.Framing.{parcel_bytes, AreEnded};
 ghost use Rattle.lsp_threads.specs.Replies.{AddsBytes, RepliesSend, reply_fault as reply_fault_spec};
 
 use crate::backlog::Backlog;
-use crate::relay_boxes::deliver;
-use crate::relay_texts::{deliver_text, joins};
+use crate::frame_batch::{deliver_text, joins};
+use crate::parcels::deliver;
 use crate::watched_writer::WriteFaults;
 use lsp_message::{Message, RequestId, ResultText, WriteFault};
 use lsp_relay::{Parcel, RelayTx};

@@ -7,13 +7,13 @@ ghost use Rattle.lsp_session.specs.Session.{SessionOut};
 ghost use Rattle.lsp_threads.specs.Passing.{GivenTo, OfTaken, TakenFrom, noted};
 ghost use Rattle.lsp_threads.specs.Threads.{ThreadsGive, ThreadsTell, ThreadsTellOver};
 
-use crate::content_outbox::{Contents, ContentsPlan, ContentsRx, ContentsTx};
+use crate::content_batch::{Contents, ContentsPlan, ContentsRx, ContentsTx};
 use crate::serving::{serve_between, start_both};
 use crate::workers::{ROOM, StartFault};
 use lsp_message::{Limits, Passed};
 use lsp_relay::relay;
 use lsp_session::{
-    EndSession, Handler, HandlerService, Listener, Service, SessionEnd, SessionFault,
+    BadContentPolicy, EndSession, Handler, HandlerService, Service, SessionEnd, SessionFault,
 };
 use serde_json::Value;
 use std::alloc::Global;
@@ -24,7 +24,7 @@ use std::thread::{Builder, Threads};
 /// What a session in threads gives back. Clauses alone see its accounts of bytes.
 #[derive(Drop)]
 #[derive_where(Debug; W)]
-pub struct Threaded<W> {
+pub struct ThreadsOutcome<W> {
     /// The writer that you gave it.
     pub writer: W,
     /// The bytes that were taken from the reader, up to the end of what the session took. What came to it together with its last message is
@@ -107,7 +107,7 @@ pub fn run_threads<T, R, W, H>(
     writer: W,
     capabilities: Value,
     handler: &mut H,
-) -> Result<Threaded<W>, StartFault>
+) -> Result<ThreadsOutcome<W>, StartFault>
 where
     T: Threads + Wait + Copy + Drop + Send + 'static,
     R: BufRead + Drop + Send + 'static,
@@ -138,7 +138,7 @@ pub fn run_threads_within<T, R, W, H>(
     capabilities: Value,
     handler: &mut H,
     limit: u64,
-) -> Result<Threaded<W>, StartFault>
+) -> Result<ThreadsOutcome<W>, StartFault>
 where
     T: Threads + Wait + Copy + Drop + Send + 'static,
     R: BufRead + Drop + Send + 'static,
@@ -179,9 +179,9 @@ where
 ///
 /// Starts, faults, replies that are gathered, and the end are as in `run_threads`, but for content parts that are no messages.
 ///
-/// At a content part that is no message (see `lsp_session::is_of_body`) the listener `bad_bodies` is asked, at once and on your thread. Where
+/// At a content part that is no message (see `lsp_session::is_of_content`) `policy` is asked, at once and on your thread. Where
 /// it reads on, nothing is answered, the service is woken, and the next frame follows. That is so from `initialized` up to `shutdown`, if
-/// a service can be woken. Where the listener ends the session, and before and after in any case, such a part is `SessionFault::Read`, and
+/// a service can be woken. Where the policy ends the session, and before and after in any case, such a part is `SessionFault::Read`, and
 /// what was read behind it is dropped. So is each other fault of reading at any time. With `EndSession` nothing is ever passed over
 /// (`laws::nothing_is_passed_over_in_threads`). A handler's session reads on as the service `HandlerService`.
 pub fn run_threads_of_service<T, R, W, S, L>(
@@ -190,31 +190,29 @@ pub fn run_threads_of_service<T, R, W, S, L>(
     reader: R,
     writer: W,
     service: &mut S,
-    bad_bodies: &mut L,
+    policy: &mut L,
     options: ThreadOptions,
-) -> Result<Threaded<W>, StartFault>
+) -> Result<ThreadsOutcome<W>, StartFault>
 where
     T: Threads + Wait + Copy + Drop + Send + 'static,
     R: BufRead + Drop + Send + 'static,
     W: Write + Drop + Send + 'static,
     S: Service,
-    L: Listener,
-    ensures unstarted { OnErr result ((service.new ≡ service.old) × (bad_bodies.new ≡ bad_bodies.old)) }
+    L: BadContentPolicy,
+    ensures unstarted { OnErr result ((service.new ≡ service.old) × (policy.new ≡ policy.old)) }
     ensures told { IfOk result (λ done. OfTaken done.taken.parts (λ text.
-        ThreadsTell L.hears options.limits (SessionOut S.behavior service.old service.new) text
-        bad_bodies.old bad_bodies.new (Some []) (noted done.given) done.answer)) }
+        ThreadsTell L.passes options.limits (SessionOut S.behavior service.old service.new) text
+        policy.old policy.new (Some []) (noted done.given) done.answer)) }
     ensures passed { IfOk result (λ done. TakenFrom (R.remaining reader) done.taken.parts
         × GivenTo (W.contents writer) done.given.parts (W.contents done.writer)) }
     ensures session { IfSome (R.remaining reader) (λ text. IfOk result (λ done.
-        ThreadsTell L.hears options.limits (SessionOut S.behavior service.old service.new) text
-        bad_bodies.old bad_bodies.new (W.contents writer) (W.contents done.writer) done.answer)) }
+        ThreadsTell L.passes options.limits (SessionOut S.behavior service.old service.new) text
+        policy.old policy.new (W.contents writer) (W.contents done.writer) done.answer)) }
 {
     let Ok(ends) = relay::<Contents, ContentsPlan>(alloc, ROOM) else {
         return Err(StartFault::Memory);
     };
-    run_threads_of_service_over(
-        rt, alloc, ends, reader, writer, service, bad_bodies, options,
-    )
+    run_threads_of_service_over(rt, alloc, ends, reader, writer, service, policy, options)
 }
 
 /// As `run_threads_of_service`, over a relay that the caller made, which nothing has passed: `relay::<Contents, ContentsPlan>`. Wakers of the relay wake
@@ -222,7 +220,7 @@ where
 /// only at a content part that is passed over. That a wake arrives is tested, and no part of this contract.
 ///
 /// Both ends of the relay are gone when this returns, also after a fault: a wake gives false from then on, and one that waits for
-/// room gives up (tested as well). `service` and `bad_bodies` run on the caller's thread, and should not wake the session themselves: the
+/// room gives up (tested as well). `service` and `policy` run on the caller's thread, and should not wake the session themselves: the
 /// relay may be full.
 pub fn run_threads_of_service_over<T, R, W, S, L>(
     rt: &T,
@@ -231,31 +229,31 @@ pub fn run_threads_of_service_over<T, R, W, S, L>(
     reader: R,
     writer: W,
     service: &mut S,
-    bad_bodies: &mut L,
+    policy: &mut L,
     options: ThreadOptions,
-) -> Result<Threaded<W>, StartFault>
+) -> Result<ThreadsOutcome<W>, StartFault>
 where
     T: Threads + Wait + Copy + Drop + Send + 'static,
     R: BufRead + Drop + Send + 'static,
     W: Write + Drop + Send + 'static,
     S: Service,
-    L: Listener,
+    L: BadContentPolicy,
     requires fresh { (ends.0.sent ≡ []) × (ends.1.taken ≡ []) }
     requires same { ends.1.relay ≡ ends.0.relay }
-    ensures unstarted { OnErr result ((service.new ≡ service.old) × (bad_bodies.new ≡ bad_bodies.old)) }
+    ensures unstarted { OnErr result ((service.new ≡ service.old) × (policy.new ≡ policy.old)) }
     ensures told { IfOk result (λ done. OfTaken done.taken.parts (λ text.
-        ThreadsTellOver ends.0.wakeable L.hears options.limits
+        ThreadsTellOver ends.0.wakeable L.passes options.limits
         (SessionOut S.behavior service.old service.new) text
-        bad_bodies.old bad_bodies.new (Some []) (noted done.given) done.answer)) }
+        policy.old policy.new (Some []) (noted done.given) done.answer)) }
     ensures passed { IfOk result (λ done. TakenFrom (R.remaining reader) done.taken.parts
         × GivenTo (W.contents writer) done.given.parts (W.contents done.writer)) }
     ensures session { IfSome (R.remaining reader) (λ text. IfOk result (λ done.
-        ThreadsTellOver ends.0.wakeable L.hears options.limits
+        ThreadsTellOver ends.0.wakeable L.passes options.limits
         (SessionOut S.behavior service.old service.new) text
-        bad_bodies.old bad_bodies.new (W.contents writer) (W.contents done.writer) done.answer)) }
+        policy.old policy.new (W.contents writer) (W.contents done.writer) done.answer)) }
 {
     match start_both(rt, options, alloc, ends, reader, writer) {
-        Ok(workers) => Ok(serve_between(rt, alloc, workers, service, bad_bodies)),
+        Ok(workers) => Ok(serve_between(rt, alloc, workers, service, policy)),
         Err(fault) => Err(fault),
     }
 }

@@ -6,17 +6,17 @@ ghost use Rattle.lsp_threads.specs.Passing.{GivenTo, OfTaken, TakenFrom, noted};
 ghost use Rattle.lsp_threads.specs.Threads.{ThreadsTellOver, session_end as session_end_spec};
 
 use crate::backlog::{Backlog, Takes, bounded_backlog};
-use crate::content_outbox::{Contents, ContentsPlan, ContentsRx, ContentsTx};
+use crate::content_batch::{Contents, ContentsPlan, ContentsRx, ContentsTx};
 use crate::content_parts::ContentParts;
-use crate::relay_boxes::deliver;
+use crate::parcels::deliver;
 use crate::reply_outbox::{ReplyOutbox, reply_fault};
-use crate::run::{ThreadOptions, Threaded};
+use crate::run::{ThreadOptions, ThreadsOutcome};
 use crate::thread_ends::{ThreadEnds, serve_ends};
 use crate::watched_writer::{WatchedWriter, WriteFaults, write_faults};
 use crate::workers::{ROOM, Reader, StartFault, Writer, start_reader, start_writer};
 use lsp_message::{Limits, Passed, ReadFault, WriteFault};
 use lsp_relay::{AnyPlan, Parcel, RelayRx, RelayTx, Source, plan, relay, settle_all};
-use lsp_session::{Listener, ReadEnd, Service, session_answer};
+use lsp_session::{BadContentPolicy, ReadEnd, Service, session_answer};
 use std::alloc::Global;
 use std::io::{BufRead, ErrorKind, Write};
 use std::marker::Brand;
@@ -167,14 +167,14 @@ pub(crate) fn serve_between<T, R, W, S, L>(
     alloc: Global,
     workers: Workers<R, W>,
     service: &mut S,
-    listener: &mut L,
-) -> Threaded<W>
+    policy: &mut L,
+) -> ThreadsOutcome<W>
 where
     T: Threads + Wait + Copy + Drop,
     R: BufRead + Drop,
     W: Write + Drop,
     S: Service,
-    L: Listener,
+    L: BadContentPolicy,
     requires reading { (workers.rx.taken ≡ [])
         × (workers.reading.promise.tx.value.relay ≡ workers.rx.relay)
         × (workers.reading.promise.tx.value.sent ≡ []) }
@@ -184,9 +184,9 @@ where
     requires writing { (workers.replies.sent ≡ [])
         × (workers.writing.promise.rx.value.relay ≡ workers.replies.relay) }
     ensures told { OfTaken result.taken.parts (λ text.
-        ThreadsTellOver workers.reading.promise.tx.value.wakeable L.hears
+        ThreadsTellOver workers.reading.promise.tx.value.wakeable L.passes
         workers.reading.promise.limits (SessionOut S.behavior service.old service.new) text
-        listener.old listener.new (Some []) (noted result.given) result.answer) }
+        policy.old policy.new (Some []) (noted result.given) result.answer) }
     ensures taken { TakenFrom (R.remaining workers.reading.promise.reader.value)
         result.taken.parts }
     ensures given { GivenTo (W.contents workers.writing.promise.writer.value.inner)
@@ -203,7 +203,7 @@ where
     } = workers;
     let mut parts = ContentParts::new(*rt, alloc, rx, takes);
     let mut outbox = ReplyOutbox::new(*rt, alloc, replies, unwritten, faults);
-    let mut ends = ThreadEnds::new(alloc, &mut parts, listener, &mut outbox);
+    let mut ends = ThreadEnds::new(alloc, &mut parts, policy, &mut outbox);
     let served = serve_ends(alloc, &mut ends, service);
     let ended = ends.end();
     let drained = parts.is_drained();
@@ -215,7 +215,7 @@ where
     settle_all(rt, replies_rx, replies);
     let fault = reply_fault(unwritten, failed);
     let answer = session_answer(served, session_end(ended, drained, read), fault);
-    Threaded {
+    ThreadsOutcome {
         writer,
         taken,
         given,

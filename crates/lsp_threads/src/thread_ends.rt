@@ -1,7 +1,7 @@
 //! The caller's ends of a session in threads: an inbox over a relay of content parts, and the outbox of its replies, as one value.
 ghost use Rattle.std.specs.Prelude.{◌≡◌, [], None};
 ghost use Rattle.lsp_session.specs.Event.{arrival_view, event_view};
-ghost use Rattle.lsp_session.specs.Served.{StopsFor};
+ghost use Rattle.lsp_session.specs.SessionOutcome.{StopsFor};
 ghost use Rattle.lsp_session.specs.Session.{SessionOut};
 ghost use Rattle.lsp_session.specs.SessionLaws.{Both};
 ghost use Rattle.lsp_session.specs.SessionRun.{Runs};
@@ -13,8 +13,8 @@ use crate::content_parts::{ContentParts, Next};
 use crate::reply_outbox::ReplyOutbox;
 use lsp_message::{Message, ReadFault, RequestId, ResultText};
 use lsp_session::{
-    Arrival, Event, Inbox, Listener, Outbox, ReadEnd, SendFault, Served, Service, WakingInbox,
-    is_exit, is_of_body, serve_transport,
+    Arrival, BadContentPolicy, Event, Inbox, Outbox, ReadEnd, SendFault, Service, SessionOutcome,
+    WakingInbox, is_exit, is_of_content, serve_transport,
 };
 use std::alloc::Global;
 use std::sync::Wait;
@@ -22,7 +22,7 @@ use std::sync::Wait;
 /// Gives the messages that content parts are, made on the caller's thread, and waits for each. It is closed after `exit`, after a
 /// content part that is no message and was not passed over, and once End was taken. It has no timeouts.
 ///
-/// `receive_or_woken` gives each wake of the relay. It also asks the listener at a content part that is no message (`is_of_body`), and
+/// `receive_or_woken` gives each wake of the relay. It also asks the policy at a content part that is no message (`is_of_content`), and
 /// passes over it and gives `Arrival::Woken`, or ends the messages. In the other calls there is no wake: those of the relay are passed over,
 /// and such a part ends the messages, as each other fault does everywhere.
 ///
@@ -31,22 +31,22 @@ use std::sync::Wait;
 pub struct ThreadEnds<'a, R: Wait + Drop, L> {
     alloc: Global,
     parts: &'a mut ContentParts<R>,
-    listener: &'a mut L,
+    policy: &'a mut L,
     outbox: &'a mut ReplyOutbox<R>,
     end: Option<ReadEnd>,
 }
 
-impl<'a, R: Wait + Copy + Drop, L: Listener> ThreadEnds<'a, R, L> {
+impl<'a, R: Wait + Copy + Drop, L: BadContentPolicy> ThreadEnds<'a, R, L> {
     pub fn new(
         alloc: Global,
         parts: &'a mut ContentParts<R>,
-        listener: &'a mut L,
+        policy: &'a mut L,
         outbox: &'a mut ReplyOutbox<R>,
     ) -> ThreadEnds<'a, R, L>
         ensures same_parts { result.parts.ghost_name ≡ parts.entry.ghost_name }
         ensures untaken { result.parts.now ≡ parts.old }
-        ensures same_listener { result.listener.ghost_name ≡ listener.entry.ghost_name }
-        ensures untold { result.listener.now ≡ listener.old }
+        ensures same_policy { result.policy.ghost_name ≡ policy.entry.ghost_name }
+        ensures untold { result.policy.now ≡ policy.old }
         ensures same_outbox { result.outbox.ghost_name ≡ outbox.entry.ghost_name }
         ensures unsent { result.outbox.now ≡ outbox.old }
         ensures unended { result.end ≡ None }
@@ -54,7 +54,7 @@ impl<'a, R: Wait + Copy + Drop, L: Listener> ThreadEnds<'a, R, L> {
         ThreadEnds {
             alloc,
             parts,
-            listener,
+            policy,
             outbox,
             end: None,
         }
@@ -101,16 +101,16 @@ impl<'a, R: Wait + Copy + Drop, L: Listener> ThreadEnds<'a, R, L> {
         }
     }
 
-    /// What one wait gives that also gives wakes. At a content part that is no message the listener is asked whether to read on.
+    /// What one wait gives that also gives wakes. At a content part that is no message the policy is asked whether to read on.
     fn next_arrival(&mut self) -> Arrival
         requires { IsReadyToWait self.old }
-        ensures gives { GivesNext L.hears self.old (arrival_view result) self.new }
+        ensures gives { GivesNext L.passes self.old (arrival_view result) self.new }
         ensures listens { EndsListen L.ends self.old (arrival_view result) self.new }
     {
         match self.read_next() {
             Ok(arrival) => arrival,
             Err(fault) => {
-                if is_of_body(fault) && self.listener.passes_over(fault) {
+                if is_of_content(fault) && self.policy.passes_over(fault) {
                     self.parts.go_on();
                     return Arrival::Woken;
                 }
@@ -123,7 +123,7 @@ impl<'a, R: Wait + Copy + Drop, L: Listener> ThreadEnds<'a, R, L> {
     /// Gives the message of the next content part, and passes over wakes of the relay.
     fn next_event(&mut self) -> Event
         requires { IsReadyToWait self.old }
-        ensures { GivesNext L.hears self.old (event_view result) self.new }
+        ensures { GivesNext L.passes self.old (event_view result) self.new }
     {
         let rt = self.parts.handle();
         for _ in rt.forever() {
@@ -141,10 +141,10 @@ impl<'a, R: Wait + Copy + Drop, L: Listener> ThreadEnds<'a, R, L> {
     }
 }
 
-impl<'a, R: Wait + Copy + Drop, L: Listener> Inbox for ThreadEnds<'a, R, L> {
+impl<'a, R: Wait + Copy + Drop, L: BadContentPolicy> Inbox for ThreadEnds<'a, R, L> {
     ghost use Rattle.lsp_threads.specs.ThreadEnds.{EndsGive};
 
-    ghost receives = { EndsGive L.hears };
+    ghost receives = { EndsGive L.passes };
 
     #[tactic(auto, using(crate::proofs::ThreadEnds::ready_waits))]
     fn receive_for(&mut self, _seconds: u64) -> Event {
@@ -159,7 +159,7 @@ impl<'a, R: Wait + Copy + Drop, L: Listener> Inbox for ThreadEnds<'a, R, L> {
     }
 }
 
-impl<'a, R: Wait + Copy + Drop, L: Listener> WakingInbox for ThreadEnds<'a, R, L> {
+impl<'a, R: Wait + Copy + Drop, L: BadContentPolicy> WakingInbox for ThreadEnds<'a, R, L> {
     ghost use Rattle.lsp_threads.specs.ThreadEnds.{EndsListen};
 
     ghost listens = { EndsListen L.ends };
@@ -171,7 +171,7 @@ impl<'a, R: Wait + Copy + Drop, L: Listener> WakingInbox for ThreadEnds<'a, R, L
     }
 }
 
-impl<'a, R: Wait + Copy + Drop, L: Listener> Outbox for ThreadEnds<'a, R, L> {
+impl<'a, R: Wait + Copy + Drop, L: BadContentPolicy> Outbox for ThreadEnds<'a, R, L> {
     ghost use Rattle.lsp_threads.specs.ThreadEnds.{EndsSend};
 
     ghost sends = { EndsSend };
@@ -186,12 +186,12 @@ impl<'a, R: Wait + Copy + Drop, L: Listener> Outbox for ThreadEnds<'a, R, L> {
 }
 
 /// Runs a session of a server over the caller's ends. All that is sent for a message is handed over before a wait for the next.
-pub fn serve_ends<R: Wait + Copy + Drop, L: Listener, S: Service>(
+pub fn serve_ends<R: Wait + Copy + Drop, L: BadContentPolicy, S: Service>(
     alloc: Global,
     ends: &mut ThreadEnds<'_, R, L>,
     service: &mut S,
-) -> Served
-    ensures runs { Runs (ContentsGive L.hears) RepliesSend
+) -> SessionOutcome
+    ensures runs { Runs (ContentsGive L.passes) RepliesSend
         (Both (SessionOut S.behavior service.old service.new) (StopsFor result.stop))
         (seen_of ends.old, ends.old.outbox.now.replies) result.answer
         (seen_of ends.new, ends.new.outbox.now.replies) }

@@ -5,7 +5,7 @@ ghost use Rattle.lsp_threads.specs.Framing.{WritesParcels};
 ghost use Rattle.lsp_threads.specs.Passing.{GivenTo};
 
 use crate::backlog::{Backlog, Takes};
-use crate::relay_texts::write_texts;
+use crate::frame_batch::write_texts;
 use lsp_message::{Limits, Passed, WriteFault};
 use lsp_relay::RelayRx;
 use lsp_session::ReadEnd;

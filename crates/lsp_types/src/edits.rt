@@ -1045,13 +1045,11 @@ impl FromJson for FormattingOptions {
             .end()
         {
             Ok(read) => {
-                let (
-                    (
-                        ((((), tab_size), insert_spaces), trim_trailing_whitespace),
-                        insert_final_newline,
-                    ),
-                    trim_final_newlines,
-                ) = read;
+                let (read, trim_final_newlines) = read;
+                let (read, insert_final_newline) = read;
+                let (read, trim_trailing_whitespace) = read;
+                let (read, insert_spaces) = read;
+                let ((), tab_size) = read;
                 Ok(FormattingOptions {
                     tab_size,
                     insert_spaces,

@@ -6,7 +6,7 @@ use Rattle.std.specs.List.{filter_map}
 use Rattle.std.specs.Prelude.{map, option_to_list}
 use Rattle.lsp_message.specs.Id.{Id}
 use Rattle.lsp_message.specs.Message.{Message, request, notification, response}
-use Rattle.lsp_service.specs.Law.{one_if, is_request_under, is_reply_under, came_with, how_many, NeverMore}
+use Rattle.lsp_acts.specs.Law.{one_if, is_request_under, is_reply_under, came_with, how_many, NeverMore}
 use Rattle.lsp_session.specs.Answered.{RepliesToEach, requests_of, IsReplied, AllReplied, AnswersRequests}
 use Rattle.lsp_session.specs.Session.{Exchange, messages_of, sends_of, SessionAnswer, Stop}
 use Rattle.lsp_watch.specs.CleanLog.{is_call}

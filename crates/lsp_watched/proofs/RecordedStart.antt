@@ -9,7 +9,7 @@ use Rattle.std.specs.Str.{bytes_eq}
 use Rattle.lsp_message.specs.Id.{Id, same_id}
 use Rattle.lsp_message.specs.Message.{Message, request, notification, response}
 use Rattle.lsp_message.proofs.Ids.{same_own}
-use Rattle.lsp_service.specs.Law.{one_if, is_request_under, is_reply_under, how_many}
+use Rattle.lsp_acts.specs.Law.{one_if, is_request_under, is_reply_under, how_many}
 use Rattle.lsp_session.specs.Answered.{AllReplied}
 use Rattle.lsp_session.specs.Session.{Exchange, messages_of, sends_of, SessionAnswer, Stop}
 use Rattle.lsp_session.specs.SessionLaws.{KeepsOrder, IsOpened, IsUnstarted, AllRefused, AllEarly}

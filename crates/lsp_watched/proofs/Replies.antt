@@ -5,7 +5,7 @@ use Rattle.std.specs.List.{filter_map}
 use Rattle.lsp_message.specs.Id.{Id, same_id}
 use Rattle.lsp_message.specs.Message.{Message, request, notification, response}
 use Rattle.lsp_message.proofs.Ids.{same_own, same_is}
-use Rattle.lsp_service.specs.Law.{one_if, is_request_under, is_reply_under, came_with, how_many, NeverMore}
+use Rattle.lsp_acts.specs.Law.{one_if, is_request_under, is_reply_under, came_with, how_many, NeverMore}
 use Rattle.lsp_session.specs.Session.{Exchange, messages_of, sends_of}
 use Rattle.lsp_watch.specs.CleanLog.{AtEach, is_call}
 use Rattle.lsp_watch.specs.Log.{Log, Passed, passed, from_client}

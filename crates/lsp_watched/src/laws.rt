@@ -9,8 +9,8 @@ ghost use Rattle.lsp_message.specs.Message.{Message};
 ghost use Rattle.lsp_peers.specs.History.{Entry, IsHistory};
 ghost use Rattle.lsp_peers.specs.declared.step.Side.{Side};
 ghost use Rattle.lsp_queue.specs.Queue.{Pending};
-ghost use Rattle.lsp_service.specs.Law.{KeepsLaws, NeverMore};
-ghost use Rattle.lsp_service.specs.Stated.{unwoken, with_wakes};
+ghost use Rattle.lsp_acts.specs.Law.{KeepsLaws, NeverMore};
+ghost use Rattle.lsp_acts.specs.Stated.{unwoken, with_wakes};
 ghost use Rattle.lsp_session.specs.Answered.{AnswersRequests};
 ghost use Rattle.lsp_session.specs.Session.{Exchange, SessionAnswer, Stop};
 ghost use Rattle.lsp_session.specs.SessionLaws.{KeepsOrder};
@@ -20,8 +20,8 @@ ghost use Rattle.lsp_watched.specs.Recorded.{IsRecorded};
 ghost use Rattle.lsp_watched.specs.Sessions.{IsLogOfSession, ClientKeepsIds};
 ghost use Rattle.lsp_watched.specs.Sessions.{ServerIsClean, ServerKeepsLifecycle, ServerRepliesFit};
 
+use lsp_acts::{Server, WokenServer};
 use lsp_peers::laws::{a_beginning_is_a_history, each_request_is_in_one_place};
-use lsp_service::{Server, WokenServer};
 
 /// In the log of a history of two peers no message breaks a rule of ids (JSON-RPC 2.0, sections 4 and 5), whichever of
 /// the two is the client: no request comes under an id under which one waits, and no reply that no request waits for.
@@ -53,7 +53,7 @@ pub fn server_keeps_lifecycle()
 
 /// A session in which there are never more replies under an id than requests sends no reply that breaks a rule, as a
 /// recorder sees it, if its client reuses no id before the reply: a fact of each session of a `Server`
-/// (`lsp_service::laws::server_keeps_laws`).
+/// (`lsp_acts::laws::server_keeps_laws`).
 pub fn server_replies_fit()
     ensures { (exchanges : List Exchange) (log : Log) → ((id : Id) → NeverMore id exchanges)
         → IsRecorded exchanges log → ClientKeepsIds log → ServerRepliesFit log }
@@ -78,7 +78,7 @@ pub fn recorded_server_of_replies_is_clean()
 {}
 
 /// As a recorder sees it, a session of a `Server` sends nothing at all that breaks a rule, if its client reuses no id before
-/// the reply: a fact of each session that keeps the laws (`lsp_service::laws::server_keeps_laws`). Its own requests have
+/// the reply: a fact of each session that keeps the laws (`lsp_acts::laws::server_keeps_laws`). Its own requests have
 /// the ids 0, 1, 2, and so on.
 pub fn recorded_server_is_clean<S: Server>()
     ensures { (first last : S) (held : Pending (Unit {0})) (exchanges : List Exchange) (stop : Stop)
@@ -88,7 +88,7 @@ pub fn recorded_server_is_clean<S: Server>()
 {}
 
 /// `recorded_server_is_clean` of a server that is woken: a fact of each session that keeps the laws
-/// (`lsp_service::laws::woken_server_keeps_laws`).
+/// (`lsp_acts::laws::woken_server_keeps_laws`).
 pub fn recorded_woken_server_is_clean<S: WokenServer>()
     ensures { (first last : S) (held : Pending (Unit {0})) (exchanges : List Exchange) (stop : Stop)
         (shutdown_reply : Option Message) (answer : SessionAnswer) (log : Log)

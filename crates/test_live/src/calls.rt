@@ -9,11 +9,11 @@ use crate::sessions::{
 };
 use crate::signals::Signals;
 use crate::table::{Call, Device, Given};
+use lsp_acts::{QueuedServer, WokenQueuedServer, session_with, session_with_over};
 use lsp_message::{Front, Limits, Message, Passed, ReadFault, WriteFault, front, write_frames};
-use lsp_service::{QueuedServer, WokenQueuedServer, session_with, session_with_over};
 use lsp_session::{
-    EndSession, Event, FaultCounts, FrameOutbox, Ignore, Inbox, ListOutbox, Listener, Outbox,
-    ReadEnd, SendFault, SessionEnd, SessionFault, StreamInbox, StreamTransport, Transcript,
+    BadContentPolicy, EndSession, Event, FaultCounts, FrameOutbox, Ignore, Inbox, ListOutbox,
+    Outbox, ReadEnd, SendFault, SessionEnd, SessionFault, StreamInbox, StreamTransport, Transcript,
     read_loop, read_loop_within, session, session_of_service, session_within,
 };
 use serde_json::{Map, Value};
@@ -294,7 +294,7 @@ fn spoken(trial: &mut Trial) -> Result<Attempt, Stop> {
     ended(trial, end)
 }
 
-fn limited<L: Listener>(
+fn limited<L: BadContentPolicy>(
     trial: &mut Trial,
     talker: Talker,
     listener: &mut L,

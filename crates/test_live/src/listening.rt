@@ -1,6 +1,6 @@
 // The listener of all rows.
 use lsp_message::ReadFault;
-use lsp_session::{FaultCounts, Listener};
+use lsp_session::{BadContentPolicy, FaultCounts};
 
 /// Reads on after content parts that are no messages and counts them, or ends the session at the first.
 #[derive(Drop)]
@@ -19,10 +19,10 @@ impl Listening {
     }
 }
 
-impl Listener for Listening {
+impl BadContentPolicy for Listening {
     ghost use Rattle.std.specs.Prelude.{⊤};
 
-    ghost hears = { λ _ _ _. ⊤ };
+    ghost passes = { λ _ _ _. ⊤ };
 
     ghost ends = { λ _ _. ⊤ };
 

@@ -1,9 +1,9 @@
 // The handler of all rows, and their server: it speaks, asks, and starts jobs.
 use crate::jobs::{Found, Means, Scripted, list_of, own_slot};
 use crate::signals::{Signal, Signals};
+use lsp_acts::{Act, Server, WokenServer};
 use lsp_jobs::{AnsweredBy, JobEnd, JobName, JobServer, Slot, SlotChange, Slots};
 use lsp_message::{Notification, Request, RequestId, ResponseError};
-use lsp_service::{Act, Server, WokenServer};
 use lsp_session::{Handler, initialize_result};
 use serde_json::{Map, Value};
 use std::alloc::{AllocError, Global};

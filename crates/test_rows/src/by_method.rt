@@ -5,11 +5,11 @@ use crate::messages::value_in;
 use crate::said::Said;
 use crate::typed::{listed, refused, taken_id};
 use crate::types::get;
+use lsp_acts::Act;
 use lsp_message::{ErrorCode, Message, Notification, Request, RequestId, ResponseError};
 use lsp_methods::{
     Configuration, answer, on_notification, on_request, read_params, reply, tell, try_answer,
 };
-use lsp_service::Act;
 use lsp_types::methods::{
     CompletionRequest, DefinitionRequest, DidCloseTextDocumentNotification, HoverRequest,
     PublishDiagnosticsNotification,

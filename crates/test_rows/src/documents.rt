@@ -13,8 +13,8 @@ use crate::messages::text_in;
 use crate::said::Said;
 use crate::types::say_written;
 use lsp_documents::{
-    Agreed, DocumentFault, DocumentOptions, Made, NotMade, OpenText, Remark, TextDocuments,
-    position_in,
+    Agreed, DocumentFault, DocumentOptions, DocumentUpdate, OpenText, Remark, TextDocuments,
+    UpdateFault, position_in,
 };
 use lsp_message::Notification;
 use lsp_text::{ContentChange, LineEnds, Position, Range, Text, TextDocument};
@@ -81,7 +81,7 @@ impl Documents {
             }
             Err(fault) if fault.is_memory() => said.is_short = true,
             Err(_) => {
-                self.documents.lose_all();
+                self.documents.invalidate_all();
                 said.push("unread");
                 self.show(said);
             }
@@ -198,7 +198,7 @@ impl Documents {
             params: said.made(copy, Value::Null),
         };
         if !said.is_short {
-            let heard = self.documents.hear(&notification);
+            let heard = self.documents.apply(&notification);
             self.say(said, heard);
             self.show(said);
         }
@@ -206,7 +206,7 @@ impl Documents {
     }
 
     /// What came of a notification.
-    fn say(&mut self, said: &mut Said, heard: Option<Result<Made<'_>, NotMade<'_>>>) {
+    fn say(&mut self, said: &mut Said, heard: Option<Result<DocumentUpdate<'_>, UpdateFault<'_>>>) {
         match heard {
             None => said.push("no notification of documents"),
             Some(Ok(made)) => {
@@ -367,7 +367,7 @@ fn options_in(params: &Value) -> DocumentOptions {
         options.line_ends = LineEnds::Standard;
     }
     if flag_in(params, "makesLate") == Some(true) {
-        options.makes_late = true;
+        options.applies_late = true;
     }
     options
 }

@@ -15,8 +15,8 @@ use crate::boxes::{Events, Habit, Sent};
 use crate::messages::message_in;
 use crate::said::{Said, Stepped};
 use crate::servers::{Echo, Talker};
+use lsp_acts::{QueuedServer, WokenQueuedServer};
 use lsp_message::{Request, RequestId, WriteFault};
-use lsp_service::{QueuedServer, WokenQueuedServer};
 use lsp_session::{
     Event, ListGate, ListInbox, ListOutbox, ProtocolError, SessionEnd, WriteEnd, finish,
     finish_within, serve, serve_service, shutdown, start_within, wait_within, write_loop,

@@ -1,8 +1,8 @@
 // A handler, and a server that speaks.
 use crate::typed;
 use crate::typed::{both, kept, listed, refused};
+use lsp_acts::{Act, Server, WokenServer};
 use lsp_message::{Notification, Request, RequestId, ResponseError};
-use lsp_service::{Act, Server, WokenServer};
 use lsp_session::{Handler, initialize_result};
 use serde_json::{Map, Value};
 use std::alloc::{AllocError, Global};

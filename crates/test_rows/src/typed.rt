@@ -1,7 +1,7 @@
 // Acts of the server that speaks, at messages whose params are a place in a document (LSP 3.17, "TextDocumentPositionParams"), read by
 // `serde`.
+use lsp_acts::Act;
 use lsp_message::{ErrorCode, Notification, Request, RequestId, ResponseError};
-use lsp_service::Act;
 use lsp_types::{MessageType, Position};
 use serde::Deserialize;
 use std::alloc::{AllocError, AllocFailed, Global};

@@ -8,13 +8,13 @@ ghost use Rattle.lsp_session.specs.HandlerSession.{of_handler};
 ghost use Rattle.lsp_session.specs.ProtocolError.{ProtocolFault, is_disconnected};
 ghost use Rattle.lsp_session.specs.Prompt.{Talks};
 ghost use Rattle.lsp_session.specs.Session.{starting, Exchange, SessionAnswer, Stop, sends_of, refused, SessionOut};
-ghost use Rattle.lsp_session.specs.Served.{StopsFor};
+ghost use Rattle.lsp_session.specs.SessionOutcome.{StopsFor};
 ghost use Rattle.lsp_session.specs.SessionBytes.{Gives};
 ghost use Rattle.lsp_session.specs.SessionLaws.{Both, KeepsOrder, is_reply, OpenedBy};
 ghost use Rattle.lsp_session.specs.SessionRun.{Runs};
 ghost use Rattle.lsp_session.specs.declared.lifecycle.SendFault.{SendFault as RefusedSend};
 ghost use Rattle.lsp_session.specs.declared.loops.handler.SessionEnd.{SessionEnd as EndOfSession};
-ghost use Rattle.lsp_session.specs.declared.loops.served.StopReason.{StopReason as Reason};
+ghost use Rattle.lsp_session.specs.declared.loops.session_outcome.StopReason.{StopReason as Reason};
 ghost use Rattle.lsp_session.specs.declared.loops.stream_session.SessionFault.{SessionFault as FaultOfSession};
 
 use crate::lifecycle::{Inbox, Outbox, WakingInbox};

@@ -1,14 +1,14 @@
 // A session of a server over an inbox and an outbox (LSP 3.17, "Server lifecycle").
 ghost use Rattle.std.specs.Prelude.{◌≢◌};
 ghost use Rattle.lsp_session.specs.Event.{event_view, timeout};
-ghost use Rattle.lsp_session.specs.Served.{StopsFor};
+ghost use Rattle.lsp_session.specs.SessionOutcome.{StopsFor};
 ghost use Rattle.lsp_session.specs.Session.{SessionOut};
 ghost use Rattle.lsp_session.specs.SessionLaws.{Both};
 ghost use Rattle.lsp_session.specs.SessionRun.{Runs};
 
 use crate::lifecycle::{Arrival, Event, Inbox, Outbox, SendFault, WakingInbox};
-use crate::loops::served::Served;
 use crate::loops::service::Service;
+use crate::loops::session_outcome::SessionOutcome;
 use crate::loops::transport::serve_transport;
 use lsp_message::{Message, RequestId, ResultText};
 use std::alloc::Global;
@@ -81,7 +81,7 @@ pub fn serve_service<I: WakingInbox, O: Outbox, S: Service>(
     inbox: &mut I,
     outbox: &mut O,
     service: &mut S,
-) -> Served
+) -> SessionOutcome
     ensures { Runs I.receives O.sends
         (Both (SessionOut S.behavior service.old service.new) (StopsFor result.stop))
         (inbox.old, outbox.old) result.answer (inbox.new, outbox.new) }

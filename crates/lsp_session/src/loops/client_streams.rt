@@ -3,7 +3,7 @@ ghost use Rattle.std.specs.Prelude.{◌≡◌, Some};
 ghost use Rattle.lsp_message.specs.Limits.{most_content};
 ghost use Rattle.lsp_session.specs.StreamTransports.{IsUnused};
 
-use crate::loops::{Listener, StreamTransport, Transcript};
+use crate::loops::{BadContentPolicy, StreamTransport, Transcript};
 use lsp_message::Limits;
 use std::alloc::Global;
 use std::io::{BufRead, Write};
@@ -39,11 +39,11 @@ impl<R: BufRead, W: Write> ClientStreams<R, W> {
         }
     }
 
-    /// A transport over the streams, within their limits, with a new transcript. The listener is that of `StreamTransport::within`.
-    pub fn transport<'a, L: Listener>(
+    /// A transport over the streams, within their limits, with a new transcript. The policy is that of `StreamTransport::within`.
+    pub fn transport<'a, L: BadContentPolicy>(
         &'a mut self,
         alloc: Global,
-        bad_bodies: &'a mut L,
+        policy: &'a mut L,
     ) -> StreamTransport<'a, R, W, L>
         ensures unused { IsUnused result }
         ensures reader { result.reader.now ≡ self.old.reader }
@@ -56,7 +56,7 @@ impl<R: BufRead, W: Write> ClientStreams<R, W> {
             alloc,
             &mut self.reader,
             &mut self.writer,
-            bad_bodies,
+            policy,
             limits,
             &mut self.transcript,
         )

@@ -1,15 +1,15 @@
-// A listener that a server can ask.
-use crate::loops::listener::Listener;
+// A policy that a server can ask.
+use crate::loops::bad_content_policy::BadContentPolicy;
 use lsp_message::ReadFault;
 use std::alloc::{AllocError, Global};
 use std::sync::Arc;
 use std::sync::atomic::{AtomicBool, Ordering};
 
-/// A listener that passes over each content part that is no message, and remembers it until somebody asks.
+/// A policy that passes over each content part that is no message, and remembers it until somebody asks.
 ///
 /// What stood in such a part is lost; perhaps it was a change of a document. So give your server a `share`, and let it ask `take` first in
 /// `Server::notification` and `Server::request`: if that is true, it can't be sure any more of what it holds of its client
-/// (`lsp_documents::TextDocuments::lose_all`). On one thread, in threads and with jobs the next message that your server gets finds it
+/// (`lsp_documents::TextDocuments::invalidate_all`). On one thread, in threads and with jobs the next message that your server gets finds it
 /// true; that is tested.
 #[derive(Drop)]
 pub struct PassedOver {
@@ -43,10 +43,10 @@ impl PassedOver {
     }
 }
 
-impl Listener for PassedOver {
+impl BadContentPolicy for PassedOver {
     ghost use Rattle.std.specs.Prelude.{⊤};
 
-    ghost hears = { λ _ _ _. ⊤ };
+    ghost passes = { λ _ _ _. ⊤ };
 
     ghost ends = { λ _ _. ⊥ };
 

@@ -60,11 +60,11 @@ impl<'a, R: BufRead> StreamInbox<'a, R> {
     fn next_event(&mut self) -> Event
         ensures { StreamInboxGives R.remaining self.old (event_view result) self.new }
     {
-        let mut bad_bodies = EndSession;
+        let mut policy = EndSession;
         let mut inbox = TolerantInbox::resumed(
             self.alloc,
             &mut *self.reader,
-            &mut bad_bodies,
+            &mut policy,
             self.limits,
             self.end,
         );

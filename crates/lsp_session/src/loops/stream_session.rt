@@ -13,8 +13,8 @@ ghost use Rattle.lsp_session.specs.SessionFault.{session_answer as session_answe
 use crate::error::ProtocolError;
 use crate::loops::handler_service::HandlerService;
 use crate::loops::{
-    EndSession, Handler, Listener, ReadEnd, Served, Service, SessionEnd, StopReason,
-    StreamTransport, Transcript, serve_transport,
+    BadContentPolicy, EndSession, Handler, ReadEnd, Service, SessionEnd, SessionOutcome,
+    StopReason, StreamTransport, Transcript, serve_transport,
 };
 use lsp_message::{Limits, ReadFault, WriteFault};
 use serde_json::Value;
@@ -108,27 +108,27 @@ pub fn session_within<R: BufRead, W: Write, H: Handler>(
 /// limits. A longer header part is `SessionFault::Read` of `ReadFault::HeaderTooLong`. A longer content part is that of `TooLong`, and is
 /// unread.
 ///
-/// At a content part that is no message (see `is_of_body`) the listener `bad_bodies` is asked. If it reads on, nothing is answered,
+/// At a content part that is no message (see `is_of_content`) `policy` is asked. If it reads on, nothing is answered,
 /// the service is woken, and the next frame follows. That is so from `initialized` up to `shutdown`, if a service can be woken. Where
-/// the listener ends the session, and before and after in any case, such a part is `SessionFault::Read`, and so is each other fault at any
-/// time. With `EndSession` nothing is ever passed over (`laws::listeners::nothing_is_passed_over`).
+/// the policy ends the session, and before and after in any case, such a part is `SessionFault::Read`, and so is each other fault at any
+/// time. With `EndSession` nothing is ever passed over (`laws::policies::nothing_is_passed_over`).
 ///
 /// This contract speaks of readers whose bytes are known, as a slice's. `session_transcribed` is the same session with a contract for every
 /// reader and writer.
 ///
-/// A handler's session reads on as the service `HandlerService` (`laws::listeners::handler_service_runs_its_handler`).
-pub fn session_of_service<R: BufRead, W: Write, S: Service, L: Listener>(
+/// A handler's session reads on as the service `HandlerService` (`laws::policies::handler_service_runs_its_handler`).
+pub fn session_of_service<R: BufRead, W: Write, S: Service, L: BadContentPolicy>(
     alloc: Global,
     reader: &mut R,
     writer: &mut W,
     service: &mut S,
-    bad_bodies: &mut L,
+    policy: &mut L,
     limits: Limits,
 ) -> Result<SessionEnd, SessionFault>
     ensures { IfSome (R.remaining reader.old) (λ text.
-        GivesAndTells L.hears limits (SessionOut S.behavior service.old service.new) text
+        GivesAndTells L.passes limits (SessionOut S.behavior service.old service.new) text
         (R.remaining reader.new)
-        bad_bodies.old bad_bodies.new (W.contents writer.old) (W.contents writer.new) result) }
+        policy.old policy.new (W.contents writer.old) (W.contents writer.new) result) }
 {
     let mut transcript = Transcript::new();
     session_transcribed(
@@ -136,7 +136,7 @@ pub fn session_of_service<R: BufRead, W: Write, S: Service, L: Listener>(
         reader,
         writer,
         service,
-        bad_bodies,
+        policy,
         limits,
         &mut transcript,
     )
@@ -147,12 +147,12 @@ pub fn session_of_service<R: BufRead, W: Write, S: Service, L: Listener>(
 /// which were given for each, and that all that is sent for a message is given before the next byte is taken.
 ///
 /// One assumption is left: the system's calls to read and to write move the bytes that they say.
-pub fn session_transcribed<R: BufRead, W: Write, S: Service, L: Listener>(
+pub fn session_transcribed<R: BufRead, W: Write, S: Service, L: BadContentPolicy>(
     alloc: Global,
     reader: &mut R,
     writer: &mut W,
     service: &mut S,
-    bad_bodies: &mut L,
+    policy: &mut L,
     limits: Limits,
     transcript: &mut Transcript,
 ) -> Result<SessionEnd, SessionFault>
@@ -160,13 +160,11 @@ pub fn session_transcribed<R: BufRead, W: Write, S: Service, L: Listener>(
     ensures told { ToldSession limits (SessionOut S.behavior service.old service.new) (notes_of transcript.new) result }
     ensures passed { Passes (notes_of transcript.new) (R.remaining reader.old) (R.remaining reader.new) (W.contents writer.old) (W.contents writer.new) }
     ensures known { IfSome (R.remaining reader.old) (λ text.
-        GivesAndTells L.hears limits (SessionOut S.behavior service.old service.new) text
+        GivesAndTells L.passes limits (SessionOut S.behavior service.old service.new) text
         (R.remaining reader.new)
-        bad_bodies.old bad_bodies.new (W.contents writer.old) (W.contents writer.new) result) }
+        policy.old policy.new (W.contents writer.old) (W.contents writer.new) result) }
 {
-    let mut transport = StreamTransport::within(
-        alloc, reader, writer, bad_bodies, limits, transcript,
-    );
+    let mut transport = StreamTransport::within(alloc, reader, writer, policy, limits, transcript);
     let served = serve_transport(alloc, &mut transport, service);
     transport.answer(served)
 }
@@ -174,7 +172,7 @@ pub fn session_transcribed<R: BufRead, W: Write, S: Service, L: Listener>(
 /// The answer of a session that was served so, whose messages ended so, and whose output failed so: of several
 /// faults that fit it is the first of `Write`, `Memory`, `Read` and `Protocol`. A session in threads asks it too.
 pub fn session_answer(
-    served: Served,
+    served: SessionOutcome,
     end: Option<ReadEnd>,
     unwritten: Option<WriteFault>,
 ) -> Result<SessionEnd, SessionFault>

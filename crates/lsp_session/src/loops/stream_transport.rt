@@ -11,8 +11,8 @@ ghost use Rattle.lsp_session.specs.StreamTransports.{IsUnused, PassesBetween, Se
 use crate::lifecycle::{Arrival, Event, Inbox, Outbox, SendFault, WakingInbox};
 use crate::loops::transcript::{Noted, Transcript};
 use crate::loops::{
-    FrameOutbox, Handler, HandlerService, Listener, ReadEnd, Served, Service, SessionEnd,
-    SessionFault, TolerantInbox, serve_transport, session_answer,
+    BadContentPolicy, FrameOutbox, Handler, HandlerService, ReadEnd, Service, SessionEnd,
+    SessionFault, SessionOutcome, TolerantInbox, serve_transport, session_answer,
 };
 use lsp_message::{Limits, Message, Passed, RequestId, ResultText, WriteFault};
 use serde_json::Value;
@@ -30,32 +30,32 @@ pub struct StreamTransport<'a, R, W, L> {
     alloc: Global,
     reader: &'a mut R,
     writer: &'a mut W,
-    listener: &'a mut L,
+    policy: &'a mut L,
     transcript: &'a mut Transcript,
     limits: Limits,
     end: Option<ReadEnd>,
     fault: Option<WriteFault>,
 }
 
-impl<'a, R: BufRead, W: Write, L: Listener> StreamTransport<'a, R, W, L> {
+impl<'a, R: BufRead, W: Write, L: BadContentPolicy> StreamTransport<'a, R, W, L> {
     /// A transport over a reader and a writer, for messages within limits. A longer header part or content part ends the messages with
-    /// `ReadFault::HeaderTooLong` or `TooLong`. The listener is asked as by a `TolerantInbox`; with `EndSession` no content part is passed over. It takes
+    /// `ReadFault::HeaderTooLong` or `TooLong`. The policy is asked as by a `TolerantInbox`; with `EndSession` no content part is passed over. It takes
     /// no memory.
     pub fn within(
         alloc: Global,
         reader: &'a mut R,
         writer: &'a mut W,
-        bad_bodies: &'a mut L,
+        policy: &'a mut L,
         limits: Limits,
         transcript: &'a mut Transcript,
     ) -> Self
         ensures same_reader { result.reader.ghost_name ≡ reader.entry.ghost_name }
         ensures same_writer { result.writer.ghost_name ≡ writer.entry.ghost_name }
-        ensures same_listener { result.listener.ghost_name ≡ bad_bodies.entry.ghost_name }
+        ensures same_policy { result.policy.ghost_name ≡ policy.entry.ghost_name }
         ensures same_transcript { result.transcript.ghost_name ≡ transcript.entry.ghost_name }
         ensures unread { result.reader.now ≡ reader.old }
         ensures unwritten { result.writer.now ≡ writer.old }
-        ensures untold { result.listener.now ≡ bad_bodies.old }
+        ensures untold { result.policy.now ≡ policy.old }
         ensures transcribed { result.transcript.now ≡ transcript.old }
         ensures limited { result.limits ≡ limits }
         ensures unended { result.end ≡ None }
@@ -65,7 +65,7 @@ impl<'a, R: BufRead, W: Write, L: Listener> StreamTransport<'a, R, W, L> {
             alloc,
             reader,
             writer,
-            listener: bad_bodies,
+            policy,
             transcript,
             limits,
             end: None,
@@ -89,7 +89,7 @@ impl<'a, R: BufRead, W: Write, L: Listener> StreamTransport<'a, R, W, L> {
 
     /// The answer of a session over this transport, if `serve_transport` gave this: of several faults that fit it is the first of `Write`,
     /// `Memory`, `Read` and `Protocol`.
-    pub fn answer(&self, served: Served) -> Result<SessionEnd, SessionFault>
+    pub fn answer(&self, served: SessionOutcome) -> Result<SessionEnd, SessionFault>
         ensures { result ≡ session_answer_spec served.stop served.answer self.now.end self.now.fault }
     {
         session_answer(served, self.end, self.fault)
@@ -125,13 +125,13 @@ impl<'a, R: BufRead, W: Write, L: Listener> StreamTransport<'a, R, W, L> {
 
     /// What one wait gives that gives no wakes.
     fn next_event(&mut self) -> Event
-        ensures { StreamTransportGives R.remaining L.hears self.old (event_view result) self.new }
+        ensures { StreamTransportGives R.remaining L.passes self.old (event_view result) self.new }
     {
         let mut taken = Passed::new();
         let mut inbox = TolerantInbox::resumed(
             self.alloc,
             &mut *self.reader,
-            &mut *self.listener,
+            &mut *self.policy,
             self.limits,
             self.end,
         );
@@ -144,7 +144,7 @@ impl<'a, R: BufRead, W: Write, L: Listener> StreamTransport<'a, R, W, L> {
 
     /// What one wait gives that also gives wakes.
     fn next_arrival(&mut self) -> Arrival
-        ensures gives { StreamTransportGives R.remaining L.hears self.old (arrival_view result)
+        ensures gives { StreamTransportGives R.remaining L.passes self.old (arrival_view result)
             self.new }
         ensures reads_on { StreamTransportListens L.ends self.old (arrival_view result) self.new }
     {
@@ -152,7 +152,7 @@ impl<'a, R: BufRead, W: Write, L: Listener> StreamTransport<'a, R, W, L> {
         let mut inbox = TolerantInbox::resumed(
             self.alloc,
             &mut *self.reader,
-            &mut *self.listener,
+            &mut *self.policy,
             self.limits,
             self.end,
         );
@@ -164,10 +164,10 @@ impl<'a, R: BufRead, W: Write, L: Listener> StreamTransport<'a, R, W, L> {
     }
 }
 
-impl<'a, R: BufRead, W: Write, L: Listener> Inbox for StreamTransport<'a, R, W, L> {
+impl<'a, R: BufRead, W: Write, L: BadContentPolicy> Inbox for StreamTransport<'a, R, W, L> {
     ghost use Rattle.lsp_session.specs.StreamTransports.{StreamTransportGives};
 
-    ghost receives = { StreamTransportGives R.remaining L.hears };
+    ghost receives = { StreamTransportGives R.remaining L.passes };
 
     /// It has no timeouts: a receive waits as the reader does.
     fn receive_for(&mut self, _seconds: u64) -> Event {
@@ -180,10 +180,10 @@ impl<'a, R: BufRead, W: Write, L: Listener> Inbox for StreamTransport<'a, R, W, 
     }
 }
 
-impl<'a, R: BufRead, W: Write, L: Listener> WakingInbox for StreamTransport<'a, R, W, L> {
+impl<'a, R: BufRead, W: Write, L: BadContentPolicy> WakingInbox for StreamTransport<'a, R, W, L> {
     ghost use Rattle.lsp_session.specs.StreamTransports.{StreamTransportListens};
 
-    // If a wake can tell of a content part that is no message, it ends the messages only if the listener says so.
+    // If a wake can tell of a content part that is no message, it ends the messages only if the policy says so.
     ghost listens = { StreamTransportListens L.ends };
 
     #[tactic(auto, using(crate::proofs::Waiting::waits_none))]
@@ -192,7 +192,7 @@ impl<'a, R: BufRead, W: Write, L: Listener> WakingInbox for StreamTransport<'a, 
     }
 }
 
-impl<'a, R: BufRead, W: Write, L: Listener> Outbox for StreamTransport<'a, R, W, L> {
+impl<'a, R: BufRead, W: Write, L: BadContentPolicy> Outbox for StreamTransport<'a, R, W, L> {
     ghost use Rattle.lsp_session.specs.StreamTransports.{StreamTransportSends};
 
     ghost sends = { StreamTransportSends W.contents };

@@ -1,21 +1,21 @@
-// An inbox that reads messages, and asks a listener whether to read on after a content part that is none.
+// An inbox that reads messages, and asks a policy whether to read on after a content part that is none.
 ghost use Rattle.std.specs.Prelude.{◌≡◌, None};
 ghost use Rattle.lsp_message.specs.Told.{Told};
 ghost use Rattle.lsp_session.specs.ActBytes.{EventParts, ReadParts};
 ghost use Rattle.lsp_session.specs.Event.{arrival_view, event_view};
-ghost use Rattle.lsp_session.specs.Passing.{is_of_body as is_of_body_spec};
-ghost use Rattle.lsp_session.specs.PassingBoxes.{EndsAtBody, NeverEndsAtBody, ReadsNext, TolerantInboxGives};
+ghost use Rattle.lsp_session.specs.Passing.{is_of_content as is_of_content_spec};
+ghost use Rattle.lsp_session.specs.PassingBoxes.{EndsAtContent, NeverEndsAtContent, ReadsNext, TolerantInboxGives};
 
 use crate::lifecycle::{Arrival, Event, Inbox, WakingInbox, is_exit};
-use crate::loops::{Listener, ReadEnd};
+use crate::loops::{BadContentPolicy, ReadEnd};
 use lsp_message::{Limits, Message, Passed, ReadFault};
 use std::alloc::Global;
 use std::io::BufRead;
 
 /// Whether the fault is of a content part that was read to its end: it is not UTF-8, no JSON, no message, or a batch. The next
 /// frame follows it (LSP 3.17, "Base Protocol").
-pub fn is_of_body(fault: ReadFault) -> bool
-    ensures { result ≡ is_of_body_spec fault }
+pub fn is_of_content(fault: ReadFault) -> bool
+    ensures { result ≡ is_of_content_spec fault }
 {
     matches!(
         fault,
@@ -23,33 +23,33 @@ pub fn is_of_body(fault: ReadFault) -> bool
     )
 }
 
-/// Gives a reader's messages (LSP 3.17, "Base Protocol"), as `StreamInbox` does, but asks a listener at a content part that is no message
-/// (`is_of_body`) if a wake can tell of it: `receive_or_woken` passes over it and gives `Arrival::Woken`, or ends the messages. In the
+/// Gives a reader's messages (LSP 3.17, "Base Protocol"), as `StreamInbox` does, but asks a policy at a content part that is no message
+/// (`is_of_content`) if a wake can tell of it: `receive_or_woken` passes over it and gives `Arrival::Woken`, or ends the messages. In the
 /// other calls there is no wake, and such a part ends the messages, as each other fault does everywhere.
 #[derive(Debug, Drop)]
 pub struct TolerantInbox<'a, R, L> {
     alloc: Global,
     reader: &'a mut R,
-    listener: &'a mut L,
+    policy: &'a mut L,
     limits: Limits,
     end: Option<ReadEnd>,
 }
 
-impl<'a, R: BufRead, L: Listener> TolerantInbox<'a, R, L> {
+impl<'a, R: BufRead, L: BadContentPolicy> TolerantInbox<'a, R, L> {
     /// An inbox over a reader, for messages within limits. A longer header part or content part ends the messages with
     /// `ReadFault::HeaderTooLong` or `TooLong`. It takes no memory.
-    pub fn within(alloc: Global, reader: &'a mut R, listener: &'a mut L, limits: Limits) -> Self
+    pub fn within(alloc: Global, reader: &'a mut R, policy: &'a mut L, limits: Limits) -> Self
         ensures same_reader { result.reader.ghost_name ≡ reader.entry.ghost_name }
         ensures unread { result.reader.now ≡ reader.old }
-        ensures same_listener { result.listener.ghost_name ≡ listener.entry.ghost_name }
-        ensures untold { result.listener.now ≡ listener.old }
+        ensures same_policy { result.policy.ghost_name ≡ policy.entry.ghost_name }
+        ensures untold { result.policy.now ≡ policy.old }
         ensures unended { result.end ≡ None }
         ensures limited { result.limits ≡ limits }
     {
         TolerantInbox {
             alloc,
             reader,
-            listener,
+            policy,
             limits,
             end: None,
         }
@@ -59,20 +59,20 @@ impl<'a, R: BufRead, L: Listener> TolerantInbox<'a, R, L> {
     pub(crate) fn resumed(
         alloc: Global,
         reader: &'a mut R,
-        listener: &'a mut L,
+        policy: &'a mut L,
         limits: Limits,
         end: Option<ReadEnd>,
     ) -> Self
         ensures same_reader { result.reader.ghost_name ≡ reader.entry.ghost_name }
         ensures unread { result.reader.now ≡ reader.old }
-        ensures same_listener { result.listener.ghost_name ≡ listener.entry.ghost_name }
-        ensures untold { result.listener.now ≡ listener.old }
+        ensures same_policy { result.policy.ghost_name ≡ policy.entry.ghost_name }
+        ensures untold { result.policy.now ≡ policy.old }
         ensures resumed { (result.end ≡ end) × (result.limits ≡ limits) × (result.alloc ≡ alloc) }
     {
         TolerantInbox {
             alloc,
             reader,
-            listener,
+            policy,
             limits,
             end,
         }
@@ -88,7 +88,7 @@ impl<'a, R: BufRead, L: Listener> TolerantInbox<'a, R, L> {
     /// Reads on: a message, or none if no more come. A fault has not ended the messages yet.
     fn read_next(&mut self, taken: &mut Passed) -> Result<Option<Message>, ReadFault>
         ensures read { ReadsNext R.remaining self.old result self.new }
-        ensures reads_on { NeverEndsAtBody self.old self.new }
+        ensures reads_on { NeverEndsAtContent self.old self.new }
         ensures told { Told (ReadParts self.old.limits self.old.end result self.new.end) taken.old.parts
             taken.new.parts (R.remaining self.old.reader.now) (R.remaining self.new.reader.now) }
     {
@@ -109,11 +109,11 @@ impl<'a, R: BufRead, L: Listener> TolerantInbox<'a, R, L> {
         }
     }
 
-    /// What one wait gives that also gives wakes. At a content part that is no message the listener is asked whether to read on.
+    /// What one wait gives that also gives wakes. At a content part that is no message the policy is asked whether to read on.
     pub(crate) fn next_arrival(&mut self, taken: &mut Passed) -> Arrival
-        ensures gives { TolerantInboxGives R.remaining L.hears self.old (arrival_view result)
+        ensures gives { TolerantInboxGives R.remaining L.passes self.old (arrival_view result)
             self.new }
-        ensures reads_on { EndsAtBody L.ends self.old self.new }
+        ensures reads_on { EndsAtContent L.ends self.old self.new }
         ensures told { Told (EventParts self.old.limits self.old.end (arrival_view result) self.new.end)
             taken.old.parts taken.new.parts (R.remaining self.old.reader.now) (R.remaining self.new.reader.now) }
     {
@@ -121,7 +121,7 @@ impl<'a, R: BufRead, L: Listener> TolerantInbox<'a, R, L> {
             Ok(Some(message)) => Arrival::Message(message),
             Ok(None) => Arrival::Closed,
             Err(fault) => {
-                if is_of_body(fault) && self.listener.passes_over(fault) {
+                if is_of_content(fault) && self.policy.passes_over(fault) {
                     return Arrival::Woken;
                 }
                 self.end = Some(ReadEnd::Fault(fault));
@@ -132,7 +132,7 @@ impl<'a, R: BufRead, L: Listener> TolerantInbox<'a, R, L> {
 
     /// What one wait gives that gives no wakes.
     pub(crate) fn next_event(&mut self, taken: &mut Passed) -> Event
-        ensures gives { TolerantInboxGives R.remaining L.hears self.old (event_view result) self.new }
+        ensures gives { TolerantInboxGives R.remaining L.passes self.old (event_view result) self.new }
         ensures told { Told (EventParts self.old.limits self.old.end (event_view result) self.new.end)
             taken.old.parts taken.new.parts (R.remaining self.old.reader.now) (R.remaining self.new.reader.now) }
     {
@@ -147,10 +147,10 @@ impl<'a, R: BufRead, L: Listener> TolerantInbox<'a, R, L> {
     }
 }
 
-impl<'a, R: BufRead, L: Listener> Inbox for TolerantInbox<'a, R, L> {
+impl<'a, R: BufRead, L: BadContentPolicy> Inbox for TolerantInbox<'a, R, L> {
     ghost use Rattle.lsp_session.specs.PassingBoxes.{TolerantInboxGives};
 
-    ghost receives = { TolerantInboxGives R.remaining L.hears };
+    ghost receives = { TolerantInboxGives R.remaining L.passes };
 
     fn receive_for(&mut self, _seconds: u64) -> Event {
         self.next_event(&mut Passed::new())
@@ -162,11 +162,11 @@ impl<'a, R: BufRead, L: Listener> Inbox for TolerantInbox<'a, R, L> {
     }
 }
 
-impl<'a, R: BufRead, L: Listener> WakingInbox for TolerantInbox<'a, R, L> {
-    ghost use Rattle.lsp_session.specs.PassingBoxes.{EndsAtBody};
+impl<'a, R: BufRead, L: BadContentPolicy> WakingInbox for TolerantInbox<'a, R, L> {
+    ghost use Rattle.lsp_session.specs.PassingBoxes.{EndsAtContent};
 
-    // If a wake can tell of such a part, it ends the messages only if the listener says so.
-    ghost listens = { λ old _ new. EndsAtBody L.ends old new };
+    // If a wake can tell of such a part, it ends the messages only if the policy says so.
+    ghost listens = { λ old _ new. EndsAtContent L.ends old new };
 
     #[tactic(auto, using(crate::proofs::Waiting::waits_none))]
     fn receive_or_woken(&mut self) -> Arrival {

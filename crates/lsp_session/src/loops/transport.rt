@@ -9,7 +9,7 @@ ghost use Rattle.lsp_session.specs.OutputView.{output_view, sent_view, to_send_v
 ghost use Rattle.lsp_session.specs.Outputs.{SendsAll};
 ghost use Rattle.lsp_session.specs.Prompt.{Talks, WaitsIn};
 ghost use Rattle.lsp_session.specs.Replies.{ok_reply as ok_reply_spec};
-ghost use Rattle.lsp_session.specs.Served.{served_by, StopsFor};
+ghost use Rattle.lsp_session.specs.SessionOutcome.{served_by, StopsFor};
 ghost use Rattle.lsp_session.specs.Session.{starting, serving, SessionFrom, SessionOut};
 ghost use Rattle.lsp_session.specs.SessionLaws.{Both};
 
@@ -18,8 +18,8 @@ use crate::lifecycle::{
     Arrival, EXIT_SECONDS, Event, Inbox, Outbox, SendFault, WakingInbox, finish_on, is_exit, offer,
     ok_reply, shutdown_on, start_on,
 };
-use crate::loops::served::{Served, StopReason};
 use crate::loops::service::{Output, Service, ToSend};
+use crate::loops::session_outcome::{SessionOutcome, StopReason};
 use lsp_message::{Message, RequestId, Response, ResponseError};
 use serde_json::Value;
 use std::alloc::{AllocError, Global};
@@ -53,14 +53,14 @@ pub fn serve_transport<L: WakingInbox + Outbox, S: Service>(
     alloc: Global,
     transport: &mut L,
     service: &mut S,
-) -> Served
+) -> SessionOutcome
     ensures { Talks L.receives L.listens L.sends starting
         (Both (SessionOut S.behavior service.old service.new) (StopsFor result.stop))
         transport.old result.answer transport.new }
 {
     match run_transport(alloc, transport, service) {
         Ok(served) => served,
-        Err(error) => Served::failed(error),
+        Err(error) => SessionOutcome::failed(error),
     }
 }
 
@@ -69,7 +69,7 @@ fn run_transport<L: WakingInbox + Outbox, S: Service>(
     alloc: Global,
     transport: &mut L,
     service: &mut S,
-) -> Result<Served, ProtocolError>
+) -> Result<SessionOutcome, ProtocolError>
     ensures { Talks L.receives L.listens L.sends starting
         (Both (SessionOut S.behavior service.old service.new) (StopsFor (served_by result).stop))
         transport.old (served_by result).answer transport.new }
@@ -98,7 +98,7 @@ fn serve_messages<L: WakingInbox + Outbox, S: Service>(
     alloc: Global,
     transport: &mut L,
     service: &mut S,
-) -> Result<Served, ProtocolError>
+) -> Result<SessionOutcome, ProtocolError>
     ensures { Talks L.receives L.listens L.sends serving
         (Both (SessionFrom S.behavior serving service.old service.new)
         (StopsFor (served_by result).stop))
@@ -112,17 +112,17 @@ fn serve_messages<L: WakingInbox + Outbox, S: Service>(
                 send_output(transport, output)?;
                 continue;
             }
-            Arrival::Closed => return Ok(Served::closed(StopReason::NoMore)),
+            Arrival::Closed => return Ok(SessionOutcome::closed(StopReason::NoMore)),
         };
         if is_exit(&message) {
             drop(message);
-            return Ok(Served::closed(StopReason::Decided));
+            return Ok(SessionOutcome::closed(StopReason::Decided));
         }
         match shut_transport(alloc, transport, service, &message) {
             Ok(false) => {}
             Ok(true) => {
                 drop(message);
-                return Ok(Served::shut_down());
+                return Ok(SessionOutcome::shut_down());
             }
             Err(error) => {
                 drop(message);
@@ -132,7 +132,7 @@ fn serve_messages<L: WakingInbox + Outbox, S: Service>(
         let output = output_of(service, message)?;
         send_output(transport, output)?;
     }
-    Ok(Served::closed(StopReason::NoMore))
+    Ok(SessionOutcome::closed(StopReason::NoMore))
 }
 
 /// Waits as a session does that serves its client: for a message or a wake.

@@ -8,44 +8,44 @@ use Rattle.example_linter.proofs.Linter.note.Goals as goal
 
 pub returns-in-Some-Ok-clause-follow : goal.returns-in-Some-Ok-clause-follow
 returns-in-Some-Ok-clause-follow c =
-    follows_one c.look_at.result c.args.self.now.documents c.hear.new.self c.look_at.new.self.documents
-    c.args.self.now.changes.items c.look_at.new.self.changes.items c.in-Some-Ok.made.uri.now
+    follows_one c.look_at.result c.args.self.now.documents c.apply.new.self c.look_at.new.self.documents
+    c.args.self.now.changes.items c.look_at.new.self.changes.items c.in-Some-Ok.update.uri.now
     (hears_made (method_named (string_bytes c.args.notification.now.method)) c.args.self.now.documents
-    (view c.args.notification.now.params) c.hear.result c.in-Some-Ok.made c.hear.new.self c.hear.ensures (cc))
+    (view c.args.notification.now.params) c.apply.result c.in-Some-Ok.update c.apply.new.self c.apply.ensures (cc))
     c.look_at.ensures.same c.look_at.ensures.change
 
 pub returns-in-Some-Ok-clause-clear : goal.returns-in-Some-Ok-clause-clear
 returns-in-Some-Ok-clause-clear c =
-    cleared c.look_at.result c.hear.new.self c.look_at.new.self.documents c.args.acts.now.items
+    cleared c.look_at.result c.apply.new.self c.look_at.new.self.documents c.args.acts.now.items
     c.look_at.new.acts.items c.requires c.look_at.ensures.same c.look_at.ensures.clear
 
 pub returns-in-Some-clause-follow : goal.returns-in-Some-clause-follow
 returns-in-Some-clause-follow c =
-    follows_one c.look_at-in-Some.result c.args.self.now.documents c.hear.new.self
+    follows_one c.look_at-in-Some.result c.args.self.now.documents c.apply.new.self
     c.look_at-in-Some.new.self.documents c.args.self.now.changes.items c.look_at-in-Some.new.self.changes.items
     c.in-Some.uri.now
-    (subst (λ (uri : Option (List ℕ)). Touches (documents_of c.args.self.now.documents) (documents_of c.hear.new.self)
+    (subst (λ (uri : Option (List ℕ)). Touches (documents_of c.args.self.now.documents) (documents_of c.apply.new.self)
     uri) (ap (option_map (λ s. s.now)) c.in-Some.is)
     (hears_missed (method_named (string_bytes c.args.notification.now.method)) c.args.self.now.documents
-    (view c.args.notification.now.params) c.hear.result c.in-Some-Err.missed c.hear.new.self c.hear.ensures (cc)))
+    (view c.args.notification.now.params) c.apply.result c.in-Some-Err.missed c.apply.new.self c.apply.ensures (cc)))
     c.look_at-in-Some.ensures.same c.look_at-in-Some.ensures.change
 
 pub returns-in-Some-clause-clear : goal.returns-in-Some-clause-clear
 returns-in-Some-clause-clear c =
-    cleared c.look_at-in-Some.result c.hear.new.self c.look_at-in-Some.new.self.documents c.args.acts.now.items
+    cleared c.look_at-in-Some.result c.apply.new.self c.look_at-in-Some.new.self.documents c.args.acts.now.items
     c.look_at-in-Some.new.acts.items c.requires c.look_at-in-Some.ensures.same c.look_at-in-Some.ensures.clear
 
 pub returns-in-None-uri-clause-follow : goal.returns-in-None-uri-clause-follow
 returns-in-None-uri-clause-follow c =
-    follows_all c.look_at_all.result c.args.self.now.documents c.hear.new.self c.look_at_all.new.self.documents
+    follows_all c.look_at_all.result c.args.self.now.documents c.apply.new.self c.look_at_all.new.self.documents
     c.args.self.now.changes.items c.look_at_all.new.self.changes.items
-    (subst (λ (uri : Option (List ℕ)). Touches (documents_of c.args.self.now.documents) (documents_of c.hear.new.self)
+    (subst (λ (uri : Option (List ℕ)). Touches (documents_of c.args.self.now.documents) (documents_of c.apply.new.self)
     uri) (ap (option_map (λ s. s.now)) c.in-None-uri.is)
     (hears_missed (method_named (string_bytes c.args.notification.now.method)) c.args.self.now.documents
-    (view c.args.notification.now.params) c.hear.result c.in-Some-Err.missed c.hear.new.self c.hear.ensures (cc)))
+    (view c.args.notification.now.params) c.apply.result c.in-Some-Err.missed c.apply.new.self c.apply.ensures (cc)))
     c.look_at_all.ensures.same c.look_at_all.ensures.changes
 
 pub returns-in-None-uri-clause-clear : goal.returns-in-None-uri-clause-clear
 returns-in-None-uri-clause-clear c =
-    cleared c.look_at_all.result c.hear.new.self c.look_at_all.new.self.documents c.args.acts.now.items
+    cleared c.look_at_all.result c.apply.new.self c.look_at_all.new.self.documents c.args.acts.now.items
     c.look_at_all.new.acts.items c.requires c.look_at_all.ensures.same c.look_at_all.ensures.clear

@@ -10,11 +10,11 @@ use Rattle.lsp_jobs.proofs.laws.session_with_jobs_that_asks_keeps_laws.Goals as 
 pub returns : goal.returns
 returns g c =
     let may = stated_jobs g.S.JobServer g.S.Slots.Slots g.J.Job in record {
-      bytes = λ limit first last text heard heard_last before after answer tells.
+      bytes = λ limit first last text policy policy_last before after answer tells.
           over_as (JobSession g.row.T.Denot g.S.Server may first last)
           (LawfulJobSession g.row.T.Denot g.S.Server may first last)
-          (lawful_jobs g.row.T.Denot g.S.Server may first last) _ (text, heard) _ _ tells;
-      nothing_passed = λ limit first last text heard heard_last before after answer never tells.
-          none_passed true g.L.Listener.hears limit heard heard_last never
+          (lawful_jobs g.row.T.Denot g.S.Server may first last) _ (text, policy) _ _ tells;
+      nothing_passed = λ limit first last text policy policy_last before after answer never tells.
+          none_passed true g.L.BadContentPolicy.passes limit policy policy_last never
           (JobSession g.row.T.Denot g.S.Server may first last) text before after answer tells;
     }

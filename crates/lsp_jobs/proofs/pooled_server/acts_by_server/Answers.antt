@@ -1,12 +1,12 @@
 use Rattle.std.proofs.Common.{◌≡◌, sym, ◌∙◌, ap, map, List, [], ◌∷◌, ◌++◌, append_assoc}
 use Rattle.std.proofs.lemmas.List.{map-append}
 use Rattle.std.specs.Vec.Iter.{into_iter_items}
-use Rattle.lsp_service.specs.Acts.{Act as Plain}
-use Rattle.lsp_service.specs.View.{act_view}
-use Rattle.lsp_service.specs.declared.server.Act.{Act}
+use Rattle.lsp_acts.specs.Acts.{Act as Plain}
+use Rattle.lsp_acts.specs.View.{act_view}
+use Rattle.lsp_acts.specs.declared.server.Act.{Act}
 use Rattle.lsp_jobs.proofs.PendingLemmas.{all_taken}
 use Rattle.lsp_jobs.specs.Asking.{by_server}
-use Rattle.lsp_jobs.specs.declared.asking.Asked.{Asked}
+use Rattle.lsp_jobs.specs.declared.asking.RequestOrigin.{RequestOrigin}
 use Rattle.lsp_jobs.proofs.pooled_server.acts_by_server.Goals as goal
 
 pub loop-act-preserved : goal.loop-act-preserved
@@ -23,7 +23,7 @@ loop-act-preserved g c =
       tt,
       tt,
       append_assoc done (c.in-Some.act ∷ []) rest ∙ (ap (λ (l : List (Act _)). done ++ l) (sym turn) ∙ before.2),
-      c.in_ok-push_by_server.ensures ∙ ap (λ (l : List (Plain (Asked g.row.P.Denot))). l
+      c.in_ok-push_by_server.ensures ∙ ap (λ (l : List (Plain (RequestOrigin g.row.P.Denot))). l
           ++ by_server (seen c.in-Some.act) ∷ []) before.3 ∙ sym more,
     )
 

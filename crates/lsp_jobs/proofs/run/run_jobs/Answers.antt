@@ -1,9 +1,9 @@
 use Rattle.std.proofs.Common.{ap, ◌∙◌, true}
 use Rattle.lsp_session.specs.Session.{SessionOut}
-use Rattle.lsp_service.specs.QueuedServer.{woken_with_queues}
+use Rattle.lsp_acts.specs.QueuedServer.{woken_with_queues}
 use Rattle.lsp_threads.proofs.Sessions.{started_told_as, taken_told_as}
 use Rattle.lsp_threads.specs.Passing.{noted}
-use Rattle.lsp_threads.specs.declared.run.Threaded.{Threaded}
+use Rattle.lsp_threads.specs.declared.run.ThreadsOutcome.{ThreadsOutcome}
 use Rattle.lsp_jobs.proofs.JobSessions.{job_session}
 use Rattle.lsp_jobs.specs.JobSession.{JobSession, seen_with_jobs}
 use Rattle.lsp_jobs.specs.declared.pooled_server.PooledServer.{PooledServer}
@@ -16,14 +16,14 @@ returns-clause-session g c =
     let may = seen_with_jobs g.row.T.Denot g.S.Server jobs in
     let old = c.new-queued.result in
     let new = c.run_threads_of_service_over-done.new.service in
-    started_told_as true g.L.Listener.hears c.args.options.limits c.args.bad_bodies.now _
+    started_told_as true g.L.BadContentPolicy.passes c.args.options.limits c.args.policy.now _
     (SessionOut (woken_with_queues may) old new) (JobSession g.row.T.Denot g.S.Server jobs
     c.args.server _)
     (job_session g.row.T.Denot g.S.Server jobs old new c.new-pooled.result c.args.server _
     c.new-queued.ensures
     (c.new-pooled.ensures ∙ ap (λ t. (c.args.server, t)) c.in-Ok-start_pool.ensures)
     (c.into_parts-server.ensures ∙ ap (λ (p : PooledServer _ _ _ _). p.server) c.into_server.ensures))
-    (λ (done : Threaded _). g.W.Write.contents done.writer) (λ (done : Threaded _). done.answer) _ _ _
+    (λ (done : ThreadsOutcome _). g.W.Write.contents done.writer) (λ (done : ThreadsOutcome _). done.answer) _ _ _
     (rw c.in-Ok-waker.ensures.made at c.run_threads_of_service_over-done.ensures.session)
 
 pub returns-clause-told : goal.returns-clause-told
@@ -32,13 +32,13 @@ returns-clause-told g c =
     let may = seen_with_jobs g.row.T.Denot g.S.Server jobs in
     let old = c.new-queued.result in
     let new = c.run_threads_of_service_over-done.new.service in
-    taken_told_as true g.L.Listener.hears c.args.options.limits c.args.bad_bodies.now _
+    taken_told_as true g.L.BadContentPolicy.passes c.args.options.limits c.args.policy.now _
     (SessionOut (woken_with_queues may) old new) (JobSession g.row.T.Denot g.S.Server jobs
     c.args.server _)
     (job_session g.row.T.Denot g.S.Server jobs old new c.new-pooled.result c.args.server _
     c.new-queued.ensures
     (c.new-pooled.ensures ∙ ap (λ t. (c.args.server, t)) c.in-Ok-start_pool.ensures)
     (c.into_parts-server.ensures ∙ ap (λ (p : PooledServer _ _ _ _). p.server) c.into_server.ensures))
-    (λ (done : Threaded _). done.taken.parts) (λ (done : Threaded _). noted done.given)
-    (λ (done : Threaded _). done.answer) _ (rw c.in-Ok-waker.ensures.made at
+    (λ (done : ThreadsOutcome _). done.taken.parts) (λ (done : ThreadsOutcome _). noted done.given)
+    (λ (done : ThreadsOutcome _). done.answer) _ (rw c.in-Ok-waker.ensures.made at
     c.run_threads_of_service_over-done.ensures.told)

@@ -1,8 +1,8 @@
 use Rattle.lsp_session.proofs.Lending.{over_as}
-use Rattle.lsp_service.proofs.Taking.{lawful}
-use Rattle.lsp_service.specs.Law.{LawfulSession}
-use Rattle.lsp_service.specs.QueuedServer.{ServerSession}
-use Rattle.lsp_service.specs.Stated.{unwoken}
+use Rattle.lsp_acts.proofs.Taking.{lawful}
+use Rattle.lsp_acts.specs.Law.{LawfulSession}
+use Rattle.lsp_acts.specs.QueuedServer.{ServerSession}
+use Rattle.lsp_acts.specs.Stated.{unwoken}
 use Rattle.lsp_server.proofs.laws.server_in_threads_keeps_laws.Goals as goal
 
 pub returns : goal.returns

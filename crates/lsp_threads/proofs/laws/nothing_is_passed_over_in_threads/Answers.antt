@@ -4,5 +4,5 @@ use Rattle.lsp_threads.proofs.laws.nothing_is_passed_over_in_threads.Goals as go
 
 pub returns : goal.returns
 returns g c = λ wakeable limit old new text first last before after answer never tells.
-    none_passed wakeable g.L.Listener.hears limit first last never (SessionOut g.S.Service.behavior old new) text before
-    after answer tells
+    none_passed wakeable g.L.BadContentPolicy.passes limit first last never (SessionOut g.S.Service.behavior old new)
+    text before after answer tells

@@ -1,7 +1,7 @@
 use Rattle.std.proofs.Common.{◌++◌, ◌∙◌, ap, refl, sym, Some}
 use Rattle.std.specs.List.{concat}
 use Rattle.lsp_session.proofs.Ran.{session_facts}
-use Rattle.lsp_session.specs.Served.{StopsFor}
+use Rattle.lsp_session.specs.SessionOutcome.{StopsFor}
 use Rattle.lsp_session.specs.Session.{starting, SessionOut}
 use Rattle.lsp_session.specs.SessionLaws.{Both}
 use Rattle.lsp_session.specs.SessionFault.{session_answer}
@@ -19,7 +19,8 @@ pub leave_reading-read-requires : goal.leave_reading-read-requires
 leave_reading-read-requires g c =
     let run = c.serve_ends-served.ensures in
     let kept = c.parts-2-1.given.1 (sym c.new-ends.ensures.same_parts ∙ sym run.lent.0) in
-    let same = ap (λ (t : Taking). t.relay) kept ∙ gives_relay g.L.Listener.hears run.runs.events _ _ run.runs.received
+    let same = ap (λ (t : Taking). t.relay) kept ∙ gives_relay g.L.BadContentPolicy.passes run.runs.events _ _
+    run.runs.received
     ∙ ap (λ (t : Taking). t.relay) (c.new-ends.ensures.untaken ∙ c.new-parts.ensures) in
     record {
       known = (
@@ -48,13 +49,13 @@ returns-clause-given g c = c.join-replies_rx.ensures.2
 
 pub returns-clause-told : goal.returns-clause-told
 returns-clause-told g c = λ rest ends.
-    let hears = g.L.Listener.hears in
+    let passes = g.L.BadContentPolicy.passes in
     let old = c.args.service.now in
     let new = c.serve_ends-served.new.service in
     let served = c.serve_ends-served.result in
     let run = c.serve_ends-served.ensures in
     let kept = c.parts-2-1.given.1 (sym c.new-ends.ensures.same_parts ∙ sym run.lent.0) in
-    let told = c.listener-1.given.1 (sym c.new-ends.ensures.same_listener ∙ sym run.lent.1) in
+    let told = c.policy-1.given.1 (sym c.new-ends.ensures.same_policy ∙ sym run.lent.1) in
     let sent = c.outbox-2-1.given.1 (sym c.new-ends.ensures.same_outbox ∙ sym run.lent.2) in
     let left = c.leave_reading-read.ensures in
     let first = c.new-ends.ensures.untaken ∙ c.new-parts.ensures in
@@ -65,7 +66,7 @@ returns-clause-told g c = λ rest ends.
     let fault = c.reply_fault-fault.ensures ∙ (λ i. reply_fault c.join-replies_rx.result.2 (failed i)) in
     let answer = c.session_answer-answer.ensures ∙ (λ i. session_answer served.stop served.answer (ended i)
     (fault i)) in
-    rw (answer, told, sym c.new-ends.ensures.untold) (threads_tell hears c.args.workers.reading.promise.limits
+    rw (answer, told, sym c.new-ends.ensures.untold) (threads_tell passes c.args.workers.reading.promise.limits
     (Both (SessionOut g.S.Service.behavior old new) (StopsFor served.stop))
     (SessionOut g.S.Service.behavior old new) served.stop
     (λ xs stop shutdown_reply answer both. (

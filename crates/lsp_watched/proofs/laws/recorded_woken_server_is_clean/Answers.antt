@@ -1,4 +1,4 @@
-use Rattle.lsp_service.specs.Stated.{with_wakes}
+use Rattle.lsp_acts.specs.Stated.{with_wakes}
 use Rattle.lsp_watched.proofs.OwnRequests.{server_is_clean}
 use Rattle.lsp_watched.proofs.laws.recorded_woken_server_is_clean.Goals as goal
 

@@ -1,7 +1,7 @@
 use Rattle.std.proofs.Common.{ap, subst, ◌∙◌, map}
 use Rattle.std.proofs.lemmas.Result.{IfOk-weaker}
 use Rattle.std.specs.List.{FoldsTo}
-use Rattle.lsp_service.specs.View.{act_view}
+use Rattle.lsp_acts.specs.View.{act_view}
 use Rattle.lsp_jobs.specs.Pooled.{Changes, unanswered}
 use Rattle.lsp_jobs.specs.PoolView.{pending_jobs}
 use Rattle.lsp_jobs.specs.PendingJobs.{PendingJobs}

@@ -1,8 +1,8 @@
 use Rattle.std.proofs.Common.{◌≡◌, sym, ◌∙◌, ap, map, ◌+◌, List, ◌∷◌, drop}
 use Rattle.std.proofs.lemmas.List.{drop_more}
-use Rattle.lsp_service.specs.Acts.{Act as Plain}
-use Rattle.lsp_service.specs.View.{act_view}
-use Rattle.lsp_service.specs.declared.server.Act.{Act}
+use Rattle.lsp_acts.specs.Acts.{Act as Plain}
+use Rattle.lsp_acts.specs.View.{act_view}
+use Rattle.lsp_acts.specs.declared.server.Act.{Act}
 use Rattle.lsp_jobs.proofs.SlotChanges.{unanswered_first}
 use Rattle.lsp_jobs.specs.PendingJobs.{PendingJobs}
 use Rattle.lsp_jobs.specs.Pooled.{unanswered}

@@ -1,6 +1,6 @@
 use Rattle.std.proofs.Common.{◌≡◌, drop}
 use Rattle.std.specs.Prelude.{map}
-use Rattle.lsp_service.specs.View.{act_view}
+use Rattle.lsp_acts.specs.View.{act_view}
 use Rattle.lsp_jobs.specs.Pooled.{unanswered}
 use Rattle.lsp_jobs.specs.PoolView.{pending_jobs}
 use Rattle.lsp_jobs.proofs.pooled_server.PooledServer.forget_answered.Given as goal

@@ -1,5 +1,5 @@
 use Rattle.std.proofs.Common.{map, sym, ◌∙◌}
-use Rattle.lsp_service.specs.View.{act_view}
+use Rattle.lsp_acts.specs.View.{act_view}
 use Rattle.lsp_jobs.proofs.PendingLemmas.{was_free}
 use Rattle.lsp_jobs.specs.Ends.{ended}
 use Rattle.lsp_jobs.specs.PoolView.{pending_jobs}

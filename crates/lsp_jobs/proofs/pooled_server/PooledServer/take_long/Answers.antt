@@ -2,7 +2,7 @@ use Rattle.std.proofs.Common.{◌∙◌, sym, ap, refl, inl, inr, [], ◌∷◌,
 use Rattle.std.proofs.lemmas.Result.{IfOk-weaker}
 use Rattle.lsp_message.specs.Id.{Id}
 use Rattle.lsp_message.specs.View.{outcome_view}
-use Rattle.lsp_service.specs.Acts.{replies}
+use Rattle.lsp_acts.specs.Acts.{replies}
 use Rattle.lsp_jobs.specs.Ends.{no_memory}
 use Rattle.lsp_jobs.specs.PendingJobs.{with_job, without}
 use Rattle.lsp_jobs.specs.PoolView.{pending_jobs}

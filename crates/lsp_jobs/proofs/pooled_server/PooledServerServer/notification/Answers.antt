@@ -1,7 +1,7 @@
 use Rattle.serde_json.specs.View.{view}
 use Rattle.std.proofs.Common.{subst, map, string_bytes}
 use Rattle.std.proofs.lemmas.Result.{IfOk-weaker}
-use Rattle.lsp_service.specs.View.{act_view}
+use Rattle.lsp_acts.specs.View.{act_view}
 use Rattle.lsp_jobs.specs.Pooled.{Does}
 use Rattle.lsp_jobs.specs.Seen.{seen}
 use Rattle.lsp_jobs.specs.PendingJobs.{PendingJobs}

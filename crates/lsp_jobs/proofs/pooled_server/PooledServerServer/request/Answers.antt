@@ -2,9 +2,9 @@ use Rattle.serde_json.specs.View.{view}
 use Rattle.std.proofs.Common.{◌∙◌, ap, subst, inl, inr, map, string_bytes}
 use Rattle.std.proofs.lemmas.Result.{IfOk-weaker}
 use Rattle.lsp_message.specs.Id.{Id}
-use Rattle.lsp_service.specs.View.{act_view}
+use Rattle.lsp_acts.specs.View.{act_view}
 use Rattle.lsp_jobs.proofs.PendingLemmas.{given_up, long_again}
-use Rattle.lsp_jobs.specs.Asking.{same_asked}
+use Rattle.lsp_jobs.specs.Asking.{same_origin}
 use Rattle.lsp_jobs.specs.PendingJobs.{PendingJobs, without}
 use Rattle.lsp_jobs.specs.PoolView.{pending_jobs}
 use Rattle.lsp_jobs.specs.Pooled.{ChangesSlots, TakesLong}
@@ -29,7 +29,7 @@ returns-then-is_long g c =
     let method = string_bytes c.args.request.method in
     let params = view c.args.request.params in
     let did = seen c.take_long.new.self in
-    let view_all = act_view (same_asked g.S.Payload.PartialEq.eq) in
+    let view_all = act_view (same_origin g.S.Payload.PartialEq.eq) in
     let left = c.forget.ensures.pending
     ∙ ap (λ (id : Id). without (Request id) before) c.in_ok-clone.ensures in
     IfOk-weaker c.take_long.result _ _ (λ all long. inl (

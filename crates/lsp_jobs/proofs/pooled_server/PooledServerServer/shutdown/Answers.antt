@@ -1,6 +1,6 @@
 use Rattle.std.proofs.Common.{map}
 use Rattle.std.proofs.lemmas.Result.{IfOk-weaker}
-use Rattle.lsp_service.specs.View.{act_view}
+use Rattle.lsp_acts.specs.View.{act_view}
 use Rattle.lsp_jobs.proofs.pooled_server.PooledServerServer.shutdown.Goals as goal
 
 pub returns : goal.returns

@@ -1,6 +1,6 @@
 use Rattle.std.proofs.Common.{subst, inl, inr, map}
 use Rattle.std.proofs.lemmas.Result.{IfOk-weaker}
-use Rattle.lsp_service.specs.View.{act_view}
+use Rattle.lsp_acts.specs.View.{act_view}
 use Rattle.lsp_jobs.specs.Ends.{end_of}
 use Rattle.lsp_jobs.specs.PoolView.{came_view}
 use Rattle.lsp_jobs.specs.Pooled.{Ends, reply_at}

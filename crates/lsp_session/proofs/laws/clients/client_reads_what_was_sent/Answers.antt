@@ -9,9 +9,9 @@ returns g c = record {
   bytes = λ limit old new text left before written answer small gives.
       client_reads before written small (ReadsMessage limit) (SessionOut g.S.Service.behavior old new) text
       (Ends limit left answer) answer gives;
-  listener = λ limit old new text left first last before written answer small gives.
-      client_reads before written small (ReadsFrame g.L.Listener.hears limit) (SessionOut g.S.Service.behavior old new)
-      (text, first)
-      (λ by stop shutdown_reply at. Ends limit left answer by stop shutdown_reply at.0 × HearsLast g.L.Listener.hears
-      limit stop at last) answer gives;
+  policy = λ limit old new text left first last before written answer small gives.
+      client_reads before written small (ReadsFrame g.L.BadContentPolicy.passes limit) (SessionOut
+      g.S.Service.behavior old new) (text, first)
+      (λ by stop shutdown_reply at. Ends limit left answer by stop shutdown_reply at.0 × HearsLast
+      g.L.BadContentPolicy.passes limit stop at last) answer gives;
 }

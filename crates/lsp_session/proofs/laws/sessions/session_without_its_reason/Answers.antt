@@ -1,5 +1,5 @@
 use Rattle.lsp_session.proofs.Lending.{runs_as, talks_as}
-use Rattle.lsp_session.specs.Served.{StopsFor}
+use Rattle.lsp_session.specs.SessionOutcome.{StopsFor}
 use Rattle.lsp_session.specs.Session.{starting, SessionOut}
 use Rattle.lsp_session.specs.SessionLaws.{Both}
 use Rattle.lsp_session.proofs.laws.sessions.session_without_its_reason.Goals as goal

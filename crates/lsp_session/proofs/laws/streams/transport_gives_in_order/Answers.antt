@@ -4,9 +4,9 @@ use Rattle.lsp_session.proofs.laws.streams.transport_gives_in_order.Goals as goa
 
 pub returns : goal.returns
 returns g c = λ old new before after reason answer unused talks.
-    let listens = StreamTransportListens g.L.Listener.ends in (
-      gives_in_order g.R.Read.remaining g.L.Listener.hears g.W.Write.contents g.S.Service.behavior listens old new
-          before after unused reason answer talks,
-      keeps_ends g.R.Read.remaining g.L.Listener.hears g.W.Write.contents g.S.Service.behavior listens old new before
-          after unused reason answer talks,
+    let listens = StreamTransportListens g.L.BadContentPolicy.ends in (
+      gives_in_order g.R.Read.remaining g.L.BadContentPolicy.passes g.W.Write.contents g.S.Service.behavior listens
+          old new before after unused reason answer talks,
+      keeps_ends g.R.Read.remaining g.L.BadContentPolicy.passes g.W.Write.contents g.S.Service.behavior listens old
+          new before after unused reason answer talks,
     )

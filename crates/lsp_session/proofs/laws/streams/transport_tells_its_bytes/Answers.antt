@@ -4,9 +4,9 @@ use Rattle.lsp_session.proofs.laws.streams.transport_tells_its_bytes.Goals as go
 
 pub returns : goal.returns
 returns g c = λ old new before after reason answer unused talks.
-    let listens = StreamTransportListens g.L.Listener.ends in (
-      serves g.R.Read.remaining g.L.Listener.hears g.W.Write.contents g.S.Service.behavior listens old new before after
-          unused reason answer talks,
-      all_passed g.R.Read.remaining g.L.Listener.hears g.W.Write.contents g.S.Service.behavior listens old new before
-          after unused reason answer talks,
+    let listens = StreamTransportListens g.L.BadContentPolicy.ends in (
+      serves g.R.Read.remaining g.L.BadContentPolicy.passes g.W.Write.contents g.S.Service.behavior listens old
+          new before after unused reason answer talks,
+      all_passed g.R.Read.remaining g.L.BadContentPolicy.passes g.W.Write.contents g.S.Service.behavior listens old
+          new before after unused reason answer talks,
     )

@@ -2,7 +2,7 @@ use Rattle.std.proofs.Common.{sym, ap, ◌∙◌}
 use Rattle.serde_json.specs.View.{view}
 use Rattle.lsp_session.specs.HandlerService.{lent_handler}
 use Rattle.lsp_session.specs.HandlerSession.{of_handler}
-use Rattle.lsp_session.specs.Served.{StopsFor}
+use Rattle.lsp_session.specs.SessionOutcome.{StopsFor}
 use Rattle.lsp_session.specs.Session.{SessionOut}
 use Rattle.lsp_session.specs.SessionLaws.{Both}
 use Rattle.lsp_session.specs.Unwoken.{UnwokenReceives}

@@ -14,15 +14,15 @@ returns-clause-told g c =
       ap (λ (t : Transcript). notes_of t)
           c.within-transport.ensures.transcribed ∙ c.requires,
     ) in
-    let names = keeps_ends g.R.Read.remaining g.L.Listener.hears g.W.Write.contents g.S.Service.behavior
-    (StreamTransportListens g.L.Listener.ends) _ _ _ _ unused _ _ c.serve_transport-served.ensures in
+    let names = keeps_ends g.R.Read.remaining g.L.BadContentPolicy.passes g.W.Write.contents g.S.Service.behavior
+    (StreamTransportListens g.L.BadContentPolicy.ends) _ _ _ _ unused _ _ c.serve_transport-served.ensures in
     rw (
       c.answer.ensures,
       c.transcript-1.given.1 (sym c.within-transport.ensures.same_transcript ∙ sym names.3),
       ← c.within-transport.ensures.limited,
     )
-    (told_session g.R.Read.remaining g.L.Listener.hears g.W.Write.contents g.S.Service.behavior (StreamTransportListens
-    g.L.Listener.ends) _ _ _ _ unused _ _ c.serve_transport-served.ensures)
+    (told_session g.R.Read.remaining g.L.BadContentPolicy.passes g.W.Write.contents g.S.Service.behavior
+    (StreamTransportListens g.L.BadContentPolicy.ends) _ _ _ _ unused _ _ c.serve_transport-served.ensures)
 
 pub returns-clause-passed : goal.returns-clause-passed
 returns-clause-passed g c =
@@ -32,8 +32,8 @@ returns-clause-passed g c =
       ap (λ (t : Transcript). notes_of t)
           c.within-transport.ensures.transcribed ∙ c.requires,
     ) in
-    let names = keeps_ends g.R.Read.remaining g.L.Listener.hears g.W.Write.contents g.S.Service.behavior
-    (StreamTransportListens g.L.Listener.ends) _ _ _ _ unused _ _ c.serve_transport-served.ensures in
+    let names = keeps_ends g.R.Read.remaining g.L.BadContentPolicy.passes g.W.Write.contents g.S.Service.behavior
+    (StreamTransportListens g.L.BadContentPolicy.ends) _ _ _ _ unused _ _ c.serve_transport-served.ensures in
     rw (
       c.transcript-1.given.1 (sym c.within-transport.ensures.same_transcript ∙ sym names.3),
       c.reader-1.given.1 (sym c.within-transport.ensures.same_reader ∙ sym names.0),
@@ -41,8 +41,8 @@ returns-clause-passed g c =
       ← c.within-transport.ensures.unread,
       ← c.within-transport.ensures.unwritten,
     )
-    (all_passed g.R.Read.remaining g.L.Listener.hears g.W.Write.contents g.S.Service.behavior (StreamTransportListens
-    g.L.Listener.ends) _ _ _ _ unused _ _ c.serve_transport-served.ensures)
+    (all_passed g.R.Read.remaining g.L.BadContentPolicy.passes g.W.Write.contents g.S.Service.behavior
+    (StreamTransportListens g.L.BadContentPolicy.ends) _ _ _ _ unused _ _ c.serve_transport-served.ensures)
 
 pub returns-clause-known : goal.returns-clause-known
 returns-clause-known g c =
@@ -52,10 +52,11 @@ returns-clause-known g c =
       ap (λ (t : Transcript). notes_of t)
           c.within-transport.ensures.transcribed ∙ c.requires,
     ) in
-    rw (c.answer.ensures) (lent_gives g.R.Read.remaining g.L.Listener.hears g.W.Write.contents g.S.Service.behavior
-    (StreamTransportListens g.L.Listener.ends) _ _ _ _ unused _ _ c.serve_transport-served.ensures
-    c.args.limits c.within-transport.ensures.limited c.args.reader.now _ c.args.writer.now _ c.args.bad_bodies.now _
+    rw (c.answer.ensures) (lent_gives g.R.Read.remaining g.L.BadContentPolicy.passes g.W.Write.contents
+    g.S.Service.behavior (StreamTransportListens g.L.BadContentPolicy.ends) _ _ _ _ unused _ _
+    c.serve_transport-served.ensures
+    c.args.limits c.within-transport.ensures.limited c.args.reader.now _ c.args.writer.now _ c.args.policy.now _
     c.within-transport.ensures.unread c.within-transport.ensures.unwritten c.within-transport.ensures.untold
     (λ names. c.reader-1.given.1 (sym c.within-transport.ensures.same_reader ∙ sym names))
-    (λ names. c.bad_bodies-1.given.1 (sym c.within-transport.ensures.same_listener ∙ sym names))
+    (λ names. c.policy-1.given.1 (sym c.within-transport.ensures.same_policy ∙ sym names))
     (λ names. c.writer-1.given.1 (sym c.within-transport.ensures.same_writer ∙ sym names)))

@@ -28,7 +28,7 @@ pub returns-in-Ok-Message : goal.returns-in-Ok-Message
 returns-in-Ok-Message g c =
     let comes = rw (c.in-Ok-Message.is, c.in-Ok-Message.field-0-is) at c.read_next.ensures in (
       message_after (seen_of c.args.self.now) (seen_of c.loop.self) (seen_of c.read_next.new.self) c.loop.invariant.0
-          g.L.Listener.hears (message_view c.in-Ok-Message.message) comes.0,
+          g.L.BadContentPolicy.passes (message_view c.in-Ok-Message.message) comes.0,
       left_on c.args.self.now c.loop.self c.read_next.new.self c.loop.invariant.1 comes.1,
     )
 
@@ -36,7 +36,7 @@ pub returns-in-Ok-Closed : goal.returns-in-Ok-Closed
 returns-in-Ok-Closed g c =
     let comes = rw (c.in-Ok-Closed.is, c.in-Ok-Closed.field-0-is) at c.read_next.ensures in (
       closed_after (seen_of c.args.self.now) (seen_of c.loop.self) (seen_of c.read_next.new.self) c.loop.invariant.0
-          g.L.Listener.hears comes.0,
+          g.L.BadContentPolicy.passes comes.0,
       left_on c.args.self.now c.loop.self c.read_next.new.self c.loop.invariant.1 comes.1,
     )
 
@@ -44,6 +44,6 @@ pub returns-in-Err : goal.returns-in-Err
 returns-in-Err g c =
     let comes = rw c.in-Err.is at c.read_next.ensures in (
       fault_after (seen_of c.args.self.now) (seen_of c.loop.self) (seen_of c.read_next.new.self) c.loop.invariant.0
-          g.L.Listener.hears c.in-Err.fault comes.0,
+          g.L.BadContentPolicy.passes c.in-Err.fault comes.0,
       left_on c.args.self.now c.loop.self c.read_next.new.self c.loop.invariant.1 comes.1,
     )

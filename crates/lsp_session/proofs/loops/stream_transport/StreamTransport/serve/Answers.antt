@@ -4,12 +4,11 @@ use Rattle.lsp_session.proofs.loops.stream_transport.StreamTransport.serve.Goals
 
 pub returns-clause-serves : goal.returns-clause-serves
 returns-clause-serves g c =
-    rw (c.answer.ensures) (serves g.R.Read.remaining g.L.Listener.hears g.W.Write.contents g.S.Service.behavior
-    (StreamTransportListens g.L.Listener.ends)
+    rw (c.answer.ensures) (serves g.R.Read.remaining g.L.BadContentPolicy.passes g.W.Write.contents g.S.Service.behavior
+    (StreamTransportListens g.L.BadContentPolicy.ends)
     _ _ _ _ c.requires _ _ c.serve_transport-served.ensures)
 
 pub returns-clause-passed : goal.returns-clause-passed
 returns-clause-passed g c =
-    all_passed g.R.Read.remaining g.L.Listener.hears g.W.Write.contents g.S.Service.behavior (StreamTransportListens
-    g.L.Listener.ends)
-    _ _ _ _ c.requires _ _ c.serve_transport-served.ensures
+    all_passed g.R.Read.remaining g.L.BadContentPolicy.passes g.W.Write.contents g.S.Service.behavior
+    (StreamTransportListens g.L.BadContentPolicy.ends) _ _ _ _ c.requires _ _ c.serve_transport-served.ensures

@@ -1,0 +1,97 @@
+-- A server beside its queues: what it does at a message or a wake, and a session of it.
+use Rattle.std.specs.FinMap as map
+use Rattle.std.specs.Prelude.{◌≡◌, true, List, Option, Some, None, MatchOption}
+use Rattle.lsp_message.specs.Id.{Id}
+use Rattle.lsp_message.specs.Message.{Message, request, notification, response}
+use Rattle.lsp_queue.specs.Queue.{Pending, pending_of}
+use Rattle.lsp_session.specs.Session.{Behavior, Exchange, SessionAnswer, Stop, SessionOut}
+use Rattle.lsp_acts.specs.Acts.{Queues, Acts, AnswersHeld, cancelled_by, cleared, empty_queues, given, holds}
+use Rattle.lsp_acts.specs.Acts.{released, answers_cancelled}
+use Rattle.lsp_acts.specs.View.{queues_of, seen}
+use Rattle.lsp_acts.specs.declared.queued_server.QueuedServer.{QueuedServer}
+use Rattle.lsp_acts.specs.declared.queued_server.WokenQueuedServer.{WokenQueuedServer}
+use Rattle.lsp_acts.specs.Stated.{Stated}
+
+-- a service that holds another, and does what that one does
+abbrev pub held_as : {V W : Type 0} → (W → V) → Behavior V → Behavior W
+held_as part may = record {
+  initializes = λ old params outcome new. may.initializes (part old) params outcome (part new);
+  at_initialized = λ old sent new. may.at_initialized (part old) sent (part new);
+  outputs = λ old m sent new. may.outputs (part old) m sent (part new);
+  wakes = λ old sent new. may.wakes (part old) sent (part new);
+  at_shutdown = λ old id sent new. may.at_shutdown (part old) id sent (part new);
+  after_memory_fault = λ old new. may.after_memory_fault (part old) (part new);
+  passes_late = may.passes_late;
+}
+
+-- what a server stated that it may do
+module _ {S P : Type 0} (may : Stated S P) where
+  -- what the server does at `initialized`, and all that it gives is sent
+  abbrev pub OpensSending : S × Queues P → List Message → S × Queues P → Type 0
+  OpensSending old sent new =
+      (after : S × Queues P) × Acts may.takes_back (may.at_initialized old.0) old.1 after
+      × (sent ≡ after.1.sent) × (new ≡ (after.0, cleared after.1))
+
+  -- A request is held and handed to the server. A notification is told to it; a held request that it cancels, and that
+  -- the server left, is then answered. A reply to a request of the server's own comes to it with the payload of that
+  -- request, and another reply is dropped. At a wake there is no message, and it does what it stated of one.
+  abbrev pub Works : S × Queues P → Option Message → S × Queues P → Type 0
+  Works old (Some (request id method params)) new =
+      Acts may.takes_back (may.requested old.0 id method params) (holds old.1 id) new
+  Works old (Some (notification method params)) new =
+      (did : S × Queues P) × Acts may.takes_back (may.notified old.0 method params) old.1 did
+      × (new ≡ (did.0, answers_cancelled did.1 (cancelled_by method params)))
+  Works old (Some (response id outcome)) new =
+      MatchOption (map.get (pending_of old.1.asked) id) (new ≡ old)
+      (λ payload. Acts may.takes_back (may.replied old.0 payload outcome) (given old.1 id) new)
+  Works old None new = Acts may.takes_back (may.wakes old.0) old.1 new
+
+  -- all that it gives then is sent
+  abbrev pub WorksSending : S × Queues P → Option Message → List Message → S × Queues P → Type 0
+  WorksSending old came sent new = (after : S × Queues P) × Works old came after
+      × (sent ≡ after.1.sent) × (new ≡ (after.0, cleared after.1))
+
+  -- At `shutdown`, which came under this id, the server does its last acts, and then each request that it leaves is
+  -- answered.
+  abbrev pub Parts : S × Queues P → Id → S × Queues P → Type 0
+  Parts old id new = (did : S × Queues P)
+      × Acts may.takes_back (may.at_shutdown old.0) (released old.1 id) did
+      × AnswersHeld did.1 new.1 × (new.0 ≡ did.0)
+
+  -- all that it gives then is sent
+  abbrev pub PartsSending : S × Queues P → Id → List Message → S × Queues P → Type 0
+  PartsSending old id sent new = (after : S × Queues P) × Parts old id after
+      × (sent ≡ after.1.sent) × (new ≡ (after.0, cleared after.1))
+
+  -- A server beside its queues, as a service; if an allocation failed nothing is said of it. A reply to a request of
+  -- its own may cross the `shutdown` of its client, so one that comes then is passed over.
+  abbrev pub with_queues : Behavior (QueuedServer S P)
+  with_queues = record {
+    initializes = λ old params outcome new. may.initializes old.server params outcome new.server
+        × (queues_of new.queues ≡ queues_of old.queues);
+    at_initialized = λ old sent new. OpensSending (seen old) sent (seen new);
+    outputs = λ old m sent new. WorksSending (seen old) (Some m) sent (seen new);
+    wakes = λ old sent new. WorksSending (seen old) None sent (seen new);
+    at_shutdown = λ old id sent new. PartsSending (seen old) id sent (seen new);
+    after_memory_fault = λ old new. Unit {0};
+    passes_late = true;
+  }
+
+  -- the same of a server that is woken
+  abbrev pub woken_with_queues : Behavior (WokenQueuedServer S P)
+  woken_with_queues = held_as (λ w. w.queued) with_queues
+
+  -- A session of a server, from its first state to its last. Its queues are empty at first.
+  pub record ServerSession (first last : S) (exchanges : List Exchange) (stop : Stop)
+      (shutdown_reply : Option Message) (answer : SessionAnswer) : Type 0 where
+    pub old : QueuedServer S P
+    pub new : QueuedServer S P
+    pub from_first : seen old ≡ (first, empty_queues)
+    pub to_last : last ≡ new.server
+    pub out : SessionOut with_queues old new exchanges stop shutdown_reply answer
+
+  -- the requests that are held when a session is over
+  abbrev pub held_by : {first last : S} {exchanges : List Exchange} {stop : Stop} {shutdown_reply :
+      Option Message} {answer : SessionAnswer}
+      → ServerSession first last exchanges stop shutdown_reply answer → Pending (Unit {0})
+  held_by session = (queues_of session.new.queues).held

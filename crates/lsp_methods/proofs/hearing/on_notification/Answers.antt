@@ -1,9 +1,0 @@
-use Rattle.std.proofs.Common.{rules, Err, Ok}
-use Rattle.lsp_methods.proofs.Reading.{made_of}
-use Rattle.lsp_methods.proofs.hearing.on_notification.Goals as goal
-
-pub returns-in-Ok : goal.returns-in-Ok
-returns-in-Ok g c = made_of _ _ _ (Ok c.in-Ok.params) (search rules) (search rules)
-
-pub returns-in_ok-logged-in-Err : goal.returns-in_ok-logged-in-Err
-returns-in_ok-logged-in-Err g c = made_of _ _ _ (Err c.in-Err.error) (search rules) (search rules)

@@ -1,0 +1,72 @@
+// What a server tells, asks and answers.
+ghost use Rattle.std.specs.Prelude.{◌≡◌, Err, IfOk, MatchResult, Ok};
+ghost use Rattle.lsp_acts.specs.Acts.{asks, replies, tells};
+ghost use Rattle.lsp_acts.specs.View.{act_view};
+ghost use Rattle.lsp_methods.specs.Reads.{IsReadOf};
+ghost use Rattle.serde_json.specs.View.{view};
+
+use crate::params::read;
+use lsp_acts::Act;
+use lsp_message::{Notification, RequestId, ResponseError};
+use lsp_types::{FromJson, NotificationToClient, RequestToClient, RequestToServer, ToJson};
+use serde_json::Value;
+use std::alloc::{AllocError, Global};
+
+/// A notification of this method, with what the params stand for.
+///
+/// `Err` means that an allocation failed.
+pub fn tell<M, P>(alloc: Global, params: &M::Params) -> Result<Act<P>, AllocError>
+where
+    M: NotificationToClient,
+    P: Drop + PartialEq,
+    ensures { IfOk result (λ act. act_view P.eq act ≡ tells M.method (M.Params.stands params.now)) }
+{
+    let params = params.to_json(alloc)?;
+    let method = String::from_str(alloc, M::method())?;
+    Ok(Act::Tell(Notification { method, params }))
+}
+
+/// A request of the server's own of this method, with what the params stand for. It keeps `payload` for the reply.
+///
+/// `Err` means that an allocation failed.
+pub fn ask<M, P>(alloc: Global, params: &M::Params, payload: P) -> Result<Act<P>, AllocError>
+where
+    M: RequestToClient,
+    P: Drop + PartialEq,
+    ensures { IfOk result (λ act. act_view P.eq act ≡ asks M.method (M.Params.stands params.now) «payload») }
+{
+    let params = params.to_json(alloc)?;
+    let method = String::from_str(alloc, M::method())?;
+    Ok(Act::Ask(method, params, payload))
+}
+
+/// The answer to a request of this method, with what the result stands for: for a request that is answered later, by its id.
+///
+/// `Err` means that an allocation failed.
+pub fn reply<M, P>(alloc: Global, id: RequestId, found: &M::Result) -> Result<Act<P>, AllocError>
+where
+    M: RequestToServer,
+    P: Drop + PartialEq,
+    ensures { IfOk result (λ act. act_view P.eq act ≡ replies id (Ok (M.Result.stands found.now))) }
+{
+    let found = found.to_json(alloc)?;
+    Ok(Act::Reply(id, Ok(found)))
+}
+
+/// What the client replied to a request of this method: its result, the client's error, or the error -32602 if the result does not fit.
+///
+/// `Err(AllocError)` means that an allocation failed.
+pub fn read_result<M: RequestToClient>(
+    alloc: Global,
+    outcome: Result<Value, ResponseError>,
+) -> Result<Result<M::Result, ResponseError>, AllocError>
+where
+    M::Result: FromJson,
+    ensures { IfOk result (λ found. MatchResult outcome
+        (λ value. IsReadOf M.Result.reads (view value) found) (λ told. found ≡ Err told)) }
+{
+    match outcome {
+        Ok(value) => read(alloc, &value),
+        Err(error) => Ok(Err(error)),
+    }
+}

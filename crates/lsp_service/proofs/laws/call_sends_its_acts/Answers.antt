@@ -1,6 +1,0 @@
-use Rattle.lsp_service.specs.Stated.{unwoken}
-use Rattle.lsp_service.proofs.Acting.{acts_at}
-use Rattle.lsp_service.proofs.laws.call_sends_its_acts.Goals as goal
-
-pub returns : goal.returns
-returns g c = acts_at (unwoken g.S.Server)

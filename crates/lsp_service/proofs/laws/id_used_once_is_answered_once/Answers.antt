@@ -1,5 +1,0 @@
-use Rattle.lsp_service.proofs.Counting.{used_once}
-use Rattle.lsp_service.proofs.laws.id_used_once_is_answered_once.Goals as goal
-
-pub returns : goal.returns
-returns c = used_once

@@ -1,5 +1,0 @@
-use Rattle.lsp_service.proofs.Counting.{answered_in_full}
-use Rattle.lsp_service.proofs.laws.shutdown_leaves_nobody_waiting.Goals as goal
-
-pub returns : goal.returns
-returns c = answered_in_full

@@ -1,0 +1,99 @@
+// What a session does at a content part that is no message.
+ghost use Rattle.std.specs.Bool.{MatchBool};
+ghost use Rattle.std.specs.Prelude.{◌≡◌};
+ghost use Rattle.lsp_session.specs.FaultCounts.{counted};
+
+use lsp_message::ReadFault;
+
+/// Is asked at each content part that is no message whether to read on (LSP 3.17, "Base Protocol").
+pub trait BadContentPolicy {
+    ghost use Rattle.lsp_message.specs.declared.frame.ReadFault.{ReadFault as Fault};
+
+    /// It may pass over a content part with this fault, and change so.
+    ghost passes: { Self → Fault → Self → Type 0 };
+
+    /// It may end the session at a content part with this fault.
+    ghost ends: { Self → Fault → Type 0 };
+
+    /// Whether to pass over a content part with this fault and read on. False ends the session with `SessionFault::Read`, and leaves the
+    /// policy as it is. It is asked at once, before the service is woken.
+    fn passes_over(&mut self, fault: ReadFault) -> bool
+        ensures { MatchBool result (passes self.old fault self.new) (ends self.old fault
+            × (self.new ≡ self.old)) };
+}
+
+/// A policy that ends the session at the first content part which is no message. So nothing is ever passed over.
+#[derive(Clone, Copy, Debug)]
+pub struct EndSession;
+
+impl BadContentPolicy for EndSession {
+    ghost use Rattle.std.specs.Prelude.{⊤};
+
+    ghost passes = { λ _ _ _. ⊥ };
+
+    ghost ends = { λ _ _. ⊤ };
+
+    fn passes_over(&mut self, _fault: ReadFault) -> bool {
+        false
+    }
+}
+
+/// A policy that passes over each such content part, and takes no notice.
+#[derive(Clone, Copy, Debug)]
+pub struct Ignore;
+
+impl BadContentPolicy for Ignore {
+    ghost passes = { λ old _ new. new ≡ old };
+
+    ghost ends = { λ _ _. ⊥ };
+
+    fn passes_over(&mut self, _fault: ReadFault) -> bool {
+        true
+    }
+}
+
+/// A policy that passes over each such content part, and counts those of each kind. A count stays at 2^64 - 1.
+#[derive(Clone, Copy, Debug, PartialEq, Eq)]
+pub struct FaultCounts {
+    /// How many were not UTF-8.
+    pub not_text: u64,
+    /// How many `serde_json` did not read.
+    pub no_json: u64,
+    /// How many were JSON, but neither a message nor a list.
+    pub no_message: u64,
+    /// How many were lists.
+    pub batches: u64,
+}
+
+impl FaultCounts {
+    ghost use Rattle.lsp_session.specs.FaultCounts.{no_faults};
+
+    /// Counts that are all 0.
+    pub fn new() -> FaultCounts
+        ensures { result ≡ no_faults }
+    {
+        FaultCounts {
+            not_text: 0,
+            no_json: 0,
+            no_message: 0,
+            batches: 0,
+        }
+    }
+}
+
+impl BadContentPolicy for FaultCounts {
+    ghost passes = { λ old fault new. new ≡ counted old fault };
+
+    ghost ends = { λ _ _. ⊥ };
+
+    fn passes_over(&mut self, fault: ReadFault) -> bool {
+        match fault {
+            ReadFault::BodyNotText => self.not_text = self.not_text.saturating_add(1),
+            ReadFault::NoJson => self.no_json = self.no_json.saturating_add(1),
+            ReadFault::NoMessage => self.no_message = self.no_message.saturating_add(1),
+            ReadFault::Batch => self.batches = self.batches.saturating_add(1),
+            _ => {}
+        }
+        true
+    }
+}

@@ -1,0 +1,239 @@
+//! The ends of a relay of texts: frames that are made and gathered, and a loop that writes them.
+ghost use Rattle.std.specs.Bool.{MatchBool};
+ghost use Rattle.std.specs.Prelude.{◌≡◌, ◌∷◌, ◌++◌, [], None, Ok, IfNone, IfSome, OnErr, OnOk, OnSome, string_bytes};
+ghost use Rattle.lsp_message.specs.View.{message_view};
+ghost use Rattle.lsp_relay.specs.Relay.{IsOpen};
+ghost use Rattle.lsp_threads.specs.Framing.{parcel_bytes, AreEnded, FramingSends, Gathers, WritesBytes, WritesParcels};
+ghost use Rattle.lsp_threads.specs.Passing.{GivenTo, GivesMore, noted};
+
+use crate::backlog::{Backlog, Takes};
+use crate::parcels::{collect, deliver};
+use lsp_message::{Message, Passed, WriteFault, write_frames_telling};
+use lsp_relay::{Parcel, RelayRx, RelayTx, Taken};
+use std::alloc::{AllocError, Global};
+use std::io::Write;
+use std::marker::Model;
+use std::mem;
+use std::sync::Wait;
+
+/// From how many bytes on a text of frames is sent, though more frames could join it, and how many bytes of texts are written together.
+/// It changes speed and memory only.
+const FULL_PARCEL: usize = 65536;
+
+/// The sender's end of a relay of texts. It makes the frame of each message, and gathers frames until they are handed over.
+#[derive(Drop)]
+pub struct FrameBatch<R: Wait + Drop> {
+    rt: R,
+    alloc: Global,
+    tx: RelayTx<String>,
+    unwritten: Backlog,
+    pending: String,
+}
+
+impl<R: Wait + Drop> Model for FrameBatch<R> {
+    ghost use Rattle.std.specs.Prelude.{◌++◌, string_bytes};
+    ghost use Rattle.lsp_relay.specs.Relay.{IsOpen};
+    ghost use Rattle.lsp_threads.specs.Framing.{parcel_bytes, Framing};
+
+    ghost Value = { Framing };
+
+    ghost view = { λ b.
+        record { relay = b.tx.relay; bytes = parcel_bytes b.tx.sent ++ string_bytes b.pending } };
+
+    ghost invariant = { λ b. IsOpen b.tx.sent };
+}
+
+impl<R: Wait + Drop> FrameBatch<R> {
+    pub fn new(rt: R, alloc: Global, tx: RelayTx<String>, unwritten: Backlog) -> FrameBatch<R>
+        requires { tx.sent ≡ [] }
+        ensures { result ≡ record { relay = tx.relay; bytes = [] } }
+    {
+        FrameBatch {
+            rt,
+            alloc,
+            tx,
+            unwritten,
+            pending: String::new(alloc),
+        }
+    }
+
+    /// Adds the frame of a message. The error means that an allocation failed.
+    pub fn add(&mut self, message: &Message) -> Result<(), AllocError>
+        ensures ok { OnOk result
+            (FramingSends self.old (message_view message.now) (Ok tt) self.new) }
+        ensures err { OnErr result (self.new ≡ self.old) }
+    {
+        let frame = message.to_frame(self.alloc)?;
+        self.join(frame)
+    }
+
+    /// Adds a frame to those that were gathered. If there are none, it is moved and not copied.
+    fn join(&mut self, frame: String) -> Result<(), AllocError>
+        ensures ok { OnOk result ((self.new.relay ≡ self.old.relay)
+            × (self.new.bytes ≡ self.old.bytes ++ string_bytes frame)) }
+        ensures err { OnErr result (self.new ≡ self.old) }
+    {
+        if self.pending.is_empty() {
+            self.pending = frame;
+            return Ok(());
+        }
+        self.pending.push_str(frame.as_str())
+    }
+
+    /// Sends what was gathered, as one parcel. It waits while too much is not written.
+    fn hand_over(&mut self)
+        ensures { self.new ≡ self.old }
+    {
+        let text = mem::replace(&mut self.pending, String::new(self.alloc));
+        self.unwritten.add(&self.rt, text.len() as u64);
+        deliver_text(&self.rt, &mut self.tx, text);
+    }
+
+    /// Sends what was gathered, unless the next message is at hand and the parcel not full.
+    pub fn go_on(&mut self, has_next: bool)
+        ensures { self.new ≡ self.old }
+    {
+        if !has_next || self.pending.len() >= FULL_PARCEL {
+            self.hand_over();
+        }
+    }
+
+    /// Sends what was gathered and then End, and gives the relay's end back.
+    pub fn finish(self) -> RelayTx<String>
+        ensures relay { result.relay ≡ self.relay }
+        ensures bytes { parcel_bytes result.sent ≡ self.bytes }
+        ensures ended { AreEnded result.sent }
+    {
+        let FrameBatch {
+            rt,
+            alloc: _,
+            mut tx,
+            mut unwritten,
+            pending,
+        } = self;
+        unwritten.add(&rt, pending.len() as u64);
+        deliver_text(&rt, &mut tx, pending);
+        deliver(&rt, &mut tx, Parcel::End);
+        tx
+    }
+}
+
+/// Sends a text as one parcel, unless it is empty.
+pub fn deliver_text<R: Wait>(rt: &R, tx: &mut RelayTx<String>, text: String)
+    requires { IsOpen tx.old.sent }
+    ensures relay { tx.new.relay ≡ tx.old.relay }
+    ensures bytes { parcel_bytes tx.new.sent ≡ parcel_bytes tx.old.sent ++ string_bytes text }
+    ensures still_open { IsOpen tx.new.sent }
+{
+    if !text.is_empty() {
+        deliver(rt, tx, Parcel::Message(text));
+    }
+}
+
+/// Writes each text up to End, and those that wait together as one: it waits for a text only if it has written all that it took. After
+/// a fault it writes nothing more, and drops the texts. What the writer takes is noted, and of what was written or dropped it tells that it
+/// waits no more.
+pub fn write_texts<R: Wait, W: Write>(
+    rt: &R,
+    alloc: Global,
+    rx: RelayRx<String>,
+    writer: &mut W,
+    given: &mut Passed,
+    takes: &Takes,
+) -> (RelayRx<String>, Option<WriteFault>)
+    requires { rx.taken ≡ [] }
+    ensures relay { result.0.relay ≡ rx.relay }
+    ensures written { WritesParcels result.0.taken result.1 (noted given.old) (noted given.new) }
+    ensures given { GivesMore given.old.parts given.new.parts (W.contents writer.old) (W.contents writer.new) }
+{
+    let mut rx = rx;
+    let mut fault = None;
+    let mut pending = String::new(alloc);
+    for _ in rt.forever() {
+        match next_parcel(rt, &mut rx, pending.is_empty()) {
+            Some(Parcel::Message(text)) => {
+                let held = pending.len().wrapping_add(text.len());
+                let (left, first_fault) = gather(fault, pending, text, writer, given);
+                takes.took(rt, held.wrapping_sub(left.len()) as u64);
+                pending = left;
+                fault = first_fault;
+            }
+            Some(Parcel::End) => return (rx, write_after(fault, &pending, writer, given)),
+            None => {
+                fault = write_after(fault, &pending, writer, given);
+                takes.took(rt, pending.len() as u64);
+                pending = String::new(alloc);
+            }
+        }
+    }
+    unreachable!()
+}
+
+/// Takes the next parcel. If none is there, it waits for one or gives `None`, as you ask. Wakes are passed over.
+fn next_parcel<R: Wait, M: Drop>(rt: &R, rx: &mut RelayRx<M>, waits: bool) -> Option<Parcel<M>>
+    ensures relay { rx.new.relay ≡ rx.old.relay }
+    ensures some { IfSome result (λ parcel. rx.new.taken ≡ rx.old.taken ++ parcel ∷ []) }
+    ensures none { IfNone result (rx.new.taken ≡ rx.old.taken) }
+{
+    if waits {
+        return Some(collect(rt, rx));
+    }
+    match rx.try_take(rt) {
+        Taken::Parcel(parcel) => Some(parcel),
+        Taken::Wake | Taken::Nothing => None,
+    }
+}
+
+/// Puts a text behind those that are not written. If it can't join them, the others are written first, unless a write failed before.
+/// Gives what is left, and the first fault.
+fn gather<W: Write>(
+    before: Option<WriteFault>,
+    pending: String,
+    text: String,
+    writer: &mut W,
+    given: &mut Passed,
+) -> (String, Option<WriteFault>)
+    ensures gathered { Gathers before (string_bytes pending ++ string_bytes text)
+        (string_bytes result.0) result.1 (noted given.old) (noted given.new) }
+    ensures given { GivesMore given.old.parts given.new.parts (W.contents writer.old) (W.contents writer.new) }
+{
+    let mut pending = pending;
+    if joins(&mut pending, &text) {
+        return (pending, before);
+    }
+    let fault = write_after(before, pending.as_str(), writer, given);
+    (text, fault)
+}
+
+/// Adds a text to those that are not written. False means that it was not added: there are none, they have no room together, or an
+/// allocation failed.
+pub fn joins(pending: &mut String, text: &str) -> bool
+    ensures { MatchBool result (string_bytes pending.new ≡ string_bytes pending.old ++ text.now)
+        (string_bytes pending.new ≡ string_bytes pending.old) }
+{
+    if pending.is_empty() || text.len() > FULL_PARCEL.saturating_sub(pending.len()) {
+        return false;
+    }
+    match pending.push_str(text) {
+        Ok(()) => true,
+        Err(_) => false,
+    }
+}
+
+/// Writes a text, unless a write failed before. The answer is the first fault.
+fn write_after<W: Write>(
+    before: Option<WriteFault>,
+    text: &str,
+    writer: &mut W,
+    given: &mut Passed,
+) -> Option<WriteFault>
+    ensures none { before ≡ None → WritesBytes text.now result (noted given.old) (noted given.new) }
+    ensures some { OnSome before ((result ≡ before) × (given.new ≡ given.old)) }
+    ensures silent { OnSome before (writer.new ≡ writer.old) }
+    ensures given { GivesMore given.old.parts given.new.parts (W.contents writer.old) (W.contents writer.new) }
+{
+    if before.is_some() || text.is_empty() {
+        return before;
+    }
+    write_frames_telling(writer, text, given).err()
+}
