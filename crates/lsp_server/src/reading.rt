@@ -4,7 +4,6 @@ ghost use Rattle.lsp_message.specs.Frame.{reading_within};
 ghost use Rattle.lsp_message.specs.Reading.{Answers};
 ghost use Rattle.lsp_message.specs.View.{message_view};
 ghost use Rattle.lsp_server.specs.Weighing.{HandsOn, weighed_view};
-ghost use Rattle.lsp_session.specs.ReadLoop.{refused_end};
 
 use crate::io_fault::IoFault;
 use crate::io_threads::reader_end;
@@ -13,7 +12,7 @@ use crate::unread_weights::{UnreadWeights, weight_of};
 use crate::written::Returned;
 use crossbeam_channel::Sender;
 use lsp_message::{Limits, Message, ReadFault, read_content_within};
-use lsp_session::{ReadEnd, SendFault, is_exit};
+use lsp_session::{ReadEnd, is_exit};
 use std::alloc::Global;
 use std::io::{BufRead, ErrorKind};
 use std::sync::Wait;
@@ -76,7 +75,7 @@ fn read_messages<R: Wait + Clock, B: BufRead>(
         let is_last = is_exit(&message);
         match outlet.send(message, weight) {
             Ok(()) => {}
-            Err(fault) => return end_at(fault),
+            Err(fault) => return ReadEnd::from(fault),
         }
         if is_last {
             return ReadEnd::Exit;
@@ -111,20 +110,4 @@ fn read_weighed<R: Wait + Clock, B: BufRead>(
     }
     let message = Message::from_content(alloc, &content)?;
     Ok(Some(Weighed { message, weight }))
-}
-
-/// How reading ends if a message is refused.
-fn end_at(fault: SendFault) -> ReadEnd
-    ensures { result ≡ refused_end fault }
-{
-    match fault {
-        SendFault::Closed(message) => {
-            drop(message);
-            ReadEnd::Closed
-        }
-        SendFault::Memory(message) => {
-            drop(message);
-            ReadEnd::Memory
-        }
-    }
 }

@@ -1,8 +1,8 @@
 //! Loops over messages: from a reader to an outbox, and from an inbox to a writer (LSP 3.17, "Base Protocol").
-ghost use Rattle.std.specs.Prelude.{◌≡◌, IfSome, List};
+ghost use Rattle.std.specs.Prelude.{IfSome, List};
 ghost use Rattle.lsp_message.specs.Frame.{no_limit, of_content};
 ghost use Rattle.lsp_message.specs.Message as plain;
-ghost use Rattle.lsp_session.specs.ReadLoop.{Hands, refused_end};
+ghost use Rattle.lsp_session.specs.ReadLoop.{Hands};
 ghost use Rattle.lsp_session.specs.WriteLoop.{OffersAll};
 
 use crate::lifecycle::{Outbox, SendFault, is_exit};
@@ -63,6 +63,27 @@ pub enum ReadEnd {
     Memory,
 }
 
+/// How reading ends if a message is refused.
+impl From<SendFault> for ReadEnd {
+    ghost use Rattle.std.specs.Prelude.{◌≡◌};
+    ghost use Rattle.lsp_session.specs.ReadLoop.{refused_end};
+
+    ghost from_gives = { λ fault end. end ≡ refused_end fault };
+
+    fn from(fault: SendFault) -> ReadEnd {
+        match fault {
+            SendFault::Closed(message) => {
+                drop(message);
+                ReadEnd::Closed
+            }
+            SendFault::Memory(message) => {
+                drop(message);
+                ReadEnd::Memory
+            }
+        }
+    }
+}
+
 /// Hands on a reader's messages, up to and with the first `exit`. Of any reader it is known that each change of the outbox is that
 /// of a send.
 pub fn read_loop<R: BufRead, O: Outbox>(alloc: Global, reader: &mut R, outbox: &mut O) -> ReadEnd
@@ -94,27 +115,11 @@ pub fn read_loop_within<R: BufRead, O: Outbox>(
         let is_last = is_exit(&message);
         match outbox.send(message) {
             Ok(()) => {}
-            Err(fault) => return end_at(fault),
+            Err(fault) => return ReadEnd::from(fault),
         }
         if is_last {
             return ReadEnd::Exit;
         }
     }
     ReadEnd::Fault(ReadFault::Input(ErrorKind::Other))
-}
-
-/// How reading ends if a message is refused.
-fn end_at(fault: SendFault) -> ReadEnd
-    ensures { result ≡ refused_end fault }
-{
-    match fault {
-        SendFault::Closed(message) => {
-            drop(message);
-            ReadEnd::Closed
-        }
-        SendFault::Memory(message) => {
-            drop(message);
-            ReadEnd::Memory
-        }
-    }
 }

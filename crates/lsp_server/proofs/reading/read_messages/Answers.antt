@@ -34,7 +34,7 @@ returns-in-Err-send g c =
     c.in-Err-send.fault (ap (map message_view) c.in-Err-send.ensures.err.1) in
     subst (λ end. IfSome (g.B.Read.remaining c.args.reader.now) (λ text. HandsOn c.args.limits text (map message_view
     c.args.outlet.now.sent.messages) (g.B.Read.remaining c.read_weighed.new.reader) end (map message_view
-    c.send.new.self.sent.messages))) (sym c.end_at.ensures) refused
+    c.send.new.self.sent.messages))) (sym c.from.ensures) refused
 
 pub returns-then-is_last : goal.returns-then-is_last
 returns-then-is_last g c =

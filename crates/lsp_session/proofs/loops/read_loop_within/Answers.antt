@@ -33,7 +33,7 @@ returns-in-Err-send-clause-handed g c =
     c.loop.invariant.handed read c.in-Err-send.fault c.in-Err-send.ensures.sends in
     subst (λ end. IfSome (g.R.Read.remaining c.args.reader.now) (λ text. Hands (of_content c.args.limit)
     g.O.Outbox.sends text c.args.outbox.now c.send.new.self (g.R.Read.remaining c.read_within.new.reader) end))
-    (sym c.end_at.ensures) refused
+    (sym c.from.ensures) refused
 
 pub returns-then-is_last-clause-handed : goal.returns-then-is_last-clause-handed
 returns-then-is_last-clause-handed g c =
