@@ -69,10 +69,11 @@ impl FromJson for CodeActionParams {
             .end()
         {
             Ok(read) => {
-                let (
-                    (((((), text_document), range), context), work_done_token),
-                    partial_result_token,
-                ) = read;
+                let (read, partial_result_token) = read;
+                let (read, work_done_token) = read;
+                let (read, context) = read;
+                let (read, range) = read;
+                let ((), text_document) = read;
                 Ok(CodeActionParams {
                     text_document,
                     range,
@@ -316,16 +317,15 @@ impl FromJson for CodeAction {
             .end()
         {
             Ok(read) => {
-                let (
-                    (
-                        (
-                            (((((((), title), kind), diagnostics), is_preferred), disabled), edit),
-                            command,
-                        ),
-                        data,
-                    ),
-                    more,
-                ) = read;
+                let (read, more) = read;
+                let (read, data) = read;
+                let (read, command) = read;
+                let (read, edit) = read;
+                let (read, disabled) = read;
+                let (read, is_preferred) = read;
+                let (read, diagnostics) = read;
+                let (read, kind) = read;
+                let ((), title) = read;
                 Ok(CodeAction {
                     title,
                     kind,

@@ -386,115 +386,42 @@ impl FromJson for ServerCapabilities {
             .end()
         {
             Ok(read) => {
-                let (
-                    (
-                        (
-                            (
-                                (
-                                    (
-                                        (
-                                            (
-                                                (
-                                                    (
-                                                        (
-                                                            (
-                                                                (
-                                                                    (
-                                                                        (
-                                                                            (
-                                                                                (
-                                                                                    (
-                                                                                        (
-                                                                                            (
-                                                                                                (
-                                                                                                    (
-                                                                                                        (
-                                                                                                            (
-                                                                                                                (
-                                                                                                                    (
-                                                                                                                        (
-                                                                                                                            (
-                                                                                                                                (
-                                                                                                                                    (
-                                                                                                                                        (
-                                                                                                                                            (
-                                                                                                                                                (
-                                                                                                                                                    (
-                                                                                                                                                        (
-                                                                                                                                                            (
-                                                                                                                                                                (),
-                                                                                                                                                                position_encoding,
-                                                                                                                                                            ),
-                                                                                                                                                            text_document_sync,
-                                                                                                                                                        ),
-                                                                                                                                                        notebook_document_sync,
-                                                                                                                                                    ),
-                                                                                                                                                    completion_provider,
-                                                                                                                                                ),
-                                                                                                                                                hover_provider,
-                                                                                                                                            ),
-                                                                                                                                            signature_help_provider,
-                                                                                                                                        ),
-                                                                                                                                        declaration_provider,
-                                                                                                                                    ),
-                                                                                                                                    definition_provider,
-                                                                                                                                ),
-                                                                                                                                type_definition_provider,
-                                                                                                                            ),
-                                                                                                                            implementation_provider,
-                                                                                                                        ),
-                                                                                                                        references_provider,
-                                                                                                                    ),
-                                                                                                                    document_highlight_provider,
-                                                                                                                ),
-                                                                                                                document_symbol_provider,
-                                                                                                            ),
-                                                                                                            code_action_provider,
-                                                                                                        ),
-                                                                                                        code_lens_provider,
-                                                                                                    ),
-                                                                                                    document_link_provider,
-                                                                                                ),
-                                                                                                color_provider,
-                                                                                            ),
-                                                                                            document_formatting_provider,
-                                                                                        ),
-                                                                                        document_range_formatting_provider,
-                                                                                    ),
-                                                                                    document_on_type_formatting_provider,
-                                                                                ),
-                                                                                rename_provider,
-                                                                            ),
-                                                                            folding_range_provider,
-                                                                        ),
-                                                                        selection_range_provider,
-                                                                    ),
-                                                                    execute_command_provider,
-                                                                ),
-                                                                call_hierarchy_provider,
-                                                            ),
-                                                            linked_editing_range_provider,
-                                                        ),
-                                                        semantic_tokens_provider,
-                                                    ),
-                                                    moniker_provider,
-                                                ),
-                                                type_hierarchy_provider,
-                                            ),
-                                            inline_value_provider,
-                                        ),
-                                        inlay_hint_provider,
-                                    ),
-                                    diagnostic_provider,
-                                ),
-                                workspace_symbol_provider,
-                            ),
-                            workspace,
-                        ),
-                        experimental,
-                    ),
-                    more,
-                ) = read;
+                let (read, more) = read;
+                let (read, experimental) = read;
+                let (read, workspace) = read;
+                let (read, workspace_symbol_provider) = read;
+                let (read, diagnostic_provider) = read;
+                let (read, inlay_hint_provider) = read;
+                let (read, inline_value_provider) = read;
+                let (read, type_hierarchy_provider) = read;
+                let (read, moniker_provider) = read;
+                let (read, semantic_tokens_provider) = read;
+                let (read, linked_editing_range_provider) = read;
+                let (read, call_hierarchy_provider) = read;
+                let (read, execute_command_provider) = read;
+                let (read, selection_range_provider) = read;
+                let (read, folding_range_provider) = read;
+                let (read, rename_provider) = read;
+                let (read, document_on_type_formatting_provider) = read;
+                let (read, document_range_formatting_provider) = read;
+                let (read, document_formatting_provider) = read;
+                let (read, color_provider) = read;
+                let (read, document_link_provider) = read;
+                let (read, code_lens_provider) = read;
+                let (read, code_action_provider) = read;
+                let (read, document_symbol_provider) = read;
+                let (read, document_highlight_provider) = read;
+                let (read, references_provider) = read;
+                let (read, implementation_provider) = read;
+                let (read, type_definition_provider) = read;
+                let (read, definition_provider) = read;
+                let (read, declaration_provider) = read;
+                let (read, signature_help_provider) = read;
+                let (read, hover_provider) = read;
+                let (read, completion_provider) = read;
+                let (read, notebook_document_sync) = read;
+                let (read, text_document_sync) = read;
+                let ((), position_encoding) = read;
                 Ok(ServerCapabilities {
                     position_encoding,
                     text_document_sync,
@@ -804,13 +731,11 @@ impl FromJson for CompletionOptions {
             .end()
         {
             Ok(read) => {
-                let (
-                    (
-                        ((((), trigger_characters), resolve_provider), all_commit_characters),
-                        completion_item,
-                    ),
-                    work_done_progress,
-                ) = read;
+                let (read, work_done_progress) = read;
+                let (read, completion_item) = read;
+                let (read, all_commit_characters) = read;
+                let (read, resolve_provider) = read;
+                let ((), trigger_characters) = read;
                 Ok(CompletionOptions {
                     trigger_characters,
                     resolve_provider,
@@ -1565,10 +1490,10 @@ impl FromJson for DiagnosticOptions {
             .end()
         {
             Ok(read) => {
-                let (
-                    ((((), identifier), inter_file_dependencies), workspace_diagnostics),
-                    work_done_progress,
-                ) = read;
+                let (read, work_done_progress) = read;
+                let (read, workspace_diagnostics) = read;
+                let (read, inter_file_dependencies) = read;
+                let ((), identifier) = read;
                 Ok(DiagnosticOptions {
                     identifier,
                     inter_file_dependencies,

@@ -554,67 +554,26 @@ impl FromJson for CompletionItem {
             .end()
         {
             Ok(read) => {
-                let (
-                    (
-                        (
-                            (
-                                (
-                                    (
-                                        (
-                                            (
-                                                (
-                                                    (
-                                                        (
-                                                            (
-                                                                (
-                                                                    (
-                                                                        (
-                                                                            (
-                                                                                (
-                                                                                    (
-                                                                                        (
-                                                                                            (
-                                                                                                (),
-                                                                                                label,
-                                                                                            ),
-                                                                                            label_details,
-                                                                                        ),
-                                                                                        kind,
-                                                                                    ),
-                                                                                    tags,
-                                                                                ),
-                                                                                detail,
-                                                                            ),
-                                                                            documentation,
-                                                                        ),
-                                                                        deprecated,
-                                                                    ),
-                                                                    preselect,
-                                                                ),
-                                                                sort_text,
-                                                            ),
-                                                            filter_text,
-                                                        ),
-                                                        insert_text,
-                                                    ),
-                                                    insert_text_format,
-                                                ),
-                                                insert_text_mode,
-                                            ),
-                                            text_edit,
-                                        ),
-                                        text_edit_text,
-                                    ),
-                                    additional_text_edits,
-                                ),
-                                commit_characters,
-                            ),
-                            command,
-                        ),
-                        data,
-                    ),
-                    more,
-                ) = read;
+                let (read, more) = read;
+                let (read, data) = read;
+                let (read, command) = read;
+                let (read, commit_characters) = read;
+                let (read, additional_text_edits) = read;
+                let (read, text_edit_text) = read;
+                let (read, text_edit) = read;
+                let (read, insert_text_mode) = read;
+                let (read, insert_text_format) = read;
+                let (read, insert_text) = read;
+                let (read, filter_text) = read;
+                let (read, sort_text) = read;
+                let (read, preselect) = read;
+                let (read, deprecated) = read;
+                let (read, documentation) = read;
+                let (read, detail) = read;
+                let (read, tags) = read;
+                let (read, kind) = read;
+                let (read, label_details) = read;
+                let ((), label) = read;
                 Ok(CompletionItem {
                     label,
                     label_details,
@@ -804,10 +763,11 @@ impl FromJson for CompletionItemDefaults {
             .end()
         {
             Ok(read) => {
-                let (
-                    (((((), commit_characters), edit_range), insert_text_format), insert_text_mode),
-                    data,
-                ) = read;
+                let (read, data) = read;
+                let (read, insert_text_mode) = read;
+                let (read, insert_text_format) = read;
+                let (read, edit_range) = read;
+                let ((), commit_characters) = read;
                 Ok(CompletionItemDefaults {
                     commit_characters,
                     edit_range,
@@ -950,10 +910,11 @@ impl FromJson for CompletionParams {
             .end()
         {
             Ok(read) => {
-                let (
-                    (((((), text_document), position), context), work_done_token),
-                    partial_result_token,
-                ) = read;
+                let (read, partial_result_token) = read;
+                let (read, work_done_token) = read;
+                let (read, context) = read;
+                let (read, position) = read;
+                let ((), text_document) = read;
                 Ok(CompletionParams {
                     text_document,
                     position,

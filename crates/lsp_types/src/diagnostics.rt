@@ -256,19 +256,15 @@ impl FromJson for Diagnostic {
             .end()
         {
             Ok(read) => {
-                let (
-                    (
-                        (
-                            (
-                                ((((((), range), severity), code), code_description), source),
-                                message,
-                            ),
-                            tags,
-                        ),
-                        related_information,
-                    ),
-                    data,
-                ) = read;
+                let (read, data) = read;
+                let (read, related_information) = read;
+                let (read, tags) = read;
+                let (read, message) = read;
+                let (read, source) = read;
+                let (read, code_description) = read;
+                let (read, code) = read;
+                let (read, severity) = read;
+                let ((), range) = read;
                 Ok(Diagnostic {
                     range,
                     severity,

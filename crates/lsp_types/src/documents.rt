@@ -124,10 +124,10 @@ impl FromJson for LocationLink {
             .end()
         {
             Ok(read) => {
-                let (
-                    ((((), origin_selection_range), target_uri), target_range),
-                    target_selection_range,
-                ) = read;
+                let (read, target_selection_range) = read;
+                let (read, target_range) = read;
+                let (read, target_uri) = read;
+                let ((), origin_selection_range) = read;
                 Ok(LocationLink {
                     origin_selection_range,
                     target_uri,
@@ -764,8 +764,10 @@ impl FromJson for DefinitionParams {
             .end()
         {
             Ok(read) => {
-                let (((((), text_document), position), work_done_token), partial_result_token) =
-                    read;
+                let (read, partial_result_token) = read;
+                let (read, work_done_token) = read;
+                let (read, position) = read;
+                let ((), text_document) = read;
                 Ok(DefinitionParams {
                     text_document,
                     position,
@@ -953,10 +955,11 @@ impl FromJson for ReferenceParams {
             .end()
         {
             Ok(read) => {
-                let (
-                    (((((), text_document), position), context), work_done_token),
-                    partial_result_token,
-                ) = read;
+                let (read, partial_result_token) = read;
+                let (read, work_done_token) = read;
+                let (read, context) = read;
+                let (read, position) = read;
+                let ((), text_document) = read;
                 Ok(ReferenceParams {
                     text_document,
                     position,

@@ -286,19 +286,15 @@ impl FromJson for InlayHint {
             .end()
         {
             Ok(read) => {
-                let (
-                    (
-                        (
-                            (
-                                ((((((), position), label), kind), text_edits), tooltip),
-                                padding_left,
-                            ),
-                            padding_right,
-                        ),
-                        data,
-                    ),
-                    more,
-                ) = read;
+                let (read, more) = read;
+                let (read, data) = read;
+                let (read, padding_right) = read;
+                let (read, padding_left) = read;
+                let (read, tooltip) = read;
+                let (read, text_edits) = read;
+                let (read, kind) = read;
+                let (read, label) = read;
+                let ((), position) = read;
                 Ok(InlayHint {
                     position,
                     label,

@@ -94,25 +94,16 @@ impl FromJson for InitializeParams {
             .end()
         {
             Ok(read) => {
-                let (
-                    (
-                        (
-                            (
-                                (
-                                    (
-                                        (((((), process_id), client_info), locale), root_path),
-                                        root_uri,
-                                    ),
-                                    workspace_folders,
-                                ),
-                                initialization_options,
-                            ),
-                            capabilities,
-                        ),
-                        trace,
-                    ),
-                    work_done_token,
-                ) = read;
+                let (read, work_done_token) = read;
+                let (read, trace) = read;
+                let (read, capabilities) = read;
+                let (read, initialization_options) = read;
+                let (read, workspace_folders) = read;
+                let (read, root_uri) = read;
+                let (read, root_path) = read;
+                let (read, locale) = read;
+                let (read, client_info) = read;
+                let ((), process_id) = read;
                 Ok(InitializeParams {
                     process_id,
                     client_info,

@@ -350,10 +350,10 @@ impl FromJson for SignatureHelpContext {
             .end()
         {
             Ok(read) => {
-                let (
-                    ((((), trigger_kind), trigger_character), is_retrigger),
-                    active_signature_help,
-                ) = read;
+                let (read, active_signature_help) = read;
+                let (read, is_retrigger) = read;
+                let (read, trigger_character) = read;
+                let ((), trigger_kind) = read;
                 Ok(SignatureHelpContext {
                     trigger_kind,
                     trigger_character,

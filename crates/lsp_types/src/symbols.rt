@@ -527,10 +527,14 @@ impl FromJson for WorkspaceSymbol {
             .end()
         {
             Ok(read) => {
-                let (
-                    ((((((((), name), kind), tags), deprecated), container_name), location), data),
-                    more,
-                ) = read;
+                let (read, more) = read;
+                let (read, data) = read;
+                let (read, location) = read;
+                let (read, container_name) = read;
+                let (read, deprecated) = read;
+                let (read, tags) = read;
+                let (read, kind) = read;
+                let ((), name) = read;
                 Ok(WorkspaceSymbol {
                     name,
                     kind,

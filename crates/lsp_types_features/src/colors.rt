@@ -168,10 +168,11 @@ impl FromJson for ColorPresentationParams {
             .end()
         {
             Ok(read) => {
-                let (
-                    (((((), text_document), color), range), work_done_token),
-                    partial_result_token,
-                ) = read;
+                let (read, partial_result_token) = read;
+                let (read, work_done_token) = read;
+                let (read, range) = read;
+                let (read, color) = read;
+                let ((), text_document) = read;
                 Ok(ColorPresentationParams {
                     text_document,
                     color,

@@ -137,10 +137,15 @@ impl FromJson for CallHierarchyItem {
             .end()
         {
             Ok(read) => {
-                let (
-                    (((((((((), name), kind), tags), detail), uri), range), selection_range), data),
-                    more,
-                ) = read;
+                let (read, more) = read;
+                let (read, data) = read;
+                let (read, selection_range) = read;
+                let (read, range) = read;
+                let (read, uri) = read;
+                let (read, detail) = read;
+                let (read, tags) = read;
+                let (read, kind) = read;
+                let ((), name) = read;
                 Ok(CallHierarchyItem {
                     name,
                     kind,

@@ -194,10 +194,12 @@ impl FromJson for FoldingRange {
             .end()
         {
             Ok(read) => {
-                let (
-                    ((((((), start_line), start_character), end_line), end_character), kind),
-                    collapsed_text,
-                ) = read;
+                let (read, collapsed_text) = read;
+                let (read, kind) = read;
+                let (read, end_character) = read;
+                let (read, end_line) = read;
+                let (read, start_character) = read;
+                let ((), start_line) = read;
                 Ok(FoldingRange {
                     start_line,
                     start_character,
@@ -259,8 +261,10 @@ impl FromJson for SelectionRangeParams {
             .end()
         {
             Ok(read) => {
-                let (((((), text_document), positions), work_done_token), partial_result_token) =
-                    read;
+                let (read, partial_result_token) = read;
+                let (read, work_done_token) = read;
+                let (read, positions) = read;
+                let ((), text_document) = read;
                 Ok(SelectionRangeParams {
                     text_document,
                     positions,

@@ -64,10 +64,11 @@ impl FromJson for DocumentDiagnosticParams {
             .end()
         {
             Ok(read) => {
-                let (
-                    (((((), text_document), identifier), previous_result_id), work_done_token),
-                    partial_result_token,
-                ) = read;
+                let (read, partial_result_token) = read;
+                let (read, work_done_token) = read;
+                let (read, previous_result_id) = read;
+                let (read, identifier) = read;
+                let ((), text_document) = read;
                 Ok(DocumentDiagnosticParams {
                     text_document,
                     identifier,
@@ -513,10 +514,10 @@ impl FromJson for WorkspaceDiagnosticParams {
             .end()
         {
             Ok(read) => {
-                let (
-                    ((((), identifier), previous_result_ids), work_done_token),
-                    partial_result_token,
-                ) = read;
+                let (read, partial_result_token) = read;
+                let (read, work_done_token) = read;
+                let (read, previous_result_ids) = read;
+                let ((), identifier) = read;
                 Ok(WorkspaceDiagnosticParams {
                     identifier,
                     previous_result_ids,

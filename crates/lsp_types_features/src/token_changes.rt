@@ -55,10 +55,10 @@ impl FromJson for SemanticTokensDeltaParams {
             .end()
         {
             Ok(read) => {
-                let (
-                    ((((), text_document), previous_result_id), work_done_token),
-                    partial_result_token,
-                ) = read;
+                let (read, partial_result_token) = read;
+                let (read, work_done_token) = read;
+                let (read, previous_result_id) = read;
+                let ((), text_document) = read;
                 Ok(SemanticTokensDeltaParams {
                     text_document,
                     previous_result_id,

@@ -444,10 +444,12 @@ impl FromJson for FileOperationOptions {
             .end()
         {
             Ok(read) => {
-                let (
-                    ((((((), did_create), will_create), did_rename), will_rename), did_delete),
-                    will_delete,
-                ) = read;
+                let (read, will_delete) = read;
+                let (read, did_delete) = read;
+                let (read, will_rename) = read;
+                let (read, did_rename) = read;
+                let (read, will_create) = read;
+                let ((), did_create) = read;
                 Ok(FileOperationOptions {
                     did_create,
                     will_create,
