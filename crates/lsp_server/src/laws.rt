@@ -40,7 +40,7 @@ pub fn server_in_threads_keeps_laws<S: Server>()
         → ThreadsGive limit (LawfulSession (unwoken S.Server) first last) text before after answer }
 {}
 
-/// `server_in_threads_keeps_laws` of a session with a policy: a fact of each session that was run by `run_threads_with`. With a listener
+/// `server_in_threads_keeps_laws` of a session with a policy: a fact of each session that was run by `run_threads_with`. With a policy
 /// that passes over nothing, such as `EndSession`, it is one in which each frame is a message (`nothing_passed`).
 pub fn server_in_threads_that_asks_keeps_laws<S: Server, L: BadContentPolicy>()
     ensures bytes { (limit : Limits) (first last : S) (text : List ℕ) (policy policy_last : L)

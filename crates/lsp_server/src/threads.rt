@@ -18,7 +18,7 @@ use std::thread::Threads;
 /// allows. A message of the server's is written while the server goes on.
 ///
 /// Starts, faults and the end are those of `run_threads_of_service`: the outer fault means that a thread was not started, or that an
-/// allocation failed, and nothing was read or written then. At a content part that is no message (`is_of_content`) the listener `policy`
+/// allocation failed, and nothing was read or written then. At a content part that is no message (`is_of_content`) `policy`
 /// is asked, at once and on your thread, from `initialized` up to `shutdown`. If it reads on, nothing is answered, the server is not told,
 /// and the next frame follows. Where it ends the session, and before and after in any case, such a part is `SessionFault::Read`.
 ///

@@ -297,11 +297,11 @@ fn spoken(trial: &mut Trial) -> Result<Attempt, Stop> {
 fn limited<L: BadContentPolicy>(
     trial: &mut Trial,
     talker: Talker,
-    listener: &mut L,
+    policy: &mut L,
 ) -> Result<SessionEnd, SessionFault> {
     let limits = trial.run.limits();
     let Trial { reader, writer, .. } = trial;
-    let (talker, end) = session_with(trial.alloc, reader, writer, talker, listener, limits);
+    let (talker, end) = session_with(trial.alloc, reader, writer, talker, policy, limits);
     drop(talker);
     end
 }
@@ -320,13 +320,13 @@ fn unlimited(trial: &mut Trial, talker: Talker) -> Result<SessionEnd, SessionFau
 fn spoken_over_transport(trial: &mut Trial) -> Result<Attempt, Stop> {
     let alloc = trial.alloc;
     let talker = talker(trial)?;
-    let mut listener = EndSession;
+    let mut policy = EndSession;
     let mut transcript = Transcript::new();
     let mut transport = StreamTransport::within(
         alloc,
         &mut trial.reader,
         &mut trial.writer,
-        &mut listener,
+        &mut policy,
         Limits::none(),
         &mut transcript,
     );

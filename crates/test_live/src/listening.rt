@@ -1,4 +1,4 @@
-// The listener of all rows.
+// What all rows do at content parts that are no messages.
 use lsp_message::ReadFault;
 use lsp_session::{BadContentPolicy, FaultCounts};
 
