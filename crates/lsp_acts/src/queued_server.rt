@@ -380,6 +380,8 @@ impl<S: Server> QueuedServer<S, S::Payload> {
 }
 
 impl<S: Server> Service for QueuedServer<S, S::Payload> {
+    type Output = Output;
+
     ghost behavior = { with_queues (unwoken S.Server) };
 
     fn initialize(&mut self, params: Value) -> Result<Result<Value, ResponseError>, AllocError> {
@@ -456,6 +458,8 @@ impl<S: WokenServer> WokenQueuedServer<S, S::Payload> {
 }
 
 impl<S: WokenServer> Service for WokenQueuedServer<S, S::Payload> {
+    type Output = Output;
+
     ghost behavior = { woken_with_queues (with_wakes S.Server S.wakes) };
 
     fn initialize(&mut self, params: Value) -> Result<Result<Value, ResponseError>, AllocError> {

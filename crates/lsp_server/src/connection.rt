@@ -288,10 +288,9 @@ impl Connection {
         }
     }
 
-    fn outbox<'a, R: AllocGlobal>(&'a self, rt: &'a R) -> ChannelOutbox<'a, R> {
+    fn outbox<'a, R>(&'a self, rt: &'a R) -> ChannelOutbox<'a, R> {
         ChannelOutbox {
             rt,
-            alloc: rt.alloc(),
             sender: &self.sender,
         }
     }

@@ -100,6 +100,7 @@ pub use lsp_session::SessionOutcome;
 pub use lsp_session::StopReason;
 pub use lsp_session::StreamInbox;
 pub use lsp_session::StreamTransport;
+pub use lsp_session::TextOutbox;
 pub use lsp_session::ToSend;
 pub use lsp_session::TolerantInbox;
 pub use lsp_session::Transcript;

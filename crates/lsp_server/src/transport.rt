@@ -3,9 +3,8 @@ ghost use Rattle.std.specs.Prelude.{◌≡◌, IfErr};
 ghost use Rattle.lsp_session.specs.Boxes.{handed_back};
 
 use crossbeam_channel::{Receiver, RecvTimeoutError, SendError, Sender};
-use lsp_message::{Message, RequestId, ResultText};
-use lsp_session::{Event, Inbox, Outbox, SendFault, without_result};
-use std::alloc::Global;
+use lsp_message::Message;
+use lsp_session::{Event, Inbox, Outbox, SendFault};
 use std::sync::Wait;
 use std::time::{Clock, Duration};
 
@@ -44,7 +43,6 @@ impl<'a, R: Wait + Clock> Inbox for ChannelInbox<'a, R> {
 #[derive(Drop)]
 pub(crate) struct ChannelOutbox<'a, R> {
     pub(crate) rt: &'a R,
-    pub(crate) alloc: Global,
     pub(crate) sender: &'a Sender<Message>,
 }
 
@@ -55,27 +53,6 @@ impl<'a, R: Wait> Outbox for ChannelOutbox<'a, R> {
 
     fn send(&mut self, message: Message) -> Result<(), SendFault> {
         forward(self.rt, self.sender, message)
-    }
-
-    /// A channel carries messages, so the result is read from its text.
-    fn send_text(&mut self, id: RequestId, text: ResultText) -> Result<(), SendFault> {
-        let Ok(message) = text.into_message(self.alloc, &id) else {
-            return Err(SendFault::Memory(without_result(id)));
-        };
-        match forward(self.rt, self.sender, message) {
-            Ok(()) => {
-                drop(id);
-                Ok(())
-            }
-            Err(SendFault::Closed(back)) => {
-                drop(back);
-                Err(SendFault::Closed(without_result(id)))
-            }
-            Err(SendFault::Memory(back)) => {
-                drop(back);
-                Err(SendFault::Memory(without_result(id)))
-            }
-        }
     }
 }
 

@@ -11,14 +11,14 @@ mod loops;
 pub use error::ProtocolError;
 pub use lifecycle::{
     Arrival, CallGate, Event, Gate, Inbox, ListGate, ListInbox, ListOutbox, OpenGate, Outbox,
-    SendFault, WakingInbox, finish, finish_within, is_exit, shutdown, start_within, wait_within,
-    without_result,
+    SendFault, TextOutbox, WakingInbox, finish, finish_within, is_exit, shutdown, start_within,
+    wait_within, without_result,
 };
 pub use loops::{
     BadContentPolicy, ClientStreams, EndSession, FaultCounts, FrameOutbox, Handler, HandlerService,
-    Ignore, Output, PassedOver, ReadEnd, Service, SessionEnd, SessionFault, SessionOutcome,
-    StopReason, StreamInbox, StreamTransport, ToSend, TolerantInbox, Transcript, WriteEnd,
-    initialize_result, is_of_content, read_loop, read_loop_within, serve, serve_service,
+    Ignore, Output, PassedOver, ReadEnd, Sendable, Service, SessionEnd, SessionFault,
+    SessionOutcome, StopReason, StreamInbox, StreamTransport, ToSend, TolerantInbox, Transcript,
+    WriteEnd, initialize_result, is_of_content, read_loop, read_loop_within, serve, serve_service,
     serve_transport, session, session_answer, session_of_service, session_transcribed,
     session_within, write_loop,
 };

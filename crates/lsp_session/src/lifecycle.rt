@@ -136,15 +136,17 @@ pub trait Outbox {
     fn send(&mut self, message: Message) -> Result<(), SendFault>
         ensures sends { sends self.old (message_view message) result self.new }
         ensures handed_back { IfErr result (λ fault. handed_back fault ≡ message) };
+}
 
-    /// Sends the response with this id, whose result waits as text, as `send` sends it. The message that a fault gives back has null as its
-    /// result.
+/// An outbox that also takes results that are text already.
+pub trait TextOutbox: Outbox {
+    /// Sends the response with this id and this text as its result. A fault gives back the response with null as its result.
     fn send_text(&mut self, id: RequestId, text: ResultText) -> Result<(), SendFault>
-        ensures sends { sends self.old (response id (Ok (view text))) result self.new }
+        ensures sends { Self.sends self.old (response id (Ok (view text))) result self.new }
         ensures handed_back { IfErr result (λ fault. message_view (handed_back fault) ≡ response id (Ok null)) };
 }
 
-/// The response with this id and null as its result: what a fault of `Outbox::send_text` gives back.
+/// The response with this id and null as its result: what a fault of `TextOutbox::send_text` gives back.
 pub fn without_result(id: RequestId) -> Message
     ensures { message_view result ≡ response id (Ok null) }
 {

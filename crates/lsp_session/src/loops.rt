@@ -36,7 +36,7 @@ pub use frame_outbox::FrameOutbox;
 pub use handler::{Handler, SessionEnd, initialize_result, serve};
 pub use handler_service::HandlerService;
 pub use passed_over::PassedOver;
-pub use service::{Output, Service, ToSend};
+pub use service::{Output, Sendable, Service, ToSend};
 pub use session_outcome::{SessionOutcome, StopReason};
 pub use stream_inbox::StreamInbox;
 pub use stream_session::{

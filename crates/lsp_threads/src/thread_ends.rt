@@ -14,7 +14,7 @@ use crate::reply_outbox::ReplyOutbox;
 use lsp_message::{Message, ReadFault, RequestId, ResultText};
 use lsp_session::{
     Arrival, BadContentPolicy, Event, Inbox, Outbox, ReadEnd, SendFault, Service, SessionOutcome,
-    WakingInbox, is_exit, is_of_content, serve_transport,
+    TextOutbox, WakingInbox, is_exit, is_of_content, serve_transport,
 };
 use std::alloc::Global;
 use std::sync::Wait;
@@ -179,7 +179,9 @@ impl<'a, R: Wait + Copy + Drop, L: BadContentPolicy> Outbox for ThreadEnds<'a, R
     fn send(&mut self, message: Message) -> Result<(), SendFault> {
         self.outbox.send(message)
     }
+}
 
+impl<'a, R: Wait + Copy + Drop, L: BadContentPolicy> TextOutbox for ThreadEnds<'a, R, L> {
     fn send_text(&mut self, id: RequestId, text: ResultText) -> Result<(), SendFault> {
         self.outbox.send_text(id, text)
     }

@@ -3,7 +3,9 @@ ghost use Rattle.std.specs.Prelude.{◌≢◌};
 ghost use Rattle.lsp_session.specs.Event.{event_view, timeout};
 
 use lsp_message::{Message, RequestId, ResultText};
-use lsp_session::{Arrival, Event, Inbox, ListInbox, ListOutbox, Outbox, SendFault, WakingInbox};
+use lsp_session::{
+    Arrival, Event, Inbox, ListInbox, ListOutbox, Outbox, SendFault, TextOutbox, WakingInbox,
+};
 use std::cell::Cell;
 
 /// What an inbox does beside giving the events of its list.
@@ -91,7 +93,9 @@ impl Outbox for Sent<'_> {
         }
         sent
     }
+}
 
+impl TextOutbox for Sent<'_> {
     fn send_text(&mut self, id: RequestId, text: ResultText) -> Result<(), SendFault> {
         let sent = self.list.send_text(id, text);
         if sent.is_ok() {

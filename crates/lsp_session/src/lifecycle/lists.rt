@@ -4,7 +4,7 @@ ghost use Rattle.serde_json.specs.View.{view};
 ghost use Rattle.lsp_message.specs.Message.{response};
 ghost use Rattle.lsp_message.specs.View.{message_view};
 
-use crate::lifecycle::{Event, Gate, Inbox, Outbox, SendFault, without_result};
+use crate::lifecycle::{Event, Gate, Inbox, Outbox, SendFault, TextOutbox, without_result};
 use lsp_message::{Message, RequestId, ResultText};
 use std::alloc::{AllocError, Global};
 use std::collections::VecDeque;
@@ -99,7 +99,9 @@ impl Outbox for ListOutbox {
             Err(refused) => Err(SendFault::Memory(refused.value)),
         }
     }
+}
 
+impl TextOutbox for ListOutbox {
     fn send_text(&mut self, id: RequestId, text: ResultText) -> Result<(), SendFault> {
         if self.sent.len() >= self.room {
             drop(text);

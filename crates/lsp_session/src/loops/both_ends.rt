@@ -6,10 +6,10 @@ ghost use Rattle.lsp_session.specs.Session.{SessionOut};
 ghost use Rattle.lsp_session.specs.SessionLaws.{Both};
 ghost use Rattle.lsp_session.specs.SessionRun.{Runs};
 
-use crate::lifecycle::{Arrival, Event, Inbox, Outbox, SendFault, WakingInbox};
-use crate::loops::service::Service;
+use crate::lifecycle::{Arrival, Event, Inbox, Outbox, SendFault, TextOutbox, WakingInbox};
+use crate::loops::service::{MessagesAlone, Service};
 use crate::loops::session_outcome::SessionOutcome;
-use crate::loops::transport::serve_transport;
+use crate::loops::transport::{serve_by, serve_transport};
 use lsp_message::{Message, RequestId, ResultText};
 use std::alloc::Global;
 
@@ -52,7 +52,9 @@ impl<'a, I: Inbox, O: Outbox> Outbox for BothEnds<'a, I, O> {
     fn send(&mut self, message: Message) -> Result<(), SendFault> {
         self.outbox.send(message)
     }
+}
 
+impl<'a, I: Inbox, O: TextOutbox> TextOutbox for BothEnds<'a, I, O> {
     fn send_text(&mut self, id: RequestId, text: ResultText) -> Result<(), SendFault> {
         self.outbox.send_text(id, text)
     }
@@ -76,7 +78,7 @@ impl<'a, I: Inbox, O: Outbox> Outbox for BothEnds<'a, I, O> {
 /// An outbox that is closed to a message ends the session with `disconnected channel`, and a failed allocation with
 /// `out of memory`; what was to follow for that message is not sent. That this reply could not be sent is ignored. After
 /// 2^64 - 1 events it ends as if no more messages came.
-pub fn serve_service<I: WakingInbox, O: Outbox, S: Service>(
+pub fn serve_service<I: WakingInbox, O: TextOutbox, S: Service>(
     alloc: Global,
     inbox: &mut I,
     outbox: &mut O,
@@ -88,4 +90,19 @@ pub fn serve_service<I: WakingInbox, O: Outbox, S: Service>(
 {
     let mut transport = BothEnds { inbox, outbox };
     serve_transport(alloc, &mut transport, service)
+}
+
+/// The same of a service that gives one message at most, over any outbox.
+pub(crate) fn serve_replies<I: WakingInbox, O: Outbox, S: Service<Output = Option<Message>>>(
+    alloc: Global,
+    inbox: &mut I,
+    outbox: &mut O,
+    service: &mut S,
+) -> SessionOutcome
+    ensures { Runs I.receives O.sends
+        (Both (SessionOut S.behavior service.old service.new) (StopsFor result.stop))
+        (inbox.old, outbox.old) result.answer (inbox.new, outbox.new) }
+{
+    let mut transport = BothEnds { inbox, outbox };
+    serve_by::<_, S, MessagesAlone>(alloc, &mut transport, service)
 }

@@ -1,5 +1,5 @@
 // An outbox that writes frames.
-use crate::lifecycle::{Outbox, SendFault, without_result};
+use crate::lifecycle::{Outbox, SendFault, TextOutbox, without_result};
 use lsp_message::{Message, Passed, RequestId, ResultText, WriteFault};
 use std::alloc::Global;
 use std::io::Write;
@@ -137,7 +137,9 @@ impl<'a, W: Write> Outbox for FrameOutbox<'a, W> {
     fn send(&mut self, message: Message) -> Result<(), SendFault> {
         self.send_telling(message, &mut Passed::new())
     }
+}
 
+impl<'a, W: Write> TextOutbox for FrameOutbox<'a, W> {
     fn send_text(&mut self, id: RequestId, text: ResultText) -> Result<(), SendFault> {
         self.send_text_telling(id, text, &mut Passed::new())
     }

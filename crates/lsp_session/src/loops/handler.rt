@@ -8,7 +8,7 @@ ghost use Rattle.lsp_session.specs.SessionRun.{Runs};
 
 use crate::error::ProtocolError;
 use crate::lifecycle::{Inbox, Outbox};
-use crate::loops::both_ends::serve_service;
+use crate::loops::both_ends::serve_replies;
 use crate::loops::handler_service::HandlerService;
 use crate::loops::unwoken::Unwoken;
 use lsp_message::{Notification, Request, Response, ResponseError};
@@ -92,7 +92,7 @@ pub fn serve<I: Inbox, O: Outbox, H: Handler>(
     let mut capabilities = capabilities;
     let mut service = HandlerService::new(alloc, &mut capabilities, handler);
     let mut unwoken = Unwoken::new(inbox);
-    serve_service(alloc, &mut unwoken, outbox, &mut service).answer
+    serve_replies(alloc, &mut unwoken, outbox, &mut service).answer
 }
 
 /// The result of `initialize`: `{"capabilities":<capabilities>}`. An `Err` is a failed allocation.

@@ -3,7 +3,7 @@ ghost use Rattle.std.specs.Prelude.{◌≡◌};
 ghost use Rattle.lsp_session.specs.HandlerService.{lent_handler};
 
 use crate::loops::handler::{Handler, initialize_result};
-use crate::loops::service::{Output, Service};
+use crate::loops::service::Service;
 use lsp_message::{Message, Notification, Request, RequestId, Response, ResponseError};
 use serde_json::Value;
 use std::alloc::{AllocError, Global};
@@ -34,6 +34,8 @@ impl<'a, H: Handler> HandlerService<'a, H> {
 }
 
 impl<'a, H: Handler> Service for HandlerService<'a, H> {
+    type Output = Option<Message>;
+
     ghost behavior = { lent_handler H.answers H.notes };
 
     fn initialize(&mut self, _params: Value) -> Result<Result<Value, ResponseError>, AllocError> {
@@ -41,29 +43,29 @@ impl<'a, H: Handler> Service for HandlerService<'a, H> {
         Ok(Ok(initialize_result(self.alloc, capabilities)?))
     }
 
-    fn initialized(&mut self) -> Result<Output, AllocError> {
-        Ok(Output::Nothing)
+    fn initialized(&mut self) -> Result<Option<Message>, AllocError> {
+        Ok(None)
     }
 
-    fn request(&mut self, request: Request) -> Result<Output, AllocError> {
-        Ok(Output::One(Message::Response(self.handler.respond(request)?)))
+    fn request(&mut self, request: Request) -> Result<Option<Message>, AllocError> {
+        Ok(Some(Message::Response(self.handler.respond(request)?)))
     }
 
-    fn notification(&mut self, notification: Notification) -> Result<Output, AllocError> {
+    fn notification(&mut self, notification: Notification) -> Result<Option<Message>, AllocError> {
         self.handler.note(&notification)?;
-        Ok(Output::Nothing)
+        Ok(None)
     }
 
-    fn response(&mut self, _response: Response) -> Result<Output, AllocError> {
-        Ok(Output::Nothing)
+    fn response(&mut self, _response: Response) -> Result<Option<Message>, AllocError> {
+        Ok(None)
     }
 
-    fn woken(&mut self) -> Result<Output, AllocError> {
-        Ok(Output::Nothing)
+    fn woken(&mut self) -> Result<Option<Message>, AllocError> {
+        Ok(None)
     }
 
-    fn shutdown(&mut self, _id: &RequestId) -> Result<Output, AllocError> {
-        Ok(Output::Nothing)
+    fn shutdown(&mut self, _id: &RequestId) -> Result<Option<Message>, AllocError> {
+        Ok(None)
     }
 
     fn passes_late(&self) -> bool {

@@ -8,7 +8,7 @@ ghost use Rattle.lsp_session.specs.HandlerSession.{of_handler};
 ghost use Rattle.lsp_session.specs.Transcripts.{notes_of};
 ghost use Rattle.lsp_session.specs.StreamTransports.{IsUnused, PassesBetween, Serves, StreamTransportGives, StreamTransportListens};
 
-use crate::lifecycle::{Arrival, Event, Inbox, Outbox, SendFault, WakingInbox};
+use crate::lifecycle::{Arrival, Event, Inbox, Outbox, SendFault, TextOutbox, WakingInbox};
 use crate::loops::transcript::{Noted, Transcript};
 use crate::loops::{
     BadContentPolicy, FrameOutbox, Handler, HandlerService, ReadEnd, Service, SessionEnd,
@@ -206,7 +206,9 @@ impl<'a, R: BufRead, W: Write, L: BadContentPolicy> Outbox for StreamTransport<'
         self.transcript.add(Noted::of_send(sent, &outcome, given));
         outcome
     }
+}
 
+impl<'a, R: BufRead, W: Write, L: BadContentPolicy> TextOutbox for StreamTransport<'a, R, W, L> {
     fn send_text(&mut self, id: RequestId, text: ResultText) -> Result<(), SendFault> {
         let reply = Snapshot::of(&id);
         let sent = Snapshot::of(&text);

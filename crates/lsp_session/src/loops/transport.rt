@@ -5,8 +5,6 @@ ghost use Rattle.lsp_message.specs.Message.{response};
 ghost use Rattle.lsp_message.specs.View.{message_view, error_view};
 ghost use Rattle.lsp_session.specs.Event.{arrival_view, event_view};
 ghost use Rattle.lsp_session.specs.TransportParts.{FinishesOn, PartsOn, ShutsDownOn, WaitsForExit, is_late};
-ghost use Rattle.lsp_session.specs.OutputView.{output_view, sent_view, to_send_view};
-ghost use Rattle.lsp_session.specs.Outputs.{SendsAll};
 ghost use Rattle.lsp_session.specs.Prompt.{Talks, WaitsIn};
 ghost use Rattle.lsp_session.specs.Replies.{ok_reply as ok_reply_spec};
 ghost use Rattle.lsp_session.specs.SessionOutcome.{served_by, StopsFor};
@@ -15,10 +13,10 @@ ghost use Rattle.lsp_session.specs.SessionLaws.{Both};
 
 use crate::error::ProtocolError;
 use crate::lifecycle::{
-    Arrival, EXIT_SECONDS, Event, Inbox, Outbox, SendFault, WakingInbox, finish_on, is_exit, offer,
-    ok_reply, shutdown_on, start_on,
+    Arrival, EXIT_SECONDS, Event, Inbox, Outbox, TextOutbox, WakingInbox, finish_on, is_exit,
+    offer, ok_reply, shutdown_on, start_on,
 };
-use crate::loops::service::{Output, Service, ToSend};
+use crate::loops::service::{Sending, Service, WithTexts};
 use crate::loops::session_outcome::{SessionOutcome, StopReason};
 use lsp_message::{Message, RequestId, Response, ResponseError};
 use serde_json::Value;
@@ -49,7 +47,7 @@ use std::alloc::{AllocError, Global};
 /// to `initialized`, and of `shutdown`; in between a service may reply to it later, unless it answers at once, as a handler does
 /// (`laws::sessions::session_answers_requests`). After a message that the transport refuses nothing is awaited, but that events are
 /// received after the reply to `shutdown` in any case: responses that are passed over, and one more.
-pub fn serve_transport<L: WakingInbox + Outbox, S: Service>(
+pub fn serve_transport<L: WakingInbox + TextOutbox, S: Service>(
     alloc: Global,
     transport: &mut L,
     service: &mut S,
@@ -58,14 +56,27 @@ pub fn serve_transport<L: WakingInbox + Outbox, S: Service>(
         (Both (SessionOut S.behavior service.old service.new) (StopsFor result.stop))
         transport.old result.answer transport.new }
 {
-    match run_transport(alloc, transport, service) {
+    serve_by::<L, S, WithTexts>(alloc, transport, service)
+}
+
+/// The same, over a value that takes what this way of sending needs.
+pub(crate) fn serve_by<L: WakingInbox + Outbox, S: Service, W: Sending<L, S::Output>>(
+    alloc: Global,
+    transport: &mut L,
+    service: &mut S,
+) -> SessionOutcome
+    ensures { Talks L.receives L.listens L.sends starting
+        (Both (SessionOut S.behavior service.old service.new) (StopsFor result.stop))
+        transport.old result.answer transport.new }
+{
+    match run_transport::<L, S, W>(alloc, transport, service) {
         Ok(served) => served,
         Err(error) => SessionOutcome::failed(error),
     }
 }
 
 /// The same, if an error tells the reason itself.
-fn run_transport<L: WakingInbox + Outbox, S: Service>(
+fn run_transport<L: WakingInbox + Outbox, S: Service, W: Sending<L, S::Output>>(
     alloc: Global,
     transport: &mut L,
     service: &mut S,
@@ -84,8 +95,8 @@ fn run_transport<L: WakingInbox + Outbox, S: Service>(
             Ok(result) => {
                 finish_transport(alloc, transport, id, result)?;
                 let first = service.initialized()?;
-                send_output(transport, first)?;
-                return serve_messages(alloc, transport, service);
+                W::send_output(transport, first)?;
+                return serve_messages::<L, S, W>(alloc, transport, service);
             }
             Err(error) => transport.send(error_reply(id, error))?,
         }
@@ -94,7 +105,7 @@ fn run_transport<L: WakingInbox + Outbox, S: Service>(
 }
 
 /// The session from `initialized` on: each message goes to the service, up to the first `shutdown` or `exit`, and so does each wake.
-fn serve_messages<L: WakingInbox + Outbox, S: Service>(
+fn serve_messages<L: WakingInbox + Outbox, S: Service, W: Sending<L, S::Output>>(
     alloc: Global,
     transport: &mut L,
     service: &mut S,
@@ -109,7 +120,7 @@ fn serve_messages<L: WakingInbox + Outbox, S: Service>(
             Arrival::Message(message) => message,
             Arrival::Woken => {
                 let output = service.woken()?;
-                send_output(transport, output)?;
+                W::send_output(transport, output)?;
                 continue;
             }
             Arrival::Closed => return Ok(SessionOutcome::closed(StopReason::NoMore)),
@@ -118,7 +129,7 @@ fn serve_messages<L: WakingInbox + Outbox, S: Service>(
             drop(message);
             return Ok(SessionOutcome::closed(StopReason::Decided));
         }
-        match shut_transport(alloc, transport, service, &message) {
+        match shut_transport::<L, S, W>(alloc, transport, service, &message) {
             Ok(false) => {}
             Ok(true) => {
                 drop(message);
@@ -130,7 +141,7 @@ fn serve_messages<L: WakingInbox + Outbox, S: Service>(
             }
         }
         let output = output_of(service, message)?;
-        send_output(transport, output)?;
+        W::send_output(transport, output)?;
     }
     Ok(SessionOutcome::closed(StopReason::NoMore))
 }
@@ -167,7 +178,7 @@ fn finish_transport<L: Inbox + Outbox>(
 }
 
 /// Answers `shutdown` with null, after what the service gives for it, and then waits for `exit`. Any other message is left alone.
-fn shut_transport<L: Inbox + Outbox, S: Service>(
+fn shut_transport<L: Inbox + Outbox, S: Service, W: Sending<L, S::Output>>(
     alloc: Global,
     transport: &mut L,
     service: &mut S,
@@ -184,13 +195,13 @@ fn shut_transport<L: Inbox + Outbox, S: Service>(
     let Ok(id) = request.id.clone() else {
         return Err(ProtocolError::out_of_memory());
     };
-    part_transport(transport, service, &id)?;
+    part_transport::<L, S, W>(transport, service, &id)?;
     offer(transport, ok_reply(id, Value::Null));
     await_exit(alloc, transport, service.passes_late())
 }
 
 /// Sends what the service gives at `shutdown`, which came under this id.
-fn part_transport<O: Outbox, S: Service>(
+fn part_transport<O: Outbox, S: Service, W: Sending<O, S::Output>>(
     transport: &mut O,
     service: &mut S,
     id: &RequestId,
@@ -198,7 +209,7 @@ fn part_transport<O: Outbox, S: Service>(
     ensures { PartsOn O.sends S.behavior id.now (transport.old, service.old) result (transport.new, service.new) }
 {
     let output = service.shutdown(id)?;
-    send_output(transport, output)
+    W::send_output(transport, output)
 }
 
 /// Waits up to 30 seconds for `exit`. If responses are passed over, each one begins the wait anew; 2^64 - 1 of them end it as if memory
@@ -231,9 +242,9 @@ fn is_passed_over(passes_late: bool, event: &Event) -> bool
 }
 
 /// What the service gives for a message.
-fn output_of<S: Service>(service: &mut S, message: Message) -> Result<Output, AllocError>
+fn output_of<S: Service>(service: &mut S, message: Message) -> Result<S::Output, AllocError>
     ensures { IfOk result (λ output.
-        S.behavior.outputs service.old (message_view message) (output_view output) service.new) }
+        S.behavior.outputs service.old (message_view message) (S.Output.shows output) service.new) }
 {
     match message {
         Message::Request(request) => service.request(request),
@@ -250,36 +261,4 @@ fn error_reply(id: RequestId, error: ResponseError) -> Message
         id,
         response_result: Err(error),
     })
-}
-
-/// Sends messages in order, up to the first that is refused.
-#[inline(always)]
-fn send_output<O: Outbox>(outbox: &mut O, output: Output) -> Result<(), ProtocolError>
-    ensures { SendsAll O.sends outbox.old (output_view output) result outbox.new }
-{
-    match output {
-        Output::Nothing => Ok(()),
-        Output::One(message) => Ok(outbox.send(message)?),
-        Output::Several(messages) => send_all(outbox, messages),
-    }
-}
-
-/// The same of a list.
-fn send_all<O: Outbox>(outbox: &mut O, messages: Vec<ToSend>) -> Result<(), ProtocolError>
-    ensures { SendsAll O.sends outbox.old (sent_view messages.items) result outbox.new }
-{
-    for message in messages {
-        send_one(outbox, message)?;
-    }
-    Ok(())
-}
-
-/// Sends a message, or a response whose result waits as text.
-fn send_one<O: Outbox>(outbox: &mut O, message: ToSend) -> Result<(), SendFault>
-    ensures { O.sends outbox.old (to_send_view message) result outbox.new }
-{
-    match message {
-        ToSend::Message(message) => outbox.send(message),
-        ToSend::Text(id, text) => outbox.send_text(id, text),
-    }
 }

@@ -6,7 +6,7 @@ use Rattle.lsp_session.proofs.Waiting.{FoldsTo-append}
 use Rattle.lsp_session.specs.Boxes.{Takes}
 use Rattle.lsp_session.specs.OutputView.{to_send_view}
 use Rattle.lsp_session.specs.declared.loops.service.ToSend.{ToSend}
-use Rattle.lsp_session.proofs.loops.transport.send_all.Goals as goal
+use Rattle.lsp_session.proofs.loops.service.send_all.Goals as goal
 
 pub loop-message-preserved : goal.loop-message-preserved
 loop-message-preserved g c =

@@ -3,7 +3,7 @@ use Rattle.std.specs.List.{FoldsTo}
 use Rattle.std.specs.Vec.Iter.{into_iter_items}
 use Rattle.lsp_session.specs.Boxes.{Takes}
 use Rattle.lsp_session.specs.OutputView.{sent_view}
-use Rattle.lsp_session.proofs.loops.transport.send_all.Given as goal
+use Rattle.lsp_session.proofs.loops.service.send_all.Given as goal
 
 -- what came so far was taken
 abbrev pub invariant-loop-message : goal.invariant-loop-message

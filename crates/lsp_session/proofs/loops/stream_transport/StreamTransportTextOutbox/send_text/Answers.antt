@@ -1,6 +1,6 @@
 use Rattle.std.proofs.Common.{refl}
 use Rattle.lsp_session.proofs.Noting.{sent_noted}
-use Rattle.lsp_session.proofs.loops.stream_transport.StreamTransportOutbox.send_text.Goals as goal
+use Rattle.lsp_session.proofs.loops.stream_transport.StreamTransportTextOutbox.send_text.Goals as goal
 
 pub returns-clause-sends : goal.returns-clause-sends
 returns-clause-sends g c =
