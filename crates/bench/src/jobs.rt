@@ -11,7 +11,7 @@ use lsp_jobs::laws::{requests_are_answered_by_their_jobs, session_with_jobs_keep
 use lsp_jobs::{
     AnsweredBy, Interrupted, Job, JobContext, JobResult, JobServer, NoSlots, PoolSize, run_jobs,
 };
-use lsp_server::{EndSession, Request, StandardOutput, StartFault, ThreadOptions, ThreadsOutcome};
+use lsp_server::{EndSession, Request, StandardOutput, StartFault, ThreadOptions, Threaded};
 use serde_json::Value;
 use std::alloc::{AllocError, Global};
 use std::io::{BufRead, Write};
@@ -85,7 +85,7 @@ fn echo_with_jobs<T, R, W>(
     reader: R,
     writer: W,
     workers: usize,
-) -> Result<ThreadsOutcome<W>, StartFault>
+) -> Result<Threaded<W>, StartFault>
 where
     T: Threads + Wait + Copy + Drop + Send + 'static,
     R: BufRead + Drop + Send + 'static,

@@ -4,8 +4,8 @@ use crate::speaking::Speaking;
 use crate::{Host, session};
 use anyhow::{Error, Result};
 use lsp_server::{
-    EndSession, FrameOutbox, ReadEnd, StandardOutput, StartFault, ThreadOptions, ThreadsOutcome,
-    pump, read_loop, run_threads, run_threads_with,
+    EndSession, FrameOutbox, ReadEnd, StandardOutput, StartFault, ThreadOptions, Threaded, pump,
+    read_loop, run_threads, run_threads_with,
 };
 use serde_json::{Map, Value};
 use std::alloc::Global;
@@ -74,9 +74,9 @@ where
 }
 
 /// How a session in threads ended.
-pub fn ended<W: Drop>(done: Result<ThreadsOutcome<W>, StartFault>) -> Result<()> {
+pub fn ended<W: Drop>(done: Result<Threaded<W>, StartFault>) -> Result<()> {
     match done {
-        Ok(ThreadsOutcome { answer, .. }) => session::ended(answer),
+        Ok(Threaded { answer, .. }) => session::ended(answer),
         Err(fault) => Err(Error::from(fault)),
     }
 }

@@ -32,7 +32,7 @@ use lsp_methods::publish;
 use lsp_server::clients::{ClientOptions, serve_clients};
 use lsp_server::{
     Act, BadContentPolicy, ClientStreams, EndSession, Notification, Request, ResponseError, Server,
-    SessionEnd, StartFault, ThreadOptions, ThreadsOutcome,
+    SessionEnd, StartFault, ThreadOptions, Threaded,
 };
 use lsp_text::Text;
 use lsp_types::{Diagnostic, DiagnosticSeverity, Position, Range, ToJson};
@@ -331,7 +331,7 @@ fn serve<T, R, W>(
     client: ClientStreams<R, W>,
     linter: Linter,
     policy: &mut EndSession,
-) -> (Linter, Result<ThreadsOutcome<W>, StartFault>)
+) -> (Linter, Result<Threaded<W>, StartFault>)
 where
     T: Threads + Wait + Copy + Drop + Send + 'static,
     R: BufRead + Drop + Send + 'static,

@@ -26,7 +26,7 @@ mod sums;
 
 use anyhow::{Result, bail};
 use lsp_server::clients::{ClientOptions, serve_clients};
-use lsp_server::{PassedOver, SessionEnd, StartFault, ThreadsOutcome};
+use lsp_server::{PassedOver, SessionEnd, StartFault, Threaded};
 use server::Sums;
 use sessions::{serve, serve_in_threads, serve_with_jobs};
 use std::alloc::Global;
@@ -65,7 +65,7 @@ fn main(rt: HostRuntime) -> Result<()> {
 }
 
 /// How a session in threads ended.
-fn end_of<W: Drop>(session: (Sums, Result<ThreadsOutcome<W>, StartFault>)) -> Result<SessionEnd> {
+fn end_of<W: Drop>(session: (Sums, Result<Threaded<W>, StartFault>)) -> Result<SessionEnd> {
     let (_sums, done) = session;
     Ok(done?.answer?)
 }

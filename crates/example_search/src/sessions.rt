@@ -17,7 +17,7 @@ use lsp_jobs::{Job, JobServer, NoSlots, PoolSize, Slots, run_jobs};
 use lsp_server::laws::server_keeps_laws;
 use lsp_server::{
     BadContentPolicy, ClientStreams, PassedOver, Server, SessionEnd, SessionFault, StartFault,
-    StreamTransport, ThreadOptions, ThreadsOutcome, run_threads_with, session_with_over,
+    StreamTransport, ThreadOptions, Threaded, run_threads_with, session_with_over,
 };
 use std::alloc::Global;
 use std::io::{BufRead, Write};
@@ -52,7 +52,7 @@ pub fn serve_in_threads<T, R, W>(
     client: ClientStreams<R, W>,
     sums: Sums,
     passed_over: &mut PassedOver,
-) -> (Sums, Result<ThreadsOutcome<W>, StartFault>)
+) -> (Sums, Result<Threaded<W>, StartFault>)
 where
     T: Threads + Wait + Copy + Drop + Send + 'static,
     R: BufRead + Drop + Send + 'static,
@@ -85,7 +85,7 @@ pub fn serve_with_jobs<T, R, W>(
     client: ClientStreams<R, W>,
     sums: Sums,
     passed_over: &mut PassedOver,
-) -> (Sums, Result<ThreadsOutcome<W>, StartFault>)
+) -> (Sums, Result<Threaded<W>, StartFault>)
 where
     T: Threads + Wait + Copy + Drop + Send + 'static,
     R: BufRead + Drop + Send + 'static,

@@ -13,7 +13,7 @@ use lsp_acts::WokenQueuedServer;
 use lsp_relay::relay;
 use lsp_session::BadContentPolicy;
 use lsp_threads::{
-    Contents, ContentsPlan, StartFault, ThreadOptions, ThreadsOutcome, run_threads_of_service_over,
+    Contents, ContentsPlan, StartFault, ThreadOptions, Threaded, run_threads_of_service_over,
 };
 use std::alloc::Global;
 use std::io::{BufRead, Write};
@@ -54,7 +54,7 @@ pub fn run_jobs<T, R, W, S, J, L>(
     server: S,
     policy: &mut L,
     options: ThreadOptions,
-) -> (S, Result<ThreadsOutcome<W>, StartFault>)
+) -> (S, Result<Threaded<W>, StartFault>)
 where
     T: Threads + Wait + Copy + Drop + Send + 'static,
     R: BufRead + Drop + Send + 'static,

@@ -125,7 +125,7 @@ pub use lsp_threads::PumpFault;
 pub use lsp_threads::PumpOutcome;
 pub use lsp_threads::StartFault;
 pub use lsp_threads::ThreadOptions;
-pub use lsp_threads::ThreadsOutcome;
+pub use lsp_threads::Threaded;
 pub use lsp_threads::UNREAD_BYTES;
 pub use lsp_threads::pump;
 pub use lsp_threads::pump_telling;

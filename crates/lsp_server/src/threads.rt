@@ -7,7 +7,7 @@ ghost use Rattle.lsp_threads.specs.Threads.{ThreadsTell};
 
 use lsp_acts::{QueuedServer, Server};
 use lsp_session::BadContentPolicy;
-use lsp_threads::{StartFault, ThreadOptions, ThreadsOutcome, run_threads_of_service};
+use lsp_threads::{StartFault, ThreadOptions, Threaded, run_threads_of_service};
 use std::alloc::Global;
 use std::io::{BufRead, Write};
 use std::sync::Wait;
@@ -32,7 +32,7 @@ pub fn run_threads_with<T, R, W, S, L>(
     server: S,
     policy: &mut L,
     options: ThreadOptions,
-) -> (S, Result<ThreadsOutcome<W>, StartFault>)
+) -> (S, Result<Threaded<W>, StartFault>)
 where
     T: Threads + Wait + Copy + Drop + Send + 'static,
     R: BufRead + Drop + Send + 'static,

@@ -24,7 +24,7 @@ use std::thread::{Builder, Threads};
 /// What a session in threads gives back. Clauses alone see its accounts of bytes.
 #[derive(Drop)]
 #[derive_where(Debug; W)]
-pub struct ThreadsOutcome<W> {
+pub struct Threaded<W> {
     /// The writer that you gave it.
     pub writer: W,
     /// The bytes that were taken from the reader, up to the end of what the session took. What came to it together with its last message is
@@ -107,7 +107,7 @@ pub fn run_threads<T, R, W, H>(
     writer: W,
     capabilities: Value,
     handler: &mut H,
-) -> Result<ThreadsOutcome<W>, StartFault>
+) -> Result<Threaded<W>, StartFault>
 where
     T: Threads + Wait + Copy + Drop + Send + 'static,
     R: BufRead + Drop + Send + 'static,
@@ -138,7 +138,7 @@ pub fn run_threads_within<T, R, W, H>(
     capabilities: Value,
     handler: &mut H,
     limit: u64,
-) -> Result<ThreadsOutcome<W>, StartFault>
+) -> Result<Threaded<W>, StartFault>
 where
     T: Threads + Wait + Copy + Drop + Send + 'static,
     R: BufRead + Drop + Send + 'static,
@@ -192,7 +192,7 @@ pub fn run_threads_of_service<T, R, W, S, L>(
     service: &mut S,
     policy: &mut L,
     options: ThreadOptions,
-) -> Result<ThreadsOutcome<W>, StartFault>
+) -> Result<Threaded<W>, StartFault>
 where
     T: Threads + Wait + Copy + Drop + Send + 'static,
     R: BufRead + Drop + Send + 'static,
@@ -231,7 +231,7 @@ pub fn run_threads_of_service_over<T, R, W, S, L>(
     service: &mut S,
     policy: &mut L,
     options: ThreadOptions,
-) -> Result<ThreadsOutcome<W>, StartFault>
+) -> Result<Threaded<W>, StartFault>
 where
     T: Threads + Wait + Copy + Drop + Send + 'static,
     R: BufRead + Drop + Send + 'static,

@@ -10,7 +10,7 @@ use crate::content_batch::{Contents, ContentsPlan, ContentsRx, ContentsTx};
 use crate::content_parts::ContentParts;
 use crate::parcels::deliver;
 use crate::reply_outbox::{ReplyOutbox, reply_fault};
-use crate::run::{ThreadOptions, ThreadsOutcome};
+use crate::run::{ThreadOptions, Threaded};
 use crate::thread_ends::{ThreadEnds, serve_ends};
 use crate::watched_writer::{WatchedWriter, WriteFaults, write_faults};
 use crate::workers::{ROOM, Reader, StartFault, Writer, start_reader, start_writer};
@@ -168,7 +168,7 @@ pub(crate) fn serve_between<T, R, W, S, L>(
     workers: Workers<R, W>,
     service: &mut S,
     policy: &mut L,
-) -> ThreadsOutcome<W>
+) -> Threaded<W>
 where
     T: Threads + Wait + Copy + Drop,
     R: BufRead + Drop,
@@ -215,7 +215,7 @@ where
     settle_all(rt, replies_rx, replies);
     let fault = reply_fault(unwritten, failed);
     let answer = session_answer(served, session_end(ended, drained, read), fault);
-    ThreadsOutcome {
+    Threaded {
         writer,
         taken,
         given,

@@ -13,7 +13,7 @@ use lsp_jobs::{PoolSize, run_jobs};
 use lsp_server::{Connection, Limits, UNREAD_WEIGHT};
 use lsp_session::{FaultCounts, HandlerService, Service, SessionEnd, SessionFault};
 use lsp_threads::{
-    PumpFault, StartFault, ThreadOptions, ThreadsOutcome, UNREAD_BYTES, UNWRITTEN_BYTES, pump_by,
+    PumpFault, StartFault, ThreadOptions, Threaded, UNREAD_BYTES, UNWRITTEN_BYTES, pump_by,
     run_threads_of_service,
 };
 use serde_json::{Map, Value};
@@ -329,7 +329,7 @@ fn run_talker<R, S, W>(
     run: Run,
     talker: Talker,
     listening: &mut Listening,
-) -> (Talker, Result<ThreadsOutcome<W>, StartFault>)
+) -> (Talker, Result<Threaded<W>, StartFault>)
 where
     R: Threads + Wait + Copy + Drop + Send + 'static,
     S: BufRead + Drop + Send + 'static,
@@ -363,12 +363,12 @@ fn builder(is_refused: bool) -> Builder {
 /// How a session in threads ended, and what it wrote.
 fn threads_answer(
     alloc: Global,
-    ran: Result<ThreadsOutcome<Sink>, StartFault>,
+    ran: Result<Threaded<Sink>, StartFault>,
     run: Run,
     signals: &Arc<Signals>,
 ) -> Result<Attempt, AllocError> {
     match ran {
-        Ok(ThreadsOutcome { writer, answer, .. }) => {
+        Ok(Threaded { writer, answer, .. }) => {
             let end = session_end(alloc, answer)?;
             told(alloc, run, end.as_str(), &writer)
         }

@@ -2,15 +2,15 @@ use denote.Param.Send.{sendable}
 use Rattle.std.proofs.Common.{true}
 use Rattle.lsp_threads.proofs.Sessions.{taken_told_as}
 use Rattle.lsp_threads.specs.Passing.{noted}
-use Rattle.lsp_threads.specs.declared.run.ThreadsOutcome.{ThreadsOutcome}
+use Rattle.lsp_threads.specs.declared.run.Threaded.{Threaded}
 use Rattle.example_linter.proofs.Crossing.{findings_send}
 use Rattle.example_linter.proofs.serve.Goals as goal
 
 pub returns-clause-told : goal.returns-clause-told
 returns-clause-told g c =
     taken_told_as true _ c.args.client.limits _ _ _ _ (c.session_with_jobs_keeps_laws.ensures.exchanges _ _)
-    (λ (done : ThreadsOutcome _). done.taken.parts) (λ (done : ThreadsOutcome _). noted done.given)
-    (λ (done : ThreadsOutcome _). done.answer) _
+    (λ (done : Threaded _). done.taken.parts) (λ (done : Threaded _). noted done.given)
+    (λ (done : Threaded _). done.answer) _
     c.run_jobs.ensures.told
 
 -- The threads may own what an analysis finds.

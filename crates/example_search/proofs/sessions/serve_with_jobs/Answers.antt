@@ -1,7 +1,7 @@
 use Rattle.std.proofs.Common.{true}
 use Rattle.lsp_threads.proofs.Sessions.{taken_told_as}
 use Rattle.lsp_threads.specs.Passing.{noted}
-use Rattle.lsp_threads.specs.declared.run.ThreadsOutcome.{ThreadsOutcome}
+use Rattle.lsp_threads.specs.declared.run.Threaded.{Threaded}
 use Rattle.example_search.proofs.sessions.serve_with_jobs.Goals as goal
 
 pub returns-clause-told : goal.returns-clause-told
@@ -12,6 +12,6 @@ returns-clause-told g c =
       session = lawful;
       searches = c.symbols_are_of_open_texts.ensures _ _ exchanges stop shutdown_reply answer c.requires lawful;
     })
-    (λ (done : ThreadsOutcome _). done.taken.parts) (λ (done : ThreadsOutcome _). noted done.given)
-    (λ (done : ThreadsOutcome _). done.answer) _
+    (λ (done : Threaded _). done.taken.parts) (λ (done : Threaded _). noted done.given)
+    (λ (done : Threaded _). done.answer) _
     c.run_jobs.ensures.told

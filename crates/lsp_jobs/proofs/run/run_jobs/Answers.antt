@@ -3,7 +3,7 @@ use Rattle.lsp_session.specs.Session.{SessionOut}
 use Rattle.lsp_acts.specs.QueuedServer.{woken_with_queues}
 use Rattle.lsp_threads.proofs.Sessions.{started_told_as, taken_told_as}
 use Rattle.lsp_threads.specs.Passing.{noted}
-use Rattle.lsp_threads.specs.declared.run.ThreadsOutcome.{ThreadsOutcome}
+use Rattle.lsp_threads.specs.declared.run.Threaded.{Threaded}
 use Rattle.lsp_jobs.proofs.JobSessions.{job_session}
 use Rattle.lsp_jobs.specs.JobSession.{JobSession, seen_with_jobs}
 use Rattle.lsp_jobs.specs.declared.pooled_server.PooledServer.{PooledServer}
@@ -23,7 +23,7 @@ returns-clause-session g c =
     c.new-queued.ensures
     (c.new-pooled.ensures ∙ ap (λ t. (c.args.server, t)) c.in-Ok-start_pool.ensures)
     (c.into_parts-server.ensures ∙ ap (λ (p : PooledServer _ _ _ _). p.server) c.into_server.ensures))
-    (λ (done : ThreadsOutcome _). g.W.Write.contents done.writer) (λ (done : ThreadsOutcome _). done.answer) _ _ _
+    (λ (done : Threaded _). g.W.Write.contents done.writer) (λ (done : Threaded _). done.answer) _ _ _
     (rw c.in-Ok-waker.ensures.made at c.run_threads_of_service_over-done.ensures.session)
 
 pub returns-clause-told : goal.returns-clause-told
@@ -39,6 +39,6 @@ returns-clause-told g c =
     c.new-queued.ensures
     (c.new-pooled.ensures ∙ ap (λ t. (c.args.server, t)) c.in-Ok-start_pool.ensures)
     (c.into_parts-server.ensures ∙ ap (λ (p : PooledServer _ _ _ _). p.server) c.into_server.ensures))
-    (λ (done : ThreadsOutcome _). done.taken.parts) (λ (done : ThreadsOutcome _). noted done.given)
-    (λ (done : ThreadsOutcome _). done.answer) _ (rw c.in-Ok-waker.ensures.made at
+    (λ (done : Threaded _). done.taken.parts) (λ (done : Threaded _). noted done.given)
+    (λ (done : Threaded _). done.answer) _ (rw c.in-Ok-waker.ensures.made at
     c.run_threads_of_service_over-done.ensures.told)

@@ -4,7 +4,7 @@ use Rattle.lsp_acts.proofs.Taking.{session_of}
 use Rattle.lsp_acts.specs.QueuedServer.{with_queues, ServerSession}
 use Rattle.lsp_acts.specs.Stated.{unwoken}
 use Rattle.lsp_threads.specs.Passing.{noted}
-use Rattle.lsp_threads.specs.declared.run.ThreadsOutcome.{ThreadsOutcome}
+use Rattle.lsp_threads.specs.declared.run.Threaded.{Threaded}
 use Rattle.lsp_threads.proofs.Sessions.{started_told_as, taken_told_as}
 use Rattle.lsp_server.proofs.threads.run_threads_with.Goals as goal
 
@@ -15,7 +15,7 @@ returns-clause-session g c =
     started_told_as false g.L.BadContentPolicy.passes c.args.options.limits c.args.policy.now _
     (SessionOut (with_queues (unwoken g.S.Server)) old new) (ServerSession (unwoken g.S.Server) c.args.server _)
     (session_of (unwoken g.S.Server) old new c.args.server _ c.new-queued.ensures c.into_server.ensures)
-    (λ (done : ThreadsOutcome _). g.W.Write.contents done.writer) (λ (done : ThreadsOutcome _). done.answer) _ _ _
+    (λ (done : Threaded _). g.W.Write.contents done.writer) (λ (done : Threaded _). done.answer) _ _ _
     c.run_threads_of_service-done.ensures.session
 
 pub returns-clause-told : goal.returns-clause-told
@@ -25,5 +25,5 @@ returns-clause-told g c =
     taken_told_as false g.L.BadContentPolicy.passes c.args.options.limits c.args.policy.now _
     (SessionOut (with_queues (unwoken g.S.Server)) old new) (ServerSession (unwoken g.S.Server) c.args.server _)
     (session_of (unwoken g.S.Server) old new c.args.server _ c.new-queued.ensures c.into_server.ensures)
-    (λ (done : ThreadsOutcome _). done.taken.parts) (λ (done : ThreadsOutcome _). noted done.given)
-    (λ (done : ThreadsOutcome _). done.answer) _ c.run_threads_of_service-done.ensures.told
+    (λ (done : Threaded _). done.taken.parts) (λ (done : Threaded _). noted done.given)
+    (λ (done : Threaded _). done.answer) _ c.run_threads_of_service-done.ensures.told

@@ -4,7 +4,7 @@ use Rattle.lsp_session.specs.HandlerService.{lent_handler}
 use Rattle.lsp_session.specs.HandlerSession.{of_handler}
 use Rattle.lsp_session.specs.Session.{SessionOut}
 use Rattle.lsp_session.proofs.Lending.{session_as}
-use Rattle.lsp_threads.specs.declared.run.ThreadsOutcome.{ThreadsOutcome}
+use Rattle.lsp_threads.specs.declared.run.Threaded.{Threaded}
 use Rattle.lsp_threads.proofs.Sessions.{started_as, started_told, started_untold, unstarted_handler}
 use Rattle.lsp_threads.specs.Passing.{noted}
 use Rattle.lsp_threads.proofs.run.run_threads_within.Goals as goal
@@ -28,9 +28,9 @@ returns-clause-session g c =
     (sym c.new-service.ensures.same_handler ∙ sym names))
     c.args.handler.now c.new-service.ensures.unchanged (ap view c.new-service.ensures.capabilities)) false
     (of_content c.args.limit)
-    (λ (done : ThreadsOutcome _). g.W.Write.contents done.writer) (λ (done : ThreadsOutcome _). done.answer) _ _ _
+    (λ (done : Threaded _). g.W.Write.contents done.writer) (λ (done : Threaded _). done.answer) _ _ _
     (started_untold false _ (of_content c.args.limit) _ _ (λ first fault last told. told) _
-    (λ (done : ThreadsOutcome _). g.W.Write.contents done.writer) (λ (done : ThreadsOutcome _). done.answer) _ _ _
+    (λ (done : Threaded _). g.W.Write.contents done.writer) (λ (done : Threaded _). done.answer) _ _ _
     c.run_threads_of_service.ensures.session)
 
 pub returns-clause-told : goal.returns-clause-told
@@ -45,5 +45,5 @@ returns-clause-told g c =
     (session_as answers notes (view c.args.capabilities) old new _ (λ names. c.handler-1.given.1
     (sym c.new-service.ensures.same_handler ∙ sym names))
     c.args.handler.now c.new-service.ensures.unchanged (ap view c.new-service.ensures.capabilities))
-    (λ (done : ThreadsOutcome _). done.taken.parts) (λ (done : ThreadsOutcome _). noted done.given)
-    (λ (done : ThreadsOutcome _). done.answer) _ c.run_threads_of_service.ensures.told
+    (λ (done : Threaded _). done.taken.parts) (λ (done : Threaded _). noted done.given)
+    (λ (done : Threaded _). done.answer) _ c.run_threads_of_service.ensures.told
