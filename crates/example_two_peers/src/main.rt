@@ -12,7 +12,6 @@ ghost use Rattle.lsp_peers.specs.HistoryLaw.{FactsOf};
 mod script;
 
 use anyhow::Result;
-use lsp_peers::laws::a_history_has_its_facts;
 use lsp_peers::{Outcome, Side, Step, World, WorldFault};
 use lsp_watched::laws::peers_keep_ids;
 use script::step_of;
@@ -27,7 +26,6 @@ fn run_through(alloc: Global, steps: Vec<Step>) -> Result<(World, Vec<Outcome>, 
     // Each reply gives back the payload of its own request, once.
     ensures facts { IfOk result (λ r. FactsOf steps.items r.1.items) }
 {
-    a_history_has_its_facts();
     peers_keep_ids();
     let (world, outcomes) = World::run(alloc, steps)?;
     let all = is_idle(&world, Side::A) && is_idle(&world, Side::B);

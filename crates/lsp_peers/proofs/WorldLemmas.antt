@@ -1,7 +1,7 @@
 -- A world is what its two sides are.
 use Rattle.std.proofs.Common.{◌≡◌, List, [], ◌∷◌, ◌++◌, refl, sym, ◌∙◌, subst}
 use Rattle.std.proofs.lemmas.List.{map-append}
-use Rattle.std.specs.Prelude.{Result, Ok, Err, IfOk}
+use Rattle.std.specs.Prelude.{Result, Ok, Err, IfOk, map as each}
 use Rattle.lsp_message.specs.Message.{Message}
 use Rattle.lsp_peers.specs.declared.fault.WorldFault.{WorldFault}
 use Rattle.lsp_peers.specs.declared.step.Outcome.{Outcome}
@@ -12,9 +12,11 @@ use Rattle.lsp_peers.specs.declared.world.World.{World}
 use Rattle.lsp_peers.specs.Delivery.{PeersAfter, Continues}
 use Rattle.lsp_peers.specs.Exchange.{WorldAfter, IsWholeRun, SideAfter, peer_at, seen_at}
 use Rattle.lsp_peers.specs.History.{Entry, entries_of}
+use Rattle.lsp_peers.specs.HistoryLaw.{FactsOf}
 use Rattle.lsp_peers.specs.Shallow.{IsShallow}
 use Rattle.lsp_peers.specs.Sides.{side_of, other}
 use Rattle.lsp_peers.proofs.Entries.{entry}
+use Rattle.lsp_peers.proofs.FactLemmas.{facts_of}
 
 -- the sides of a world, seen from one of them
 pub peers_of : (side : Side) (world : World) (handed : Side → List Message) (history : List Entry) → WorldAfter world
@@ -82,3 +84,10 @@ whole_more steps outcomes world new step outcome all run pushed goes =
       map-append (λ (e : Entry). e.outcome) run.0 (more.0 ∷ []) ∙ (λ i. run.2 i ++ more.2 i ∷ []) ∙ sym pushed,
       more.3,
     )
+
+-- the facts of the history are those of its steps and outcomes
+pub whole_facts : (steps : List Step) (outcomes : List Outcome) (world : World) → IsWholeRun steps outcomes world
+    → FactsOf steps outcomes
+whole_facts steps outcomes world run = subst (λ (l : List Outcome). FactsOf steps l) run.2
+    (subst (λ (l : List Step). FactsOf l (each (λ (e : Entry). e.outcome) run.0)) run.1
+    (facts_of run.0 run.3.lawful))

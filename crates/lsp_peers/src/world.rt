@@ -4,7 +4,7 @@ ghost use Rattle.lsp_message.specs.Message as plain;
 ghost use Rattle.lsp_message.specs.View.{message_view};
 ghost use Rattle.lsp_peers.specs.Exchange.{WorldAfter, IsWholeRun, handed_on, handed_out, peer_at, seen_at};
 ghost use Rattle.lsp_peers.specs.History.{Entry, entries_of, outcome_of};
-ghost use Rattle.lsp_peers.specs.HistoryLaw.{NeedsNoMemory};
+ghost use Rattle.lsp_peers.specs.HistoryLaw.{FactsOf, NeedsNoMemory};
 ghost use Rattle.lsp_peers.specs.Shallow.{IsShallow, AllShallow};
 ghost use Rattle.lsp_peers.specs.Sides.{side_of, other};
 
@@ -48,6 +48,9 @@ impl World {
         // The steps and outcomes are a history of the two sides: each outcome follows from the entries before it, and the world is
         // what it is after them.
         ensures exchanged { IfOk result (λ r. IsWholeRun steps.items r.1.items r.0) }
+        // Requests are registered and arrive as 0, 1, 2, .., each reply gives back the payload of its own request, once, and a request
+        // is found exactly if it is held.
+        ensures facts { IfOk result (λ r. FactsOf steps.items r.1.items) }
         // The other fault comes only at a step that nests too deeply.
         ensures deep { AllShallow steps.items → OnErr result (result ≡ Err WorldFault.Memory) }
     {

@@ -1,10 +1,5 @@
-use Rattle.std.proofs.Common.{◌∙◌, List, sym, subst}
-use Rattle.std.specs.Prelude.{map as each}
-use Rattle.lsp_peers.specs.History.{Entry}
-use Rattle.lsp_peers.specs.HistoryLaw.{FactsOf}
-use Rattle.lsp_peers.specs.declared.step.Outcome.{Outcome}
+use Rattle.std.proofs.Common.{◌∙◌, sym}
 use Rattle.lsp_peers.specs.declared.step.Side.TheVariants.{A, B}
-use Rattle.lsp_peers.specs.declared.step.Step.{Step}
 use Rattle.example_two_peers.proofs.Left.{both_taken, both_idle, no_bytes, some_bytes}
 use Rattle.example_two_peers.proofs.run_through.Goals as goal
 use Rattle.example_two_peers.proofs.run_through.Goals.{then-is_idle, else-is_idle}
@@ -30,9 +25,3 @@ returns-clause-took c =
           ]);
       watched = λ client log passes. c.peers_keep_ids.ensures client told.0 log told.3.lawful passes;
     }
-
-pub returns-clause-facts : goal.returns-clause-facts
-returns-clause-facts c =
-    let told = c.in_ok-world.ensures.exchanged in
-    subst (λ (l : List Outcome). FactsOf c.args.steps.items l) told.2 (subst (λ (l : List Step). FactsOf l
-    (each (λ (e : Entry). e.outcome) told.0)) told.1 (c.a_history_has_its_facts.ensures told.0 told.3.lawful))

@@ -9,7 +9,7 @@ use Rattle.lsp_peers.specs.declared.step.Outcome.{Outcome}
 use Rattle.lsp_peers.specs.declared.step.Step.{Step}
 use Rattle.lsp_peers.specs.Shallow.{IsShallow}
 use Rattle.lsp_peers.proofs.Entries.{all_at}
-use Rattle.lsp_peers.proofs.WorldLemmas.{whole_nothing, whole_more}
+use Rattle.lsp_peers.proofs.WorldLemmas.{whole_nothing, whole_more, whole_facts}
 use Rattle.lsp_message.proofs.Joined.{all_taken}
 use Rattle.lsp_peers.proofs.world.World.run.Goals as goal
 
@@ -56,3 +56,6 @@ returns-clause-exchanged c =
     c.loop-step.step-iterator) c.args.steps.items c.loop-step.invariant.2 (sym c.loop-step.step-iterator.rest.ok.0
     ∙ none) in
     subst (λ (l : List Step). IsWholeRun l c.loop-step.outcomes.items c.loop-step.world) all c.loop-step.invariant.3
+
+pub returns-clause-facts : goal.returns-clause-facts
+returns-clause-facts c = whole_facts _ _ c.loop-step.world (returns-clause-exchanged c)
