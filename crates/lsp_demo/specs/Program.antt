@@ -3,15 +3,11 @@ use Rattle.std.specs.Prelude.{◌≡◌, ℕ, List, [], ◌∷◌, Bool, true, f
 use Rattle.std.specs.Prelude.{codes, string_bytes, String, if◌then◌else◌}
 use Rattle.std.specs.Str.{bytes_eq}
 use Rattle.std.specs.declared.alloc.Global.{Global}
-use Rattle.lsp_message.specs.Frame.{no_limit}
+use Rattle.lsp_message.specs.Frame.{no_limit, of_content}
 use Rattle.lsp_message.specs.HeaderPart.{number}
 use Rattle.lsp_message.specs.declared.frame.limits.Limits.{Limits}
 use Rattle.lsp_threads.specs.Pump.{Pumps}
 use Rattle.lsp_threads.specs.declared.pumping.PumpFault.{PumpFault}
-
--- a content part of at most so many bytes, and a header part of 64 KiB at most
-abbrev pub limits_for : ℕ → Limits
-limits_for limit = record { header = Some 65536; content = limit }
 
 -- the word `pump`, and perhaps the greatest length of a content part
 abbrev pub asked_limit : List (String Global) → Option Limits
@@ -19,7 +15,7 @@ asked_limit [] = None
 asked_limit (word ∷ []) = if bytes_eq (string_bytes word) (codes "pump") then Some no_limit
     else None
 asked_limit (word ∷ limit ∷ []) = if bytes_eq (string_bytes word) (codes "pump")
-    then option_map limits_for (number (string_bytes limit)) else None
+    then option_map of_content (number (string_bytes limit)) else None
 asked_limit (word ∷ limit ∷ next ∷ more) = None
 
 -- no word, or the one word `serve`

@@ -9,7 +9,6 @@ mod report;
 mod serve;
 mod work;
 
-use lsp_message::Passed;
 use lsp_server::keep_freed_memory;
 use pump::pump_words;
 use report::{report, report_usage};
@@ -61,18 +60,15 @@ where
         return Ok(tcp_on(rt, addr, errors));
     }
     let reader = BufReader::with_capacity(rt.alloc(), READ_AHEAD, rt.reader())?;
-    let mut taken = Passed::new();
-    let mut given = Passed::new();
-    Ok(pump_words(
+    let pumped = pump_words(
         rt,
         rt.alloc(),
         words.as_slice(),
         reader,
         &mut io::writer(rt),
-        &mut taken,
-        &mut given,
         errors,
-    ))
+    );
+    Ok(pumped.status)
 }
 
 /// Whether the words ask for the server on standard input and output.

@@ -1,6 +1,6 @@
 // The program without its standard streams.
-ghost use Rattle.std.specs.Prelude.{◌≡◌, ◌≤◌, [], Some, None, IfSome, option_map};
-ghost use Rattle.lsp_demo.specs.Program.{asked_limit, limits_for, status_of as status_of_spec, PumpsTo};
+ghost use Rattle.std.specs.Prelude.{◌≡◌, ◌≤◌, [], Some, None, IfSome};
+ghost use Rattle.lsp_demo.specs.Program.{asked_limit, status_of as status_of_spec, PumpsTo};
 ghost use Rattle.lsp_message.specs.HeaderPart.{number};
 ghost use Rattle.lsp_message.specs.declared.frame.limits.Limits.{Limits as most};
 ghost use Rattle.lsp_threads.specs.Passing.{OfTaken, noted};
@@ -13,47 +13,60 @@ use std::io::{BufRead, Write};
 use std::sync::Wait;
 use std::thread::{Builder, Threads};
 
+/// The exit status, and accounts of the bytes that passed, which clauses alone see.
+#[derive(Drop)]
+pub struct PumpStatus {
+    /// 0 if all messages were passed on, and 1 otherwise.
+    pub status: u8,
+    /// The bytes that were taken from the reader.
+    pub taken: Passed,
+    /// The bytes that the writer took.
+    pub given: Passed,
+}
+
 /// Runs the program on its words, and gives the exit status.
 ///
-/// `pump` writes each message of the reader again, as a frame; a word after it is the greatest length of a content part, and
-/// bounds a header part too. The
+/// `pump` writes each message of the reader again, as a frame; a word after it is the greatest length of a content part in bytes. The
 /// status is 0 if all were passed on, and 1 after a fault, whose text goes to `errors`. Other words, and none, are answered
 /// by how the program is called, and status 1.
 /// A fault of `errors` is ignored. `main` comes here with all words that do not ask for the server.
 ///
-/// `taken` and `given` are accounts of the bytes that passed, which clauses alone see. `told` is of whatever reader and writer, also of standard
-/// input and output: the bytes that were given are the frames of the messages that the bytes that were taken begin with, as far as the status
-/// says, whatever follows them.
+/// `told` holds for each reader and writer, standard input and output among them: the bytes that were given are the frames of the messages
+/// that the taken bytes begin with, as far as the status says, whatever follows them.
 pub fn pump_words<T, R, W, E>(
     rt: &T,
     alloc: Global,
     words: &[String],
     reader: R,
     writer: &mut W,
-    taken: &mut Passed,
-    given: &mut Passed,
     errors: &mut E,
-) -> u8
+) -> PumpStatus
 where
     T: Threads + Wait + Copy + Drop + Send + 'static,
     R: BufRead + Drop + Send + 'static,
     W: Write,
     E: Write,
-    ensures told { (limit : most) → asked_limit words.now ≡ Some limit → OfTaken taken.new.parts (λ text.
-        PumpsTo limit text (Some []) (noted given.new) result) }
+    ensures told { (limit : most) → asked_limit words.now ≡ Some limit → OfTaken result.taken.parts (λ text.
+        PumpsTo limit text (Some []) (noted result.given) result.status) }
     ensures pumped { (limit : most) → asked_limit words.now ≡ Some limit → IfSome (R.remaining reader)
-        (λ text. PumpsTo limit text (W.contents writer.old) (W.contents writer.new) result) }
-    ensures status { result ≤ 1 }
-    ensures refused { asked_limit words.now ≡ None → result ≡ 1 }
+        (λ text. PumpsTo limit text (W.contents writer.old) (W.contents writer.new) result.status) }
+    ensures status { result.status ≤ 1 }
+    ensures refused { asked_limit words.now ≡ None → result.status ≡ 1 }
     ensures untouched { asked_limit words.now ≡ None → writer.new ≡ writer.old }
 {
     let Some(limit) = pump_limits(words) else {
-        return report_usage(errors);
+        return PumpStatus {
+            status: report_usage(errors),
+            taken: Passed::new(),
+            given: Passed::new(),
+        };
     };
     let pumped = pump_telling(rt, Builder::new(), alloc, reader, writer, limit);
-    *taken = pumped.taken;
-    *given = pumped.given;
-    status_of(errors, pumped.answer)
+    PumpStatus {
+        status: status_of(errors, pumped.answer),
+        taken: pumped.taken,
+        given: pumped.given,
+    }
 }
 
 /// The exit status of what came of passing messages on. A fault is printed.
@@ -66,28 +79,16 @@ fn status_of<E: Write>(errors: &mut E, answer: Result<(), PumpFault>) -> u8
     }
 }
 
-/// The limits on what is read, if the words ask for messages to be passed on. With a greatest length of a content part a header part is
-/// bounded too.
+/// The limits on the parts of a frame, if the words ask for messages to be passed on.
 fn pump_limits(words: &[String]) -> Option<Limits>
     ensures { result ≡ asked_limit words.now }
 {
     match words {
         [word] if word.as_str() == "pump" => Some(Limits::none()),
-        [word, limit] if word.as_str() == "pump" => bounded(limit_of(limit.as_str())),
+        [word, limit] if word.as_str() == "pump" => Some(Limits::of_content(limit_of(
+            limit.as_str(),
+        )?)),
         _ => None,
-    }
-}
-
-/// A bound on the header part beside that on the content part.
-fn bounded(limit: Option<u64>) -> Option<Limits>
-    ensures { result ≡ option_map limits_for limit }
-{
-    match limit {
-        Some(limit) => Some(Limits {
-            header: Some(Limits::HEADER_BYTES),
-            content: limit,
-        }),
-        None => None,
     }
 }
 

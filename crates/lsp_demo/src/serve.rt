@@ -4,7 +4,7 @@ ghost use Rattle.std.specs.Prelude.{◌≡◌, ◌≤◌};
 use crate::report::report;
 use crate::work::{Work, WorkFault};
 use lsp_server::dispatch::Answer;
-use lsp_server::{Connection, IoFault, IoThreads, Limits, Message, ProtocolError};
+use lsp_server::{Connection, IoFault, IoThreads, Message, ProtocolError};
 use serde_json::{Map, Value};
 use std::io::Write;
 use std::net::{Net, ToSocketAddrs};
@@ -256,8 +256,7 @@ where
     R::Stream: Send + 'static,
     ensures { result ≤ 1 }
 {
-    let limits = Limits::new(Limits::HEADER_BYTES, u64::MAX);
-    match Connection::listen_within(rt, addr, limits) {
+    match Connection::listen(rt, addr) {
         Ok((connection, threads)) => serve_on(rt, connection, Some(threads), errors),
         Err(fault) => report(errors, fault),
     }
