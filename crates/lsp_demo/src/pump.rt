@@ -85,9 +85,10 @@ fn pump_limits(words: &[String]) -> Option<Limits>
 {
     match words {
         [word] if word.as_str() == "pump" => Some(Limits::none()),
-        [word, limit] if word.as_str() == "pump" => Some(Limits::of_content(limit_of(
-            limit.as_str(),
-        )?)),
+        [word, limit] if word.as_str() == "pump" => {
+            let most = limit_of(limit.as_str())?;
+            Some(Limits::of_content(most))
+        }
         _ => None,
     }
 }
