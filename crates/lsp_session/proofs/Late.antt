@@ -5,28 +5,23 @@ use Rattle.lsp_session.proofs.Waiting.{and-true, list_all-push}
 use Rattle.lsp_session.specs.Boxes.{Receives}
 use Rattle.lsp_session.specs.Event.{Event, message, timeout, closed, woken}
 use Rattle.lsp_session.specs.Prompt.{passed_over}
-use Rattle.lsp_session.specs.ProtocolError.{out_of_memory}
 use Rattle.lsp_session.specs.Session.{Behavior, Exchange, Phase, asked, sends_of, is_reply, Step, Steps}
-use Rattle.lsp_session.specs.Shutdown.{ShutdownAnswer, EventShutsDown}
-use Rattle.lsp_session.specs.TransportParts.{is_late, WaitsForExit}
-use Rattle.std.proofs.Common.{◌≡◌, refl, sym, ◌∙◌, ap, subst, ℕ, ◌+◌, ◌≤◌, Bool, true, false, ◌&&◌, List, [], ◌∷◌, ◌++◌}
+use Rattle.std.proofs.Common.{◌≡◌, refl, ap, ℕ, ◌+◌, Bool, true, false, ◌&&◌, List, [], ◌∷◌, ◌++◌}
 use Rattle.std.proofs.Common.{length, length-append, map, arith, Some}
 use Rattle.std.proofs.lemmas.Fn.{FoldsTo-push}
-use Rattle.std.proofs.lemmas.List.Folds.{list_all-append}
 use Rattle.std.specs.List.{FoldsTo, list_all}
-use Rattle.std.specs.Prelude.{Err}
 
 -- a test that always fails
-pub never_both : (b : Bool) → (b && false) ≡ true → ⊥
+never_both : (b : Bool) → (b && false) ≡ true → ⊥
 never_both b e = let wrong : false ≡ true = (and-true b false e).1 in cc (wrong)
 
 both_true : (a b : Bool) → a ≡ true → b ≡ true → (a && b) ≡ true
 both_true a b first second = rw (first, second) refl
 
--- the last of a list
-last_of : {A : Type 0} (x : A) (xs : List A) → (before : List A) × (last : A) × (x ∷ xs ≡ before ++ last ∷ [])
-last_of x [] = ([], x, refl)
-last_of {A} x (y ∷ ys) = let rest = last_of y ys in (x ∷ rest.0, rest.1, ap (λ (l : List A). x ∷ l) rest.2)
+-- the event brings a response
+abbrev pub is_late : Event → Bool
+is_late (message m) = is_reply m
+is_late event = false
 
 module _ (passes : Bool) where
   -- the events that are passed over, and the messages
@@ -83,46 +78,11 @@ module _ (passes : Bool) where
       received = FoldsTo-push receives old so_far.late mid event new so_far.received step;
     }
 
-    -- another event decides
-    pub late_decides : (count : ℕ) (event : Event) (answer : ShutdownAnswer) (old mid new : L) → PassesLate count old
-        mid → receives mid event new → (passes && is_late event) ≡ false
-        → EventShutsDown event answer → WaitsForExit receives passes old answer new
-    late_decides count event answer old mid new so_far step is decides = record {
-      late = so_far.late;
-      passed = so_far.passed;
-      event = event;
-      received = FoldsTo-push receives old so_far.late mid event new so_far.received step;
-      decides = rw is decides;
-    }
-
-    -- as many came as are received at most
-    pub late_spent : (count : ℕ) (old new : L) → 1 ≤ count → PassesLate count old new → WaitsForExit receives passes old
-        (Err out_of_memory) new
-    late_spent count old new some so_far = at so_far.late so_far.many so_far.passed so_far.received
-      where
-        at : (late : List Event) → length late ≡ count → list_all lets_pass late ≡ true → FoldsTo receives old late new
-            → WaitsForExit receives passes old (Err out_of_memory) new
-        at [] many passed received = absurd (omega (arith, many, some))
-        at (e ∷ es) many passed received =
-            let cut = last_of e es in
-            let all : list_all lets_pass (cut.0 ++ cut.1 ∷ []) ≡ true = subst (λ (l : List Event). list_all lets_pass l
-            ≡ true) cut.2 passed in
-            let both = and-true (list_all lets_pass cut.0) (list_all lets_pass (cut.1 ∷ []))
-            (sym (list_all-append lets_pass cut.0 (cut.1 ∷ [])) ∙ all) in
-            let one = and-true (passes && is_late cut.1) true both.1 in
-            record {
-              late = cut.0;
-              passed = both.0;
-              event = cut.1;
-              received = subst (λ (l : List Event). FoldsTo receives old l new) cut.2 received;
-              decides = rw one.0 refl;
-            }
-
 -- ---- their steps
 
 module _ {S : Type 0} (may : Behavior S) where
-  late_step : (i : Id) (s : S) (m : Message) → (may.passes_late && is_reply m) ≡ true → Step may (asked i) s (Some m) []
-      (asked i) s
+  pub late_step : (i : Id) (s : S) (m : Message) → (may.passes_late && is_reply m) ≡ true
+      → Step may (asked i) s (Some m) [] (asked i) s
   late_step i s (response j outcome) passes = (rw passes (refl, refl), refl)
   late_step i s (request j method params) passes = absurd (never_both may.passes_late passes)
   late_step i s (notification method params) passes = absurd (never_both may.passes_late passes)

@@ -2,10 +2,12 @@ pub mod Accounts
 pub mod BothEnds
 pub mod ClientReading
 pub mod Dialogs
+pub mod Driving
 pub mod Handing
 pub mod Handshake
 pub mod Late
 pub mod Lending
+pub mod MachineRows
 pub mod Transport
 pub mod TransportRuns
 pub mod Noting

@@ -73,10 +73,6 @@ answer_at_end serving = Ok Closed
 answer_at_end (asked i) = Err shutdown_disconnected
 answer_at_end (ended shutdown_reply answer) = answer
 
-pub open_after : (outcome : Result Data ErrorObject) → IsOpen (phase_after outcome)
-open_after (Ok result) = tt
-open_after (Err error) = tt
-
 module _ {S : Type 0} (may : Behavior S) where
   -- what is known of an open phase: no reply to `shutdown`, the answer if no more comes, and the answer if a message is
   -- refused

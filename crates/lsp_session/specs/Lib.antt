@@ -12,8 +12,8 @@ pub mod Finish
 pub mod FrameBoxes
 pub mod HandlerService
 pub mod HandlerSession
-pub mod TransportParts
 pub mod Lists
+pub mod Machine
 pub mod OutputView
 pub mod Outputs
 pub mod Passing
@@ -36,6 +36,7 @@ pub mod StreamBoxes
 pub mod StreamTransports
 pub mod Streams
 pub mod Transcripts
+pub mod TransportTurn
 pub mod Turns
 pub mod Unwoken
 pub mod WriteLoop

@@ -1,5 +1,5 @@
 //! A server's session (LSP 3.17, "Server lifecycle"): the handshake and the shutdown over boxes of any kind, and the loops
-//! between bytes and messages. `lsp_server` gives all of it on under the same names.
+//! between bytes and messages. `lsp_server` gives all of it on under the same names, except for the module `machine`.
 #![tactic(auto)]
 
 mod beginning;
@@ -7,6 +7,7 @@ mod error;
 pub mod laws;
 mod lifecycle;
 mod loops;
+pub mod machine;
 
 pub use error::ProtocolError;
 pub use lifecycle::{

@@ -37,7 +37,7 @@ mod lists;
 pub use exit::shutdown;
 pub(crate) use exit::{EXIT_SECONDS, offer, shutdown_on};
 pub use gates::{CallGate, OpenGate};
-pub(crate) use initialize::start_on;
+pub(crate) use initialize::early_reply;
 pub use initialize::start_within;
 pub(crate) use initialized::{finish_on, ok_reply};
 pub use initialized::{finish, finish_within, wait_within};

@@ -48,7 +48,7 @@ pub fn start_within<I: Inbox, O: Outbox, G: Gate>(
 }
 
 /// What an event gives before `initialize` came.
-pub(crate) fn start_on<O: Outbox>(
+fn start_on<O: Outbox>(
     alloc: Global,
     outbox: &mut O,
     event: Event,
@@ -129,7 +129,7 @@ fn refuse_early<O: Outbox>(
 }
 
 /// The error reply to a request that came before `initialize`.
-fn early_reply(alloc: Global, request: Request) -> Result<Message, AllocError>
+pub(crate) fn early_reply(alloc: Global, request: Request) -> Result<Message, AllocError>
     ensures { IfOk result (λ reply. IsEarlyReply request.id (message_view reply)) }
 {
     let shown = beginning_of(alloc, &request)?;

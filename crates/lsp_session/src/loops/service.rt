@@ -94,7 +94,7 @@ impl<O: Outbox> Sending<O, Option<Message>> for MessagesAlone {
 }
 
 /// Sends one message.
-fn send_message<O: Outbox>(outbox: &mut O, message: Message) -> Result<(), ProtocolError>
+pub(crate) fn send_message<O: Outbox>(outbox: &mut O, message: Message) -> Result<(), ProtocolError>
     ensures { SendsAll O.sends outbox.old (message_view message ∷ []) result outbox.new }
 {
     Ok(outbox.send(message)?)
@@ -127,7 +127,7 @@ pub trait Service {
 
     /// What it gives to be sent: an `Output`, or an `Option<Message>` if it gives one message at most. A session of the second needs an
     /// `Outbox` alone, one of the first a `TextOutbox`.
-    type Output: Sendable;
+    type Output: Sendable + Drop;
 
     /// What it may give, and how it may change.
     ghost behavior: { Behavior Self };
