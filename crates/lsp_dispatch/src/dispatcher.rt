@@ -50,10 +50,20 @@ impl Dispatcher {
     pub fn default(alloc: Global) -> Dispatcher
         ensures { result ≡ (map.empty, 0) }
     {
+        Dispatcher::after(alloc, 0)
+    }
+
+    /// Makes a dispatcher that has given out this many tickets. None of their requests is pending. It does not allocate.
+    ///
+    /// The next request gets the ticket `tickets`. So a server goes on where an earlier dispatcher stopped, and a test reaches the
+    /// last tickets.
+    pub fn after(alloc: Global, tickets: u64) -> Dispatcher
+        ensures { result ≡ (map.empty, tickets) }
+    {
         Dispatcher {
             alloc,
             queue: ReqQueue::default(alloc),
-            tickets: 0,
+            tickets,
         }
     }
 

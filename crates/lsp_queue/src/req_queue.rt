@@ -36,7 +36,7 @@ impl<I, O> ReqQueue<I, O> {
     {
         ReqQueue {
             incoming: Incoming::default(alloc),
-            outgoing: Outgoing::default(alloc),
+            outgoing: Outgoing::after(alloc, 0),
         }
     }
 
@@ -186,12 +186,17 @@ impl<O> Model for Outgoing<O> {
 }
 
 impl<O> Outgoing<O> {
-    fn default(alloc: Global) -> Outgoing<O>
-        ensures { result ≡ (map.empty, 0) }
+    /// Makes a queue that has given out this many ids, at most 2147483648. None of their requests is pending. It does not allocate.
+    ///
+    /// The next request gets the id `count`. So a server goes on where an earlier queue of the same session stopped, and a test
+    /// reaches the last ids.
+    pub fn after(alloc: Global, count: u32) -> Outgoing<O>
+        requires { count ≤ all_ids }
+        ensures { result ≡ (map.empty, count) }
     {
         Outgoing {
             alloc,
-            next: 0,
+            next: count,
             pending: BTreeMap::new(alloc),
         }
     }
