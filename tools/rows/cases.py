@@ -5,36 +5,15 @@ here, from the lifecycle of LSP 3.17, JSON-RPC 2.0, the faults that `ReadFault`,
 `Connection`. Nothing comes from the program. `crates/test_live/src/main.rt` has the words of a row.
 """
 import json
-from pathlib import Path
 
-from jobs import job_answer, pool_answer
+from jobs import SCRIPT, job_answer, known, pool_answer
+from listed import ABORTED, Boxes
 from rules import (
-    AT_END,
-    AT_WRONG_TIME,
-    GREATEST,
-    Echo,
-    Unwoken,
-    answer,
-    beginning,
-    body_answer,
-    debug_message,
-    escape,
-    frame,
-    framed,
-    is_note,
-    is_request,
-    limit_in,
-    ordered,
-    pumped,
-    relay_answers,
-    served_tolerantly,
-    shown,
-    text_of,
-    waker_answers,
-    written_by,
+    AT_END, GREATEST, Echo, Unwoken, answer, body_answer, escape, frame, framed, limit_in, pumped, relay_answers,
+    served_tolerantly, shown, text_of, waker_answers, written_by,
 )
+from tables import HERE, at, misspelt, rows_of, table_of
 
-HERE = Path(__file__).resolve().parent
 WHOLE = 65536
 # More than any text of the table has.
 ALL = 1000000
@@ -81,80 +60,45 @@ def passes_answer(call, data):
     return f"{end}; wrote {shown(b''.join(map(frame, sent)))}; passed {' '.join(map(str, counts))}"
 
 
-ABORTED = "Initialization has been aborted during initialization"
+def called(boxes, name):
+    """What a call of a connection's server says, which waits as long as its client is there."""
+    if name.endswith("_while"):
+        if name == "initialize_finish_while":
+            boxes.send({"id": boxes.id, "result": None})
+        return ABORTED
+    if name == "initialize_start":
+        return boxes.start(ALL)
+    if name == "initialize_finish":
+        return boxes.finish(0)
+    if name != "initialize":
+        return boxes.shut(name, 2)
+    began = boxes.start(ALL)
+    ended = boxes.finish(0, {"capabilities": {}}) if boxes.params else began
+    return boxes.params if ended == "done" else ended
 
 
-class Call:
-    """A call of a connection's server, whose client sent these messages or is gone."""
-
-    def __init__(self, messages):
-        self.messages, self.got = messages, []
-
-    def send(self, members):
-        self.got.append(text_of(members))
-
-    def take(self, state):
-        """The next message, or what the call says where there is none."""
-        if self.messages:
-            return self.messages.pop(0), None
-        return None, f"{AT_END[state]}, disconnected"
-
-    def wait(self, state, method):
-        came, said = self.take(state)
-        if said or is_note(came, method):
-            return said
-        return AT_WRONG_TIME[state] + beginning(debug_message(came))
-
-    def start(self):
-        """The request `initialize`, or what the call says in its place."""
-        while True:
-            came, said = self.take("new")
-            if said or is_request(came, "initialize"):
-                return came, said
-            if "method" not in came or is_note(came, "exit"):
-                return None, AT_WRONG_TIME["new"] + beginning(debug_message(came))
-            if "id" in came:
-                error = {"code": -32002, "message": AT_WRONG_TIME["new"] + beginning(debug_message(came)[8:-1])}
-                self.send({"id": came["id"], "error": error})
-
-    def finish(self, name, result):
-        self.send({"id": name, "result": result})
-        return self.wait("asked", "initialized")
-
-    def answer(self, name):
-        if name in ("initialize_start_while", "initialize_finish_while", "initialize_while"):
-            if name == "initialize_finish_while":
-                self.send({"id": 234, "result": None})
-            return ABORTED
-        if name == "initialize_start":
-            came, said = self.start()
-            return said or f"{came['id']} {ordered(came.get('params'))}"
-        if name == "initialize":
-            came, said = self.start()
-            return said or self.finish(came["id"], {"capabilities": {}}) or ordered(came.get("params"))
-        if name == "initialize_finish":
-            return self.finish(234, None) or "done"
-        if name != "shutdown":
-            return "false"
-        self.send({"id": 2, "result": None})
-        return self.wait("ending", "exit") or "true"
+def boxes_of(texts):
+    """The boxes of a connection whose client sent these messages, or is gone."""
+    boxes = Boxes("y" * 99, 99, "" if texts == "gone" else texts)
+    boxes.id = 234
+    return boxes
 
 
 def call_answer(rest):
     name, _, texts = rest.partition(" | ")
-    if texts == "gone":
-        return [Call([]).answer(name)]
-    call = Call([json.loads(it) for it in texts.split("; ")])
-    came = call.answer(name)
-    return [f"{came}; left {len(call.messages)}; got {''.join(call.got)}"]
+    boxes = boxes_of(texts)
+    said = called(boxes, name)
+    said += ", disconnected" * (said in AT_END.values())
+    left, got = len(boxes.events), "".join(map(text_of, boxes.sent))
+    return [said if texts == "gone" else f"{said}; left {left}; got {got}"]
 
 
 def turns_answer(_):
     """The client waits for three turns, gets one reply to `initialize`, and one to `shutdown`."""
-    call = Call([{"id": 1, "method": "initialize", "params": {"a": 1}}, {"method": "initialized"}])
-    params = call.answer("initialize")
-    call.messages = [{"method": "exit"}]
-    return [f"{params}; shutdown {call.answer('shutdown')}; got {''.join(call.got)}"]
+    boxes = boxes_of('{"id":1,"method":"initialize","params":{"a":1}}; {"method":"initialized"}')
+    params = called(boxes, "initialize")
+    boxes.events = [{"method": "exit"}]
+    return [f"{params}; shutdown {called(boxes, 'shutdown')}; got {''.join(map(text_of, boxes.sent))}"]
 
 
 ROWS = {
@@ -181,12 +125,21 @@ def unescape(text):
     return data
 
 
+# The calls of cases, and the devices that they are made over.
+CALLS = "session speaks front read inbox loop write frames outbox line tolerant pump burst over joined left held dropped deaf stuck jobs many".split()
+DEVICES = (
+    "whole bounds limits fills flushes headers passes ends breaks huge waits looks late slow gated no_reader no_writer".split()
+)
+
+
 def case_answers(words, data, pauses):
     """A case, whose answer is printed where it is another than at the place before. It is the same in each of the ways in which the call is made."""
     call, how, steps, device, start, end, *more = words
+    if device not in DEVICES:
+        misspelt(f"no device is called `{device}`")
     shown_at_once = {int(it) >= len(data) for it in steps.split(",")}
     if call in ("pump", "burst") and device == "flushes" and len(shown_at_once) > 1:
-        raise SystemExit(f"tools/rows/make: the flushes of these sizes of pieces are not the same: {words}")
+        misspelt("the flushes of these sizes of pieces are not the same")
     kind, last = [it for it in more if not it.isdigit()], None
     for count in range(int(start), int(end) + 1):
         if call in ("jobs", "many"):
@@ -619,7 +572,7 @@ def reads():
             yield from about(it)
             yield case("read", steps=STEPS)
             yield case("front")
-    yield from (HERE / "messages").read_text().split("\n")[:-1]
+    yield from rows_of("messages")
 
 
 def pumps():
@@ -656,782 +609,88 @@ def pumps():
         yield case("pump", "looks", it)
 
 
-# Sessions with jobs: a title, the pool, and parts of what the client sends, each with the counts that it waits for. The handshake has
-# three messages of the server: its reply, a notification and a request.
-HELLO = ['{"id":1,"method":"initialize"}', '{"method":"initialized"}']
-BYE = ['{"id":9,"method":"shutdown"}', '{"method":"exit"}']
+# Sessions with jobs, as the table `sessions` has them.
 
 
-def request(name, method, params):
-    return json.dumps({"id": name, "method": method, "params": params if isinstance(params, dict) else [params]})
+SENT = {
+    "hello": BEGUN,
+    "shutdown": frame({"id": 9, "method": "shutdown"}),
+    "exit": EXIT,
+    "bye": frame({"id": 9, "method": "shutdown"}) + EXIT,
+}
+NOTES = {"cancel": ("$/cancelRequest", "id"), "cancel_progress": ("window/workDoneProgress/cancel", "token")}
 
 
-def cancel(name):
-    return json.dumps({"method": "$/cancelRequest", "params": {"id": name}})
+def sent(text):
+    """The frame of a message of a session."""
+    word, _, rest = text.partition(" ")
+    if word in NOTES:
+        method, key = NOTES[word]
+        return frame({"method": method, "params": {key: json.loads(rest)}})
+    if text in SENT:
+        return SENT[text]
+    message = json.loads(text)
+    kind, _, script = message.get("method", "").partition(" ")
+    if kind in ("job", "later"):
+        known(script.split(", "), SCRIPT)
+    return frame(message)
 
 
-def note(method, *params):
-    return json.dumps({"method": method, **({"params": list(params)} if params else {})})
+SIGNALS = ("messages", "begun", "ended")
 
 
-def reply(name, came):
-    return json.dumps({"id": name, **came})
+def part(line):
+    """What stands for a line of a session in `about`: bytes, so many times these, or a pause."""
+    word, _, rest = line.partition(" ")
+    if word == "wait":
+        counts = dict(it.split(" ") for it in known(rest.split(", "), SIGNALS))
+        return {signal: int(count) for signal, count in counts.items()}
+    messages = b"".join(map(sent, rest.removeprefix("times ").split("; "))) if rest.startswith("times ") else None
+    return (int(word), messages) if messages else b"".join(map(sent, line.split("; ")))
 
 
-def cancel_progress(token):
-    return json.dumps({"method": "window/workDoneProgress/cancel", "params": {"token": token}})
-
-
-LATE = request(2, "job cancelled", "late")
-RESTS = request(2, "job rests", "late")
-OFFERS = {"workDoneToken": "w"}
-ASKS = request(2, "job asks", "q")
-JOBS = [
-    ("others pass a late job", "2", [*HELLO, request(2, "job after 4", "late"), request(3, "demo/echo", "early")], {"messages": 5}, BYE),
-    (
-        "cancelled while it runs",
-        "1",
-        [*HELLO, LATE],
-        {"messages": 3, "begun": 1},
-        [cancel(2), request(3, "demo/echo", "early")],
-        {"messages": 5},
-        [request(4, "job soon", "next")],
-        {"messages": 6, "begun": 2},
-        BYE,
-    ),
-    (
-        "cancelled before it starts",
-        "1",
-        [*HELLO, request(2, "job after 4", "first")],
-        {"messages": 3, "begun": 1},
-        [request(3, "job soon", "never"), cancel(3)],
-        {"messages": 5},
-        [request(4, "job soon", "next")],
-        {"messages": 6, "begun": 2},
-        BYE,
-    ),
-    (
-        "cancelled after it finished",
-        "1",
-        [*HELLO, request(2, "job soon", "done")],
-        {"messages": 4},
-        [cancel(2), request(3, "demo/echo", "next")],
-        {"messages": 5},
-        BYE,
-    ),
-    (
-        "an id used again after its cancellation",
-        "1",
-        [*HELLO, request(2, "job cancelled", "old")],
-        {"messages": 3, "begun": 1},
-        [cancel(2), request(2, "job after 5", "new")],
-        {"messages": 4, "begun": 2},
-        [request(3, "demo/echo", "early")],
-        {"messages": 6},
-        BYE,
-    ),
-    (
-        "an id used again while its job runs",
-        "1",
-        [*HELLO, request(2, "job cancelled", "old")],
-        {"messages": 3, "begun": 1},
-        [request(2, "job soon", "new")],
-        {"messages": 4, "begun": 2},
-        BYE,
-    ),
-    (
-        "an id used again for a request without a job",
-        "1",
-        [*HELLO, request(2, "job after 4", "old")],
-        {"messages": 3, "begun": 1},
-        [request(2, "later soon", "new"), request(3, "demo/echo", "early"), request(4, "job soon", "next")],
-        {"messages": 5},
-        [note("start")],
-        {"messages": 6},
-        BYE,
-    ),
-    (
-        "shutdown and exit while jobs run",
-        "2",
-        [*HELLO, request(2, "job cancelled", "a"), request(3, "job cancelled", "b")],
-        {"messages": 3, "begun": 2},
-        BYE,
-    ),
-    (
-        "a job ends between shutdown and exit",
-        "1",
-        [*HELLO, request(2, "job after 4", "late")],
-        {"messages": 3, "begun": 1},
-        BYE[:1],
-        {"messages": 4, "ended": 1},
-        BYE[1:],
-    ),
-    ("exit while a job runs", "1", [*HELLO, LATE], {"messages": 3, "begun": 1}, BYE[1:]),
-    (
-        "exit while jobs wait: none of them begins",
-        "1",
-        [*HELLO, LATE, request(3, "job soon", "never"), request(4, "job cancelled", "never")],
-        {"messages": 3, "begun": 1},
-        BYE[1:],
-    ),
-    ("the client is gone while a job runs", "1", [*HELLO, LATE], {"messages": 3, "begun": 1}),
-    (
-        "a notification with an empty method is the server's",
-        "1",
-        [*HELLO, note(""), request(2, "job after 10", "late")],
-        {"messages": 5, "begun": 1},
-        [note(""), request(3, "demo/echo", "early"), note("")],
-        {"messages": 11},
-        BYE,
-    ),
-    ("an outcome that is an error", "1", [*HELLO, request(2, "job fails", "x")], {"messages": 4}, BYE),
-    (
-        "a job without memory: its request has an error, and the others go on",
-        "1",
-        [*HELLO, request(2, "job after 4, starves", "late"), request(3, "job soon", "next"), request(4, "demo/echo", "early")],
-        {"messages": 6},
-        [request(5, "job soon", "last")],
-        {"messages": 7},
-        BYE,
-    ),
-    ("two reports come before the reply", "1", [*HELLO, request(2, "job reports 2", "done")], {"messages": 6}, BYE),
-    ("40 notifications that are not to be dropped", "1", [*HELLO, request(2, "job sends 40, counted", "x")], {"messages": 44}, BYE),
-    (
-        "progress and 40 partial results, under the client's tokens",
-        "2",
-        [*HELLO, request(2, "job begins, steps 2, parts 40, ends", {"workDoneToken": "é", "partialResultToken": -7})],
-        {"messages": 48},
-        BYE,
-    ),
-    *(
-        (
-            f"no progress without a token that is a text or a number: {what}",
-            "1",
-            [*HELLO, request(2, "job begins, steps 2, parts 2, ends", tokens)],
-            {"messages": 4},
-            BYE,
-        )
-        for what, tokens in [
-            ("none", {}),
-            ("others", {"workDoneToken": None, "partialResultToken": [1]}),
-            ("no whole number of 32 bits", {"workDoneToken": 1.5, "partialResultToken": 2147483648}),
-            ("params that are a list", "x"),
-        ]
-    ),
-    (
-        "what a job says after its cancellation is dropped",
-        "1",
-        [*HELLO, request(2, "job begins, cancelled, sends 40, parts 40, ends", {"workDoneToken": 1, "partialResultToken": 2})],
-        {"messages": 4},
-        [cancel(2)],
-        {"messages": 5, "ended": 1},
-        [request(3, "demo/echo", "next")],
-        {"messages": 6},
-        BYE,
-    ),
-    (
-        "exit while a job waits for room, since nothing is taken any more",
-        "1",
-        [*HELLO, request(2, "job after 4, sends 40", "late")],
-        {"messages": 3, "begun": 1},
-        BYE,
-    ),
-    (
-        "no report after the cancellation",
-        "1",
-        [*HELLO, request(2, "job reports 1, cancelled, reports 1", "late")],
-        {"messages": 4},
-        [cancel(2)],
-        {"messages": 5, "ended": 1},
-        [request(3, "demo/echo", "next")],
-        {"messages": 6},
-        BYE,
-    ),
-    (
-        "one job may wait",
-        "1:1",
-        [*HELLO, request(2, "job after 4", "first")],
-        {"messages": 3, "begun": 1},
-        [request(3, "job soon", "second"), request(4, "job soon", "third")],
-        {"messages": 6},
-        BYE,
-    ),
-    (
-        "1,000 requests are cancelled while they wait: each leaves its place",
-        "1:1",
-        [*HELLO, LATE],
-        {"messages": 3, "begun": 1},
-        (1000, [request(3, "job soon", "never"), cancel(3)]),
-        [request(4, "job soon", "waits"), request(5, "job soon", "refused"), cancel(2)],
-        {"messages": 1006},
-        BYE,
-    ),
-    (
-        "a request that the server answers leaves its place",
-        "1:2",
-        [*HELLO, LATE],
-        {"messages": 3, "begun": 1},
-        [request(3, "job soon", "never"), request(4, "job soon", "waits"), note("answer", 3)],
-        [request(5, "job soon", "waits"), request(6, "job soon", "refused"), cancel(2)],
-        {"messages": 8},
-        BYE,
-    ),
-    (
-        "without room no job is asked for: the number of the next one says so",
-        "1:1",
-        [*HELLO, LATE],
-        {"messages": 3, "begun": 1},
-        [request(3, "job soon", "waits"), request(4, "job soon", "refused"), request(5, "long known", "refused"), request(6, "long unmade", 0)],
-        [cancel(2)],
-        {"messages": 8},
-        [request(7, "job soon", "next")],
-        {"messages": 9},
-        BYE,
-    ),
-    (
-        "a reply that is known comes at once, and no job runs",
-        "1",
-        [*HELLO, request(2, "long known", "at once"), request(3, "job soon", "next")],
-        {"messages": 5},
-        BYE,
-    ),
-    (
-        "memory for a job is missing: its request has an error, and the others go on",
-        "1",
-        [*HELLO, request(2, "long unmade", "x"), request(3, "job soon", "next")],
-        {"messages": 5},
-        BYE,
-    ),
-    (
-        "a job in a slot finds no room: its server sees that",
-        "1:1",
-        [*HELLO, LATE],
-        {"messages": 3, "begun": 1},
-        [request(3, "job soon", "waits"), note("job soon", "refused"), cancel(2)],
-        {"messages": 6},
-        BYE,
-    ),
-    (
-        "two jobs in slots, and two threads: one is left to requests",
-        "2",
-        [*HELLO, note("job cancelled", "index"), request(2, "later soon", "kept"), note("start")],
-        {"messages": 3, "begun": 1},
-        [request(3, "job soon", "hover")],
-        {"messages": 4},
-        [request(4, "job soon", "hover")],
-        {"messages": 5},
-        [note("stop", 0)],
-        {"messages": 6},
-        BYE,
-    ),
-    (
-        "a job takes the place of another that waits",
-        "1:1",
-        [*HELLO, LATE],
-        {"messages": 3, "begun": 1},
-        [note("job soon", "old"), note("job soon", "new"), request(3, "job soon", "refused"), cancel(2)],
-        {"messages": 6},
-        BYE,
-    ),
-    ("a job of a notification", "1", [*HELLO, note("job soon", "found")], {"messages": 4}, BYE),
-    (
-        "a client's request has the name of a slot: neither touches the other",
-        "1",
-        [*HELLO, note("job after 4", "found")],
-        {"messages": 3, "begun": 1},
-        [request("own", "job soon", "mine"), request(3, "demo/echo", "early")],
-        {"messages": 6},
-        BYE,
-    ),
-    (
-        "a job in a slot is stopped, and what it says is dropped",
-        "1",
-        [*HELLO, note("job cancelled, sends 3", "old")],
-        {"messages": 3, "begun": 1},
-        [note("stop", 0), note("stop", 0), note("job soon", "new")],
-        {"messages": 4, "begun": 2},
-        BYE,
-    ),
-    ("18 jobs at once on an idle thread: none is refused", "1:17", [*HELLO, *(request(name, "job soon", name) for name in range(2, 20))], {"messages": 21}, BYE),
-    (
-        "a job takes the place of another",
-        "1",
-        [*HELLO, note("job cancelled", "old")],
-        {"messages": 3, "begun": 1},
-        [note("job soon", "new")],
-        {"messages": 4, "begun": 2},
-        BYE,
-    ),
-    (
-        "a job of a request that was held",
-        "1",
-        [*HELLO, request(2, "later soon", "kept"), request(3, "demo/echo", "early")],
-        {"messages": 4},
-        [note("start")],
-        {"messages": 5},
-        BYE,
-    ),
-    (
-        "a job of a request that was cancelled before",
-        "1",
-        [*HELLO, request(2, "later soon", "late"), cancel(2), note("start")],
-        {"messages": 4, "begun": 1},
-        [request(3, "job soon", "next")],
-        {"messages": 5},
-        BYE,
-    ),
-    (
-        "the server answers while the job runs",
-        "1",
-        [*HELLO, LATE],
-        {"messages": 3, "begun": 1},
-        [note("answer", 2), request(3, "job soon", "next")],
-        {"messages": 5, "begun": 2},
-        BYE,
-    ),
-    *(
-        (f"a job asks its client, which replies with {what}", "1", [*HELLO, ASKS], {"messages": 4}, [reply(1, came)], {"messages": 5}, BYE)
-        for what, came in [("a result", {"result": ["é", None]}), ("null", {"result": None}), ("an error", {"error": {"code": -1, "message": "x"}})]
-    ),
-    (
-        "two jobs ask, and each gets its own reply",
-        "2",
-        [*HELLO, ASKS],
-        {"messages": 4},
-        [request(3, "job asks", "b")],
-        {"messages": 5},
-        [reply(2, {"result": "b"})],
-        {"messages": 6},
-        [reply(1, {"result": "a"})],
-        {"messages": 7},
-        BYE,
-    ),
-    (
-        "a reply to the server's own request, one to no request, and one that comes twice, while a job asks",
-        "1",
-        [*HELLO, ASKS],
-        {"messages": 4},
-        [reply(0, {"result": None}), reply(7, {"result": 1}), reply(1, {"result": 2}), reply(1, {"result": 3})],
-        {"messages": 6},
-        BYE,
-    ),
-    (
-        "a job asks twice: the last reply counts",
-        "1",
-        [*HELLO, request(2, "job asks, asks", "q")],
-        {"messages": 4},
-        [reply(1, {"result": 1})],
-        {"messages": 5},
-        [reply(2, {"result": 2})],
-        {"messages": 6},
-        BYE,
-    ),
-    (
-        "a job is cancelled while it waits for its client: its request is cancelled there, it goes on, and the late reply is dropped",
-        "1",
-        [*HELLO, ASKS],
-        {"messages": 4},
-        [cancel(2)],
-        {"messages": 6, "ended": 1},
-        [reply(1, {"result": "late"}), request(3, "job soon", "next")],
-        {"messages": 7},
-        BYE,
-    ),
-    (
-        "the server cancels what it asked for a request, and not what a job asked: both replies come",
-        "1",
-        [*HELLO, request(5, "demo/ask", "a"), request(5, "demo/ask", "b"), request(6, "demo/ask", "c"), ASKS],
-        {"messages": 7},
-        [note("withdraw", 5), reply(1, {"error": {"code": -32800, "message": "canceled"}}), reply(4, {"result": "job"})],
-        {"messages": 11},
-        [note("withdraw", 5), note("withdraw", 2), reply(2, {"result": "late"}), note("withdraw", 5), reply(3, {"result": "c"})],
-        {"messages": 13},
-        BYE,
-    ),
-    (
-        "a job is cancelled after the reply to its request came: nothing is cancelled at the client",
-        "1",
-        [*HELLO, request(2, "job asks, cancelled", "q")],
-        {"messages": 4},
-        [reply(1, {"result": "in time"}), cancel(2)],
-        {"messages": 5, "ended": 1},
-        [request(3, "job soon", "next")],
-        {"messages": 6},
-        BYE,
-    ),
-    (
-        "a job is cancelled twice, and its request once",
-        "1",
-        [*HELLO, ASKS],
-        {"messages": 4},
-        [cancel(2), cancel(2)],
-        {"messages": 6, "ended": 1},
-        [request(3, "demo/echo", "next")],
-        {"messages": 7},
-        BYE,
-    ),
-    *(
-        (f"a job in a slot is {how} while it waits for its client", "1", [*HELLO, note("job asks", "old")], {"messages": 4}, [after], {"messages": count}, BYE)
-        for how, after, count in [("stopped", note("stop"), 5), ("replaced", note("job soon", "new"), 6)]
-    ),
-    (
-        "one of two jobs that wait for their client is cancelled",
-        "2",
-        [*HELLO, ASKS],
-        {"messages": 4},
-        [request(3, "job asks", "b")],
-        {"messages": 5},
-        [cancel(2)],
-        {"messages": 7, "ended": 1},
-        [reply(2, {"result": "b"})],
-        {"messages": 8},
-        BYE,
-    ),
-    (
-        "a job that asks is replaced, and the reply to it comes while the next one asks",
-        "1",
-        [*HELLO, ASKS],
-        {"messages": 4},
-        [request(2, "job asks", "new")],
-        {"messages": 6},
-        [reply(1, {"result": "old"}), reply(2, {"result": "new"})],
-        {"messages": 7},
-        BYE,
-    ),
-    (
-        "a job asks after its cancellation: nothing is sent",
-        "1",
-        [*HELLO, request(2, "job cancelled, asks", "late")],
-        {"messages": 3, "begun": 1},
-        [cancel(2)],
-        {"messages": 4, "ended": 1},
-        [request(3, "job soon", "next")],
-        {"messages": 5},
-        BYE,
-    ),
-    ("exit while a job waits for its client", "1", [*HELLO, ASKS], {"messages": 4}, BYE[1:]),
-    ("shutdown and exit while two jobs wait for their client", "2", [*HELLO, ASKS], {"messages": 4}, [request(3, "job asks", "b")], {"messages": 5}, BYE),
-    ("the client is gone while a job waits for it", "1", [*HELLO, ASKS], {"messages": 4}),
-    (
-        "answers of the client cross its shutdown, one of them to a job",
-        "1",
-        [*HELLO, ASKS],
-        {"messages": 4},
-        [BYE[0], reply(0, {"result": None}), reply(1, {"result": "late"}), BYE[1]],
-    ),
-    ("a job asks between shutdown and exit", "1", [*HELLO, request(2, "job after 4, asks", "late")], {"messages": 3, "begun": 1}, BYE),
-    *(
-        (
-            f"a job creates progress, and the client {what}",
-            "1",
-            [*HELLO, request(2, "job creates made, begins, steps 1, ends", {})],
-            {"messages": 4},
-            [reply(1, came)],
-            {"messages": count},
-            BYE,
-        )
-        for what, came, count in [("agrees", {"result": None}, 8), ("refuses", {"error": {"code": -32601, "message": "no"}}, 5)]
-    ),
-    (
-        "a job is cancelled while it waits for agreement to its progress",
-        "1",
-        [*HELLO, request(2, "job creates made, begins", "late")],
-        {"messages": 4},
-        [cancel(2)],
-        {"messages": 6, "ended": 1},
-        BYE,
-    ),
-    (
-        "a request is cancelled while its job rests: the job ends at once, and another runs",
-        "1",
-        [*HELLO, RESTS],
-        {"messages": 3, "begun": 1},
-        [cancel(2)],
-        {"messages": 4, "ended": 1},
-        [request(3, "job soon", "next")],
-        {"messages": 5},
-        BYE,
-    ),
-    ("shutdown and exit while jobs rest", "2", [*HELLO, RESTS, request(3, "job rests", "b")], {"messages": 3, "begun": 2}, BYE),
-    ("exit while a job rests", "1", [*HELLO, RESTS], {"messages": 3, "begun": 1}, BYE[1:]),
-    ("the client is gone while a job rests", "1", [*HELLO, RESTS], {"messages": 3, "begun": 1}),
-    (
-        "a job in a slot rests, and another takes its place",
-        "1",
-        [*HELLO, note("job rests", "old")],
-        {"messages": 3, "begun": 1},
-        [note("job soon", "new")],
-        {"messages": 4},
-        BYE,
-    ),
-    ("a job that nobody cancels checks, and goes on", "1", [*HELLO, request(2, "job checks", "done")], {"messages": 4}, BYE),
-    (
-        "a job is cancelled, and checks",
-        "1",
-        [*HELLO, request(2, "job cancelled, checks, reports 1", "late")],
-        {"messages": 3, "begun": 1},
-        [cancel(2)],
-        {"messages": 4, "ended": 1},
-        [request(3, "demo/echo", "next")],
-        {"messages": 5},
-        BYE,
-    ),
-    *(
-        (f"progress that {what} has an end before the reply", "1", [*HELLO, request(2, f"job {script}", OFFERS)], {"messages": count}, BYE)
-        for what, script, count in [
-            ("began and was not ended", "begins, steps 1", 7),
-            ("began, its job failing,", "begins, fails", 6),
-            ("began, its job finding no memory,", "begins, starves", 6),
-            ("began twice", "begins, begins", 7),
-            ("was ended", "begins, ends", 6),
-            ("can be cancelled, and was not ended,", "offers", 6),
-        ]
-    ),
-    (
-        "progress that began in a slot has an end",
-        "1",
-        [*HELLO, request(2, "later begins", OFFERS), note("start")],
-        {"messages": 6},
-        BYE,
-    ),
-    (
-        "progress that a job created has an end",
-        "1",
-        [*HELLO, request(2, "job creates made, begins", {})],
-        {"messages": 4},
-        [reply(1, {"result": None})],
-        {"messages": 7},
-        BYE,
-    ),
-    *(
-        (
-            f"progress is cancelled while the job of its request {what}: the reply says so",
-            "1",
-            [*HELLO, request(2, f"job offers, {script}", OFFERS)],
-            {"messages": count, "begun": 1},
-            [cancel_progress("w")],
-            {"messages": last},
-            [request(3, "job soon", "next")],
-            {"messages": last + 1},
-            BYE,
-        )
-        for what, script, count, last in [("rests", "rests", 4, 6), ("asks its client, which is cancelled there,", "asks, checks", 5, 8)]
-    ),
-    (
-        "progress is cancelled under a number",
-        "1",
-        [*HELLO, request(2, "job offers, rests", {"workDoneToken": -7})],
-        {"messages": 4},
-        [cancel_progress("-7"), cancel_progress(7), request(3, "demo/echo", "early")],
-        {"messages": 5},
-        [cancel_progress(-7)],
-        {"messages": 7},
-        BYE,
-    ),
-    (
-        "progress is cancelled with another token, and of a job that did not offer it: nothing happens",
-        "2",
-        [*HELLO, request(2, "job offers, rests", OFFERS)],
-        {"messages": 4},
-        [request(3, "job begins, rests", {"workDoneToken": "x"})],
-        {"messages": 5},
-        [cancel_progress("x"), cancel_progress("other"), cancel_progress(2), request(4, "demo/echo", "early")],
-        {"messages": 6},
-        [cancel_progress("w")],
-        {"messages": 8},
-        [cancel(3)],
-        {"messages": 9},
-        BYE,
-    ),
-    (
-        "progress is cancelled, and its job goes on: its reply comes",
-        "1",
-        [*HELLO, request(2, "job offers, cancelled, sends 2, ends", OFFERS)],
-        {"messages": 4},
-        [cancel_progress("w")],
-        {"messages": 8},
-        BYE,
-    ),
-    (
-        "progress is cancelled after its job ended: another with the same token goes on",
-        "1",
-        [*HELLO, request(2, "job offers, ends", OFFERS)],
-        {"messages": 6},
-        [cancel_progress("w"), request(3, "job begins, ends", OFFERS)],
-        {"messages": 9},
-        BYE,
-    ),
-    (
-        "progress is cancelled of a job in a slot: its server sees that",
-        "1",
-        [*HELLO, request(2, "later offers, rests", OFFERS), note("start")],
-        {"messages": 4},
-        [cancel_progress("w")],
-        {"messages": 5},
-        [request(3, "job soon", "next")],
-        {"messages": 6},
-        BYE,
-    ),
-    (
-        "the client agrees to progress, and cancels it",
-        "1",
-        [*HELLO, request(2, "job creates made, offers, rests", {})],
-        {"messages": 4},
-        [reply(1, {"result": None})],
-        {"messages": 5},
-        [cancel_progress("made")],
-        {"messages": 7},
-        BYE,
-    ),
-    *(
-        (f"a job {what}", "1", [*HELLO, request(2, f"job {script}", "x"), request(3, "job soon", "next")], {"messages": 5}, BYE)
-        for what, script in [
-            ("gives no reply: its request has an error", "replies nothing"),
-            ("finds nothing, and replies", "finds nothing"),
-            ("gives no reply and finds nothing", "replies nothing, finds nothing"),
-        ]
-    ),
-    (
-        "a job in a slot finds nothing, fails, or finds no memory: its server sees that",
-        "1",
-        [*HELLO, note("job finds nothing", "x")],
-        {"messages": 3, "ended": 1},
-        [request(2, "job soon", "a")],
-        {"messages": 4},
-        [note("job fails", "y")],
-        {"ended": 3},
-        [request(3, "job soon", "b")],
-        {"messages": 5},
-        [note("job starves", "z")],
-        {"ended": 5},
-        [request(4, "job soon", "c")],
-        {"messages": 6},
-        BYE,
-    ),
-]
-
-
-def job_parts(parts):
-    """What stands for bytes and pauses in `about`."""
-    for part in parts:
-        if isinstance(part, tuple):
-            yield part[0], *job_parts(part[1:])
-        else:
-            yield part if isinstance(part, dict) else b"".join(frame(json.loads(it)) for it in part)
+def sessions():
+    """The title, the pool and the parts of each session."""
+    found = []
+    for place, line in table_of("sessions"):
+        with at(place):
+            if line.startswith("  "):
+                found[-1][2].append(part(line.strip()))
+            else:
+                word, pool, _, title = line.split(" ", 3)
+                found.append((title, pool, []) if word == "session" else misspelt(f"no line begins with `{word}`, but with `session` or two spaces"))
+    return found
 
 
 def sessions_with_jobs():
-    for title, pool, *parts in JOBS:
+    for title, pool, parts in sessions():
         yield f"# {title[0].upper()}{title[1:]}."
-        yield from about(*job_parts(parts))
+        yield from about(*parts)
         yield case("jobs", steps=[7, WHOLE], how=pool)
+    late = part('hello; {"id":2,"method":"job cancelled","params":["late"]}')
+    waits, last = {"messages": 3, "begun": 1}, SENT["bye"]
     yield "# The writer fails while a job runs."
-    yield from about(*job_parts([[*HELLO, LATE], {"messages": 3, "begun": 1}, [request(3, "demo/echo", "lost"), *BYE]]))
+    yield from about(late, waits, echo("lost") + last)
     replied = written_by("speaks", BEGUN)
     yield case("jobs", "fills", replied, replied + 60, how="1")
     yield "# Content parts that are no messages come while a job runs: they are passed over, or the first ends the session."
-    begun, ended = job_parts([[*HELLO, LATE], [cancel(2), request(3, "demo/echo", "next"), *BYE]])
-    yield from about(begun, {"messages": 3, "begun": 1}, b"".join(NO_MESSAGES), ended)
+    yield from about(late, waits, b"".join(NO_MESSAGES), sent("cancel 2") + echo("next") + last)
     yield case("jobs", "passes", steps=[7, WHOLE], how="1")
     yield case("jobs", how="1")
     yield "# A message is too long while a job runs."
-    long = request(3, "demo/echo", "this request has too many bytes: " + 60 * "x")
-    yield from about(*job_parts([[*HELLO, LATE], {"messages": 3, "begun": 1}, [long, *BYE]]))
+    yield from about(late, waits, echo("this request has too many bytes: " + 60 * "x") + last)
     yield case("jobs", "limits", 80, how="1")
     yield "# Each of many requests has one reply, with its own params."
-    many = [request(name, "job soon", name) for name in range(1000, 1100)]
-    yield from about(*job_parts([[*HELLO, *many], {"messages": 103}, BYE]))
+    many = [frame({"id": it, "method": "job soon", "params": [it]}) for it in range(1000, 1100)]
+    yield from about(BEGUN + b"".join(many), {"messages": 103}, last)
     yield case("many", "whole", 0, 2, [100, WHOLE], how="4")
 
 
-POOLS = [
-    "1 waits 1; submit 1 10 soon; hear; waits 1; message; message; waits 1",
-    "1 message; waits 7; forget 7; waits 7",
-    "1 submit 1 10 cancelled; begun 1; message; waits 1; submit 1 20 soon; hear; message; message; waits 1; submit 1 30 cancelled; begun 3; "
-    "forget 1; ended 3; message; waits 1; submit 1 40 cancelled; begun 4",
-    "1:1 submit 1 10 cancelled; begun 1; submit 2 20 soon; submit 3 30 soon; waits 2; waits 3; forget 1; hear; message; message",
-    "0:0 submit 1 10 cancelled; begun 1; submit 2 20 soon; submit 3 30 soon; forget 1; listen 1",
-    "1:3 submit 1 10 cancelled; begun 1; submit 2 20 soon; submit 3 30 soon; submit 4 40 soon; submit 5 50 soon; forget 1; listen 3",
-    "1:2 submit 1 10 cancelled; begun 1; submit 2 20 soon; submit 3 30 soon; submit 4 40 soon; forget 2; submit 5 50 soon; submit 6 60 soon; forget 1; "
-    "listen 2",
-    "1:2 submit 1 10 cancelled; begun 1; submit 2 20 soon; submit 3 30 soon; submit 2 21 soon; submit 2 22 soon; submit 4 40 soon; forget 1; "
-    "listen 2",
-    "5 submit 1 10 cancelled; submit 2 20 cancelled; submit 3 30 cancelled; submit 4 40 cancelled; submit 5 50 cancelled; begun 5",
-    "1 submit 1 10 reports 2; reported 1; hear; message; message; waits 1; listen 1; waits 1",
-    "1 submit 1 10 reports 20, counted; ended 1; listen 16",
-    "1 submit 1 10 reports 20, sends 20, counted; reported 1; listen 36",
-    "1 submit 1 10 sends 40, counted; listen 41",
-    "1 submit 1 10 begins, steps 20, ends; reported 1; listen 17",
-    "1 submit 1 10 begins, steps 20, ends, parts 20; reported 1; listen 37",
-    "1 submit 1 10 sends 40, counted; begun 1; hear; message",
-    "1 submit 1 10 sends 40, cancelled; begun 1; forget 1; ended 1; submit 2 20 soon; ended 2",
-    "1 submit 1 10 reports 20, counted; ended 1",
-    "1 submit 1 10 fails; submit 2 20 starves; listen 1; waits 2; listen 1; waits 2",
-    "1 submit 1 10 cancelled; begun 1; submit 2 20 cancelled; forget 2; forget 1; submit 3 30 soon; listen 1",
-    "1 " + "; ".join(f"submit {it} {it} soon" for it in range(1, 21)) + "; listen 20",
-    # A slot's number is no request's id.
-    "1 submit s1 10 soon; hear; message; waits s1; submit 1 20 soon; hear; message",
-    "1 submit 9 90 cancelled; begun 1; submit s1 10 soon; submit 1 20 soon; waits s1; waits 1; forget 1; waits s1; forget 9; listen 1; waits s1",
-    # Idle threads have room too: as many as may run and wait at once, and one more.
-    "2:16 " + "; ".join(f"submit {name} {name} soon" for name in range(1, 19)) + "; ended 18",
-    "2:1 submit 1 1 cancelled; submit 2 2 cancelled; submit 3 3 soon; submit 4 4 soon; begun 2; submit 5 5 soon; forget 1; forget 2; listen 1",
-    "2:16 rounds 1000 18",
-    # A request goes before a slot. Of two threads or more one is left to requests, and so is its place; a thread alone runs both.
-    "1 submit 9 90 cancelled; begun 1; submit s1 10 soon; submit 2 20 soon; forget 9; listen 2",
-    "1 submit s1 10 cancelled; begun 1; submit s2 20 soon; submit 3 30 soon; waits 3; forget s1; listen 2",
-    "2 submit s1 10 cancelled; begun 1; submit s2 20 soon; submit 3 30 soon; listen 1; submit 4 40 soon; listen 1; waits s2; forget s1; listen 1",
-    "3 submit s1 10 cancelled; submit s2 20 cancelled; begun 2; submit s3 30 soon; submit 4 40 soon; listen 1; waits s3; forget s1; listen 1; forget s2",
-    "2:1 submit s1 10 cancelled; begun 1; submit s2 20 soon; submit s3 30 soon; submit 4 40 soon; listen 1; forget s1; listen 1",
-    "1 submit 1 10 asks; hear; message; reply 0; hear; message; waits 1",
-    "1 submit 1 10 asks, asks; hear; message; reply 0; hear; message; reply 0; reply 1; hear; message",
-    "1 submit 1 10 asks; hear; message; unneeded; forget 1; hear; unneeded; unneeded; ended 1; reply 0; submit 2 20 soon; listen 1",
-    "1 submit 1 10 asks; hear; message; forget 1; reply 0; unneeded; ended 1; submit 2 20 soon; listen 1",
-    "1 submit 1 10 asks, cancelled; hear; message; reply 0; unneeded; forget 1; ended 1; unneeded",
-    "1 submit 1 10 asks; hear; message; give_up 0; hear; message; waits 1",
-    "1 submit 1 10 asks; hear; message; give_up 1; reply 5; reply 0; hear; message",
-    "2 submit 1 10 asks; hear; message",
-    # A job that rests ends once nobody waits for it, or its client cancels the progress that it offers.
-    "1 submit 1 10 rests; begun 1; message; waits 1; forget 1; ended 1; message; submit 2 20 soon; listen 1",
-    "1 submit 1 10 rests; begun 1; submit 1 20 soon; listen 1",
-    "2 submit 1 10 rests; submit s1 20 rests; begun 2",
-    "1 submit 1 10 offers, rests; listen 1; cancel w; listen 2; waits 1",
-    "1 submit s1 10 offers, rests; listen 1; cancel w; listen 2; waits s1",
-    "1 submit 1 10 offers, asks, checks; listen 2; cancel w; listen 2; unneeded; reply 0; unneeded; waits 1",
-    "1 submit 1 10 offers, rests; listen 1; cancel x; message; waits 1; forget 1; ended 1; message",
-    "1 submit 1 10 begins, rests; listen 1; cancel w; message; waits 1; forget 1; ended 1; message",
-    "1 submit 1 10 offers, ends; listen 3; cancel w; submit 2 20 checks; listen 1",
-    "1 submit 1 10 cancelled, checks; begun 1; forget 1; ended 1; submit 2 20 checks; listen 1",
-    # Progress that began has an end, also where it has to wait for room.
-    "1 submit 1 10 begins; listen 3",
-    "1 submit 1 10 begins, sends 15, starves; ended 1; listen 18",
-    "1 submit 1 10 begins, fails; listen 3; submit 2 20 begins, starves; listen 3",
-    "1 submit 1 10 replies nothing; listen 1; waits 1; submit s1 20 finds nothing; listen 1; submit s2 30 fails; listen 1",
-    "1 submit s1 10 starves; listen 1; submit 2 20 finds nothing; listen 1",
-]
-CALLS = [
-    'initialize_start | {"method":"initialized"}; {"id":234,"method":"initialize","params":{"a":1}}',
-    'initialize_start | {"method":"exit"}',
-    'initialize_start_while | {"id":234,"method":"initialize"}',
-    'initialize_while | {"id":1,"method":"initialize"}',
-    "initialize_start | gone",
-    'initialize | {"id":7,"method":"x"}; {"id":234,"method":"initialize","params":{"a":1}}; {"method":"initialized"}; {"method":"x"}',
-    'initialize | {"id":1,"method":"initialize"}; {"method":"exit"}',
-    'initialize_finish | {"method":"initialized"}',
-    'initialize_finish_while | {"method":"initialized"}',
-    "initialize_finish | gone",
-    'shutdown | {"method":"exit"}',
-    'shutdown | {"method":"initialized"}',
-    "shutdown | gone",
-    'x | {"method":"exit"}',
-]
+def echo(text):
+    return frame({"id": 3, "method": "demo/echo", "params": [text]})
 
 
 def connections():
-    yield "# The calls of a connection in memory."
-    yield from (f"call {it}" for it in CALLS)
-    yield "# A client that waits for three turns, and a server that is called off in its second."
-    yield "turns"
-    yield "called_off"
     yield "# Threads of a connection that are joined before it is dropped: the fault of the one that reads is told at once."
     for it in [BAD, NOTE + BAD, b"\r\n"]:
         yield from about(it)
@@ -1489,8 +748,7 @@ def table():
     yield from reads()
     yield from pumps()
     yield from sessions_with_jobs()
-    yield "# Pools by hand."
-    yield from (f"pool {it}" for it in POOLS)
+    yield from rows_of("pools")
     yield from connections()
     yield "# A client that stays and never says `exit`."
     yield "exit"

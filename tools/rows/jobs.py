@@ -7,6 +7,7 @@ import json
 import random
 
 from rules import AT_END, AT_WRONG_TIME, CANCELED, ENDED, GREATEST, OF_BODY, Talker, beginning, debug_message, frame, in_order, is_id, is_note, is_request, limit_in, ordered, read, shown
+from tables import misspelt
 
 # The tokens that the params of a job in a pool by hand have.
 TOKENS = {"workDoneToken": "w", "partialResultToken": 7}
@@ -31,11 +32,24 @@ TOLD = {
 }
 
 
+# The words of a job's script, and the steps of a pool by hand.
+SCRIPT = [*TOLD, *"after soon cancelled rests checks replies finds asks creates reports sends counted fails starves".split()]
+STEPS = "begun ended reported submit hear listen rounds message unneeded waits forget cancel reply give_up".split()
+
+
+def known(texts, words):
+    """The texts, each of which begins with one of these words."""
+    for it in texts:
+        if it.partition(" ")[0] not in words:
+            misspelt(f"`{it}` begins with none of: {', '.join(sorted(words))}")
+    return texts
+
+
 class Job:
     """A job, its number, its value, and the params that may have tokens."""
 
     def __init__(self, script, number, value, params):
-        self.words, self.number, self.value, self.params = script.split(", "), number, value, params
+        self.words, self.number, self.value, self.params = known(script.split(", "), SCRIPT), number, value, params
         # Whether it is to end, and whether nobody waits for it: then what it says is dropped too.
         self.is_cancelled = self.is_dropped = False
         self.waiting, self.made, self.taken, self.told, self.ending = [], 0, 0, 0, None
@@ -319,10 +333,11 @@ class Working(Talker):
 class JobSession:
     """A client, a server with jobs, a thread that writes and the workers, each of which takes steps."""
 
-    def __init__(self, data, pauses, pool, room, limit, passes):
+    def __init__(self, reads, pauses, pool, room, passes):
         # How many content parts of each kind are passed over, if that is asked.
         self.passed = dict.fromkeys(OF_BODY, 0) if passes else {}
-        self.data, self.pauses, self.at, self.limit, self.room = data, list(pauses), 0, limit, room
+        # What the reads give, each with the place behind it.
+        self.reads, self.pauses, self.at, self.room = iter(reads), list(pauses), 0, room
         self.pool = Pool(*pool, self.wake)
         self.server, self.state, self.end = Working(self.pool.unanswered), "new", None
         # What comes to the server: messages, faults and wakes. What goes to the writer, and what it wrote.
@@ -348,8 +363,7 @@ class JobSession:
         return counts[pause[1]] >= pause[2]
 
     def read_next(self):
-        came, left = read(self.data[self.at :], self.limit)
-        self.at = len(self.data) - len(left)
+        came, self.at = next(self.reads)
         self.queue.append(came)
         self.is_read = is_note(came, "exit") if isinstance(came, dict) else not self.may_pass(came)
 
@@ -512,7 +526,7 @@ class HandPool:
     """The steps of a pool by hand, of which each waits for what it needs."""
 
     def __init__(self, pool, steps):
-        self.heard, self.told, self.todo, self.asked = False, "", steps, []
+        self.heard, self.told, self.todo, self.asked = False, "", known(steps, STEPS), []
         self.pool = Pool(*pool, self.hear)
 
     def hear(self):
@@ -607,13 +621,22 @@ def in_all_orders(make, tell):
             choice.choice(steps)()
         answers.add(tell(whole))
     if len(answers) != 1:
-        raise SystemExit(f"tools/rows/jobs.py: the answer depends on the order: {sorted(answers)}")
+        raise ValueError(f"what has to come depends on the order of the steps: {sorted(answers)}")
     return answers.pop()
 
 
 def pool_size(word):
     workers, _, waiting = word.partition(":")
     return int(workers), int(waiting) if waiting else None
+
+
+def reads_of(data, limit):
+    """What reads give up to `exit`, the end or a fault that ends each session, and where each ends."""
+    at, came = 0, None
+    while came is None or (came in OF_BODY if not isinstance(came, dict) else not is_note(came, "exit")):
+        came, left = read(data[at:], limit)
+        at = len(data) - len(left)
+        yield came, at
 
 
 def job_answer(words, data, pauses):
@@ -624,10 +647,11 @@ def job_answer(words, data, pauses):
 
     def ended(session):
         if not session.end:
-            raise SystemExit(f"tools/rows/jobs.py: the session does not end: {words}, {data}")
+            raise ValueError("the session does not end")
         return session.answer(call == "many")
 
-    return in_all_orders(lambda: JobSession(data, pauses, pool_size(pool), room, limit, device == "passes"), ended)
+    reads = list(reads_of(data, limit))
+    return in_all_orders(lambda: JobSession(reads, pauses, pool_size(pool), room, device == "passes"), ended)
 
 
 def pool_answer(rest):
@@ -635,7 +659,7 @@ def pool_answer(rest):
 
     def ended(whole):
         if whole.todo:
-            raise SystemExit(f"tools/rows/jobs.py: the pool does not come to its end: {rest}")
+            raise ValueError("the pool does not come to its end")
         return whole.answer()
 
     return [in_all_orders(lambda: HandPool(pool_size(size), steps.split("; ")), ended)]

@@ -3,26 +3,10 @@ documents of the calls. Nothing here calls a library of this repository."""
 import json
 
 from rules import (
-    AT_END,
-    AT_WRONG_TIME,
-    LEVELS,
-    Echo,
-    Session,
-    Talker,
-    beginning,
-    debug_message,
-    escape,
-    frame,
-    id_answer,
-    is_note,
-    is_request,
-    is_whole,
-    nesting,
-    ordered,
-    read,
-    text_of,
-    too_early,
+    AT_END, AT_WRONG_TIME, LEVELS, Echo, Session, Talker, beginning, debug_message, escape, frame, id_answer, is_note, is_request,
+    is_whole, nesting, ordered, read, text_of, too_early
 )
+from tables import misspelt
 
 ABORTED = "Initialization has been aborted during initialization"
 LATE = "timed out waiting for exit notification"
@@ -37,7 +21,7 @@ class Boxes:
 
     def __init__(self, answers, room, events):
         self.answers, self.room, self.events = list(answers), int(room), events_of(events)
-        self.sent, self.seconds, self.id = [], 0, 1
+        self.sent, self.seconds, self.id, self.params = [], 0, 1, None
 
     def send(self, message):
         """Whether there was room."""
@@ -71,8 +55,8 @@ class Boxes:
             if came == "timeout":
                 continue
             if is_request(came, "initialize"):
-                self.id = came["id"]
-                return f"{id_answer(self.id)} {ordered(came.get('params'))}"
+                self.id, self.params = came["id"], ordered(came.get("params"))
+                return f"{id_answer(self.id)} {self.params}"
             if "method" not in came or is_note(came, "exit"):
                 return AT_WRONG_TIME["new"] + beginning(debug_message(came))
             if "id" in came and not self.send(too_early(came)):
@@ -93,15 +77,17 @@ class Boxes:
             return AT_END["asked"]
         return "done" if is_note(came, "initialized") else AT_WRONG_TIME["asked"] + beginning(debug_message(came))
 
-    def finish(self, turns):
-        if not self.send({"id": self.id, "result": None}):
+    def finish(self, turns, result=None):
+        if not self.send({"id": self.id, "result": result}):
             return AT_END["asked"]
         return self.wait(turns) if turns else self.waited(self.receive(0))
 
-    def shut(self, method):
-        if method != "shutdown":
+    def shut(self, method, name="last"):
+        if method == "x":
             return "false"
-        self.send({"id": "last", "result": None})
+        if method != "shutdown":
+            misspelt(f"there is no call `{method}`")
+        self.send({"id": name, "result": None})
         came = self.receive(30)
         if came == "closed":
             return AT_END["ending"]

@@ -1,6 +1,9 @@
 """What has to come of the calls that the rows make, by the base protocol and the lifecycle of LSP 3.17, JSON-RPC 2.0, RFC 8259 and the
 documents of the calls. Nothing here calls a library of this repository."""
 import json
+from functools import cache
+
+from tables import misspelt
 
 GREATEST = 2**64 - 1
 # A body may nest so far.
@@ -16,19 +19,26 @@ SHOWN = 1000
 # How bytes stand in a line.
 
 
+ESCAPED = {it: f"\\x{it:02x}" for it in range(256) if not 32 <= it < 127 or it == 92} | {13: "\\r", 10: "\\n"}
+
+
 def escape(data):
-    shown = {13: "\\r", 10: "\\n"}
-    return "".join(shown.get(it) or (chr(it) if 32 <= it < 127 and it != 92 else f"\\x{it:02x}") for it in data)
+    return data.decode("latin-1").translate(ESCAPED)
 
 
 def shown(data):
     """Bytes in an answer: as they are, or of many their count and their value as digits of base 31, modulo 2^32."""
     if len(data) <= SHOWN:
         return escape(data)
+    return f"{len(data)} bytes of sum {digits(data)}"
+
+
+@cache
+def digits(data):
     value = 0
     for byte in data:
         value = (31 * value + byte) % 2**32
-    return f"{len(data)} bytes of sum {value}"
+    return value
 
 
 # JSON (RFC 8259).
@@ -83,13 +93,9 @@ def tree_of(text):
     return tree
 
 
-def compact(value):
-    return json.dumps(value, separators=(",", ":"), ensure_ascii=False)
-
-
-def ordered(value):
-    """As a tree prints, which keeps its members in the order of their names."""
-    return json.dumps(value, separators=(",", ":"), ensure_ascii=False, sort_keys=True)
+compact = json.JSONEncoder(separators=(",", ":"), ensure_ascii=False).encode
+# As a tree prints, which keeps its members in the order of their names.
+ordered = json.JSONEncoder(separators=(",", ":"), ensure_ascii=False, sort_keys=True).encode
 
 
 # Messages (JSON-RPC 2.0) and frames (LSP 3.17, "Base Protocol").
@@ -183,6 +189,7 @@ def header_end(data):
     return "end", None, at
 
 
+@cache
 def meaning(body):
     """The members of the message that a content part means, or a fault's number."""
     try:
@@ -799,6 +806,8 @@ def queue_answers(steps):
             answers.append(debug_queues(incoming, outgoing, count))
         elif verb == "pending":
             answers.append(f"pending {'true' if outgoing or incoming else 'false'}")
+        elif verb != "cancel":
+            misspelt(f"the queues have no step `{verb}`")
         else:
             was_pending = incoming.pop(json.loads(words), None)
             answers.append("cancelled " + (text_of({"id": json.loads(words), "error": CANCELED}) if was_pending else "none"))
