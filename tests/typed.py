@@ -1,5 +1,5 @@
 #!/usr/bin/env python3
-"""Says whether the messages of a language server have the members that LSP 3.17 gives them, by the table `types.txt`.
+"""Says whether the messages of a language server have the members that LSP 3.17 gives them, by LSP's meta model.
 
     tests/typed.py RECORDING ..          what is wrong with the messages of each recording's server, a line each
     tests/typed.py crates/PROGRAM ..     and with those in `stdout`, as it answers its `stdin`
@@ -8,118 +8,31 @@ A client hands each message that it sends to `Typed.sent`, and each that comes t
 the type does not have, a member that is missing or of another type, a null where none may be, a method that LSP does not have.
 """
 import json
-import re
 import sys
 from pathlib import Path
 
-TABLE = Path(__file__).resolve().with_name("types.txt")
+sys.dont_write_bytecode = True
+sys.path.append(str(Path(__file__).resolve().parent.parent / "tools"))
+try:
+    import metamodel
+except ImportError as fault:
+    # (an ImportError would say to `editor.py` that nothing is to be judged)
+    sys.exit(f"tests/typed.py: {fault}: it is in tools")
+
 # The first words of methods that are a server's own.
 OWN = ("demo/", "sums/", "words/")
-WORD = re.compile(r'"[^"]*"|-?\d+\.\.-?\d+|[\w$/]+|[][{}|?:;=]')
-PLAIN = {
-    "any": lambda value: True,
-    "null": lambda value: value is None,
-    "boolean": lambda value: isinstance(value, bool),
-    "string": lambda value: isinstance(value, str),
-    "integer": lambda value: is_integer(value, -(2**31)),
-    "uinteger": lambda value: is_integer(value, 0),
-    "decimal": lambda value: isinstance(value, (int, float)) and not isinstance(value, bool),
-}
-
-
-def is_integer(value, least):
-    return isinstance(value, int) and not isinstance(value, bool) and least <= value < 2**31
-
-
-class Reader:
-    """Reads types from words. A type is a function that gives what is wrong with a value at a place."""
-
-    def __init__(self, words, types):
-        self.words, self.types = words, types
-
-    def next(self):
-        return self.words.pop(0)
-
-    def takes(self, word):
-        return self.words[:1] == [word] and bool(self.next())
-
-    def either(self):
-        """Types with a bar between them. What is wrong is told of the one that comes nearest."""
-        choices = [self.one()]
-        while self.takes("|"):
-            choices.append(self.one())
-        return lambda value, at: min((choice(value, at) for choice in choices), key=lambda faults: distance(faults, at))
-
-    def one(self):
-        word = self.next()
-        if word == "[":
-            items = self.either()
-            self.next()
-            return lambda value, at: listed(value, at, list, "list", enumerate, items)
-        if word == "{":
-            if self.words[1] in ("?", ":"):
-                return self.members()
-            items = self.either()
-            self.next()
-            return lambda value, at: listed(value, at, dict, "object", dict.items, items)
-        if word.startswith('"'):
-            return lambda value, at: [] if value == word[1:-1] else [f"{at}: {value!r} in place of {word}"]
-        if ".." in word:
-            least, most = map(int, word.split(".."))
-            return lambda value, at: [] if is_integer(value, least) and value <= most else [f"{at}: {value!r} is none of {word}"]
-        if word in PLAIN:
-            return lambda value, at: [] if PLAIN[word](value) else [f"{at}: {str(value)[:60]!r} is no {word}"]
-        return lambda value, at: self.types[word](value, at)
-
-    def members(self):
-        kinds, needed = {}, set()
-        while not self.takes("}"):
-            key = self.next()
-            if not self.takes("?"):
-                needed.add(key)
-            self.next()
-            kinds[key] = self.either()
-            self.takes(";")
-        return lambda value, at: membered(value, at, kinds, needed)
-
-
-def distance(faults, at):
-    """A value of another kind is further off than one with something wrong in it."""
-    return any(fault.startswith(f"{at}: ") and " is no " in fault for fault in faults), len(faults)
-
-
-def listed(value, at, kind, name, items_of, check):
-    if not isinstance(value, kind):
-        return [f"{at}: {str(value)[:60]!r} is no {name}"]
-    return [fault for key, item in items_of(value) for fault in check(item, f"{at}/{key}")]
-
-
-def membered(value, at, kinds, needed):
-    if not isinstance(value, dict):
-        return [f"{at}: {str(value)[:60]!r} is no object"]
-    faults = [f"{at}: no {key}" for key in sorted(needed - set(value))]
-    faults += [f"{at}: the key {key}" for key in value if key not in kinds]
-    return faults + [fault for key, item in value.items() if key in kinds for fault in kinds[key](item, f"{at}/{key}")]
-
-
-def read_table():
-    """The types by name, and what comes with each method, by its word and name."""
-    types, methods = {}, {}
-    lines = TABLE.read_text(encoding="utf-8").replace("\n    ", " ").splitlines()
-    for line in lines:
-        if not line or line.startswith("#"):
-            continue
-        words = WORD.findall(line)
-        if words[1] == "=":
-            types[words[0]] = Reader(words[2:], types).either()
-        else:
-            kind, name, _, *rest = words
-            methods[kind, name] = None if rest == ["none"] else Reader(rest, types).either()
-    return types, methods
-
-
-TYPES, METHODS = read_table()
-ERROR = Reader(WORD.findall("{ code: integer; message: string; data?: any }"), TYPES).either()
+# Types that the standard tells more narrowly in words than the meta model, and the error of JSON-RPC 2.0.
+NARROWER = """\
+ProgressParams = { token: integer | string; value: WorkDoneProgressBegin | WorkDoneProgressReport | WorkDoneProgressEnd |
+    DocumentDiagnosticReportPartialResult | [any] }
+SemanticTokensOptions = { legend: SemanticTokensLegend; range?: boolean | {any}; full?: boolean | SemanticTokensOptionsFullType1;
+    workDoneProgress?: boolean }
+ResponseError = { code: integer; message: string; data?: any }
+"""
+# Values may nest deep.
+sys.setrecursionlimit(10_000)
+TYPES, METHODS = metamodel.read()
+WRONG = metamodel.Values(TYPES | metamodel.parse(NARROWER)[0]).wrong
 
 
 class Typed:
@@ -147,12 +60,12 @@ class Typed:
         faults = [f"{method}: the key {key}" for key in message if key not in keys]
         if method.startswith(OWN):
             return faults
-        if (kind, method) not in METHODS:
+        known, direction, params, _ = METHODS.get(method, ("", "", [], []))
+        if known != kind or direction == "server":
             return [f"{method} is no {kind} of a server in LSP"]
-        check = METHODS[kind, method]
-        if check is None:
+        if not params:
             return faults + [f"{method}: params"] * ("params" in message)
-        return faults + check(message.get("params"), method)
+        return faults + WRONG(params, message.get("params"), method)
 
     def reply(self, message):
         waiting = self.asked.get(message.get("id"))
@@ -163,11 +76,11 @@ class Typed:
         if ("result" in message) == ("error" in message):
             return faults + [f"the reply to {method}: neither a result nor an error, or both"]
         if "error" in message:
-            return faults + ERROR(message["error"], f"the error of {method}")
-        check = METHODS.get(("result", method))
-        if check is None:
+            return faults + WRONG(["ResponseError"], message["error"], f"the error of {method}")
+        kind, direction, _, result = METHODS.get(method, ("", "", [], []))
+        if kind != "request" or direction == "client":
             return faults + [f"a result of {method}, which LSP does not have"] * (not method.startswith(OWN))
-        return faults + check(message["result"], f"the result of {method}")
+        return faults + WRONG(result, message["result"], f"the result of {method}")
 
 
 def lines_of(recording):
@@ -177,26 +90,38 @@ def lines_of(recording):
 
 
 def stored_in(crate):
-    """The messages of a program's stored run."""
+    """The messages of a program's stored run, each with its place."""
     for name in ["stdin", "stdout"]:
-        data = (Path(crate) / name).read_bytes()
+        data = whole = (Path(crate) / name).read_bytes()
         while data:
             head, _, rest = data.partition(b"\r\n\r\n")
-            length = int(head.removeprefix(b"Content-Length: "))
-            yield name == "stdin", json.loads(rest[:length])
+            line = whole.count(b"\n", 0, len(whole) - len(rest)) + 1
+            place = f"{crate}/{name}:{line}"
+            try:
+                length = int(head.removeprefix(b"Content-Length: "))
+                yield place, name == "stdin", json.loads(rest[:length])
+            except ValueError:
+                sys.exit(f"{place}: no message in JSON has this header and content part: {head[-60:]!r}, {rest[:60].decode(errors='replace')!r}")
             data = rest[length:]
+
+
+def recorded_in(name):
+    """The messages of a recording, each with its place."""
+    for number, (of_client, message) in enumerate(lines_of(name), 1):
+        yield f"{name}:{number}", of_client, message
 
 
 def main(names):
     count, faults = 0, []
     for name in names:
-        typed = Typed()
-        for of_client, message in stored_in(name) if Path(name).is_dir() else lines_of(name):
+        typed, before = Typed(), count
+        for place, of_client, message in stored_in(name) if Path(name).is_dir() else recorded_in(name):
             if of_client:
                 typed.sent(message)
             else:
                 count += 1
-                faults += [f"{name}: {fault}" for fault in typed.came(message)]
+                faults += [f"{place}: {fault}" for fault in typed.came(message)]
+        faults += [f"{name}: no message of a server"] * (count == before)
     print(*faults, f"{count} messages, {len(faults)} faults", sep="\n")
     sys.exit(1 if faults else 0)
 

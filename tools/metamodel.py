@@ -1,119 +1,248 @@
-"""How the tables of the types differ from LSP's meta model, as Python's lsprotocol has it: `tools/types --against FOLDER`.
+#!/usr/bin/env python3
+"""LSP's meta model, as the table `metamodel.txt` has it, which nobody writes by hand.
 
-FOLDER holds `lsprotocol`, as Debian's python3-lsprotocol does; `attrs` is needed too. Each method is compared with its params and its
-result, and each type by its name and wherever it is reached: keys, which may be missing, forms, numbers. Not told is what a mark `!` or `+`
-of a table explains, a whole tree (`Value`) for a type of the model, and a string for one that has words listed."""
+    tools/metamodel.py FOLDER      writes the table, from lsprotocol in this folder (as in Debian's python3-lsprotocol)
+
+`read` gives the types by name, and the methods. `tools/types --check` compares our tables with them, and `tests/typed.py` the messages of
+servers.
+"""
+import ast
 import enum
 import importlib
 import re
 import sys
+import textwrap
 import typing
+from pathlib import Path
 
-# The forms of what is written by hand, and members of such objects.
-FORMS = {"String": ["str"], "bool": ["bool"], "u32": ["unsigned"], "i32": ["int"], "f64": ["float"], "Value": ["any"], "T": ["any"], "()": ["null"]}
-FORMS |= {"NumberOrString": ["int", "str"], "MarkupKind": ["str"], "LabelOffsets": ["tuple"]}
-MEMBERS = {
-    "Position": {"line": ("u32", "required"), "character": ("u32", "required")},
-    "Range": {"start": ("Position", "required"), "end": ("Position", "required")},
-    "ContentChange": {"range": ("Range", "optional"), "text": ("String", "required")},
+TABLE = Path(__file__).resolve().with_name("metamodel.txt")
+WORD = re.compile(r'"[^"]*"|-?\d+\.\.-?\d+|->|[\w$/]+|[][{}|?:;=]')
+
+
+def read():
+    return parse(TABLE.read_text(encoding="utf-8"))
+
+
+def parse(text):
+    """The types by name, and the kind, the direction, the params and the result of each method."""
+    types, methods = {}, {}
+    for line in text.replace("\n    ", " ").splitlines():
+        words = WORD.findall(line) if not line.startswith("#") else []
+        if words[1:2] == ["="]:
+            types[words[0]] = choice(words[2:])
+        elif words:
+            kind, name, _, direction, _, *rest = words
+            at = rest.index("->") if "->" in rest else len(rest)
+            methods[name] = kind, direction, choice(rest[:at]), choice(rest[at + 1 :])
+    return types, methods
+
+
+def choice(words):
+    """A type: the list of its forms. A form is a word, `("list", TYPE)`, `("map", TYPE)` or `("object", {KEY: (TYPE, IS_NEEDED)})`."""
+    found = [form(words)] if words and words != ["none"] else []
+    while words[:1] == ["|"]:
+        del words[0]
+        found.append(form(words))
+    return found
+
+
+def form(words):
+    word = words.pop(0)
+    if word == "{" and (words[0] == "}" or words[1] in "?:"):
+        return "object", members(words)
+    if word not in ("[", "{"):
+        return word
+    inner = choice(words)
+    del words[0]
+    return "list" if word == "[" else "map", inner
+
+
+def members(words):
+    found = {}
+    while words[0] != "}":
+        key, is_needed = words.pop(0), words[0] != "?"
+        del words[: 1 if is_needed else 2]
+        found[key] = choice(words), is_needed
+        if words[0] == ";":
+            del words[0]
+    del words[0]
+    return found
+
+
+def without_registration(forms):
+    """The forms without the options of a registration. A server that has other options does not send those."""
+    return [it for it in forms if not isinstance(it, str) or not it.endswith("RegistrationOptions")] or forms
+
+
+# Values beside the model's types.
+
+
+IS_PLAIN = {
+    "any": lambda value: True,
+    "null": lambda value: value is None,
+    "boolean": lambda value: isinstance(value, bool),
+    "string": lambda value: isinstance(value, str),
+    "integer": lambda value: is_integer(value, -(2**31)),
+    "uinteger": lambda value: is_integer(value, 0),
+    "decimal": lambda value: isinstance(value, (int, float)) and not isinstance(value, bool),
 }
 
 
-class Comparison:
-    def __init__(self, folder, items):
+def is_integer(value, least):
+    return isinstance(value, int) and not isinstance(value, bool) and least <= value < 2**31
+
+
+class Values:
+    """Says what is wrong with values, by these types."""
+
+    def __init__(self, types):
+        self.types = types
+
+    def wrong(self, forms, value, at):
+        """What is wrong with a value at a place, as the form says that comes nearest."""
+        found = (self.wrong_form(it, value, at) for it in without_registration(forms))
+        return min(found, key=lambda faults: distance(faults, at))
+
+    def wrong_form(self, form, value, at):
+        if isinstance(form, str):
+            return self.wrong_word(form, value, at)
+        kind, inner = form
+        if not isinstance(value, list if kind == "list" else dict):
+            return [f"{at}: {str(value)[:60]!r} is no {'list' if kind == 'list' else 'object'}"]
+        if kind == "object":
+            return self.wrong_members(inner, value, at)
+        items = enumerate(value) if kind == "list" else value.items()
+        return [fault for key, item in items for fault in self.wrong(inner, item, f"{at}/{key}")]
+
+    def wrong_word(self, word, value, at):
+        if word.startswith('"'):
+            return [] if value == word[1:-1] else [f"{at}: {value!r} in place of {word}"]
+        if ".." in word:
+            least, most = map(int, word.split(".."))
+            return [] if is_integer(value, least) and value <= most else [f"{at}: {value!r} is none of {word}"]
+        if word in IS_PLAIN:
+            return [] if IS_PLAIN[word](value) else [f"{at}: {str(value)[:60]!r} is no {word}"]
+        return self.wrong(self.types[word], value, at)
+
+    def wrong_members(self, members, value, at):
+        faults = [f"{at}: no {key}" for key, (_, is_needed) in sorted(members.items()) if is_needed and key not in value]
+        faults += [f"{at}: the key {key}" for key in value if key not in members]
+        return faults + [fault for key, item in value.items() if key in members for fault in self.wrong(members[key][0], item, f"{at}/{key}")]
+
+
+def distance(faults, at):
+    """A value of another kind is further off than one with something wrong in it."""
+    return any(fault.startswith(f"{at}: ") and " is no " in fault for fault in faults), len(faults)
+
+
+# From lsprotocol.
+
+
+HEAD = """\
+# The meta model of LSP 3.17, as lsprotocol 2023.0.1 has it, without what came with LSP 3.18: each method with its params and its result, and
+# each type. Copyright (c) Microsoft Corporation, under the MIT licence. `tools/metamodel.py` writes this file: do not change it.
+# `?` after a key: the member may be missing. `|`: one of these. `[..]`: a list. `{..}`: an object with any keys and such values. `1..3`: one of
+# these numbers. A word in quotes is that word. `none`: no params.
+
+"""
+PLAIN = {str: "string", bool: "boolean", int: "integer", float: "decimal", type(None): "null", None: "null"}
+# lsprotocol has one form for members that may be null and those that may also be missing. The standard lets these be missing.
+MISSING = ("rootPath", "workspaceFolders")
+
+
+def newer(source):
+    """The names of the classes, members and types that came with LSP 3.18, by the texts after them."""
+    for body in [it for it in ast.walk(ast.parse(source)) if isinstance(it, (ast.Module, ast.ClassDef))]:
+        name = getattr(body, "name", "")
+        texts = [(it, said.value) for it, said in zip([body, *body.body], body.body) if isinstance(said, ast.Expr)]
+        for it, said in texts:
+            if isinstance(said, ast.Constant) and re.search("@since 3.18|@proposed", str(said.value)):
+                yield name if it is body else f"{name}.{(it.targets[0] if isinstance(it, ast.Assign) else it.target).id}"
+
+
+class Model:
+    """The meta model as lsprotocol has it."""
+
+    def __init__(self, folder):
         sys.path.insert(0, folder)
         self.attrs, self.lsp = importlib.import_module("attrs"), importlib.import_module("lsprotocol.types")
-        self.items, self.seen = items, {}
+        self.newer = set(newer(Path(self.lsp.__file__).read_text(encoding="utf-8")))
 
-    def ours(self, kind):
-        """The forms of a type of the tables."""
-        outer = re.fullmatch(r"(Option|Box|Vec|BTreeMap)<(?:String, )?(.*)>", kind)
-        if outer:
-            inner = {"Option": [*self.ours(outer[2]), "null"], "Box": self.ours(outer[2]), "Vec": [("list", outer[2])]}
-            return inner.get(outer[1], [("map", outer[2])])
-        kind = re.sub("<.*", "", kind)
-        item = self.items.get(kind)
-        if item and item.kind == "alias":
-            return self.ours(item.marks[1])
-        if item and item.kind == "union":
-            return [form for _, case, _ in item.members for form in self.ours(case)]
-        return FORMS.get(kind) or [("numbers" if item and item.kind == "numbers" else "object", kind)]
+    def type(self, kind, is_unsigned=False):
+        """The text of a type."""
+        return " | ".join(self.forms(kind, is_unsigned)) if kind else "none"
 
-    def theirs(self, kind, validator=None):
-        """The forms of a type of the model."""
+    def forms(self, kind, is_unsigned=False):
         if isinstance(kind, (str, typing.ForwardRef)):
             kind = eval(getattr(kind, "__forward_arg__", kind), vars(self.lsp))
         outer, inner = typing.get_origin(kind), typing.get_args(kind)
         if outer is typing.Union:
-            found = [form for it in inner for form in self.theirs(it, validator)]
-            return ["any"] if "any" in found else list(dict.fromkeys(found))
-        if outer in (list, dict):
-            return [("list" if outer is list else "map", inner[-1])]
-        if kind in (None, type(None)) or outer is tuple:
-            return ["tuple" if outer is tuple else "null"]
-        if kind in (str, int, bool, float):
-            return ["unsigned" if kind is int and "uinteger" in str(validator) else kind.__name__]
-        if isinstance(kind, type) and issubclass(kind, enum.Enum):
-            return ["str"] if issubclass(kind, str) else [("numbers", kind)]
-        return [("object", kind)] if self.attrs.has(kind) and kind.__name__ != "LSPObject" else ["any"]
+            is_open = {str, int} & {*inner}
+            kept = [it for it in inner if not (isinstance(it, type) and issubclass(it, enum.Enum) and is_open)]
+            found = list(dict.fromkeys(form for it in kept for form in self.forms(it, is_unsigned)))
+            return ["any"] if "any" in found else found
+        if outer in (list, tuple):
+            return [f"[{self.type(inner[0], True)}]"]
+        if outer is dict:
+            return [f"{{{self.type(inner[1])}}}"]
+        if kind in PLAIN:
+            return ["uinteger" if kind is int and is_unsigned else PLAIN[kind]]
+        if getattr(kind, "__name__", "Any") in ("Any", "LSPObject") or kind is object:
+            return ["any"]
+        if "_Type" in kind.__name__:
+            return [self.object(kind)]
+        return [kind.__name__] if kind.__name__ not in self.newer else []
 
-    def pair(self, place, mine, their):
-        """How two forms differ, or None if they are of two kinds."""
-        if isinstance(mine, str) or isinstance(their, str):
-            return [] if mine == their or {mine, their} == {"int", "unsigned"} and "[]" in place else None
-        if mine[0] in ("list", "map") and mine[0] == their[0]:
-            return self.forms(f"{place}[]", self.ours(mine[1]), self.theirs(their[1]))
-        if mine[0] == "object" == their[0]:
-            return self.objects(place, mine[1], their[1])
-        if mine[0] != their[0]:
-            return None
-        others = {int(value) for _, value, _ in self.items[mine[1]].members} ^ {it.value for it in their[1]}
-        return [f"{place}: {mine[1]} and the model do not both list {sorted(others)}"] * bool(others)
+    def object(self, kind):
+        hints, told = typing.get_type_hints(kind, vars(self.lsp)), []
+        for it in self.attrs.fields(kind):
+            if f"{kind.__name__}.{it.name}" in self.newer:
+                continue
+            key = re.sub("_([a-z])", lambda found: found[1].upper(), it.name.rstrip("_"))
+            is_nullable = self.lsp.is_special_property(kind, it.name) and it.name != "kind"
+            is_needed = it.default is self.attrs.NOTHING or is_nullable and key not in MISSING
+            found = self.forms(hints[it.name], "uinteger" in str(it.validator))
+            if isinstance(it.default, str):
+                found, is_needed = [f'"{it.default}"'], True
+            elif it.default is not self.attrs.NOTHING and not is_nullable and found != ["any"]:
+                found.remove("null")
+            told.append(f"{key}{'' if is_needed else '?'}: {' | '.join(found)}")
+        return f"{{ {'; '.join(told)} }}"
 
-    def forms(self, place, mine, their):
-        """How the forms of two types differ."""
-        out, left = [], [] if mine == ["any"] else list(their)
-        for form in mine if left else []:
-            found = [(it, differ) for it in left if (differ := self.pair(place, form, it)) is not None]
-            best = min(found, key=lambda it: (getattr(it[0][1], "__name__", "") != form[1], len(it[1])), default=(None, []))
-            out += best[1] if found else [f"{place}: the form {form} is none of the model's"]
-            left = [it for it in left if it != best[0]]
-        return out + [f"{place}: the form {getattr(it[1], '__name__', it)} is missing" for it in left]
+    def methods(self):
+        """The line of each method."""
+        for method, (sent, came, _, _) in sorted(self.lsp.METHOD_TO_TYPES.items()):
+            params = typing.get_type_hints(sent, vars(self.lsp)).get("params")
+            end = {"clientToServer": "server", "serverToClient": "client"}.get(self.lsp.message_direction(method), "both")
+            text = self.type(None if params is type(None) else params)
+            result = f" -> {self.type(typing.get_type_hints(came, vars(self.lsp))['result'])}" if came else ""
+            if sent.__name__ not in self.newer:
+                yield f"{'request' if came else 'notification'} {method} to {end}: {text}{result}"
 
-    def objects(self, place, name, their):
-        """How two objects differ. They are looked at once."""
-        if (name, their) in self.seen:
-            return self.seen[name, their]
-        out, hints = self.seen.setdefault((name, their), []), typing.get_type_hints(their, vars(self.lsp))
-        fields = {re.sub("_([a-z])", lambda it: it[1].upper(), it.name.rstrip("_")): it for it in self.attrs.fields(their)}
-        mine = MEMBERS.get(name) or {it.key: (it.type, it.how, it) for it in self.items[name].members if it.how != "rest"}
-        out += [f"{place}: {name} and the model do not both have {key}" for key in sorted(fields.keys() ^ mine.keys())]
-        for key in sorted(mine.keys() & fields.keys()):
-            (kind, how, *marks), at, is_free = mine[key], fields[key], fields[key].default is not self.attrs.NOTHING
-            if how == "named":
-                out += [f"{place}: {name}.{key} is not {at.default}"] * (at.default not in (kind, self.attrs.NOTHING))
-            elif not marks or not marks[0].is_lenient and marks[0].offer is None:
-                out += [f"{place}: {name}.{key} is {how}"] * ((how == "required") == is_free)
-                their_forms = [it for it in self.theirs(hints[at.name], at.validator) if it != "null" or not is_free]
-                out += self.forms(f"{place}.{key}", self.ours(kind), their_forms)
-        return out
+    def types(self):
+        """The line of each type but for the messages, and the literals, which stand where they are used."""
+        messages = {it for sent, came, *_ in self.lsp.METHOD_TO_TYPES.values() for it in (sent, came)}
+        for name, kind in sorted(vars(self.lsp).items()):
+            if isinstance(kind, type) and kind.__name__ == name and kind not in messages and name not in self.newer and "_Type" not in name:
+                if issubclass(kind, enum.Enum) and name != "MessageDirection":
+                    yield f"{name} = {self.values(name, kind)}"
+                elif self.attrs.has(kind) and not name.startswith(("_", "Response", "LSP")):
+                    yield f"{name} = {self.object(kind)}"
 
-    def method(self, name, way, params, result=None):
-        """How a method differs."""
-        sent, reply, *_ = self.lsp.METHOD_TO_TYPES[name]
-        ends = {"clientToServer": "server", "serverToClient": "client"}.get(self.lsp.message_direction(name), "both")
-        out = [f"{name} goes to {ends}"] * (ends != way) + [f"{name} is a request or not"] * ((reply is None) != (result is None))
-        for kind, whole, part in ((params, sent, "params"), (result, reply, "result")):
-            if whole:
-                out += self.forms(f"{name} {part}", self.ours(kind), self.theirs(typing.get_type_hints(whole, vars(self.lsp)).get(part)))
-        return out
+    def values(self, name, kind):
+        values = [it.value for it in kind if f"{name}.{it.name}" not in self.newer]
+        if isinstance(values[0], str):
+            return " | ".join(f'"{it}"' for it in values)
+        return f"{min(values)}..{max(values)}" if max(values) - min(values) == len(values) - 1 else "integer"
 
 
-def differences(folder, items, methods):
-    """How all types and methods differ from the model."""
-    model, methods = Comparison(folder, items), {words[1]: words[1:] for words in methods}
-    out = [it for name in sorted(methods.keys() & model.lsp.METHOD_TO_TYPES) for it in model.method(*methods[name])]
-    named = [(name, their) for name in items if (their := getattr(model.lsp, name, None)) is not None]
-    out += [it for name, their in named for it in model.forms(name, model.ours(name), model.theirs(their))]
-    out += [f"{name} is a method of one of the two" for name in sorted(model.lsp.METHOD_TO_TYPES.keys() ^ methods.keys())]
-    return list(dict.fromkeys(out))
+def main(words):
+    if len(words) != 1:
+        sys.exit(__doc__)
+    model = Model(words[0])
+    lines = (textwrap.fill(it, 120, subsequent_indent="    ", break_on_hyphens=False, break_long_words=False) for it in [*model.methods(), *model.types()])
+    TABLE.write_text(HEAD + "".join(f"{it}\n" for it in lines), encoding="utf-8")
+
+
+if __name__ == "__main__":
+    main(sys.argv[1:])

@@ -1,13 +1,19 @@
-"""What has to come of values that are read and written by the types of `lsp_types`: the members that LSP 3.17 gives each type, and their
-values. Nothing here calls a library of this repository.
+"""What has to come of values that are read and written by the types of `lsp_types`. The names and kinds of members come from the tables of
+the types, which `tools/types --check` compares with LSP's meta model. What they mean for a value follows here from LSP 3.17, and LSP's meta
+model judges the rows once more (`unlike`). Nothing here calls a library of this repository.
 
 A row is `typed NAME VALUE`. The value is read by that type and written again, so what comes is the value with the members of the type
 alone, without those that are null, or `refused` if the standard allows no such value."""
 import json
 import re
+import sys
+from pathlib import Path
 from urllib.parse import quote, unquote_to_bytes
 
-from documents import agreed
+sys.path.append(str(Path(__file__).resolve().parent.parent))
+import metamodel
+from documents import Counting, agreed, place
+from members import declared
 from rules import NOT_FOUND, is_whole, misfits_of, ordered
 
 
@@ -67,18 +73,6 @@ def decimal(value):
 
 
 decimal.fitting = lambda key: 0.5
-
-
-def either(*ways):
-    """The first of these types that fits."""
-
-    def read(value):
-        found = [it for it in map(if_fits, ways) if it(value) is not None]
-        fits(found)
-        return found[0](value)
-
-    read.fitting = lambda key: sample(ways[0], key)
-    return read
 
 
 def some(read):
@@ -185,428 +179,57 @@ def options(how, inside=None):
 def progress(value):
     """LSP 3.17, "Work Done Progress": what its `kind` says."""
     fits(isinstance(value, dict) and value.get("kind") in ("begin", "report", "end"))
-    return {"kind": value["kind"], **read_as(f"WorkDoneProgress{value['kind'].capitalize()}", value)}
+    return read_as(f"WorkDoneProgress{value['kind'].capitalize()}", value)
 
 
-# Types of which each value is one of these.
-CHOICES = {
-    "AnyTextEdit": ["AnnotatedTextEdit", "TextEdit"],
-    "BaseUri": [TEXT, "WorkspaceFolder"],
-    "CodeActionOrCommand": ["Command", "CodeAction"],
-    "CompletionEditRange": ["EditRangeWithInsertReplace", "Range"],
-    "CompletionResult": [some("CompletionItem"), "CompletionList"],
-    "CompletionTextEdit": ["InsertReplaceEdit", "TextEdit"],
-    "DefinitionResult": ["Location", some("Location"), some("LocationLink")],
-    "DocumentChange": ["CreateFile", "RenameFile", "DeleteFile", "TextDocumentEdit"],
-    "DocumentDiagnosticReport": ["RelatedFullDocumentDiagnosticReport", "RelatedUnchangedDocumentDiagnosticReport"],
-    "DocumentSymbolResult": [some("DocumentSymbol"), some("SymbolInformation")],
-    "Documentation": [TEXT, "MarkupContent"],
-    "HoverContents": ["MarkedString", some("MarkedString"), "MarkupContent"],
-    "InlayHintLabel": [TEXT, some("InlayHintLabelPart")],
-    "InlineValue": ["InlineValueText", "InlineValueVariableLookup", "InlineValueEvaluatableExpression"],
-    "MarkedString": [TEXT, "LanguageString"],
-    "ParameterLabel": [TEXT, offsets],
-    "PrepareRenameResult": ["PrepareRenamePlaceholder", "PrepareRenameDefaultBehavior", "Range"],
-    "SemanticTokensDeltaResult": ["SemanticTokensDelta", "SemanticTokens"],
-    "WorkspaceSymbolLocation": ["Location", "TextDocumentIdentifier"],
-}
-# Types that come back to the side that made them, with what the standard does not name.
-KEPT = "CallHierarchyItem CodeAction CodeLens CompletionItem DocumentLink InlayHint ServerCapabilities WorkspaceSymbol".split()
-DOCUMENT = {"textDocument": "TextDocumentIdentifier"}
-PLACE = {**DOCUMENT, "position": "Position"}
-PART = {**DOCUMENT, "range": "Range"}
-# The members of params by which a client asks for progress, and for parts of the result.
-DONE = {"workDoneToken?": if_fits(NUMBER_OR_TEXT)}
-PARTS = {**DONE, "partialResultToken?": if_fits(NUMBER_OR_TEXT)}
-MESSAGE = {"type": among(1, 4), "message": TEXT}
-FULL = {"kind": named("full"), "resultId?": TEXT, "items": some("Diagnostic")}
-UNCHANGED = {"kind": named("unchanged"), "resultId": TEXT}
-RELATED = {"relatedDocuments?": each(either("FullDocumentDiagnosticReport", "UnchangedDocumentDiagnosticReport"))}
-TOLD = {"workDoneProgress?": TRUTH}
-RESOLVE = {"resolveProvider?": TRUTH, **TOLD}
-# What a server offers by a boolean or by options that say nothing more to most servers.
-OFFERED = (
-    "callHierarchy color declaration definition documentFormatting documentHighlight documentRangeFormatting documentSymbol foldingRange hover "
-    "implementation inlayHint inlineValue linkedEditingRange moniker references selectionRange typeDefinition typeHierarchy workspaceSymbol"
-)
-# A name with `?` is of a member that may be missing or null.
-TYPES = {
+# The types that stand in no table: those of a place and of a change, and one of the program of rows.
+BY_HAND = {
     "Position": {"line": line, "character": UNSIGNED},
     "Range": {"start": "Position", "end": "Position"},
-    "Location": {"uri": TEXT, "range": "Range"},
-    "TextDocumentIdentifier": {"uri": TEXT},
-    "VersionedTextDocumentIdentifier": {"uri": TEXT, "version?": if_fits(INTEGER)},
-    "TextDocumentItem": {"uri": TEXT, "languageId": text_or_empty, "version?": if_fits(INTEGER), "text": TEXT},
-    "DidOpenTextDocumentParams": {"textDocument": "TextDocumentItem"},
-    "TextDocumentContentChangeEvent": {"range?": "Range", "text": TEXT},
-    "DidChangeTextDocumentParams": {
-        "textDocument": "VersionedTextDocumentIdentifier",
-        "contentChanges": some("TextDocumentContentChangeEvent"),
-    },
-    "DidSaveTextDocumentParams": {**DOCUMENT, "text?": TEXT},
-    "WillSaveTextDocumentParams": {**DOCUMENT, "reason": among(1, 3)},
-    "DidCloseTextDocumentParams": DOCUMENT,
-    "TextDocumentParams": {**DOCUMENT, **PARTS},
-    "TextDocumentPositionParams": PLACE,
-    "InlayHintParams": {**PART, **DONE},
-    "TextDocumentRangeParams": {**PART, **PARTS},
-    "ReferenceContext": {"includeDeclaration": TRUTH},
-    "ReferenceParams": {**PLACE, "context": "ReferenceContext", **PARTS},
-    "WorkspaceFolder": {"uri": TEXT, "name?": if_fits(TEXT)},
-    "ServerInfo": {"name": TEXT, "version?": TEXT},
-    "InitializeResult": {"capabilities": "ServerCapabilities", "serverInfo?": "ServerInfo"},
-    "ServerCapabilities": {
-        "positionEncoding?": TEXT,
-        "textDocumentSync?": options("TextDocumentSyncOptions", "change"),
-        "notebookDocumentSync?": ANY,
-        "completionProvider?": "CompletionOptions",
-        "signatureHelpProvider?": "SignatureHelpOptions",
-        "codeActionProvider?": options("CodeActionOptions"),
-        "codeLensProvider?": "ResolveOptions",
-        "documentLinkProvider?": "ResolveOptions",
-        "documentOnTypeFormattingProvider?": "DocumentOnTypeFormattingOptions",
-        "renameProvider?": options("RenameOptions"),
-        "executeCommandProvider?": "ExecuteCommandOptions",
-        "semanticTokensProvider?": "SemanticTokensOptions",
-        "diagnosticProvider?": "DiagnosticOptions",
-        "workspace?": "WorkspaceOptions",
-        "experimental?": ANY,
-        **{f"{name}Provider?": offer for name in OFFERED.split()},
-    },
-    "TextDocumentSyncOptions": {
-        "openClose?": TRUTH,
-        "change?": among(0, 2),
-        "willSave?": TRUTH,
-        "willSaveWaitUntil?": TRUTH,
-        "save?": options("SaveOptions"),
-    },
-    "SaveOptions": {"includeText?": TRUTH},
-    "CompletionOptions": {
-        "triggerCharacters?": some(TEXT),
-        "allCommitCharacters?": some(TEXT),
-        "completionItem?": "CompletionItemOptions",
-        **RESOLVE,
-    },
-    "CompletionItemOptions": {"labelDetailsSupport?": TRUTH},
-    "SignatureHelpOptions": {"triggerCharacters?": some(TEXT), "retriggerCharacters?": some(TEXT), **TOLD},
-    "CodeActionOptions": {"codeActionKinds?": some(TEXT), **RESOLVE},
-    "ResolveOptions": RESOLVE,
-    "DocumentOnTypeFormattingOptions": {"firstTriggerCharacter": TEXT, "moreTriggerCharacter?": some(TEXT)},
-    "RenameOptions": {"prepareProvider?": TRUTH, **TOLD},
-    "ExecuteCommandOptions": {"commands": some(TEXT), **TOLD},
-    "SemanticTokensOptions": {
-        "legend": "SemanticTokensLegend",
-        "range?": offer,
-        "full?": options("SemanticTokensFullOptions"),
-        **TOLD,
-    },
-    "SemanticTokensLegend": {"tokenTypes": some(TEXT), "tokenModifiers": some(TEXT)},
-    "SemanticTokensFullOptions": {"delta?": TRUTH},
-    "DiagnosticOptions": {"identifier?": TEXT, "interFileDependencies": TRUTH, "workspaceDiagnostics": TRUTH, **TOLD},
-    "WorkspaceOptions": {"workspaceFolders?": "WorkspaceFoldersServerCapabilities", "fileOperations?": ANY},
-    "WorkspaceFoldersServerCapabilities": {"supported?": TRUTH, "changeNotifications?": either(TRUTH, TEXT)},
-    "InitializeParams": {
-        "processId": nullable(if_fits(INTEGER)),
-        "clientInfo?": if_fits("ServerInfo"),
-        "locale?": if_fits(TEXT),
-        "rootPath?": if_fits(TEXT),
-        "rootUri": nullable(TEXT),
-        "workspaceFolders?": some("WorkspaceFolder"),
-        "initializationOptions?": ANY,
-        "capabilities": ANY,
-        "trace?": if_fits(TEXT),
-        **DONE,
-    },
-    "MarkupContent": {"kind": named("plaintext", "markdown"), "value": TEXT},
-    "LanguageString": {"language": TEXT, "value": TEXT},
-    "Hover": {"contents": "HoverContents", "range?": "Range"},
-    "TextEdit": {"range": "Range", "newText": TEXT},
-    "AnnotatedTextEdit": {"range": "Range", "newText": TEXT, "annotationId": TEXT},
-    "OptionalVersionedTextDocumentIdentifier": {"uri": TEXT, "version": nullable(INTEGER)},
-    "TextDocumentEdit": {"textDocument": "OptionalVersionedTextDocumentIdentifier", "edits": some("AnyTextEdit")},
-    "CreateFile": {"kind": named("create"), "uri": TEXT, "options?": "CreateFileOptions", "annotationId?": TEXT},
-    "CreateFileOptions": {"overwrite?": TRUTH, "ignoreIfExists?": TRUTH},
-    "RenameFile": {
-        "kind": named("rename"),
-        "oldUri": TEXT,
-        "newUri": TEXT,
-        "options?": "CreateFileOptions",
-        "annotationId?": TEXT,
-    },
-    "DeleteFile": {"kind": named("delete"), "uri": TEXT, "options?": "DeleteFileOptions", "annotationId?": TEXT},
-    "DeleteFileOptions": {"recursive?": TRUTH, "ignoreIfNotExists?": TRUTH},
-    "ChangeAnnotation": {"label": TEXT, "needsConfirmation?": TRUTH, "description?": TEXT},
-    "WorkspaceEdit": {
-        "changes?": each(some("TextEdit")),
-        "documentChanges?": some("DocumentChange"),
-        "changeAnnotations?": each("ChangeAnnotation"),
-    },
-    "RenameParams": {**PLACE, "newName": TEXT, **DONE},
-    "PrepareRenamePlaceholder": {"range": "Range", "placeholder": TEXT},
-    "PrepareRenameDefaultBehavior": {"defaultBehavior": TRUTH},
-    "FormattingOptions": {
-        "tabSize": UNSIGNED,
-        "insertSpaces": TRUTH,
-        "trimTrailingWhitespace?": TRUTH,
-        "insertFinalNewline?": TRUTH,
-        "trimFinalNewlines?": TRUTH,
-    },
-    "DocumentFormattingParams": {**DOCUMENT, "options": "FormattingOptions", **DONE},
-    "DocumentRangeFormattingParams": {**PART, "options": "FormattingOptions", **DONE},
-    "Command": {"title": TEXT, "command": TEXT, "arguments?": some(ANY)},
-    "ExecuteCommandParams": {"command": TEXT, "arguments?": some(ANY), **DONE},
-    "ApplyWorkspaceEditParams": {"label?": TEXT, "edit": "WorkspaceEdit"},
-    "ApplyWorkspaceEditResult": {"applied": TRUTH, "failureReason?": TEXT, "failedChange?": UNSIGNED},
-    "CompletionItemLabelDetails": {"detail?": TEXT, "description?": TEXT},
-    "CompletionItem": {
-        "label": TEXT,
-        "labelDetails?": "CompletionItemLabelDetails",
-        "kind?": among(1, 25),
-        "tags?": some(among(1, 1)),
-        "detail?": TEXT,
-        "documentation?": "Documentation",
-        "deprecated?": TRUTH,
-        "preselect?": TRUTH,
-        "sortText?": TEXT,
-        "filterText?": TEXT,
-        "insertText?": TEXT,
-        "insertTextFormat?": among(1, 2),
-        "insertTextMode?": among(1, 2),
-        "textEdit?": "CompletionTextEdit",
-        "textEditText?": TEXT,
-        "additionalTextEdits?": some("TextEdit"),
-        "commitCharacters?": some(TEXT),
-        "command?": "Command",
-        "data?": ANY,
-    },
-    "InsertReplaceEdit": {"newText": TEXT, "insert": "Range", "replace": "Range"},
-    "EditRangeWithInsertReplace": {"insert": "Range", "replace": "Range"},
-    "CompletionItemDefaults": {
-        "commitCharacters?": some(TEXT),
-        "editRange?": "CompletionEditRange",
-        "insertTextFormat?": among(1, 2),
-        "insertTextMode?": among(1, 2),
-        "data?": ANY,
-    },
-    "CompletionList": {"isIncomplete": TRUTH, "itemDefaults?": "CompletionItemDefaults", "items": some("CompletionItem")},
-    "CodeDescription": {"href": TEXT},
-    "DiagnosticRelatedInformation": {"location": "Location", "message": TEXT},
-    "Diagnostic": {
-        "range": "Range",
-        "severity?": among(1, 4),
-        "code?": NUMBER_OR_TEXT,
-        "codeDescription?": "CodeDescription",
-        "source?": TEXT,
-        "message": TEXT,
-        "tags?": some(among(1, 2)),
-        "relatedInformation?": some("DiagnosticRelatedInformation"),
-        "data?": ANY,
-    },
-    "PublishDiagnosticsParams": {"uri": TEXT, "version?": INTEGER, "diagnostics": some("Diagnostic")},
-    "CodeActionContext": {"diagnostics": those_that_fit("Diagnostic"), "only?": some(TEXT), "triggerKind?": if_fits(among(1, 2))},
-    "CodeActionParams": {**PART, "context": "CodeActionContext", **PARTS},
-    "CodeActionDisabled": {"reason": TEXT},
-    "CodeAction": {
-        "title": TEXT,
-        "kind?": TEXT,
-        "diagnostics?": some("Diagnostic"),
-        "isPreferred?": TRUTH,
-        "disabled?": "CodeActionDisabled",
-        "edit?": "WorkspaceEdit",
-        "command?": "Command",
-        "data?": ANY,
-    },
-    "DocumentSymbol": {
-        "name": TEXT,
-        "detail?": TEXT,
-        "kind": among(1, 26),
-        "tags?": some(among(1, 1)),
-        "deprecated?": TRUTH,
-        "range": "Range",
-        "selectionRange": "Range",
-        "children?": children,
-    },
-    "WorkspaceSymbolParams": {"query": TEXT, **PARTS},
-    "SymbolInformation": {
-        "name": TEXT,
-        "kind": among(1, 26),
-        "tags?": some(among(1, 1)),
-        "deprecated?": TRUTH,
-        "location": "Location",
-        "containerName?": TEXT,
-    },
-    "WorkspaceSymbol": {
-        "name": TEXT,
-        "kind": among(1, 26),
-        "tags?": some(among(1, 1)),
-        "deprecated?": TRUTH,
-        "containerName?": TEXT,
-        "location": "WorkspaceSymbolLocation",
-        "data?": ANY,
-    },
-    "ParameterInformation": {"label": "ParameterLabel", "documentation?": "Documentation"},
-    "SignatureInformation": {
-        "label": TEXT,
-        "documentation?": "Documentation",
-        "parameters?": some("ParameterInformation"),
-        "activeParameter?": UNSIGNED,
-    },
-    "SignatureHelp": {"signatures": some("SignatureInformation"), "activeSignature?": UNSIGNED, "activeParameter?": UNSIGNED},
-    "SemanticTokens": {"resultId?": TEXT, "data": some(UNSIGNED)},
-    "InlayHintLabelPart": {"value": TEXT, "tooltip?": "Documentation", "location?": "Location", "command?": "Command"},
-    "InlayHint": {
-        "position": "Position",
-        "label": "InlayHintLabel",
-        "kind?": among(1, 2),
-        "textEdits?": some("TextEdit"),
-        "tooltip?": "Documentation",
-        "paddingLeft?": TRUTH,
-        "paddingRight?": TRUTH,
-        "data?": ANY,
-    },
-    "ShowMessageParams": MESSAGE,
-    "ConfigurationItem": {"scopeUri?": TEXT, "section?": TEXT},
-    "ConfigurationParams": {"items": some("ConfigurationItem")},
-    "WorkDoneProgressParams": {"workDoneToken?": NUMBER_OR_TEXT},
-    "WorkDoneProgressCreateParams": {"token": NUMBER_OR_TEXT},
-    "WorkDoneProgressBegin": {"title": TEXT, "cancellable?": TRUTH, "message?": TEXT, "percentage?": UNSIGNED},
-    "WorkDoneProgressReport": {"cancellable?": TRUTH, "message?": TEXT, "percentage?": UNSIGNED},
-    "WorkDoneProgressEnd": {"message?": TEXT},
-    "ProgressParams": {"token": NUMBER_OR_TEXT, "value": progress},
-    # Where something is, and what is asked with a place.
-    "LocationLink": {"originSelectionRange?": "Range", "targetUri": TEXT, "targetRange": "Range", "targetSelectionRange": "Range"},
-    "HoverParams": {**PLACE, **DONE},
-    "DefinitionParams": {**PLACE, **PARTS},
-    "CompletionContext": {"triggerKind": among(1, 3), "triggerCharacter?": TEXT},
-    "CompletionParams": {**PLACE, "context?": if_fits("CompletionContext"), **PARTS},
-    "SignatureHelpContext": {
-        "triggerKind": among(1, 3),
-        "triggerCharacter?": TEXT,
-        "isRetrigger": TRUTH,
-        "activeSignatureHelp?": "SignatureHelp",
-    },
-    "SignatureHelpParams": {**PLACE, "context?": if_fits("SignatureHelpContext"), **DONE},
-    "DocumentOnTypeFormattingParams": {**PLACE, "ch": TEXT, "options": "FormattingOptions"},
-    # The workspace, the window and the handshake.
-    "WorkspaceFoldersChangeEvent": {"added": some("WorkspaceFolder"), "removed": some("WorkspaceFolder")},
-    "DidChangeWorkspaceFoldersParams": {"event": "WorkspaceFoldersChangeEvent"},
-    "DidChangeConfigurationParams": {"settings": ANY},
-    "FileEvent": {"uri": TEXT, "type": among(1, 3)},
-    "DidChangeWatchedFilesParams": {"changes": some("FileEvent")},
-    "MessageActionItem": {"title": TEXT},
-    "ShowMessageRequestParams": {**MESSAGE, "actions?": some("MessageActionItem")},
-    "ShowDocumentParams": {"uri": TEXT, "external?": TRUTH, "takeFocus?": TRUTH, "selection?": "Range"},
-    "ShowDocumentResult": {"success": TRUTH},
-    "SetTraceParams": {"value": TEXT},
-    "LogTraceParams": {"message": TEXT, "verbose?": TEXT},
-    "CancelParams": {"id": NUMBER_OR_TEXT},
-    "Registration": {"id": TEXT, "method": TEXT, "registerOptions?": ANY},
-    "RegistrationParams": {"registrations": some("Registration")},
-    "Unregistration": {"id": TEXT, "method": TEXT},
-    "UnregistrationParams": {"unregisterations": some("Unregistration")},
-    # Language features.
-    "DocumentHighlight": {"range": "Range", "kind?": among(1, 3)},
-    "FoldingRange": {
-        "startLine": UNSIGNED,
-        "startCharacter?": UNSIGNED,
-        "endLine": UNSIGNED,
-        "endCharacter?": UNSIGNED,
-        "kind?": TEXT,
-        "collapsedText?": TEXT,
-    },
+    "ContentChange": {"range?": "Range", "text": TEXT},
     "Note": {"range": "Range", "text": TEXT},
-    "SelectionRange": {"range": "Range", "parent?": "SelectionRange"},
-    "SelectionRangeParams": {**DOCUMENT, "positions": some("Position"), **PARTS},
-    "LinkedEditingRanges": {"ranges": some("Range"), "wordPattern?": TEXT},
-    "Moniker": {"scheme": TEXT, "identifier": TEXT, "unique": TEXT, "kind?": TEXT},
-    "CodeLens": {"range": "Range", "command?": "Command", "data?": ANY},
-    "DocumentLink": {"range": "Range", "target?": TEXT, "tooltip?": TEXT, "data?": ANY},
-    "CallHierarchyItem": {
-        "name": TEXT,
-        "kind": among(1, 26),
-        "tags?": some(among(1, 1)),
-        "detail?": TEXT,
-        "uri": TEXT,
-        "range": "Range",
-        "selectionRange": "Range",
-        "data?": ANY,
-    },
-    "CallHierarchyIncomingCallsParams": {"item": "CallHierarchyItem", **PARTS},
-    "CallHierarchyIncomingCall": {"from": "CallHierarchyItem", "fromRanges": some("Range")},
-    "CallHierarchyOutgoingCall": {"to": "CallHierarchyItem", "fromRanges": some("Range")},
-    "Color": {"red": decimal, "green": decimal, "blue": decimal, "alpha": decimal},
-    "ColorInformation": {"range": "Range", "color": "Color"},
-    "ColorPresentationParams": {**PART, "color": "Color", **PARTS},
-    "ColorPresentation": {"label": TEXT, "textEdit?": "TextEdit", "additionalTextEdits?": some("TextEdit")},
-    "InlineValueContext": {"frameId": INTEGER, "stoppedLocation": "Range"},
-    "InlineValueParams": {**PART, "context": "InlineValueContext", **DONE},
-    "InlineValueText": {"range": "Range", "text": TEXT},
-    "InlineValueVariableLookup": {"range": "Range", "variableName?": TEXT, "caseSensitiveLookup": TRUTH},
-    "InlineValueEvaluatableExpression": {"range": "Range", "expression?": TEXT},
-    "SemanticTokensDeltaParams": {**DOCUMENT, "previousResultId": TEXT, **PARTS},
-    "SemanticTokensEdit": {"start": UNSIGNED, "deleteCount": UNSIGNED, "data?": some(UNSIGNED)},
-    "SemanticTokensDelta": {"resultId?": TEXT, "edits": some("SemanticTokensEdit")},
-    # Diagnostics that a client asks for.
-    "DocumentDiagnosticParams": {**DOCUMENT, "identifier?": TEXT, "previousResultId?": TEXT, **PARTS},
-    "FullDocumentDiagnosticReport": {**FULL},
-    "UnchangedDocumentDiagnosticReport": {**UNCHANGED},
-    "RelatedFullDocumentDiagnosticReport": {**FULL, **RELATED},
-    "RelatedUnchangedDocumentDiagnosticReport": {**UNCHANGED, **RELATED},
-    "PreviousResultId": {"uri": TEXT, "value": TEXT},
-    "WorkspaceDiagnosticParams": {"identifier?": TEXT, "previousResultIds": some("PreviousResultId"), **PARTS},
-    "WorkspaceFullDocumentDiagnosticReport": {**FULL, "uri": TEXT, "version": nullable(INTEGER)},
-    "WorkspaceUnchangedDocumentDiagnosticReport": {**UNCHANGED, "uri": TEXT, "version": nullable(INTEGER)},
-    "WorkspaceDiagnosticReport": {
-        "items": some(either("WorkspaceFullDocumentDiagnosticReport", "WorkspaceUnchangedDocumentDiagnosticReport"))
-    },
-    "DiagnosticServerCancellationData": {"retriggerRequest": TRUTH},
-    # Files.
-    "FileCreate": {"uri": TEXT},
-    "CreateFilesParams": {"files": some("FileCreate")},
-    "FileRename": {"oldUri": TEXT, "newUri": TEXT},
-    "RenameFilesParams": {"files": some("FileRename")},
-    "FileOperationPatternOptions": {"ignoreCase?": TRUTH},
-    "FileOperationPattern": {"glob": TEXT, "matches?": TEXT, "options?": "FileOperationPatternOptions"},
-    "FileOperationFilter": {"scheme?": TEXT, "pattern": "FileOperationPattern"},
-    "FileOperationRegistrationOptions": {"filters": some("FileOperationFilter")},
-    "FileOperationOptions": {
-        f"{when}{what}?": "FileOperationRegistrationOptions" for what in ("Create", "Rename", "Delete") for when in ("did", "will")
-    },
-    "RelativePattern": {"baseUri": "BaseUri", "pattern": TEXT},
-    "FileSystemWatcher": {"globPattern": either(TEXT, "RelativePattern"), "kind?": UNSIGNED},
-    "DidChangeWatchedFilesRegistrationOptions": {"watchers": some("FileSystemWatcher")},
-    # Notebooks.
-    "ExecutionSummary": {"executionOrder": UNSIGNED, "success?": TRUTH},
-    "NotebookCell": {"kind": among(1, 2), "document": TEXT, "metadata?": ANY, "executionSummary?": "ExecutionSummary"},
-    "NotebookDocument": {"uri": TEXT, "notebookType": TEXT, "version": INTEGER, "metadata?": ANY, "cells": some("NotebookCell")},
-    "DidOpenNotebookDocumentParams": {"notebookDocument": "NotebookDocument", "cellTextDocuments": some("TextDocumentItem")},
-    "VersionedNotebookDocumentIdentifier": {"version": INTEGER, "uri": TEXT},
-    "NotebookCellArrayChange": {"start": UNSIGNED, "deleteCount": UNSIGNED, "cells?": some("NotebookCell")},
-    "NotebookCellStructure": {
-        "array": "NotebookCellArrayChange",
-        "didOpen?": some("TextDocumentItem"),
-        "didClose?": some("TextDocumentIdentifier"),
-    },
-    "NotebookCellTextChange": {
-        "document": "VersionedTextDocumentIdentifier",
-        "changes": some("TextDocumentContentChangeEvent"),
-    },
-    "NotebookCellChanges": {
-        "structure?": "NotebookCellStructure",
-        "data?": some("NotebookCell"),
-        "textContent?": some("NotebookCellTextChange"),
-    },
-    "NotebookDocumentChangeEvent": {"metadata?": ANY, "cells?": "NotebookCellChanges"},
-    "DidChangeNotebookDocumentParams": {
-        "notebookDocument": "VersionedNotebookDocumentIdentifier",
-        "change": "NotebookDocumentChangeEvent",
-    },
-    "DidSaveNotebookDocumentParams": {"notebookDocument": "TextDocumentIdentifier"},
-    "DidCloseNotebookDocumentParams": {
-        "notebookDocument": "TextDocumentIdentifier",
-        "cellTextDocuments": some("TextDocumentIdentifier"),
-    },
 }
+PLAINLY = {
+    "String": TEXT, "bool": TRUTH, "u32": UNSIGNED, "i32": INTEGER, "f64": decimal, "Value": ANY, "T": progress, "NumberOrString": NUMBER_OR_TEXT,
+    "MarkupKind": named("plaintext", "markdown"), "LabelOffsets": offsets,
+}
+DECLARED = declared()[0]
+
+
+def how_of(kind):
+    """How a value of this type of the tables is read."""
+    outer = re.fullmatch(r"(Option|Box|Vec|BTreeMap)<(?:String, )?(.*)>", kind)
+    if outer:
+        inner = how_of(outer[2])
+        return {"Option": nullable, "Vec": some, "BTreeMap": each}.get(outer[1], lambda it: it)(inner)
+    item = DECLARED.get(kind)
+    if item and item.kind == "alias":
+        return how_of(item.marks[1])
+    return PLAINLY.get(kind) or (among(*item.bounds) if item and item.kind == "numbers" else kind)
+
+
+def member_of(it):
+    """The name of a member, with `?` if it may be missing or null, and how its value is read, by its marks."""
+    key, how = it.key + "?" * (it.how == "optional"), how_of(it.type) if it.how != "named" else named(it.type)
+    if it.key == "children":
+        return "children?", children
+    if it.offer is not None:
+        return key, offer if it.type == "bool" else options(how, it.offer or None)
+    if it.is_lenient and it.how == "required":
+        return key, text_or_empty if it.type == "String" else those_that_fit(how_of(it.type[4:-1]))
+    how = if_fits(how) if it.is_lenient else how
+    return key, nullable(how) if it.how == "nullable" else how
+
+
+TYPES = {name: dict(member_of(it) for it in item.members if it.how != "rest") for name, item in DECLARED.items() if item.kind == "struct"} | BY_HAND
+# Types of which each value is one of these.
+CHOICES = {name: [how_of(kind) for _, kind, _ in item.members] for name, item in sorted(DECLARED.items()) if item.kind == "union"}
+# Those of them that the program of rows reads inside other types alone.
+INSIDE = ("ChangeNotifications", "GlobPattern", "RelatedReport", "WorkspaceDocumentDiagnosticReport")
+# Types that come back to the side that made them, with what the standard does not name.
+KEPT = "CallHierarchyItem CodeAction CodeLens CompletionItem DocumentLink InlayHint ServerCapabilities WorkspaceSymbol".split()
+# What a server offers by a boolean or by options that say nothing more to most servers.
+OFFERED = [it.key for it in DECLARED["ServerCapabilities"].members if it.offer == "" and it.type == "bool"]
 
 
 def all_capabilities(characters, names):
@@ -631,12 +254,13 @@ def all_capabilities(characters, names):
         "diagnosticProvider": {"identifier": "}", "interFileDependencies": True, "workspaceDiagnostics": False, **done},
         "workspace": {"workspaceFolders": folders, "fileOperations": {"notebook": names}},
         "experimental": {"notebook": names},
-        **{f"{it}Provider": it != "definition" for it in OFFERED.split()},
+        **{it: it != "definitionProvider" for it in OFFERED},
     }
 
 
 def sample(how, key):
     """A value that fits. A text is the member's key, so that no two are alike."""
+    how = how_of(how) if isinstance(how, str) else how
     if how in CHOICES:
         return sample(CHOICES[how][0], key)
     if isinstance(how, str):
@@ -685,15 +309,15 @@ def rows():
     yield "# Types with all members, with those that have to be there, and without one of them."
     for name in WHOLE.split():
         whole = sample(name, "")
-        needed = [it for it in TYPES[name] if not it.endswith("?")]
+        needed = [it for it in TYPES[how_of(name)] if not it.endswith("?")]
         yield f"typed {name} {ordered(whole)}"
         if len(needed) < len(whole):
             yield f"typed {name} {ordered({it: whole[it] for it in needed})}"
         for left_out in needed:
             yield f"typed {name} {ordered({it: whole[it] for it in needed if it != left_out})}"
     yield "# Types with several forms."
-    for name, ways in CHOICES.items():
-        for way in ways:
+    for name in sorted(CHOICES.keys() - INSIDE):
+        for way in CHOICES[name]:
             yield f"typed {name} {ordered(sample(way, 'a'))}"
         yield f"typed {name} {{}}"
     for parent in [None, {"range": 5}, [], {"range": SAMPLE, "parent": {"range": SAMPLE, "parent": None}}]:
@@ -733,27 +357,74 @@ def rows():
             yield f"configuration {ordered({'client': client, 'changed': changed})}"
 
 
+# The members and the forms that some row has read.
+READ = set()
+
+
 def read_as(how, value):
     """A value as one of these types, or by one of these functions, without what is not the type's own."""
+    how = how_of(how) if isinstance(how, str) else how
     if how in CHOICES:
-        return either(*CHOICES[how])(value)
+        found = [at for at, it in enumerate(CHOICES[how]) if if_fits(it)(value) is not None][:1]
+        fits(found)
+        READ.add((how, found[0]))
+        return read_as(CHOICES[how][found[0]], value)
     if not isinstance(how, str):
         return how(value)
     fits(isinstance(value, dict))
-    found = {}
+    found, keys = {}, {name.rstrip("?"): member for name, member in TYPES[how].items()}
     for name, member in TYPES[how].items():
         key, is_kept = name.rstrip("?"), getattr(member, "is_kept", False)
         given = value.get(key)
+        fits(given is not None or is_kept or name.endswith("?") or key in value and member is ANY)
         if given is not None or is_kept:
             taken = read_as(member, given)
+            READ.update([(how, key)] * (given is not None))
             if taken is not None or is_kept or member is ANY:
                 found[key] = taken
-        else:
-            fits(name.endswith("?") or key in value and member is ANY)
-            if member is ANY and not name.endswith("?"):
-                found[key] = None
-    keys = {name.rstrip("?") for name in TYPES[how]}
+        elif not name.endswith("?"):
+            found[key] = None
     return found | {key: it for key, it in value.items() if how in KEPT and key not in keys}
+
+
+def unread():
+    """The members and forms of the tables that no row has read so far."""
+    for name, item in DECLARED.items():
+        if item.kind == "struct" and any(it.how == "rest" for it in item.members) != (name in KEPT):
+            yield f"{item.at}: one of this table and KEPT of tools/rows/typed.py says that {name} keeps what LSP does not name"
+        if item.kind == "union":
+            yield from (f"{item.at}: no row reads {name} as {it[0]}" for at, it in enumerate(item.members) if (name, at) not in READ)
+        elif item.kind == "struct":
+            yield from (f"{it.at}: no row reads {name}.{it.key}" for it in item.members if it.how != "rest" and (name, it.key) not in READ)
+
+
+# Members of which the library writes less than it read. It keeps whether something is offered, and not how. It does not read a length that LSP
+# 3.17 deprecates.
+LESS = re.compile("/capabilities/|/rangeLength$")
+# The program of rows reads progress of work alone.
+OF_WORK = "ProgressParams = { token: integer | string; value: WorkDoneProgressBegin | WorkDoneProgressReport | WorkDoneProgressEnd }"
+
+
+def unlike(rows):
+    """Where a value that LSP's meta model allows is refused, is written as one that the model does not allow, or loses a member."""
+    types = metamodel.read()[0] | metamodel.parse(OF_WORK)[0]
+    wrong = metamodel.Values(types).wrong
+    for place, row, answer in rows:
+        _, name, text = row.split(" ", 2)
+        given, forms = json.loads(text), [it for it in [name, *CHOICES.get(name, [])] if isinstance(it, str) and it in types]
+        if not forms or wrong(forms, given, name):
+            continue
+        written = json.loads(answer) if answer != "refused" else None
+        told = wrong(forms, written, name) + lost(given, written, name) if written is not None else [f"{name}: it is refused, and LSP 3.17 has it"]
+        yield from (f"{place}: {it}" for it in told)
+
+
+def lost(given, written, at):
+    if isinstance(given, dict) and isinstance(written, dict):
+        return [it for key in given for it in lost(given[key], written.get(key), f"{at}/{key}")]
+    if isinstance(given, list) and isinstance(written, list) and len(given) == len(written):
+        return [it for number, pair in enumerate(zip(given, written)) for it in lost(*pair, f"{at}/{number}")]
+    return [f"{at}: {ordered(given)} is written as {ordered(written)}"] if given != written and not LESS.search(at) else []
 
 
 def capabilities_answer(value):
@@ -1004,14 +675,8 @@ def offset_answer(rest):
     """LSP 3.17, "Position": a character past the line's end is that end, and one within a pair is its start. A line ends with `\n` alone
     (docs/DECISIONS.md)."""
     position, _, text = rest.partition(" ")
-    found, lines = read_as("Position", json.loads(position)), json.loads(text).split("\n")
-    before, units = "".join(it + "\n" for it in lines[: found["line"]]), 0
-    for it in lines[found["line"]] if found["line"] < len(lines) else "":
-        units += 1 + (it > "\uffff")
-        if units > found["character"]:
-            break
-        before += it
-    return [str(min(len(before.encode()), len(json.loads(text).encode())))]
+    found, text = read_as("Position", json.loads(position)), json.loads(text)
+    return [str(len(text[: place(text, (found["line"], found["character"]), Counting("utf-16", False))].encode()))]
 
 
 def lines_answer(text):
