@@ -4,18 +4,18 @@
 It ends in status 1 at the first difference.
 """
 import json
-import os
-import socket
 import sys
 import time
+from contextlib import contextmanager
 
 sys.dont_write_bytecode = True
 
-from client import EXIT, INITIALIZE_REPLY, PATIENCE, SERVE, SHUTDOWN, SHUTDOWN_REPLY, Difference, expect, frame
-from recorder_client import HOST, INITIALIZE, INITIALIZED, SESSION, Started, free_port, read_all, receive, server
+from lsp import (
+    EXIT, HOST, INITIALIZE_REPLY, PATIENCE, SHUTDOWN, SHUTDOWN_REPLY, Client, Program, accepted, built, expect, frame, free_port,
+    read_piece, run,
+)
+from recorder_client import CHANGE, INITIALIZE, INITIALIZED, SESSION, framed, listening, server
 
-CHECK = SERVE.parents[2] / "lsp_check" / "out" / "lsp_check"
-CHANGE = b'{"jsonrpc":"2.0","method":"textDocument/didChange","params":{"textDocument":{"uri":"file:///a"}}}'
 NOT_OPEN = 'the document is not open (LSP 3.17, "DidOpenTextDocument Notification")'
 # Frames that no program of ours writes: another order of the header, spaces, a body with a line's end.
 ODD_BODY = b'{ "id" : 1 ,\n "method" : "initialize", "jsonrpc":"2.0" }'
@@ -27,99 +27,95 @@ LONG_HEADER = b"Content-Type: " + b"x" * 300_000
 
 def between(server_port, *words):
     port = free_port()
-    return Started([CHECK, "between", *words, f"{HOST}:{port}", f"{HOST}:{server_port}"], port)
+    return Program(built("lsp_check", "between", *words, f"{HOST}:{port}", f"{HOST}:{server_port}"), port=port)
 
 
 def summary(requests, replies, breaches, is_open=0):
-    return f"client, server: requests {requests}, replies {replies}, open {is_open}, breaches {breaches}\n".encode()
+    return f"client, server: requests {requests}, replies {replies}, open {is_open}, breaches {breaches}\n"
 
 
-def accept(listener):
-    listener.settimeout(PATIENCE)
-    theirs = listener.accept()[0]
-    theirs.settimeout(PATIENCE)
-    return theirs
+def line_of(check):
+    """The next line that it prints."""
+    line, deadline = b"", time.monotonic() + PATIENCE
+    while not line.endswith(b"\n") and (piece := read_piece(check.process.stdout, deadline, "a line")):
+        line += piece
+    return line
+
+
+@contextmanager
+def both_ends(*words):
+    """A check between two ends of this program: the check, its client and its server."""
+    listener, port = listening()
+    with listener, between(port, *words) as check, check.connect() as client, Client(check, accepted(listener)) as theirs:
+        yield check, client, theirs
 
 
 def check_session():
     print("a session passes, and breaks no rule")
     with server() as demo, between(demo.port, "--once") as check, check.connect() as client:
-        for sent, wanted in SESSION:
-            client.sendall(frame(sent))
-            if wanted:
-                receive(client, frame(wanted))
-        expect("what follows", read_all(client), b"")
-        client.close()
+        client.exchange(framed(SESSION))
+        expect("what follows", client.rest(), b"")
+        client.connection.close()
         expect("the end of the check", check.end(), (0, b"", summary(3, 3, 0)))
-        expect("the end of the server", demo.end(), (0, b"", b""))
+        expect("the end of the server", demo.end(), (0, b"", ""))
 
 
 def check_bytes():
     print("odd frames pass unchanged, in pieces too, and so do bytes that are no frame")
-    with socket.create_server((HOST, 0)) as listener, between(listener.getsockname()[1], "--once") as check:
-        with check.connect() as client, accept(listener) as theirs:
-            for piece in [ODD[:7], ODD[7:80], ODD[80:-1], ODD[-1:]]:
-                client.sendall(piece)
-                receive(theirs, piece)
-            theirs.sendall(PADDED)
-            receive(client, PADDED)
-            client.sendall(NO_FRAME)
-            client.shutdown(socket.SHUT_WR)
-            expect("what came behind the frame", read_all(theirs), NO_FRAME)
-            theirs.sendall(NO_FRAME[::-1])
-            theirs.shutdown(socket.SHUT_WR)
-            expect("what came back", read_all(client), NO_FRAME[::-1])
-            told = f"client:{len(ODD)}: the header part of the frame is bad\n".encode()
-            expect("the end of the check", check.end(), (2, b"", told + summary(1, 1, 0)))
+    with both_ends("--once") as (check, client, theirs):
+        for piece in [ODD[:7], ODD[7:80], ODD[80:-1], ODD[-1:]]:
+            client.send_bytes(piece)
+            theirs.receive(piece)
+        theirs.send_bytes(PADDED)
+        client.receive(PADDED)
+        for one, other, bytes_of_no_frame in [(client, theirs, NO_FRAME), (theirs, client, NO_FRAME[::-1])]:
+            one.send_bytes(bytes_of_no_frame)
+            one.close_input()
+            expect("what came after the frame", other.rest(), bytes_of_no_frame)
+        told = f"client:{len(ODD)}: the header part of the frame is bad\n"
+        expect("the end of the check", check.end(), (2, b"", told + summary(1, 1, 0)))
 
 
 def check_long_header():
     print("a header part without an end passes, and is told once")
-    with socket.create_server((HOST, 0)) as listener, between(listener.getsockname()[1], "--once") as check:
-        with check.connect() as client, accept(listener) as theirs:
-            client.sendall(LONG_HEADER)
-            client.shutdown(socket.SHUT_WR)
-            expect("what came", read_all(theirs), LONG_HEADER)
-            theirs.close()
-            told = b"client:0: the header part of the frame is longer than 64 KiB\n"
-            expect("the end of the check", check.end(), (2, b"", told + summary(0, 0, 0)))
+    with both_ends("--once") as (check, client, theirs):
+        client.send_bytes(LONG_HEADER)
+        client.close_input()
+        expect("what came", theirs.rest(), LONG_HEADER)
+        theirs.connection.close()
+        told = "client:0: the header part of the frame is longer than 64 KiB\n"
+        expect("the end of the check", check.end(), (2, b"", told + summary(0, 0, 0)))
 
 
 def check_told_at_once():
     print("a breach is told while the session goes on, as text and as JSON")
     place = len(frame(INITIALIZE)) + len(frame(INITIALIZED))
-    line = f"client:{place}: -> textDocument/didChange file:///a: {NOT_OPEN}\n".encode()
+    line = f"client:{place}: -> textDocument/didChange file:///a: {NOT_OPEN}"
     told = {"kind": "breach", "file": "client", "byte": place, "way": "->", "rule": "NotOpen", "method": "textDocument/didChange"}
     for words in ["--once"], ["--once", "--json"]:
         with server() as demo, between(demo.port, *words) as check, check.connect() as client:
-            client.sendall(frame(INITIALIZE))
-            receive(client, frame(INITIALIZE_REPLY))
-            client.sendall(frame(INITIALIZED) + frame(CHANGE))
+            client.exchange([(frame(INITIALIZE), INITIALIZE_REPLY), (frame(INITIALIZED) + frame(CHANGE), None)])
             if "--json" in words:
-                came = json.loads(check.process.stdout.readline())
-                expect("the breach", came, {**told, "text": NOT_OPEN, "uri": "file:///a"})
+                expect("the breach", json.loads(line_of(check)), {**told, "text": NOT_OPEN, "uri": "file:///a"})
             else:
-                expect("the breach", check.process.stderr.readline(), line)
-            client.sendall(frame(SHUTDOWN) + frame(EXIT))
-            receive(client, frame(SHUTDOWN_REPLY))
-            client.close()
+                expect("the breach", check.says("the breach"), line)
+            client.exchange([(frame(SHUTDOWN) + frame(EXIT), SHUTDOWN_REPLY)])
+            client.connection.close()
             expect("the status", check.end()[0], 1)
             demo.end()
 
 
 def check_order():
     print("a reply is judged behind its request, though both pass at once")
-    with socket.create_server((HOST, 0)) as listener, between(listener.getsockname()[1], "--once") as check:
-        with check.connect() as client, accept(listener) as theirs:
-            asked, replied = frame(INITIALIZE), frame(INITIALIZE_REPLY)
-            begin = [(asked, replied), (frame(INITIALIZED), b"")]
-            turns = begin + [tuple(frame(it % key) for it in ECHO) for key in range(500)]
-            for sent, came in turns:
-                client.sendall(sent)
-                receive(theirs, sent)
-                theirs.sendall(came)
-                receive(client, came)
-            client.close()
+    with both_ends("--once") as (check, client, theirs):
+        begin = [(frame(INITIALIZE), frame(INITIALIZE_REPLY)), (frame(INITIALIZED), b"")]
+        for sent, came in begin + [tuple(frame(it % key) for it in ECHO) for key in range(500)]:
+            client.send_bytes(sent)
+            theirs.receive(sent)
+            theirs.send_bytes(came)
+            client.receive(came)
+        client.connection.close()
+        theirs.connection.close()
         expect("the end of the check", check.end(), (0, b"", summary(501, 501, 0)))
 
 
@@ -128,36 +124,30 @@ ECHO = b'{"jsonrpc":"2.0","id":%d,"method":"a"}', b'{"jsonrpc":"2.0","id":%d,"re
 
 def check_clients():
     print("a server that goes is told by a close, and the next client is served")
-    with socket.create_server((HOST, 0)) as listener, between(listener.getsockname()[1]) as check:
+    listener, port = listening()
+    with listener, between(port) as check:
         for _ in range(2):
             with check.connect() as client:
-                with accept(listener) as theirs:
-                    client.sendall(frame(INITIALIZE))
-                    receive(theirs, frame(INITIALIZE))
-                expect("what a client reads whose server is gone", read_all(client), b"")
+                with Client(check, accepted(listener)) as theirs:
+                    client.send_bytes(frame(INITIALIZE))
+                    theirs.receive(frame(INITIALIZE))
+                expect("what a client reads whose server is gone", client.rest(), b"")
                 # (though it stays)
-                open_line = b"client:0: -> 1: has no reply\n"
-                expect("what is told", check.process.stderr.readline(), open_line)
-                expect("the summary", check.process.stderr.readline(), summary(1, 0, 0, 1))
-        expect("whether it listens on", check.process.poll(), None)
+                expect("what is told", check.says("an open request"), "client:0: -> 1: has no reply")
+                expect("the summary", check.says("the session") + "\n", summary(1, 0, 0, 1))
+        expect("whether it listens on", check.is_up(), True)
 
 
-def main():
-    for program in [SERVE, CHECK]:
-        if not os.access(program, os.X_OK):
-            print(f"between_client.py: no program {program}: `rt run` in its crate's folder builds it", file=sys.stderr)
-            return 2
-    try:
-        for check in [check_session, check_bytes, check_long_header, check_told_at_once, check_order, check_clients]:
-            begun = time.monotonic()
-            check()
-            expect("whether it took less than a minute", time.monotonic() - begun < 60, True)
-    except Difference as difference:
-        print(f"between_client.py: FAILED: {difference}", file=sys.stderr)
-        return 1
-    print("no difference")
-    return 0
+def in_a_minute(check):
+    begun = time.monotonic()
+    check()
+    expect("whether it took less than a minute", time.monotonic() - begun < 60, True)
+
+
+def check_all():
+    for check in [check_session, check_bytes, check_long_header, check_told_at_once, check_order, check_clients]:
+        in_a_minute(check)
 
 
 if __name__ == "__main__":
-    sys.exit(main())
+    sys.exit(run(check_all))

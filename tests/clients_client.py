@@ -1,30 +1,28 @@
 #!/usr/bin/env python3
 """Clients of servers that serve one after another, over a socket: what goes wrong with one is a line on standard error, and the next is
-served as ever. Some come and go, send no message, reset, leave without `shutdown`, or say nothing more; one comes while the program has no descriptors, and one reads late
-while the program is stopped and goes on.
+served as ever. Some come and go, send no message, reset, leave without `shutdown`, or say nothing more; one comes while the program has no
+descriptors, and one reads late while the program is stopped and goes on.
 
 Then the same servers are started with the words of LSP 3.17 ("Implementation Considerations"): over standard input and output, by a client
 that listens at a port or at a socket file itself, with words that are refused, and at addresses where nobody may listen. It ends in status 1
 at the first difference.
 """
 import json
-import os
 import resource
 import signal
 import socket
 import struct
-import subprocess
 import sys
 import tempfile
-import threading
 import time
+from concurrent.futures import ThreadPoolExecutor
 from pathlib import Path
 
 sys.dont_write_bytecode = True
 
-from editor import PATIENCE, Difference, Editor, connect, expect, session
+from editor import session
+from lsp import HOST, INITIALIZE, INITIALIZED, Client, Program, accepted, built, expect, expect_soon, frame, free_port, run, started
 
-CRATES = Path(__file__).resolve().parent.parent / "crates"
 WAYS = [
     ["example_diagnostics"],
     ["example_search"],
@@ -34,93 +32,50 @@ WAYS = [
 LEFT = "the client left without a shutdown"
 # A descriptor each for standard input, output and error, and for the socket that listens.
 FOR_NO_CLIENT = 4
-# More bytes than a program says on standard error.
-MOST_SAID = 1 << 20
 
 
-def command(way):
-    name, *words = way
-    return [str(CRATES / name / "out" / name), *words]
-
-
-def free_address():
-    with socket.socket() as free:
-        free.bind(("127.0.0.1", 0))
-        return "127.0.0.1:%d" % free.getsockname()[1]
-
-
-class Listening:
+class Listening(Program):
     """A program that serves the clients of an address."""
 
     def __init__(self, way):
-        self.address = free_address()
-        self.errors = tempfile.TemporaryFile()
-        pipe = subprocess.PIPE
-        self.process = subprocess.Popen([*command(way), self.address], stdin=pipe, stdout=pipe, stderr=self.errors)
-        self.lines_seen = 0
-
-    def __enter__(self):
-        return self
-
-    def __exit__(self, *_):
-        self.process.kill()
-        self.process.wait()
-        for file in [self.process.stdin, self.process.stdout, self.errors]:
-            file.close()
-
-    def is_up(self):
-        return self.process.poll() is None
+        super().__init__(built(*way), listens=True)
 
     def is_used(self):
         """A whole session, with nothing on standard error."""
-        connect(self.address, self.is_up)
+        with self.connect(answers={}) as client:
+            session(client)
         expect("whether it still runs", self.is_up(), True)
-        expect("standard error after a whole session", self.lines()[self.lines_seen :], [])
+        expect("standard error after a whole session", self.lines(), [])
 
-    def lines(self):
-        """What it said on standard error. It is read at places of its own: a seek would move the place where the program writes."""
-        return os.pread(self.errors.fileno(), MOST_SAID, 0).decode().splitlines()
 
-    def says(self, what):
-        """The next line on standard error, as soon as it is there."""
-        deadline = time.monotonic() + PATIENCE
-        while len(self.lines()) <= self.lines_seen:
-            if not self.is_up() or time.monotonic() > deadline:
-                raise Difference(f"no line on standard error of {what}")
-            time.sleep(0.01)
-        self.lines_seen += 1
-        return self.lines()[self.lines_seen - 1]
-
-    def stream(self):
-        host, _, port = self.address.rpartition(":")
-        return socket.create_connection((host, int(port)), timeout=PATIENCE)
+def begin(client):
+    client.ask("initialize", {"processId": None, "rootUri": None, "capabilities": {}})
+    client.notify("initialized", {})
 
 
 def comes_and_goes(server):
-    server.stream().close()
+    server.connect().connection.close()
     expect("the line of a client that sends nothing", server.says("it"), "disconnected channel")
 
 
 def sends_no_message(server):
-    with server.stream() as stream:
-        stream.sendall(b"GET / HTTP/1.1\r\n\r\n")
+    with server.connect() as client:
+        client.send_bytes(b"GET / HTTP/1.1\r\n\r\n")
         expect("the line of a client that sends no message", server.says("it"), "read fault 4")
 
 
 def resets(server):
     """It ends its connection so that the system tells the server of an error."""
-    with server.stream() as stream:
-        stream.sendall(b"Content-Length: 10\r\n\r\n{")
-        stream.setsockopt(socket.SOL_SOCKET, socket.SO_LINGER, struct.pack("ii", 1, 0))
+    with server.connect() as client:
+        client.send_bytes(b"Content-Length: 10\r\n\r\n{")
+        client.connection.setsockopt(socket.SOL_SOCKET, socket.SO_LINGER, struct.pack("ii", 1, 0))
     expect("the line of a client that resets", server.says("it") in {"read fault 1", "read fault 7"}, True)
 
 
 def leaves(server):
-    with server.stream() as stream, stream.makefile("rb") as source, stream.makefile("wb") as sink:
-        editor = Editor(source, sink)
-        editor.ask("initialize", {"processId": None, "rootUri": None, "capabilities": {}})
-        editor.notify("initialized", {})
-        editor.notify("exit")
+    with server.connect() as client:
+        begin(client)
+        client.notify("exit")
         expect("the line of a client that leaves", server.says("it"), LEFT)
 
 
@@ -132,48 +87,43 @@ def comes_without_descriptors(server):
     process = server.process.pid
     before = resource.prlimit(process, resource.RLIMIT_NOFILE)
     resource.prlimit(process, resource.RLIMIT_NOFILE, (FOR_NO_CLIENT, before[1]))
-    with server.stream():
+    with server.connect():
         expect("the first refusal", "Too many open files" in server.says("a client"), True)
-    with server.stream() as stream, stream.makefile("rb") as source, stream.makefile("wb") as sink:
+    with server.connect(answers={}) as client:
         for _ in range(2):
             expect("a refusal", "Too many open files" in server.says("a client that waits"), True)
         resource.prlimit(process, resource.RLIMIT_NOFILE, before)
-        session(Editor(source, sink))
-    server.lines_seen = len(server.lines())
+        session(client)
+    server.lines_seen += len(server.lines())
 
 
 def reads_late(server):
     """While a write of the server's waits for room, the program is stopped and goes on. No reply is lost."""
-    contents = [
-        b'{"jsonrpc":"2.0","id":1,"method":"initialize","params":{"processId":null,"rootUri":null,"capabilities":{}}}',
-        b'{"jsonrpc":"2.0","method":"initialized","params":{}}',
-    ]
     ids = [f"{at}{'x' * 200_000}" for at in range(50)]
-    contents += [b'{"jsonrpc":"2.0","id":"%s","method":"demo/noSuchMethod"}' % id.encode() for id in ids]
-    sent = b"".join(b"Content-Length: %d\r\n\r\n%s" % (len(content), content) for content in contents)
-    with server.stream() as stream, stream.makefile("rb") as source, stream.makefile("wb") as sink:
-        sender = threading.Thread(target=stream.sendall, args=[sent])
-        sender.start()
-        for _ in range(4):
-            time.sleep(0.5)
-            server.process.send_signal(signal.SIGSTOP)
-            time.sleep(0.1)
-            server.process.send_signal(signal.SIGCONT)
-        editor = Editor(source, sink)
-        for content in contents:
-            editor.typed.sent(json.loads(content))
-        for id in [1, *ids]:
-            while "method" in (reply := editor.receive("a reply")):
-                pass
-            expect("whether it is the reply that comes next", reply["id"] == id, True)
-        sender.join()
-        expect("the reply to shutdown", editor.ask("shutdown")["result"], None)
-        editor.notify("exit")
+    contents = [INITIALIZE, INITIALIZED, *(b'{"jsonrpc":"2.0","id":"%s","method":"demo/noSuchMethod"}' % id.encode() for id in ids)]
+    with server.connect() as client:
+        with ThreadPoolExecutor(1) as pool:
+            sending = pool.submit(client.send_bytes, b"".join(map(frame, contents)))
+            for _ in range(4):
+                time.sleep(0.5)
+                server.process.send_signal(signal.SIGSTOP)
+                time.sleep(0.1)
+                server.process.send_signal(signal.SIGCONT)
+            for content in contents:
+                client.watched.sent(json.loads(content))
+            for id in [1, *ids]:
+                while "method" in (reply := client.message("a reply")):
+                    pass
+                expect("whether it is the reply that comes next", reply["id"] == id, True)
+            sending.result()
+        client.last_id = 1
+        expect("the reply to shutdown", client.ask("shutdown")["result"], None)
+        client.notify("exit")
 
 
-def is_looked_for(stream):
+def is_looked_for(client):
     """Whether the system looks now and then whether this client is still there: its row of the system's table has that timer."""
-    (_, here), (_, there) = stream.getsockname(), stream.getpeername()
+    (_, here), (_, there) = client.connection.getsockname(), client.connection.getpeername()
     for row in Path("/proc/net/tcp").read_text().splitlines()[1:]:
         _, local, remote, _, _, timer = row.split()[:6]
         if (int(local.split(":")[1], 16), int(remote.split(":")[1], 16)) == (there, here):
@@ -183,16 +133,10 @@ def is_looked_for(stream):
 
 def goes_without_a_word(server):
     """If its machine is gone, the system finds that out."""
-    with server.stream() as stream, stream.makefile("rb") as source, stream.makefile("wb") as sink:
-        editor = Editor(source, sink)
-        editor.ask("initialize", {"processId": None, "rootUri": None, "capabilities": {}})
-        editor.notify("initialized", {})
-        deadline = time.monotonic() + PATIENCE
-        while not is_looked_for(stream):
-            if time.monotonic() > deadline:
-                raise Difference("nobody looks for a client that says nothing")
-            time.sleep(0.01)
-        stream.shutdown(socket.SHUT_RDWR)
+    with server.connect() as client:
+        begin(client)
+        expect_soon("whether anybody looks for a client that says nothing", lambda: is_looked_for(client))
+        client.connection.shutdown(socket.SHUT_RDWR)
     expect("the line of a client that is gone", server.says("it"), LEFT)
 
 
@@ -209,39 +153,28 @@ def serves_all(way):
 
 def is_started_with_stdio(way):
     """Words that ask for standard input and output, where it ends with its session. An option that LSP does not have is named."""
-    pipe = subprocess.PIPE
     for words, line in [
-        (["--stdio"], b""),
-        (["--stdio", "--clientProcessId=4711"], b""),
-        (["--clientProcessId", "4711"], b""),
-        (["--strange=1", "--stdio"], b"unknown option: --strange=1\n"),
+        (["--stdio"], ""),
+        (["--stdio", "--clientProcessId=4711"], ""),
+        (["--clientProcessId", "4711"], ""),
+        (["--strange=1", "--stdio"], "unknown option: --strange=1\n"),
     ]:
-        process = subprocess.Popen([*command(way), *words], stdin=pipe, stdout=pipe, stderr=pipe)
-        try:
-            session(Editor(process.stdout, process.stdin))
-            expect(f"the exit status at {words}", process.wait(timeout=PATIENCE), 0)
-            expect(f"standard error at {words}", process.stderr.read(), line)
-        finally:
-            process.kill()
+        with started(built(*way, *words), answers={}) as client:
+            session(client)
+            status, _, said = client.end()
+            expect(f"the exit status and standard error at {words}", (status, said), (0, line))
 
 
 def session_of(way, words, listener):
     """A session of a program that connects to the client, and ends with it."""
-    listener.settimeout(PATIENCE)
-    process = subprocess.Popen([*command(way), *words], stdin=subprocess.DEVNULL, stdout=subprocess.PIPE, stderr=subprocess.PIPE)
-    try:
-        stream, _ = listener.accept()
-        stream.settimeout(PATIENCE)
-        with stream, stream.makefile("rb") as source, stream.makefile("wb") as sink:
-            session(Editor(source, sink))
-        expect(f"the exit status at {words}", process.wait(timeout=PATIENCE), 0)
-        expect(f"what it prints at {words}", (process.stdout.read(), process.stderr.read()), (b"", b""))
-    finally:
-        process.kill()
+    with Program(built(*way, *words)) as program:
+        with Client(program, accepted(listener), answers={}) as client:
+            session(client)
+        expect(f"the exit status and what it prints at {words}", program.end(), (0, b"", ""))
 
 
 def connects_to_a_port(way):
-    with socket.create_server(("127.0.0.1", 0)) as listener:
+    with socket.create_server((HOST, 0)) as listener:
         port = listener.getsockname()[1]
         for words in [
             [f"--socket={port}"],
@@ -261,46 +194,45 @@ def connects_to_a_file(way):
             session_of(way, words, listener)
 
 
+def ends_with_a_reason(way, words, line=None):
+    """It ends in status 1, and says why in one line."""
+    with Program(built(*way, *words)) as program:
+        program.process.stdin.close()
+        status, printed, said = program.end()
+        expect(f"the status at {words}", (status, printed), (1, b""))
+        expect(f"whether it says why at {words} ({said!r})", said.startswith("Error: ") and said.count("\n") == 1, True)
+        expect(f"standard error at {words}", said, line or said)
+
+
 def is_refused(way):
     """Words that ask for what can't be had, and ends of a client that are not there."""
-    no_port = b"Error: no port number behind `--socket` or `--port`\n"
+    no_port = "Error: no port number behind `--socket` or `--port`\n"
     for words, line in [
-        (["--node-ipc"], b"Error: `--node-ipc` is for programs under node\n"),
-        (["--pipe"], b"Error: no name behind `--pipe`\n"),
+        (["--node-ipc"], "Error: `--node-ipc` is for programs under node\n"),
+        (["--pipe"], "Error: no name behind `--pipe`\n"),
         (["--socket"], no_port),
         (["--socket", "--stdio"], no_port),
         (["--port=words"], no_port),
         (["--socket=65536"], no_port),
-        ([f"--socket={free_address().rpartition(':')[2]}"], None),
+        ([f"--socket={free_port()}"], None),
         (["--pipe=/nowhere/client"], None),
     ]:
-        ran = subprocess.run([*command(way), *words], stdin=subprocess.DEVNULL, capture_output=True, timeout=PATIENCE)
-        expect(f"the status at {words}", (ran.returncode, ran.stdout), (1, b""))
-        if line:
-            expect(f"standard error at {words}", ran.stderr, line)
-        expect(f"whether it says why at {words}", ran.stderr.startswith(b"Error: ") and ran.stderr.count(b"\n") == 1, True)
+        ends_with_a_reason(way, words, line)
 
 
 def can_not_listen(way):
     """An address that is used, and a word that is none."""
-    with socket.socket() as used:
-        used.bind(("127.0.0.1", 0))
-        used.listen()
-        for word in ["127.0.0.1:%d" % used.getsockname()[1], "nonsense"]:
-            ran = subprocess.run([*command(way), word], stdin=subprocess.DEVNULL, capture_output=True, timeout=PATIENCE)
-            expect(f"the status at {word}", (ran.returncode, ran.stdout), (1, b""))
-            expect(f"whether it says why at {word}", ran.stderr.startswith(b"Error: ") and ran.stderr.count(b"\n") == 1, True)
+    with socket.create_server((HOST, 0)) as used:
+        for word in ["%s:%d" % used.getsockname(), "nonsense"]:
+            ends_with_a_reason(way, [word])
 
 
-def main():
-    try:
-        for way in WAYS:
-            for check in [serves_all, is_started_with_stdio, connects_to_a_port, connects_to_a_file, is_refused, can_not_listen]:
-                check(way)
-                print(" ".join(way), check.__name__.replace("_", " "))
-    except (Difference, OSError, subprocess.TimeoutExpired) as fault:
-        sys.exit(f"tests/clients_client.py: {' '.join(way)}, {check.__name__}: {fault}")
+def check_all():
+    for way in WAYS:
+        for check in [serves_all, is_started_with_stdio, connects_to_a_port, connects_to_a_file, is_refused, can_not_listen]:
+            check(way)
+            print(" ".join(way), check.__name__.replace("_", " "))
 
 
 if __name__ == "__main__":
-    main()
+    sys.exit(run(check_all))

@@ -7,22 +7,11 @@ ends a session while requests are kept. It ends in status 1 at the first differe
 """
 import random
 import sys
-import threading
 
 sys.dont_write_bytecode = True
 
-from client import (
-    BEGUN,
-    EXIT,
-    SHUTDOWN,
-    SHUTDOWN_REPLY,
-    Server,
-    compact,
-    exchange,
-    expect,
-    frame,
-    run_checks,
-)
+from client import BEGUN, ends_well
+from lsp import EXIT, SHUTDOWN, SHUTDOWN_REPLY, compact, expect, frame, run_on, started
 
 COUNT = 10_000
 SEED = 20261122
@@ -56,18 +45,12 @@ def unknown(name):
 
 def whole_session(command, sent, wanted):
     """Sends the messages while it reads, since a program whose replies nobody takes stops reading. Nothing else is written."""
-    with Server(command) as server:
-        exchange(server, BEGUN)
-        data = b"".join(frame(body) for body in [*sent, SHUTDOWN, EXIT])
-        sender = threading.Thread(target=server.send_bytes, args=(data,))
-        sender.start()
+    with started(command) as client:
+        client.exchange(BEGUN)
+        client.send_bytes(b"".join(frame(body) for body in [*sent, SHUTDOWN, EXIT]), reads=True)
         for reply in [*wanted, SHUTDOWN_REPLY]:
-            expect("a reply", server.receive(), reply)
-        sender.join()
-        status, rest, errors = server.finish()
-    expect("after the last reply", rest, b"")
-    expect("standard error", errors, "")
-    expect("the status", status, 0)
+            expect("a reply", client.body(), reply)
+        ends_well(client)
 
 
 def check_many(command):
@@ -130,4 +113,4 @@ def check_all(program):
 
 
 if __name__ == "__main__":
-    sys.exit(run_checks("dispatch_client.py", __doc__, check_all))
+    sys.exit(run_on("lsp_demo", __doc__, check_all))

@@ -7,17 +7,14 @@ closed document has no marks, and gets none. A request whose id is a document's 
 
 The edits come from a fixed seed. It ends in status 1 at the first difference.
 """
-import json
 import random
 import sys
 
 sys.dont_write_bytecode = True
 
-from client import EXIT, SERVE, SHUTDOWN, SHUTDOWN_REPLY, Difference, compact, expect, frame, run_checks
-from tcp_client import TcpServer
-from watched import Watched
+import watched  # noqa: F401
+from lsp import COMPACT, expect, run_on, started
 
-PROGRAM = SERVE.parents[2] / "example_linter" / "out" / "example_linter"
 DOCUMENTS = 5
 EDITS = 200
 LINES = 2000
@@ -85,98 +82,77 @@ class Document:
         self.shown = params["version"]
 
 
-class Client:
-    def __init__(self, server):
-        self.server = server
-        self.documents = {}
-        self.typed = Watched()
+def tell(client, method, **params):
+    client.notify("textDocument/" + method, params)
 
-    def sends(self, **message):
-        self.typed.sent(message)
-        self.server.send_bytes(frame(compact({"jsonrpc": "2.0", **message})))
 
-    def tells(self, method, **params):
-        self.sends(method="textDocument/" + method, params=params)
+def receive(client, documents):
+    """The next message. Marks are looked at."""
+    message = client.message()
+    if "id" not in message:
+        expect("the method of a notification", message["method"], "textDocument/publishDiagnostics")
+        documents[message["params"]["uri"]].took(message["params"])
+    return message
 
-    def receives(self):
-        """The next message. Marks are looked at."""
-        message = json.loads(self.server.receive())
-        expect("what is wrong with the type of a message", self.typed.came(message), [])
-        if "id" not in message:
-            expect("the method of a notification", message["method"], "textDocument/publishDiagnostics")
-            self.documents[message["params"]["uri"]].took(message["params"])
-        return message
 
-    def is_answered(self, request):
-        """A request under this id has its reply, and so all that was sent before it was read."""
-        self.sends(id=request, method="demo/unknown", params={})
-        while "id" not in (reply := self.receives()):
-            pass
-        expect("the reply", reply, {"jsonrpc": "2.0", "id": request, "error": METHOD_NOT_FOUND})
+def is_answered(client, documents, request):
+    """A request under this id has its reply, and so all that was sent before it was read."""
+    client.send(id=request, method="demo/unknown", params={})
+    while "id" not in (reply := receive(client, documents)):
+        pass
+    expect("the reply", reply, {"jsonrpc": "2.0", "id": request, "error": METHOD_NOT_FOUND})
 
-    def opens(self, uri):
-        document = self.documents[uri] = Document(uri)
-        item = {"uri": uri, "languageId": "text", "version": 0, "text": document.text}
-        self.tells("didOpen", textDocument=item)
-        return document
 
-    def edits(self, document, chance):
-        changes = [document.edit(chance)]
-        self.tells("didChange", textDocument={"uri": document.uri, "version": document.version}, contentChanges=changes)
-
-    def reads_to_last(self):
-        """What comes up to the marks of the last version of each document."""
-        while any(document.shown != document.version for document in self.documents.values()):
-            self.receives()
-
-    def closes(self, document):
-        self.tells("didClose", textDocument={"uri": document.uri})
-        while not document.is_closed:
-            self.receives()
+def edit(client, document, chance):
+    changes = [document.edit(chance)]
+    tell(client, "didChange", textDocument={"uri": document.uri, "version": document.version}, contentChanges=changes)
 
 
 def begin(client):
-    client.sends(id=1, method="initialize", params={"capabilities": {}})
-    result = client.receives()["result"]
+    result = client.ask("initialize", {"capabilities": {}})["result"]
     expect("how texts are told", result["capabilities"]["textDocumentSync"]["change"], 2)
     expect("in which units", result["capabilities"]["positionEncoding"], "utf-16")
-    client.sends(method="initialized", params={})
+    client.notify("initialized", {})
 
 
 def types_fast(client, chance):
-    """Edits of all documents, mixed, and now and then a request, whose id may be the name of a slot."""
-    documents = [client.opens(f"file:///{number}.txt") for number in range(DOCUMENTS)]
+    """Edits of all documents, mixed, and now and then a request, whose id may be the name of a slot; then the marks of the last versions."""
+    uris = [f"file:///{number}.txt" for number in range(DOCUMENTS)]
+    documents = {uri: Document(uri) for uri in uris}
+    for uri, document in documents.items():
+        tell(client, "didOpen", textDocument={"uri": uri, "languageId": "text", "version": 0, "text": document.text})
     for number in range(EDITS):
-        client.edits(chance.choice(documents), chance)
+        edit(client, documents[chance.choice(uris)], chance)
         if chance.randrange(20) == 0:
-            client.is_answered(chance.choice([documents[0].uri, number]))
-            for document in documents:
+            is_answered(client, documents, chance.choice([uris[0], number]))
+            for document in documents.values():
                 document.oldest = document.version
-    client.reads_to_last()
+    while any(document.shown != document.version for document in documents.values()):
+        receive(client, documents)
     return documents
+
+
+def closes(client, documents, document):
+    tell(client, "didClose", textDocument={"uri": document.uri})
+    while not document.is_closed:
+        receive(client, documents)
 
 
 def check_all(program):
     chance = random.Random(20261127)
-    with TcpServer(program, "") as server:
-        client = Client(server)
+    with started([program], listens=True) as client:
+        client.layout = COMPACT
         begin(client)
         for _ in range(3):
             documents = types_fast(client, chance)
             print(f"{EDITS} edits of {DOCUMENTS} documents: the last marks are those of the last texts")
-            for document in documents:
-                client.edits(document, chance)
-                client.closes(document)
-                client.is_answered(document.uri)
+            for document in documents.values():
+                edit(client, document, chance)
+                closes(client, documents, document)
+                is_answered(client, documents, document.uri)
             print("closed documents have no marks, and get none")
-        server.send_bytes(frame(SHUTDOWN))
-        expect("a reply", server.receive(), SHUTDOWN_REPLY)
-        server.send_bytes(frame(EXIT))
-        expect("after the last reply", server.socket.recv(1), b"")
-        expect("whether it still runs, for the next client", server.process.poll(), None)
-        server.errors.seek(0)
-        expect("standard error", server.errors.read(), b"")
+        client.leaves()
 
 
 if __name__ == "__main__":
-    sys.exit(run_checks("linter_client.py", __doc__, check_all, PROGRAM))
+    sys.exit(run_on("example_linter", __doc__, check_all))

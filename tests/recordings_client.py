@@ -14,7 +14,6 @@ Then all messages of each recording, of both sides, go through `lsp_demo pump`, 
 status 1 at the first difference.
 """
 import json
-import queue
 import re
 import subprocess
 import sys
@@ -22,14 +21,12 @@ from pathlib import Path
 
 sys.dont_write_bytecode = True
 
-from clients_client import command
-from editor import PATIENCE, Difference, Editor, expect
+import watched  # noqa: F401
+from lsp import PATIENCE, Client, Difference, Program, bodies, built, expect, frame, run
 from typed import lines_of
 
 RECORDINGS = sorted(Path(__file__).resolve().parent.glob("recordings/*.lsp"))
 WAYS = [["example_session"], ["example_diagnostics"], ["example_search"], ["example_search", "threads"], ["example_search", "jobs"]]
-# Whether a change behind a higher version loses the text. If not, it is made.
-WAYS_TO_HEAR = [True]
 LINE_END = re.compile("\r\n|\n|\r")
 # The configuration: how many characters `example_diagnostics` allows in a line, and what `example_search` allows as a value.
 LONGEST = 20
@@ -86,17 +83,17 @@ class Text:
         return [number for number, line in enumerate(lines) if len(line) > LONGEST]
 
 
-class Client(Editor):
+class Played(Client):
     """Sends what a recorded client sent. What comes is looked at as it comes."""
 
-    def __init__(self, source, sink, way):
-        super().__init__(source, sink)
+    def __init__(self, program, way):
+        super().__init__(program, answers={})
         self.way = way
-        self.texts = {}  # by URI, in both ways
+        self.texts = {}  # by URI
         self.replied = {}  # the replies to each id
-        self.held = {}  # for each request for a text: what it has to be, in both ways
+        self.held = {}  # for each request for a text: what it has to be
         self.marks = {}  # for each URI: the marks that came, each once if it comes again
-        self.wanted = {False: {}, True: {}}  # and those that have to
+        self.wanted = {}  # and those that have to
         self.encoding = "utf-16"
         self.takes_saves = False  # whether the server asked for the text of a save
 
@@ -110,43 +107,40 @@ class Client(Editor):
 
     def awaits(self, id):
         while id not in self.replied:
-            self.receive(f"the reply to {id!r}")
+            self.message(f"the reply to {id!r}")
 
     def is_configured(self):
         """Answers the server's first request, which is for its configuration."""
-        while (message := self.messages.get(timeout=PATIENCE)) is not None:
-            self.look(message)
-            if message.get("method") == "workspace/configuration":
-                self.send(id=message["id"], result=CONFIGURATION[self.way[0]])
-                return
-        raise Difference("the server's output ended before it asked for its configuration")
+        self.answers = None
+        while (message := self.message("workspace/configuration")).get("method") != "workspace/configuration":
+            pass
+        self.send(id=message["id"], result=CONFIGURATION[self.way[0]])
+        self.answers = {}
 
     def tells(self, method, params):
         """A notification of a document, and what has to come of it."""
         self.notify(method, params)
         uri = params["textDocument"]["uri"]
-        texts = self.texts.setdefault(uri, {way: Text(self.encoding, way, self.takes_saves) for way in WAYS_TO_HEAR})
-        for way, text in texts.items():
-            text.hear(method, params)
-            add(self.wanted[way], uri, text.marks())
-        self.asks_for_text(uri, {way: text.text for way, text in texts.items()})
+        text = self.texts.setdefault(uri, Text(self.encoding, True, self.takes_saves))
+        text.hear(method, params)
+        add(self.wanted, uri, text.marks())
+        self.asks_for_text(uri, text.text)
 
-    def asks_for_text(self, uri, texts):
+    def asks_for_text(self, uri, text):
         if self.way[0] == "example_search":
             id = f"text {len(self.held)}"
-            self.held[id] = texts
+            self.held[id] = text
             self.send(id=id, method="sums/text", params={"textDocument": {"uri": uri}})
 
     def loses(self, uri):
         """A change that can't be read: the text is held no more, until it comes whole."""
-        text = self.texts[uri][True]
+        text = self.texts[uri]
         if text.text is None:
             return
         document = {"uri": uri, "version": text.version + 1}
         self.notify("textDocument/didChange", {"textDocument": document, "contentChanges": [{"text": 1}]})
-        self.asks_for_text(uri, dict.fromkeys(WAYS_TO_HEAR))
-        for way in WAYS_TO_HEAR:
-            add(self.wanted[way], uri, [])
+        self.asks_for_text(uri, None)
+        add(self.wanted, uri, [])
         whole = {"textDocument": {"uri": uri, "version": text.version + 2}, "contentChanges": [{"text": text.text}]}
         self.tells("textDocument/didChange", whole)
 
@@ -203,56 +197,34 @@ def status_of(messages):
 
 
 def holds(client):
-    """Whether the texts, and the marks, are those of one way to hear."""
-    came = {id: client.replied[id][0]["result"] for id in client.held}
-    wrong = {way: [id for id, text in came.items() if text != client.held[id][way]] for way in WAYS_TO_HEAR}
-    if all(wrong.values()):
-        at = wrong[True][0]
-        raise Difference(f"the {at} is {came[at]!r} in place of {client.held[at]}")
+    """Whether the texts, and the marks, are those of the client."""
+    for id, text in client.held.items():
+        expect(f"the {id}", client.replied[id][0]["result"], text)
     if client.way == ["example_diagnostics"]:
         for uri, marks in client.marks.items():
-            if marks not in [client.wanted[way][uri] for way in WAYS_TO_HEAR]:
-                expect(f"the marks of {uri}", marks, client.wanted[True][uri])
+            expect(f"the marks of {uri}", marks, client.wanted[uri])
 
 
 def replays(recording, way):
     messages = list(lines_of(recording))
-    pipe = subprocess.PIPE
-    process = subprocess.Popen(command(way), stdin=pipe, stdout=pipe, stderr=pipe)
-    try:
-        client = Client(process.stdout, process.stdin, way)
+    with Program(built(*way)) as program, Played(program, way) as client:
         asked = play(client, messages)
-        process.stdin.close()
-        while (message := client.messages.get(timeout=PATIENCE)) is not None:
-            client.look(message)
-        expect("the status", process.wait(timeout=PATIENCE), status_of(messages))
+        client.close_input()
+        for body in bodies(client.rest()):
+            client.look(json.loads(body))
+        expect("the status", program.status(), status_of(messages))
         expect("the requests without one reply", [id for id in asked if len(client.replied.get(id, [])) != 1], [])
         holds(client)
         return len(asked) + len(client.held)
-    finally:
-        process.kill()
-        process.wait()
-
-
-def frame(message):
-    body = json.dumps(message, ensure_ascii=False).encode()
-    return b"Content-Length: %d\r\n\r\n%s" % (len(body), body)
-
-
-def bodies(data):
-    while data:
-        head, _, rest = data.partition(b"\r\n\r\n")
-        length = int(head.removeprefix(b"Content-Length: "))
-        yield json.loads(rest[:length])
-        data = rest[length:]
 
 
 def is_passed_on(recording):
     """`"params": null` comes out as no params."""
     messages = [message for _, message in lines_of(recording)]
-    pumped = subprocess.run(command(["lsp_demo", "pump"]), input=b"".join(map(frame, messages)), capture_output=True, timeout=PATIENCE)
+    frames = b"".join(frame(json.dumps(message, ensure_ascii=False).encode()) for message in messages)
+    pumped = subprocess.run(built("lsp_demo", "pump"), input=frames, capture_output=True, timeout=PATIENCE, check=False)
     expect("the status of pump, and standard error", (pumped.returncode, pumped.stderr), (0, b""))
-    came = list(bodies(pumped.stdout))
+    came = [json.loads(body) for body in bodies(pumped.stdout)]
     for sent in messages:
         if sent.get("params", 0) is None:
             del sent["params"]
@@ -261,19 +233,17 @@ def is_passed_on(recording):
         expect("a message", one, other)
 
 
-def main():
-    way = recording = None
-    try:
+def check_all():
+    expect("whether there are recordings", bool(RECORDINGS), True)
+    for recording in RECORDINGS:
         for way in WAYS:
-            for recording in RECORDINGS:
-                print(" ".join(way), recording.stem, f"{replays(recording, way)} replies")
-        way = ["pump"]
-        for recording in RECORDINGS:
-            is_passed_on(recording)
-    except (Difference, OSError, subprocess.TimeoutExpired, queue.Empty) as fault:
-        sys.exit(f"tests/recordings_client.py: {' '.join(way)}, {recording.stem}: {fault or 'nothing comes'}")
+            try:
+                print(" ".join(way), recording.stem, f"{replays(recording, way)} replies", flush=True)
+            except Difference as difference:
+                raise Difference(f"{recording.stem}: {difference}") from None
+        is_passed_on(recording)
     print("each message of each recording passed on: the same tree")
 
 
 if __name__ == "__main__":
-    main()
+    sys.exit(run(check_all))

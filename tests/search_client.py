@@ -8,16 +8,13 @@ before that has its reply.
 Then it opens a document twice, as an editor does whose mode is called again, and has changes refused: the server's text is the client's
 or none, it tells why, and each way back brings the text back. It ends in status 1 at the first difference.
 """
-import json
 import sys
 
 sys.dont_write_bytecode = True
 
-from client import EXIT, SERVE, SHUTDOWN, SHUTDOWN_REPLY, Difference, compact, expect, frame, run_checks
-from tcp_client import TcpServer
-from watched import Watched
+import watched  # noqa: F401
+from lsp import COMPACT, EXIT, SHUTDOWN, SHUTDOWN_REPLY, Difference, expect, frame, run_on, started
 
-PROGRAM = SERVE.parents[2] / "example_search" / "out" / "example_search"
 DOCUMENTS = 20
 HEADINGS = 2000
 TEXT = "price = 3\n" + "# heading one\n# another\n" * HEADINGS
@@ -26,48 +23,30 @@ TEXT = "price = 3\n" + "# heading one\n# another\n" * HEADINGS
 ROUNDS = 100
 
 
-class Client:
-    def __init__(self, server):
-        self.server = server
-        self.last_id = 10
-        self.typed = Watched()
-
-    def sends(self, **message):
-        self.typed.sent(message)
-        self.server.send_bytes(frame(compact({"jsonrpc": "2.0", **message})))
-
-    def asks(self, method, params):
-        """Sends a request, and gives its id."""
-        self.last_id += 1
-        self.sends(id=self.last_id, method=method, params=params)
-        return self.last_id
-
-    def receives(self):
-        message = json.loads(self.server.receive())
-        expect("what is wrong with the type of a message", self.typed.came(message), [])
-        return message
-
-    def read_to_all(self, ids):
-        """What comes up to the replies to these requests, in any order."""
-        came, missing = [], set(ids)
-        while missing:
-            message = self.receives()
-            came.append(message)
-            if "id" in message:
-                expect("a reply to a request that has none", message["id"] in missing, True)
-                missing.remove(message["id"])
-        return came
+def read_to_all(client, ids):
+    """What comes up to the replies to these requests, in any order."""
+    came, missing = [], set(ids)
+    while missing:
+        message = client.message()
+        came.append(message)
+        if "id" in message:
+            expect("a reply to a request that has none", message["id"] in missing, True)
+            missing.remove(message["id"])
+    return came
 
 
 def begin(client):
-    initialize = client.asks("initialize", {"capabilities": {}})
-    client.read_to_all([initialize])
-    client.sends(method="initialized", params={})
+    client.layout, client.last_id = COMPACT, 10
+    read_to_all(client, [client.request("initialize", {"capabilities": {}})])
+    client.notify("initialized", {})
     for number in range(DOCUMENTS):
-        document = {"uri": f"file:///{number}.sums", "languageId": "sums", "version": 1, "text": TEXT}
-        client.sends(method="textDocument/didOpen", params={"textDocument": document})
-        marks = client.receives()
-        expect("what is wrong with a text", marks["params"], {"uri": document["uri"], "diagnostics": []})
+        uri = f"file:///{number}.sums"
+        tell(client, "didOpen", textDocument={"uri": uri, "languageId": "sums", "version": 1, "text": TEXT})
+        expect("what is wrong with a text", client.message()["params"], {"uri": uri, "diagnostics": []})
+
+
+def tell(client, method, **params):
+    client.notify("textDocument/" + method, params)
 
 
 def look_at_progress(notices):
@@ -85,9 +64,9 @@ def look_at_progress(notices):
 
 def is_hovered_meanwhile(client):
     """A search and a hover: whether the hover was answered first. What the search tells and finds is looked at."""
-    search = client.asks("workspace/symbol", {"query": "one", "workDoneToken": "t"})
-    hover = client.asks("textDocument/hover", {"textDocument": {"uri": "file:///0.sums"}, "position": {"line": 0, "character": 0}})
-    came = client.read_to_all([search, hover])
+    search = client.request("workspace/symbol", {"query": "one", "workDoneToken": "t"})
+    hover = client.request("textDocument/hover", {"textDocument": {"uri": "file:///0.sums"}, "position": {"line": 0, "character": 0}})
+    came = read_to_all(client, [search, hover])
     replies = {message["id"]: message for message in came if "id" in message}
     look_at_progress([message["params"] for message in came if message.get("method") == "$/progress"])
     expect("the hover", replies[hover]["result"]["contents"], "price = 3")
@@ -99,9 +78,9 @@ def is_hovered_meanwhile(client):
 
 def is_cancelled(client):
     """A search that is cancelled at once: whether it was. Else its outcome came first."""
-    search = client.asks("workspace/symbol", {"query": "one"})
-    client.sends(method="$/cancelRequest", params={"id": search})
-    (reply,) = client.read_to_all([search])
+    search = client.request("workspace/symbol", {"query": "one"})
+    client.notify("$/cancelRequest", {"id": search})
+    (reply,) = read_to_all(client, [search])
     if "error" in reply:
         expect("the error of a cancelled search", reply["error"]["code"], -32800)
         return True
@@ -111,16 +90,15 @@ def is_cancelled(client):
 
 def runs_at_shutdown(program):
     """A session that is shut down while it searches: whether the search ran then. Its reply comes before that of `shutdown`."""
-    with TcpServer(program, "jobs") as server:
-        client = Client(server)
+    with started([program, "jobs"], listens=True) as client:
         begin(client)
-        search = client.asks("workspace/symbol", {"query": "one"})
-        server.send_bytes(frame(SHUTDOWN))
-        reply = json.loads(server.receive())
+        search = client.request("workspace/symbol", {"query": "one"})
+        client.send_bytes(frame(SHUTDOWN))
+        reply = client.message("the reply to the search")
         expect("the id of the first reply", reply["id"], search)
-        expect("the reply behind it", server.receive(), SHUTDOWN_REPLY)
-        server.send_bytes(frame(EXIT))
-        expect("after the last reply", server.socket.recv(1), b"")
+        expect("the reply behind it", client.body(), SHUTDOWN_REPLY)
+        client.send_bytes(frame(EXIT))
+        expect("after the last reply", client.rest(), b"")
     if "error" in reply:
         expect("the error of the search", reply["error"], {"code": -32800, "message": "canceled by shutdown"})
         return True
@@ -152,24 +130,26 @@ def shown(notice):
 
 def look(client, what, told, text):
     """What the server has told since the last look, and the text that it holds."""
-    request = client.asks("sums/text", {"textDocument": {"uri": NOTE}})
-    *notices, reply = client.read_to_all([request])
+    request = client.request("sums/text", {"textDocument": {"uri": NOTE}})
+    *notices, reply = read_to_all(client, [request])
     expect(f"what {what} has told", [shown(notice) for notice in notices], told)
     expect(f"the text after {what}", reply["result"], text)
 
 
 def opens(client, version, text):
-    document = {"uri": NOTE, "languageId": "sums", "version": version, "text": text}
-    client.sends(method="textDocument/didOpen", params={"textDocument": document})
+    tell(client, "didOpen", textDocument={"uri": NOTE, "languageId": "sums", "version": version, "text": text})
 
 
 def changes(client, version, *list_of_changes):
-    document = {"uri": NOTE, "version": version}
-    client.sends(method="textDocument/didChange", params={"textDocument": document, "contentChanges": list(list_of_changes)})
+    tell(client, "didChange", textDocument={"uri": NOTE, "version": version}, contentChanges=list(list_of_changes))
 
 
 def saves(client, **members):
-    client.sends(method="textDocument/didSave", params={"textDocument": {"uri": NOTE}, **members})
+    tell(client, "didSave", textDocument={"uri": NOTE}, **members)
+
+
+def closes(client):
+    tell(client, "didClose", textDocument={"uri": NOTE})
 
 
 def edit(line, start, end, text):
@@ -209,22 +189,19 @@ WAYS_BACK = [
     ("a save with its text", lambda client: saves(client, text="e = f\n"), [marks("`f`: has no value")], "e = f\n"),
 ]
 
-# For each change that can't be read: its name, and the params.
+# For each change that can't be read: its name, and its params beside the document.
 UNREADABLE = [
-    ("a text that is a number", {"textDocument": {"uri": NOTE, "version": 5}, "contentChanges": [{"text": 1}]}),
-    ("changes that are no list", {"textDocument": {"uri": NOTE, "version": 5}, "contentChanges": {"text": "x = 1\n"}}),
-    ("no changes", {"textDocument": {"uri": NOTE, "version": 5}}),
-    (
-        "a range without an end",
-        {"textDocument": {"uri": NOTE, "version": 5}, "contentChanges": [{"range": {"start": {"line": 0, "character": 0}}, "text": ""}]},
-    ),
+    ("a text that is a number", {"contentChanges": [{"text": 1}]}),
+    ("changes that are no list", {"contentChanges": {"text": "x = 1\n"}}),
+    ("no changes", {}),
+    ("a range without an end", {"contentChanges": [{"range": {"start": {"line": 0, "character": 0}}, "text": ""}]}),
 ]
 
 
 def finds(client, word, *places):
     """Searches a word, which stands in these headings of the note."""
-    search = client.asks("workspace/symbol", {"query": word})
-    *notices, reply = client.read_to_all([search])
+    search = client.request("workspace/symbol", {"query": word})
+    *notices, reply = read_to_all(client, [search])
     found = [(it["name"], it["location"]["range"]["start"]["line"]) for it in reply["result"] if it["location"]["uri"] == NOTE]
     expect(f"where {word} stands", found, list(places))
 
@@ -240,20 +217,20 @@ def finds_what_is_there_now(client):
     opens(client, 1, "\n# gamma\n")
     finds(client, "beta")
     finds(client, "gamma", ("gamma", 1))
-    client.sends(method="textDocument/didChange", params={"textDocument": {"uri": NOTE, "version": 2}, "contentChanges": [{"text": 1}]})
+    changes(client, 2, {"text": 1})
     finds(client, "gamma")
     saves(client, text="# delta")
     finds(client, "delta", ("delta", 0))
-    client.sends(method="textDocument/didClose", params={"textDocument": {"uri": NOTE}})
+    closes(client)
     finds(client, "delta")
 
 
 def is_refused(client, name, params, back):
     """A change that can't be read, edits behind it, and a way back: no text is shown that is not the client's."""
-    client.sends(method="textDocument/didClose", params={"textDocument": {"uri": NOTE}})
+    closes(client)
     opens(client, 1, "a = z\n")
     look(client, "an open", [marks(), marks("`z`: has no value")], "a = z\n")
-    client.sends(method="textDocument/didChange", params=params)
+    tell(client, "didChange", textDocument={"uri": NOTE, "version": 5}, **params)
     look(client, name, [log(ERROR, "params of another shape"), marks()], None)
     changes(client, 6, edit(0, 4, 5, "1"))
     look(client, "an edit behind it", [log(ERROR, "the document is out of step")], None)
@@ -272,9 +249,9 @@ def loses_all(client):
     open_now = [f"file:///{number}.sums" for number in range(DOCUMENTS)] + [NOTE]
     opens(client, 1, "# alpha\na = z\n")
     look(client, "an open", [marks("`z`: has no value")], "# alpha\na = z\n")
-    client.server.send_bytes(b"Content-Length: 1\r\n\r\n{")
-    request = client.asks("workspace/symbol", {"query": "a"})
-    *notices, reply = client.read_to_all([request])
+    client.send_bytes(b"Content-Length: 1\r\n\r\n{")
+    request = client.request("workspace/symbol", {"query": "a"})
+    *notices, reply = read_to_all(client, [request])
     told = [shown(notice) for notice in notices]
     expect("what is told of a body that is no message", told[:1], [lost])
     expect("whose marks go", sorted(told[1:]), sorted((uri, []) for uri in open_now))
@@ -295,8 +272,7 @@ def comes_true(what, tries):
 
 def check_all(program):
     comes_true("a search runs at shutdown, and has its reply", lambda: runs_at_shutdown(program))
-    with TcpServer(program, "jobs") as server:
-        client = Client(server)
+    with started([program, "jobs"], listens=True) as client:
         begin(client)
         comes_true("a hover is answered while a search runs", lambda: is_hovered_meanwhile(client))
         comes_true("a search is cancelled", lambda: is_cancelled(client))
@@ -308,18 +284,12 @@ def check_all(program):
             for back in WAYS_BACK:
                 is_refused(client, name, params, back)
                 print(f"{name} is refused, and {back[0]} brings the text back")
-        client.sends(method="textDocument/didClose", params={"textDocument": {"uri": NOTE}})
-        expect("the marks of a text that is closed", shown(client.receives()), marks())
+        closes(client)
+        expect("the marks of a text that is closed", shown(client.message()), marks())
         loses_all(client)
         print("a body that is no message is passed over, and no text is shown until it is sent whole")
-        server.send_bytes(frame(SHUTDOWN))
-        expect("a reply", server.receive(), SHUTDOWN_REPLY)
-        server.send_bytes(frame(EXIT))
-        expect("after the last reply", server.socket.recv(1), b"")
-        expect("whether it still runs, for the next client", server.process.poll(), None)
-        server.errors.seek(0)
-        expect("standard error", server.errors.read(), b"")
+        client.leaves()
 
 
 if __name__ == "__main__":
-    sys.exit(run_checks("search_client.py", __doc__, check_all, PROGRAM))
+    sys.exit(run_on("example_search", __doc__, check_all))

@@ -6,33 +6,24 @@ kept for them. One that says nothing at all gives way.
 It ends in status 1 at the first difference.
 """
 import os
-import subprocess
 import sys
 import time
+from contextlib import ExitStack
 
 sys.dont_write_bytecode = True
 
-from clients_client import FOR_NO_CLIENT, Listening, command
-from editor import PATIENCE, Difference, expect
+from clients_client import FOR_NO_CLIENT, Listening
+from lsp import EXIT, INITIALIZE, INITIALIZED, SHUTDOWN, built, expect, expect_soon, frame, run, started
 
 WAYS = [["example_search"], ["example_search", "threads"], ["example_search", "jobs"]]
-
-
-def frame(content):
-    return b"Content-Length: %d\r\n\r\n%s" % (len(content), content)
-
-
-INITIALIZE = frame(b'{"jsonrpc":"2.0","id":1,"method":"initialize","params":{"processId":null,"rootUri":null,"capabilities":{}}}')
-INITIALIZED = frame(b'{"jsonrpc":"2.0","method":"initialized","params":{}}')
+INITIALIZE, INITIALIZED, SHUTDOWN, EXIT = map(frame, [INITIALIZE, INITIALIZED, SHUTDOWN, EXIT])
 REQUEST = frame(b'{"jsonrpc":"2.0","id":9,"method":"demo/noSuchMethod","params":{}}')
-SHUTDOWN = frame(b'{"jsonrpc":"2.0","id":2,"method":"shutdown"}')
-EXIT = frame(b'{"jsonrpc":"2.0","method":"exit"}')
 SESSIONS = [
-    ("a request before `initialized`", INITIALIZE + REQUEST, 1, b"expected initialized notification"),
-    ("a request behind `shutdown`", INITIALIZE + INITIALIZED + SHUTDOWN + REQUEST, 1, b"unexpected message during shutdown"),
-    ("no message before `initialized`", INITIALIZE + frame(b"{}"), 1, b"read fault"),
-    ("`exit` in order", INITIALIZE + INITIALIZED + SHUTDOWN + EXIT, 0, b""),
-    ("`exit` without `shutdown`", INITIALIZE + INITIALIZED + EXIT, 1, b"the client left without a shutdown"),
+    ("a request before `initialized`", INITIALIZE + REQUEST, 1, "expected initialized notification"),
+    ("a request behind `shutdown`", INITIALIZE + INITIALIZED + SHUTDOWN + REQUEST, 1, "unexpected message during shutdown"),
+    ("no message before `initialized`", INITIALIZE + frame(b"{}"), 1, "read fault"),
+    ("`exit` in order", INITIALIZE + INITIALIZED + SHUTDOWN + EXIT, 0, ""),
+    ("`exit` without `shutdown`", INITIALIZE + INITIALIZED + EXIT, 1, "the client left without a shutdown"),
 ]
 # Messages that are not `exit`: more is read behind each (JSON-RPC 2.0, section 4; RFC 8259). The request gets an error.
 OTHERS = [
@@ -52,50 +43,36 @@ EXITS = [
 ]
 
 
-def started(way):
-    pipe = subprocess.PIPE
-    return subprocess.Popen(command(way), stdin=pipe, stdout=pipe, stderr=pipe)
-
-
-def has_ended(process, what, status, text):
+def has_ended(program, what, status, text):
     """It ends though its input stays open, and says why."""
-    try:
-        expect(f"the status after {what}", process.wait(timeout=PATIENCE), status)
-        said = process.stderr.read()
-        expect(f"whether it says why after {what} ({said!r})", text in said and bool(text) == bool(said), True)
-    finally:
-        process.kill()
+    expect(f"the status after {what}", program.status(), status)
+    said = program.said()
+    expect(f"whether it says why after {what} ({said!r})", text in said and bool(text) == bool(said), True)
 
 
 def ends_at_once(way):
     for what, sent, status, text in SESSIONS:
-        process = started(way)
-        process.stdin.write(sent)
-        process.stdin.flush()
-        has_ended(process, what, status, text)
+        with started(built(*way)) as client:
+            client.send_bytes(sent)
+            has_ended(client.program, what, status, text)
 
 
 def ends_at_each_exit(way):
     others = b"".join(map(frame, OTHERS))
     for last in EXITS:
-        process = started(way)
-        process.stdin.write(INITIALIZE + INITIALIZED + others + SHUTDOWN + frame(last))
-        process.stdin.flush()
-        has_ended(process, repr(last), 0, b"")
+        with started(built(*way)) as client:
+            client.send_bytes(INITIALIZE + INITIALIZED + others + SHUTDOWN + frame(last))
+            has_ended(client.program, repr(last), 0, "")
 
 
 def ends_where_nobody_reads(way):
     """The client closed what it would read from, and sends on once."""
-    process = started(way)
-    process.stdout.close()
-    for sent in [INITIALIZE, INITIALIZED + REQUEST]:
-        try:
-            process.stdin.write(sent)
-            process.stdin.flush()
-        except BrokenPipeError:
-            break
-        time.sleep(0.2)
-    has_ended(process, "the replies are lost", 1, b"write fault 1")
+    with started(built(*way)) as client:
+        client.source.close()
+        for sent in [INITIALIZE, INITIALIZED + REQUEST]:
+            client.send_bytes(sent)
+            time.sleep(0.2)
+        has_ended(client.program, "the replies are lost", 1, "write fault 1")
 
 
 def kept(process):
@@ -107,55 +84,39 @@ def kept(process):
 
 def serves_the_next(way):
     """While clients stay that broke the rules, others are served, and nothing is kept for those."""
-    with Listening(way) as server:
+    with Listening(way) as server, ExitStack() as staying:
         server.is_used()
-        staying = []
         for what, sent, _, text in SESSIONS[:3]:
-            client = server.stream()
-            staying.append(client)
-            client.sendall(sent)
-            line = server.says(what).encode()
+            client = staying.enter_context(server.connect())
+            client.send_bytes(sent)
+            line = server.says(what)
             expect(f"whether it says why after {what} ({line!r})", text in line, True)
-            while client.recv(65536):
-                pass
+            client.rest()
             server.is_used()
-        deadline = time.monotonic() + PATIENCE
-        while kept(server.process) != (1, FOR_NO_CLIENT) and time.monotonic() < deadline:
-            time.sleep(0.01)
-        expect("threads and descriptors while the clients stay", kept(server.process), (1, FOR_NO_CLIENT))
-        for client in staying:
-            client.close()
+        expect_soon("threads and descriptors while the clients stay", lambda: kept(server.process), (1, FOR_NO_CLIENT))
 
 
 def gives_way():
     """A client that sends nothing at all is given up, so that the next is served."""
-    servers = [Listening(way) for way in WAYS]
-    try:
+    with ExitStack() as all_of_them:
+        servers = [all_of_them.enter_context(Listening(way)) for way in WAYS]
         for server in servers:
             server.is_used()
-        silent = [server.stream() for server in servers]
+        for server in servers:
+            all_of_them.enter_context(server.connect())
         for way, server in zip(WAYS, servers):
             expect(f"the line of a client that says nothing ({way})", server.says("it"), "read fault 1")
             server.is_used()
-        for client in silent:
-            client.close()
-    finally:
-        for server in servers:
-            server.__exit__()
 
 
-def main():
-    way, check = WAYS, gives_way
-    try:
-        gives_way()
-        print("all ways gives way")
-        for way in WAYS:
-            for check in [ends_at_once, ends_at_each_exit, ends_where_nobody_reads, serves_the_next]:
-                check(way)
-                print(" ".join(way), check.__name__.replace("_", " "))
-    except (Difference, OSError, subprocess.TimeoutExpired) as fault:
-        sys.exit(f"tests/silent_client.py: {way}, {check.__name__}: {fault}")
+def check_all():
+    gives_way()
+    print("all ways gives way")
+    for way in WAYS:
+        for check in [ends_at_once, ends_at_each_exit, ends_where_nobody_reads, serves_the_next]:
+            check(way)
+            print(" ".join(way), check.__name__.replace("_", " "))
 
 
 if __name__ == "__main__":
-    main()
+    sys.exit(run(check_all))

@@ -9,17 +9,17 @@ With `--searches` it asks `example_search jobs` for so many lists of symbols of 
 program has then than before (`VmRSS`), for each byte of the results. `--times` is how much that may be.
 """
 import argparse
+import json
 import os
+import select
 import sys
 import time
 from pathlib import Path
 
 sys.dont_write_bytecode = True
 
-from client import INITIALIZE, INITIALIZED, SERVE, Difference, Server, compact, frame
+from lsp import INITIALIZE, INITIALIZED, built, compact, expect, frame, run, started
 
-BENCH = SERVE.parent.parent.parent / "bench" / "out" / "bench"
-SEARCH = SERVE.parents[2] / "example_search" / "out" / "example_search"
 # A symbol takes some 130 bytes.
 HEADINGS = 10_000
 LENGTH = 256_000
@@ -44,38 +44,21 @@ PARAMS = {
 }
 
 
-def status_bytes(process, name):
-    """A figure of the process, in bytes: none where it has ended."""
-    for line in Path(f"/proc/{process.pid}/status").read_text().splitlines():
-        if line.startswith(name + ":"):
-            return int(line.split()[1]) * 1024
-    raise Difference("it has ended, though it was not asked to")
-
-
-def processor_ticks(process):
+def processor_ticks(client):
     """How long all its threads have run."""
-    words = Path(f"/proc/{process.pid}/stat").read_text().rsplit(")", 1)[1].split()
+    words = Path(f"/proc/{client.program.process.pid}/stat").read_text().rsplit(")", 1)[1].split()
     return int(words[11]) + int(words[12])
 
 
-def write_some(server, rest):
-    """What is left to send, once as much was sent as goes without waiting."""
-    try:
-        return rest[os.write(server.input(), rest[: 1 << 16]) :]
-    except BlockingIOError:
-        return rest
-
-
-def send_unread(server, bodies):
+def send_unread(client, bodies):
     """Sends until nothing moves any more: how many of the bytes were sent."""
     rest = memoryview(b"".join(frame(body) for body in bodies))
-    whole = len(rest)
-    os.set_blocking(server.input(), False)
-    end = time.monotonic() + LONGEST
+    whole, end = len(rest), time.monotonic() + LONGEST
     seen, since = None, time.monotonic()
     while time.monotonic() < min(end, since + STILL):
-        rest = write_some(server, rest) if rest else rest
-        now = (len(rest), processor_ticks(server.process))
+        if rest and select.select([], [client.sink], [], 0)[1]:
+            rest = rest[os.write(client.sink.fileno(), rest[: 1 << 16]) :]
+        now = (len(rest), processor_ticks(client))
         if now != seen:
             seen, since = now, time.monotonic()
         else:
@@ -86,9 +69,13 @@ def send_unread(server, bodies):
 def peak(command, params):
     """The peak memory, and how many of the bytes were sent."""
     bodies = [b'{"jsonrpc":"2.0","id":%d,"method":"demo/echo","params":%s}' % (FIRST_ID + number, params) for number in range(COUNT)]
-    with Server(command) as server:
-        sent = send_unread(server, [INITIALIZE, INITIALIZED, *bodies])
-        return status_bytes(server.process, "VmHWM"), sent
+    with started(command) as client:
+        sent = send_unread(client, [INITIALIZE, INITIALIZED, *bodies])
+        most = client.program.memory("VmHWM")
+        # It was not idle: the first replies were waiting.
+        for id in [1, FIRST_ID]:
+            expect("the id of a reply that waited", json.loads(client.body(f"the reply to {id}"))["id"], id)
+        return most, sent
 
 
 def search(number):
@@ -99,28 +86,38 @@ def searched(count):
     """How much memory results that nobody reads take, and how many bytes they have."""
     document = {"uri": "file:///a.sums", "languageId": "sums", "version": 1, "text": "# heading\n" * HEADINGS}
     opened = {"jsonrpc": "2.0", "method": "textDocument/didOpen", "params": {"textDocument": document}}
-    with Server([SEARCH, "jobs", "--stdio"]) as server:
-        for body in [INITIALIZE, INITIALIZED, compact(opened), search(FIRST_ID)]:
-            server.send_bytes(frame(body))
+    with started(built("example_search", "jobs", "--stdio")) as client:
+        client.send_bytes(b"".join(map(frame, [INITIALIZE, INITIALIZED, compact(opened), search(FIRST_ID)])))
         # The reply to `initialize`, what is wrong with the text, and the symbols.
-        length = max(len(server.receive()) for _ in range(3))
-        before = status_bytes(server.process, "VmRSS")
-        send_unread(server, [search(FIRST_ID + 1 + number) for number in range(count)])
-        return status_bytes(server.process, "VmRSS") - before, count * length
+        length = max(len(client.body()) for _ in range(3))
+        before = client.program.memory("VmRSS")
+        send_unread(client, [search(FIRST_ID + 1 + number) for number in range(count)])
+        taken = client.program.memory("VmRSS") - before
+        for _ in range(count):
+            expect("the length of a result that waited", len(client.body("a result")), length)
+        return taken, count * length
 
 
-def look_at_searches(arguments):
-    """0 if the results took no more memory than they may."""
-    try:
-        taken, length = searched(arguments.searches)
-    except (Difference, OSError) as fault:
-        print(f"unread_client.py: FAILED: jobs: {fault}", file=sys.stderr)
-        return 1
-    print(f"{arguments.searches} results of jobs that nobody reads, {length / 1e6:.1f} MB: {taken / 1e6:.1f} MB more, {taken / length:.1f} times that")
-    if arguments.times is not None and taken > arguments.times * length:
-        print(f"unread_client.py: FAILED: more than {arguments.times} times", file=sys.stderr)
-        return 1
-    return 0
+def look_at_searches(count, times):
+    """The results may take so many times the memory of their text."""
+    taken, length = searched(count)
+    print(f"{count} results of jobs that nobody reads, {length / 1e6:.1f} MB: {taken / 1e6:.1f} MB more, {taken / length:.1f} times that")
+    expect(f"whether it took more than {times} times that", times is not None and taken > times * length, False)
+
+
+def look_at_ways(arguments):
+    """No way may take more memory than that, if it is bounded."""
+    print(f"{COUNT} requests of {arguments.length} bytes, and no reply is read: peak MB (MB sent)")
+    print("| params | " + " | ".join(arguments.ways) + " |\n" + "|---" * (len(arguments.ways) + 1) + "|", flush=True)
+    greatest = 0
+    for name in arguments.params:
+        cells, params = [name], PARAMS[name](arguments.length)
+        for way in arguments.ways:
+            most, sent = peak(command(way, arguments), params)
+            greatest = max(greatest, most)
+            cells.append(f"{most / 1e6:.1f} ({sent / 1e6:.1f})")
+        print("| " + " | ".join(cells) + " |", flush=True)
+    expect(f"whether one took more than {arguments.most} MB", arguments.most is not None and greatest > arguments.most * 1e6, False)
 
 
 def command(way, arguments):
@@ -132,8 +129,8 @@ def command(way, arguments):
 def parse_arguments():
     parser = argparse.ArgumentParser(description=__doc__, formatter_class=argparse.RawDescriptionHelpFormatter)
     parser.add_argument("--ways", nargs="+", default=WAYS, choices=WAYS)
-    parser.add_argument("--program", type=Path, default=SERVE, help="the program with a loop over a connection")
-    parser.add_argument("--sessions", type=Path, default=BENCH, help="the program with the sessions")
+    parser.add_argument("--program", type=Path, default=built("lsp_demo")[0], help="the program with a loop over a connection")
+    parser.add_argument("--sessions", type=Path, default=built("bench")[0], help="the program with the sessions")
     parser.add_argument("--params", nargs="+", default=list(PARAMS), choices=PARAMS)
     parser.add_argument("--length", type=int, default=LENGTH, help="how many bytes a request has")
     parser.add_argument("--most", type=float, help="fail where a way takes more MB than this")
@@ -142,28 +139,7 @@ def parse_arguments():
     return parser.parse_args()
 
 
-def main():
-    arguments = parse_arguments()
-    if arguments.searches is not None:
-        return look_at_searches(arguments)
-    failed = False
-    print(f"{COUNT} requests of {arguments.length} bytes, and no reply is read: peak MB (MB sent)")
-    print("| params | " + " | ".join(arguments.ways) + " |\n" + "|---" * (len(arguments.ways) + 1) + "|", flush=True)
-    for name in arguments.params:
-        cells, params = [name], PARAMS[name](arguments.length)
-        for way in arguments.ways:
-            try:
-                most, sent = peak(command(way, arguments), params)
-            except (Difference, OSError) as fault:
-                print(f"unread_client.py: FAILED: {way}, {name}: {fault}", file=sys.stderr)
-                return 1
-            failed = failed or (arguments.most is not None and most > arguments.most * 1e6)
-            cells.append(f"{most / 1e6:.1f} ({sent / 1e6:.1f})")
-        print("| " + " | ".join(cells) + " |", flush=True)
-    if failed:
-        print(f"unread_client.py: FAILED: more than {arguments.most} MB", file=sys.stderr)
-    return 1 if failed else 0
-
-
 if __name__ == "__main__":
-    sys.exit(main())
+    words = parse_arguments()
+    sys.exit(run(lambda: look_at_ways(words) if words.searches is None else look_at_searches(words.searches, words.times)))
+

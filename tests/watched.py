@@ -1,19 +1,29 @@
 """Has `lsp_check` judge the sessions of the clients. A client may break rules, to see what comes of it; a server may not.
 
-A message is shown to its session as the client sends it or looks at it. At the end of the program all are judged, and
-a breach of a server, or a message that can't be read, makes the status 1.
+Where this is imported, each message that a client sends or looks at is shown to its session. All are judged at the end.
 """
-import atexit
 import json
-import os
 import subprocess
-import sys
 import tempfile
 from pathlib import Path
 
+from lsp import PATIENCE, Client, Difference, built, expect
 from typed import Typed
 
-LSP_CHECK = Path(__file__).resolve().parent.parent / "crates" / "lsp_check" / "out" / "lsp_check"
+
+def judged(names, folder=None):
+    """What `lsp_check` says of these recordings, of which there has to be one and none may be left out: a list of what it told."""
+    try:
+        ran = subprocess.run([*built("lsp_check"), "--json", *names], cwd=folder, capture_output=True, text=True, timeout=PATIENCE, check=False)
+        told = [json.loads(line) for line in ran.stdout.splitlines()]
+    except subprocess.TimeoutExpired:
+        raise Difference(f"lsp_check did not judge {len(names)} sessions within {PATIENCE:g} seconds") from None
+    except (OSError, ValueError) as fault:
+        raise Difference(f"lsp_check did not judge {len(names)} sessions, or not in lines of JSON: {fault}") from None
+    read = sum(line["kind"] == "summary" for line in told)
+    if not names or read != len(names) or ran.returncode not in (0, 1, 2):
+        raise Difference(f"lsp_check judged {read} of {len(names)} sessions, and ended with status {ran.returncode}: {ran.stderr.strip()}")
+    return told
 
 
 class Watched(Typed):
@@ -32,18 +42,16 @@ class Watched(Typed):
         self.lines.append(f"<- {json.dumps(message)}\n")
         return super().came(message)
 
-
-def judge():
-    names = [f"{at}.lsp" for at in range(len(Watched.sessions))]
-    with tempfile.TemporaryDirectory() as folder:
-        for name, lines in zip(names, Watched.sessions):
-            (Path(folder) / name).write_text("".join(lines))
-        ran = subprocess.run([LSP_CHECK, "--json", *names], cwd=folder, capture_output=True, text=True, check=False)
-    told = [json.loads(line) for line in ran.stdout.splitlines()]
-    wrong = [it for it in told if it["kind"] == "stop" or it["kind"] == "breach" and it["way"] == "<-"]
-    if wrong or [it["kind"] for it in told].count("summary") != len(names):
-        print("lsp_check:", *wrong, ran.stderr, sep="\n", file=sys.stderr, flush=True)
-        os._exit(1)
+    @classmethod
+    def judge(cls):
+        """No server may have broken a rule in any of the sessions, and no message is left unread."""
+        names = [f"{at}.lsp" for at in range(len(cls.sessions))]
+        with tempfile.TemporaryDirectory() as folder:
+            for name, lines in zip(names, cls.sessions):
+                (Path(folder) / name).write_text("".join(lines))
+            told = judged(names, folder)
+        wrong = [line for line in told if line["kind"] == "stop" or line["kind"] == "breach" and line["way"] == "<-"]
+        expect("what lsp_check says of the server", wrong, [])
 
 
-atexit.register(judge)
+Client.watch = Watched
