@@ -1,7 +1,6 @@
 """Runs a program over a load once, checks all that it writes, and tells what it cost."""
 import json
 import os
-import re
 import select
 import statistics
 import subprocess
@@ -12,16 +11,10 @@ from pathlib import Path
 
 sys.path.append(str(Path(__file__).resolve().parent.parent / "tests"))
 
-from client import EXIT, INITIALIZE, INITIALIZED, SHUTDOWN, frame
 from loads import FIRST, numbered
+from lsp import ANY_HEADER, EXIT, INITIALIZE, INITIALIZED, PATIENCE, SHUTDOWN, Difference, Program, frame
 
 PIECE = 1 << 20
-PATIENCE = 100
-HEADER = re.compile(rb"(?:[A-Za-z-]+: [^\r\n]*\r\n)*?Content-Length: ([0-9]+)\r\n(?:[A-Za-z-]+: [^\r\n]*\r\n)*\r\n")
-
-
-class Failure(Exception):
-    """A program failed, or wrote something else than it should."""
 
 
 @dataclass
@@ -44,25 +37,24 @@ def words_of(program, load):
     return [load.places if word == "PLACES" else word for word in program.commands[load.kind]]
 
 
-def started(program, load, environment, source, sink):
-    command = list(map(str, words_of(program, load)))
-    return subprocess.Popen(command, stdin=source, stdout=sink, env=os.environ | dict(program.environment) | environment)
+def started(program, load, environment, source=subprocess.PIPE):
+    return Program(words_of(program, load), environment=os.environ | dict(program.environment) | environment, source=source)
 
 
 def through(program, load, environment, path):
     """All of a file, into a pipe that is emptied at once."""
     with open(path, "rb") as source:
         begin = time.perf_counter()
-        process = started(program, load, environment, source, subprocess.PIPE)
+        running = started(program, load, environment, source)
     pieces = []
-    while piece := os.read(process.stdout.fileno(), PIECE):
+    while piece := os.read(running.process.stdout.fileno(), PIECE):
         pieces.append(piece)
     seconds = time.perf_counter() - begin
-    process.stdout.close()
-    _, status, usage = os.wait4(process.pid, 0)
-    process.returncode = os.waitstatus_to_exitcode(status)
-    if process.returncode or b"".join(pieces) != path.read_bytes():
-        raise Failure(f"it ended with status {process.returncode}, or wrote something else than it read")
+    _, status, usage = os.wait4(running.process.pid, 0)
+    running.process.returncode = os.waitstatus_to_exitcode(status)
+    with running:
+        if running.process.returncode or b"".join(pieces) != path.read_bytes():
+            raise Difference(f"it ended with status {running.process.returncode}, or wrote something else than it read: {running.said()}")
     return Run((usage.ru_utime + usage.ru_stime) / load.count * 1e6, seconds / load.count * 1e6)
 
 
@@ -70,66 +62,31 @@ def write_file(path, load):
     path.write_bytes(b"".join([*(frame(load.message(FIRST + number)) for number in range(load.count)), frame(EXIT)]))
 
 
-class Client:
-    """Speaks to a program through pipes."""
-
-    def __init__(self, process):
-        self.process = process
-        self.source, self.sink = process.stdout.fileno(), process.stdin.fileno()
-        self.received = bytearray()
-
-    def wait(self, writes):
-        """Waits until something can be read, or written if that is wanted: whether there is something to read."""
-        readable, writable, _ = select.select([self.source], [self.sink] if writes else [], [], PATIENCE)
+def exchange(client, frames, size, window):
+    """Sends the frames, at most so many of them unanswered. It gives all that came, and how long each waited for its reply."""
+    source, sink = client.source.fileno(), client.sink.fileno()
+    sent, waited, pieces, count, rest = [], [], [], 0, b""
+    while len(waited) < len(frames):
+        if not rest and (free := frames[len(sent):len(waited) + window]):
+            rest = memoryview(b"".join(free))
+            sent += [time.perf_counter()] * len(free)
+        if rest:
+            try:
+                rest = rest[os.write(sink, rest):]
+            except BlockingIOError:
+                pass
+        readable, writable, _ = select.select([source], [sink] if rest else [], [], PATIENCE)
         if not readable and not writable:
-            raise Failure(f"nothing moved within {PATIENCE} seconds")
-        return bool(readable)
-
-    def read(self):
-        piece = os.read(self.source, PIECE)
-        if not piece:
-            raise Failure("its output ended before the last reply")
-        return piece
-
-    def send(self, body):
-        rest = memoryview(frame(body))
-        os.set_blocking(self.sink, True)
-        while rest:
-            rest = rest[os.write(self.sink, rest):]
-        os.set_blocking(self.sink, False)
-
-    def receive(self):
-        """The next frame, and its body."""
-        while True:
-            found = HEADER.match(self.received)
-            if found and len(self.received) >= found.end() + int(found[1]):
-                break
-            self.wait(False)
-            self.received += self.read()
-        end = found.end() + int(found[1])
-        whole = bytes(self.received[:end])
-        del self.received[:end]
-        return whole, whole[found.end():]
-
-    def exchange(self, frames, size, window):
-        """Sends the frames, at most so many of them unanswered. It gives all that came, and how long each waited for its reply."""
-        sent, waited, pieces, count, rest = [], [], [], 0, b""
-        while len(waited) < len(frames):
-            if not rest and (free := frames[len(sent):len(waited) + window]):
-                rest = memoryview(b"".join(free))
-                sent += [time.perf_counter()] * len(free)
-            if rest:
-                try:
-                    rest = rest[os.write(self.sink, rest):]
-                except BlockingIOError:
-                    pass
-            if not self.wait(bool(rest)):
-                continue
-            pieces.append(self.read())
-            count += len(pieces[-1])
-            now = time.perf_counter()
-            waited += [now - since for since in sent[len(waited):count // size]]
-        return b"".join(pieces), waited
+            raise Difference(f"nothing moved within {PATIENCE:g} seconds")
+        if not readable:
+            continue
+        pieces.append(os.read(source, PIECE))
+        if not pieces[-1]:
+            raise Difference(f"its output ended before the last reply, {client.last_words()}")
+        count += len(pieces[-1])
+        now = time.perf_counter()
+        waited += [now - since for since in sent[len(waited):count // size]]
+    return b"".join(pieces), waited
 
 
 def check_model(program, load, body):
@@ -142,7 +99,7 @@ def check_model(program, load, body):
     else:
         right = came["method"] == "textDocument/publishDiagnostics" and came["params"]["diagnostics"] == []
     if not right:
-        raise Failure(f"the first reply is wrong: {body[:200]!r}")
+        raise Difference(f"the first reply is wrong: {body[:200]!r}")
 
 
 def check_all(model, numbers, came):
@@ -150,12 +107,7 @@ def check_all(model, numbers, came):
     size = len(model)
     replies = sorted(came[at:at + size] for at in range(0, len(came), size))
     if replies != sorted(numbered(model, number) for number in numbers):
-        raise Failure("a reply is not that of its request")
-
-
-def status_bytes(process, name):
-    found = re.search(rf"^{name}:\s*(\d+) kB$", Path(f"/proc/{process.pid}/status").read_text(), re.M)
-    return int(found[1]) * 1024
+        raise Difference("a reply is not that of its request")
 
 
 def processor_time(process):
@@ -166,41 +118,36 @@ def processor_time(process):
 def conversation(program, load, environment, window):
     """A client that sends requests, and further ones as replies come."""
     began = time.perf_counter()
-    process = started(program, load, environment, subprocess.PIPE, subprocess.PIPE)
-    try:
-        return converse(Client(process), program, load, window, began)
-    finally:
-        if process.returncode is None:
-            process.kill()
-            process.wait()
-        process.stdin.close()
-        process.stdout.close()
+    with started(program, load, environment) as running, running.connect() as client:
+        client.header = ANY_HEADER
+        return converse(client, program, load, window, began)
 
 
 def converse(client, program, load, window, began):
-    client.send(INITIALIZE)
-    client.receive()
+    client.send_bytes(frame(INITIALIZE))
+    client.body()
     start = time.perf_counter() - began
-    client.send(INITIALIZED)
-    rest = status_bytes(client.process, "VmRSS")
+    client.send_bytes(frame(INITIALIZED))
+    rest = client.program.memory("VmRSS")
     if load.opening:
-        client.send(load.opening)
-        client.receive()
-    client.send(load.message(FIRST))
-    model, body = client.receive()
+        client.send_bytes(frame(load.opening))
+        client.body()
+    client.send_bytes(frame(load.message(FIRST)))
+    head, body = client.frame()
     check_model(program, load, body)
     numbers = range(FIRST + 1, FIRST + 1 + load.count)
     frames = [frame(load.message(number)) for number in numbers]
-    spent, since = processor_time(client.process), time.perf_counter()
-    came, waited = client.exchange(frames, len(model), window)
-    clock, spent = time.perf_counter() - since, processor_time(client.process) - spent
-    check_all(model, numbers, came)
-    peak = status_bytes(client.process, "VmHWM")
-    client.send(SHUTDOWN)
-    client.receive()
-    client.send(EXIT)
-    if client.process.wait(PATIENCE):
-        raise Failure(f"it ended with status {client.process.returncode}")
+    process = client.program.process
+    spent, since = processor_time(process), time.perf_counter()
+    came, waited = exchange(client, frames, len(head + body), window)
+    clock, spent = time.perf_counter() - since, processor_time(process) - spent
+    check_all(head + body, numbers, came)
+    peak = client.program.memory("VmHWM")
+    client.send_bytes(frame(SHUTDOWN))
+    client.body()
+    client.send_bytes(frame(EXIT))
+    if client.program.status():
+        raise Difference(f"it ended with status {process.returncode}: {client.program.said()}")
     waited.sort()
     half, most = statistics.median(waited), waited[len(waited) * 99 // 100]
     micros = [seconds * 1e6 for seconds in (spent / load.count, clock / load.count, half, most, waited[-1], start)]
