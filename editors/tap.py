@@ -10,6 +10,12 @@ import os
 import subprocess
 import sys
 import threading
+from pathlib import Path
+
+sys.dont_write_bytecode = True
+sys.path.append(str(Path(__file__).resolve().parent.parent / "tests"))
+
+from lsp import ANY_HEADER, COMPACT, take_frame
 
 
 class Recording:
@@ -19,10 +25,11 @@ class Recording:
 
     def copy(self, source, sink, mark):
         """Passes bytes on up to their end. A message is written down before its last byte is passed on."""
-        held = b""
+        held = bytearray()
         try:
             while piece := os.read(source, 65536):
-                held = self.note(held + piece, mark)
+                held += piece
+                self.note(held, mark)
                 view = memoryview(piece)
                 while view:
                     view = view[os.write(sink, view) :]
@@ -30,18 +37,17 @@ class Recording:
             pass
 
     def note(self, held, mark):
-        """Writes the messages that the bytes begin with, and gives the rest."""
-        while (end := held.find(b"\r\n\r\n")) >= 0:
-            fields = dict(line.lower().split(b":", 1) for line in held[:end].split(b"\r\n"))
-            length = int(fields[b"content-length"])
-            if len(held) < end + 4 + length:
-                break
-            message = json.loads(held[end + 4 : end + 4 + length])
-            held = held[end + 4 + length :]
-            with self.lock:
-                self.file.write(f"{mark} {json.dumps(message, ensure_ascii=False, separators=(',', ':'))}\n")
-                self.file.flush()
-        return held
+        """Writes the messages that the bytes begin with, and takes them away. What is no frame stands in a line that nobody can read."""
+        while taken := take_frame(held, ANY_HEADER):
+            self.write(f"{mark} {json.dumps(json.loads(taken[1]), **COMPACT)}\n")
+        if b"\r\n\r\n" in held and not ANY_HEADER.match(held):
+            self.write(f"{mark} no frame: {bytes(held)!r}\n")
+            held.clear()
+
+    def write(self, line):
+        with self.lock:
+            self.file.write(line)
+            self.file.flush()
 
 
 def main(file, command):

@@ -9,13 +9,15 @@ as no params.
 """
 import json
 import os
-import socket
 import subprocess
 import sys
-import time
+from pathlib import Path
 
-HERE = os.path.dirname(os.path.abspath(__file__))
-RECORDER = os.path.join(HERE, "..", "crates", "example_recorder", "out", "example_recorder")
+HERE = Path(__file__).resolve().parent
+sys.dont_write_bytecode = True
+sys.path.append(str(HERE.parent / "tests"))
+
+from lsp import HOST, built, expect_soon, free_port, listens
 
 
 def messages(name, mark):
@@ -27,23 +29,13 @@ def messages(name, mark):
     return found
 
 
-def listens(port):
-    with open("/proc/net/tcp", encoding="ascii") as file:
-        rows = [line.split() for line in file.readlines()[1:]]
-    return any(int(row[1].partition(":")[2], 16) == port and row[3] == "0A" for row in rows)
-
-
 def main(file, command):
-    file = f"{file}.{os.getpid()}"
-    with socket.socket() as free:
-        free.bind(("127.0.0.1", 0))
-        port = free.getsockname()[1]
-    server = subprocess.Popen([*command, f"127.0.0.1:{port}"], stdin=subprocess.DEVNULL)
+    file, port = f"{file}.{os.getpid()}", free_port()
+    server = subprocess.Popen([*command, f"{HOST}:{port}"], stdin=subprocess.DEVNULL)
     try:
-        while not listens(port) and server.poll() is None:
-            time.sleep(0.01)
-        between = [RECORDER, "record", "-", f"127.0.0.1:{port}", f"{file}.log"]
-        status = subprocess.run([os.path.join(HERE, "tap.py"), file, *between], check=False).returncode
+        expect_soon("whether the server listens", lambda: listens(port) or server.poll() is not None)
+        between = built("example_recorder", "record", "-", f"{HOST}:{port}", f"{file}.log")
+        status = subprocess.run([HERE / "tap.py", file, *between], check=False).returncode
     finally:
         server.kill()
         server.wait()
