@@ -761,57 +761,104 @@ def of_char(data):
     return f"Some('{data}')" if data else "None"
 
 
-def debug_queues(incoming, outgoing, count):
-    """The queues as Rust's `{:?}` prints them: ids in their order, numbers before texts."""
+# How many ids and how many tickets there are.
+ALL_IDS = 2**31
+ALL_TICKETS = 2**64 - 1
 
-    def pending(table):
-        order = sorted(table, key=lambda name: (isinstance(name, str), name))
-        return "{" + ", ".join(f"{debug_id(name)}: '{table[name]}'" for name in order) + "}"
 
-    given = f"Incoming {{ alloc: Global, pending: {pending(incoming)} }}"
-    own = f"Outgoing {{ alloc: Global, next: {count}, pending: {pending(outgoing)} }}"
-    return f"ReqQueue {{ incoming: {given}, outgoing: {own} }}"
+class Queues:
+    """Two tables of what is pending, and a count of the ids that were given out."""
+
+    def __init__(self):
+        self.incoming, self.outgoing, self.count = {}, {}, 0
+        one, both = (lambda name: [name]), (lambda name: [name, str(name)])
+        self.many = {
+            "receive": lambda numbers: self.incoming.update((it, "a") for number in numbers for it in both(number)),
+            "answer_even": lambda numbers: without_even(self.incoming, numbers, both),
+            "register": lambda numbers: [self.register("", None, "a") for _ in numbers],
+            "complete_even": lambda numbers: without_even(self.outgoing, numbers, one),
+        }
+
+    def answer(self, step):
+        verb, _, words = step.partition(" ")
+        if verb == "many":
+            name, count = words.split(" ")
+            self.many[name](range(int(count)))
+            return step
+        if verb in ("register", "register_value", "deep"):
+            return self.answer_registering(verb, words)
+        if verb == "after":
+            self.outgoing, self.count = {}, count_in(words, ALL_IDS)
+            return step
+        if verb == "ids":
+            return listed(self.incoming)
+        if verb == "ids_of":
+            return listed(name for name, data in self.outgoing.items() if data == words)
+        if verb == "shown":
+            return self.shown()
+        if verb == "pending":
+            return f"pending {'true' if self.outgoing or self.incoming else 'false'}"
+        if verb not in ("receive", "complete", "answer", "cancel"):
+            misspelt(f"the queues have no step `{verb}`")
+        return self.answer_at(verb, *words.split(" "))
+
+    def answer_registering(self, verb, words):
+        method, _, rest = words.partition(" ")
+        params, _, data = rest.rpartition(" ")
+        is_deep = verb == "deep"
+        return self.register(method, json.loads("[" * int(params) + "]" * int(params) if is_deep else params), data)
+
+    def register(self, method, params, data):
+        if self.count == ALL_IDS:
+            return f"Spent('{data}')"
+        if nesting(params) > LEVELS:
+            return f"Unwritable('{data}')"
+        name, self.count = self.count, self.count + 1
+        self.outgoing[name] = data
+        return "sent " + text_of({"id": name, "method": method, **({} if params is None else {"params": params})})
+
+    def answer_at(self, verb, word, data=None):
+        """What comes of a step with an id."""
+        name = json.loads(word)
+        if verb == "receive":
+            self.incoming[name] = data
+            return f"received {word}"
+        if verb == "complete":
+            return f"complete {of_char(self.outgoing.pop(name, None))}"
+        taken = self.incoming.pop(name, None)
+        if verb == "answer":
+            return f"answer {of_char(taken)}"
+        return "cancelled " + (text_of({"id": name, "error": CANCELED}) if taken else "none")
+
+    def shown(self):
+        """The queues as Rust's `{:?}` prints them."""
+        given, own = ("{" + ", ".join(f"{debug_id(it)}: '{table[it]}'" for it in in_order(table)) + "}" for table in (self.incoming, self.outgoing))
+        incoming = f"Incoming {{ alloc: Global, pending: {given} }}"
+        return f"ReqQueue {{ incoming: {incoming}, outgoing: Outgoing {{ alloc: Global, next: {self.count}, pending: {own} }} }}"
+
+
+def count_in(word, most):
+    """How many ids or tickets were given out, by a row."""
+    return int(word) if int(word) <= most else misspelt(f"{word} are more than there are, {most}")
+
+
+def without_even(table, numbers, names_of):
+    for name in (name for number in numbers if number % 2 == 0 for name in names_of(number)):
+        table.pop(name, None)
+
+
+def in_order(names):
+    """Ids in their order: numbers before texts, and texts by their bytes."""
+    return sorted(names, key=lambda name: (1, name.encode()) if isinstance(name, str) else (0, name))
+
+
+def listed(names):
+    return " ".join(["ids", *map(id_answer, in_order(names))])
 
 
 def queue_answers(steps):
-    """What comes of the steps: two tables of what is pending, and a count of the ids that were given out."""
-    outgoing, incoming, answers, count = {}, {}, [], 0
-    for step in steps.split("; "):
-        verb, _, words = step.partition(" ")
-        if verb in ("register", "register_value"):
-            method, _, rest = words.partition(" ")
-            params, _, data = rest.rpartition(" ")
-            params = json.loads(params)
-            outgoing[count] = data
-            answers.append("sent " + text_of({"id": count, "method": method, **({} if params is None else {"params": params})}))
-            count += 1
-        elif verb == "complete":
-            answers.append(f"complete {of_char(outgoing.pop(json.loads(words), None))}")
-        elif verb == "receive":
-            name, data = words.split(" ")
-            incoming[json.loads(name)] = data
-            answers.append(f"received {name}")
-        elif verb == "answer":
-            answers.append(f"answer {of_char(incoming.pop(json.loads(words), None))}")
-        elif verb == "deep":
-            method, levels, data = words.split(" ")
-            if int(levels) > LEVELS:
-                answers.append(f"Unwritable('{data}')")
-                continue
-            outgoing[count] = data
-            params = json.loads("[" * int(levels) + "]" * int(levels))
-            answers.append("sent " + text_of({"id": count, "method": method, "params": params}))
-            count += 1
-        elif verb == "shown":
-            answers.append(debug_queues(incoming, outgoing, count))
-        elif verb == "pending":
-            answers.append(f"pending {'true' if outgoing or incoming else 'false'}")
-        elif verb != "cancel":
-            misspelt(f"the queues have no step `{verb}`")
-        else:
-            was_pending = incoming.pop(json.loads(words), None)
-            answers.append("cancelled " + (text_of({"id": json.loads(words), "error": CANCELED}) if was_pending else "none"))
-    return answers
+    queues = Queues()
+    return [queues.answer(step) for step in steps.split("; ")]
 
 
 def debug_inner(members):
@@ -843,6 +890,10 @@ def dispatch_answers(steps):
     """What comes of the steps: a table of the tickets that are pending, and a count of those that were given out."""
     pending, answers, count = {}, [], 0
     for step in steps.split("; "):
+        if step.startswith("after "):
+            pending, count = {}, count_in(step.removeprefix("after "), ALL_TICKETS)
+            answers.append(step)
+            continue
         if step.startswith("finish "):
             answers.append(finished(pending, step))
             continue
@@ -856,6 +907,8 @@ def dispatch_answers(steps):
             answers.append("Nothing" if method.startswith("$/") else f"Note({debug_inner(message)})")
         elif method.startswith("$/"):
             answers.append(f"Unknown({debug_inner({'id': name, 'error': NOT_FOUND})})")
+        elif count == ALL_TICKETS:
+            answers.append(f"Spent({debug_message(message)})")
         else:
             pending[name] = count
             answers.append(f"Work {{ request: {debug_inner(message)}, ticket: {count} }}")
@@ -863,10 +916,23 @@ def dispatch_answers(steps):
     return answers
 
 
+def replay_answers(steps):
+    if any(it.startswith("after ") for it in steps.split("; ")):
+        misspelt("`replay` makes its calls on a new dispatcher, so `after` is no step of it")
+    return dispatch_answers(steps)
+
+
 def value_answers(members):
     body = text_of({"jsonrpc": "2.0", **members})
     # A message is a tree whose members stand in the order of their names.
     return [text_of(members), ordered(members), body, escape(framed(body.encode()))]
+
+
+def error_answers(row):
+    """The response to the request 1 with this error, and the message that its tree means, in which data that are null are none."""
+    code, message, data = row.split(" ", 2)
+    members = {"id": 1, "error": {"code": int(code), "message": message, "data": json.loads(data)}}
+    return [text_of(members), f"Some({debug_message(members_of(members))})"]
 
 
 def relay_answers(method):

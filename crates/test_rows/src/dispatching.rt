@@ -1,5 +1,6 @@
 // The calls of a dispatcher, as steps: the member text of a message that is delivered, or `finish ID TICKET RESULT`. `dispatch` makes
-// each call alone, `replay` all of them by the call of that name. The answers print as they do for a programmer.
+// each call alone, `replay` all of them by the call of that name. The answers print as they do for a programmer. In `dispatch`, a step
+// `after TICKETS` puts a dispatcher there that has given out so many tickets.
 use crate::messages::{id_in, message_in, value_in};
 use crate::said::{Said, Stepped};
 use lsp_dispatch::{Answer, Call, DispatchFault, Dispatcher, replay};
@@ -14,14 +15,25 @@ pub fn dispatched(said: &mut Said, steps: &str) {
 
 impl Stepped for Dispatcher {
     fn step(&mut self, said: &mut Said, step: &str) {
-        match call_in(said, step) {
-            Ok(Some(Call::Deliver(message))) => say(said, self.deliver(message)),
-            Ok(Some(Call::Finish { id, ticket, result })) => {
-                said.debug(self.finish(id, ticket, result))
+        match step.strip_prefix("after ") {
+            Some(word) => {
+                *self = Dispatcher::after(said.alloc, said.count_in(word) as u64);
+                said.push(step)
             }
-            Ok(None) => said.unknown(),
-            Err(_) => said.is_short = true,
+            None => call(said, self, step),
         }
+    }
+}
+
+/// Makes the call of a step.
+fn call(said: &mut Said, dispatcher: &mut Dispatcher, step: &str) {
+    match call_in(said, step) {
+        Ok(Some(Call::Deliver(message))) => say(said, dispatcher.deliver(message)),
+        Ok(Some(Call::Finish { id, ticket, result })) => {
+            said.debug(dispatcher.finish(id, ticket, result))
+        }
+        Ok(None) => said.unknown(),
+        Err(_) => said.is_short = true,
     }
 }
 
@@ -29,8 +41,8 @@ fn say(said: &mut Said, answer: Result<Answer, DispatchFault>) {
     match answer {
         Ok(answer) => said.debug(answer),
         Err(fault) => {
-            drop(fault);
-            said.is_short = true;
+            said.is_short = said.is_short || matches!(fault, DispatchFault::Memory(_));
+            said.debug(fault)
         }
     }
 }

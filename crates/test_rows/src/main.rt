@@ -3,8 +3,8 @@
 //!
 //! - `#`: a remark.
 //! - `calls`, `serve`, `served`, `woken`, `writes`: the calls over lists (`lists.rt`).
-//! - `id`: how an id prints. `values`: a message that is cloned, converted and written. `extract`:
-//!   params that are taken out.
+//! - `id`: how an id prints. `values`: a message that is cloned, converted and written. `error`: a response with the data of an
+//!   error. `extract`: params that are taken out.
 //! - `queues`, `dispatch`, `link`: calls on a state, as steps. `replay`: all steps of a dispatcher at once.
 //! - `plain`, `typed`: values that are read and written by a type: one of serde's kinds, or of `lsp_types`. `uri`, `path`: a path and its URI. `names`: whether
 //!   a URI names a path. `tokens`: the numbers of semantic tokens. `offset`: the place of a position that was read. `lines`:
@@ -23,6 +23,7 @@ mod documents;
 mod forms;
 mod links;
 mod lists;
+mod many;
 mod messages;
 mod more_types;
 mod own;

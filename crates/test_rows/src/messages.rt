@@ -1,7 +1,7 @@
 // What trees mean as messages, and what messages become.
 use crate::by_method;
 use crate::said::Said;
-use lsp_message::{Message, RequestId};
+use lsp_message::{Message, RequestId, Response, ResponseError};
 use serde_json::Value;
 use std::alloc::{AllocError, Global};
 
@@ -108,6 +108,38 @@ fn say_texts(said: &mut Said, message: &Message) {
 fn say_value(said: &mut Said, made: Result<Value, AllocError>) {
     match made {
         Ok(value) => said.show(value),
+        Err(_) => said.is_short = true,
+    }
+}
+
+/// `CODE MESSAGE DATA`: the response to the request 1 with this error, which has data: its member text, and the message that is read from
+/// its tree.
+pub fn error(said: &mut Said, row: &str) {
+    let (code, rest) = said.cut(row, " ");
+    let (message, data) = said.cut(rest, " ");
+    match value_in(said.alloc, data) {
+        Ok(data) => {
+            let error = ResponseError {
+                code: code.parse::<i32>().unwrap_or(0),
+                message: said.text_of(message),
+                data: Some(data),
+            };
+            let message = Message::Response(Response {
+                id: RequestId::from(1),
+                response_result: Err(error),
+            });
+            say_read_again(said, &message);
+            drop(message);
+        }
+        Err(_) => said.is_short = true,
+    }
+}
+
+fn say_read_again(said: &mut Said, message: &Message) {
+    said.add("", message.member_text(said.alloc));
+    said.push("\n  ");
+    match message.to_value(said.alloc) {
+        Ok(tree) => said.debug(Message::from_tree(tree)),
         Err(_) => said.is_short = true,
     }
 }

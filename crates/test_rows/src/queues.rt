@@ -5,17 +5,23 @@
 // | `register METHOD PARAMS DATA`, `register_value METHOD PARAMS DATA`, `complete ID` | of `Outgoing` |
 // | `deep METHOD LEVELS DATA` | `register` with so many lists, each in the next |
 // | `receive ID DATA`, `cancel ID`, `answer ID` | `register`, `cancel` and `complete` of `Incoming` |
+// | `after COUNT` | `Outgoing::after`, in the place of the queue of this side |
 // | `pending` | `has_pending` |
+// | `ids` | of `Incoming` |
+// | `ids_of DATA` | of `Outgoing` |
+// | `many CALL COUNT` | many calls (`many.rt`) |
 // | `shown` | how the queues print for a programmer |
+use crate::many;
 use crate::messages::{id_in, nested, value_in};
 use crate::said::{Said, Stepped};
 use lsp_message::{Message, Request, RequestId, Response};
-use lsp_queue::{RegisterFault, ReqQueue};
+use lsp_queue::{Outgoing, RegisterFault, ReqQueue};
 use serde_json::Value;
 use std::alloc::AllocError;
 use std::fmt::Write;
 
-type Queue = ReqQueue<char, char>;
+/// Both queues, with a character for each request.
+pub type Queue = ReqQueue<char, char>;
 
 /// What comes of these steps on new queues.
 pub fn answers(said: &mut Said, steps: &str) {
@@ -28,6 +34,13 @@ impl Stepped for Queue {
         let (verb, words) = step.split_once(" ").unwrap_or((step, ""));
         match verb {
             "register" | "register_value" | "deep" => register(said, self, verb, words),
+            "after" => begin_after(said, self, words),
+            "many" => many::calls(said, self, words),
+            "ids" => say_ids(said, self.incoming.ids()),
+            "ids_of" => {
+                let data = data_in(said, words);
+                say_ids(said, self.outgoing.ids_of(&data))
+            }
             "shown" => {
                 let told = write!(said.text, "{self:?}");
                 said.note(told);
@@ -45,6 +58,36 @@ impl Stepped for Queue {
                 }
             }
         }
+    }
+}
+
+/// Puts an empty queue of this side there, which has given out so many ids.
+fn begin_after(said: &mut Said, queue: &mut Queue, word: &str) {
+    match u32::try_from(said.count_in(word)) {
+        Ok(count) if count <= 2147483648 => {
+            queue.outgoing = Outgoing::after(said.alloc, count);
+            said.push("after ");
+            said.push(word);
+        }
+        _ => said.unknown(),
+    }
+}
+
+fn say_ids(said: &mut Said, ids: Result<Vec<RequestId>, AllocError>) {
+    match ids {
+        Ok(ids) => {
+            said.push("ids");
+            push_ids(said, ids.as_slice());
+            drop(ids);
+        }
+        Err(_) => said.is_short = true,
+    }
+}
+
+fn push_ids(said: &mut Said, ids: &[RequestId]) {
+    for id in ids {
+        let told = write!(said.text, " {id}");
+        said.note(told);
     }
 }
 
@@ -80,7 +123,8 @@ fn data_in(said: &mut Said, word: &str) -> char {
     }
 }
 
-/// Params that nest too deep are refused, however often they come, and other params only for memory.
+/// Params that nest too deep are refused, however often they come. Other params are refused for memory alone, until all ids were given
+/// out.
 fn register(said: &mut Said, queue: &mut Queue, verb: &str, words: &str) {
     let (method, rest) = said.cut(words, " ");
     let (params, data) = rest.rsplit_once(" ").unwrap_or((rest, ""));
@@ -109,7 +153,8 @@ fn say_registered(said: &mut Said, registered: Result<Request, RegisterFault<cha
     match registered {
         Ok(request) => said.message("sent ", Message::from(request)),
         Err(fault) => {
-            said.is_short = said.is_short || verb != "deep";
+            let is_lasting = verb == "deep" || matches!(fault, RegisterFault::Spent(_));
+            said.is_short = said.is_short || !is_lasting;
             said.debug(fault)
         }
     }

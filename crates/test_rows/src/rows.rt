@@ -55,6 +55,7 @@ impl Rows {
             "document" => self.documents.answer(said, rest),
             "id" => messages::id_text(said, rest),
             "values" => messages::values(said, rest),
+            "error" => messages::error(said, rest),
             "extract" => messages::extracted(said, rest),
             "queues" => queues::answers(said, rest),
             "dispatch" => dispatching::dispatched(said, rest),
