@@ -7,12 +7,14 @@ its own functions see of one another: all of src/ but bodies and comments.
 
     python3 tools/sources.py
 
-tries that: it changes each body and each clause of each library, one at a time, and looks whether the interface and the heads changed.
+tries that on each file of the crates: it marks every body, clause and signature there, and looks which marks the interface and the
+heads have.
 """
 import hashlib
 import re
 import sys
 from dataclasses import dataclass
+from functools import lru_cache
 from pathlib import Path
 
 ROOT = Path(__file__).resolve().parent.parent
@@ -112,6 +114,7 @@ def block_of(blank, start, indent):
     return blank[heads[-1].start() : blank.index("{", heads[-1].start())]
 
 
+@lru_cache(maxsize=None)
 def functions(text):
     """Each function that stands in no other: (start, is it seen outside, places of clauses, start of the body, end), in a text
     without comments."""
@@ -180,13 +183,34 @@ def heads_of(text):
     return " ".join(kept.split())
 
 
-def function_text(text, place):
-    """The text of the function that stands at a place of a file, without comments, or nothing where none does."""
-    kept, found = functions(MARKED.sub(lambda it: " " * len(it[0]) if it[0].startswith("//") else it[0], text))
+def uncommented(text):
+    """The text with spaces for its comments, so that each place stays where it is."""
+    return MARKED.sub(lambda it: " " * len(it[0]) if it[0].startswith("//") else it[0], text)
+
+
+def function_at_place(text, place):
+    """The function that stands at a place of a file: its text without comments, and its block without functions, which is the head and
+    the ghost members. Both are empty where no function stands."""
+    kept, found = functions(uncommented(text))
     for start, _, _, _, end in found:
         if start <= place < end:
-            return " ".join(kept[start:end].split())
-    return ""
+            return " ".join(kept[start:end].split()), block_text(kept, found, start)
+    return "", ""
+
+
+def block_text(kept, found, start):
+    """The `impl` or `trait` in which the function at this start stands, without its functions."""
+    indent = re.match(" *", kept[start:])[0]
+    head = block_of(kept, start, indent)
+    if not head:
+        return ""
+    opens = kept.rindex(head, 0, start)
+    end = end_of(masked(kept)[1], opens + len(head))
+    left, at = "", opens
+    for begin, *_, after in found:
+        if opens < begin < end:
+            left, at = left + kept[at:begin], after
+    return " ".join(without_tactics(left + kept[at:end]).split())
 
 
 @dataclass(frozen=True)
@@ -288,6 +312,31 @@ class Sums:
 
         return self.kept((name, "interface"), make)
 
+    def trait_heads(self, name):
+        """The heads, with their clauses, of the methods of a crate's traits: for (trait, method) the text."""
+
+        def make():
+            heads = {}
+            for text in (it.read_text() for it in files(self.root / "crates" / name / "src")):
+                kept, found = functions(text)
+                for start, _, _, body, _ in found:
+                    block = block_of(kept, start, re.match(" *", kept[start:])[0])
+                    if trait := re.search(r"\btrait (\w+)", block):
+                        method = re.search(r"\bfn (\w+)", kept[start:])[1]
+                        heads[trait[1], method] = " ".join(kept[start:body].split())
+            return heads
+
+        return self.kept((name, "traits"), make)
+
+    def contract(self, name, text, place):
+        """All that the contract of the function at a place of a file is made of: the function's text, the ghost members of its block,
+        and for a method of a trait of these crates its head there."""
+        function, block = function_at_place(text, place)
+        of_trait = re.match(r"impl\b.*?(\w+)(?:<.*?>)? for ", block.partition("{")[0])
+        key = (of_trait[1], re.search(r"\bfn (\w+)", function)[1]) if of_trait else None
+        heads = [self.trait_heads(it).get(key) for it in [*below(self.crates, name), name]]
+        return [function, block, *filter(None, heads)]
+
     def around(self, name):
         """The sum of all that the proof of one function of a crate sees besides its own text: the crate's types, the heads of its
         functions with their clauses, its specs, and the interfaces that it stands on."""
@@ -304,35 +353,51 @@ def sum_of(parts):
     return hashlib.sha256(repr(parts).encode()).hexdigest()
 
 
-def tries(text):
-    """Changed texts of a file: (what is changed, the text, whether the interface has to change, and whether the heads have to)."""
+def marked(text):
+    """A file's text with a mark in each body, clause and signature, and the marks that its interface and its heads have to have."""
     kept, found = functions(text)
-    for start, is_seen, clauses, body, end in found:
-        name = " ".join(kept[start : kept.index("(", start)].split())
-        if body < end:
-            yield f"body of {name}", kept[: body + 1] + " let _tried = 0; " + kept[body + 1 :], False, False
-        for at, _ in clauses:
-            yield f"clause of {name}", kept[: at + 1] + " tried " + kept[at + 1 :], is_seen, True
-        yield f"signature of {name}", kept[:start] + kept[start:].replace("fn ", "fn tried_", 1), is_seen, True
-    yield "a comment", "// tried\n" + text.replace("\n\n", "\n\n// tried\n"), False, False
+    in_interface, in_heads = set(), set()
+    for number, (start, is_seen, clauses, body, end) in reversed([*enumerate(found)]):
+        marks = [(body + 1, f" let body{number}_ = 0; ")] * (body < end)
+        marks += [(at + 1, f" clause{number}_{count}_ ") for count, (at, _) in reversed([*enumerate(clauses)])]
+        marks += [(kept.index("fn ", start) + 3, f"head{number}_")]
+        for at, mark in marks:
+            kept = kept[:at] + mark + kept[at:]
+        seen = {mark for _, mark in marks if "body" not in mark}
+        in_heads |= {it.strip() for it in seen}
+        in_interface |= {it.strip() for it in seen if is_seen}
+    return kept, in_interface, in_heads
+
+
+def commented(text):
+    """A file's text with a comment at each empty line that no string has."""
+    strings = [it.span() for it in MARKED.finditer(text) if not it[0].startswith("//")]
+    is_in_one = lambda at: any(start < at < end for start, end in strings)
+    return "// tried\n" + re.sub(r"\n\n", lambda it: it[0] + "// tried\n" * (not is_in_one(it.start())), text)
+
+
+def faults_of(text):
+    """(how many things were looked at, what is wrong) of a file."""
+    changed, in_interface, in_heads = marked(text)
+    faults = []
+    for part, read, wanted in (("interface", interface_of, in_interface), ("heads", heads_of, in_heads)):
+        came = set(re.findall(r"(?:body|head)\d+_|clause\d+_\d+_", read(changed)))
+        faults += [f"{it} {'is missing in' if it in wanted else 'stands in'} the {part}" for it in sorted(came ^ wanted)]
+        faults += [f"a comment changes the {part}"] * (read(commented(text)) != read(text))
+    return 2 * len(in_heads) + 2, faults
 
 
 def main():
-    passed = failed = 0
+    passed, wrong = 0, []
     for path in sorted(ROOT.glob("crates/*/src/**/*.rt")):
-        text = path.read_text()
         try:
-            whole, heads = interface_of(text), heads_of(text)
-            for what, changed, is_seen, is_head in tries(text):
-                found = {"interface": (interface_of(changed) != whole) == is_seen, "heads": (heads_of(changed) != heads) == is_head}
-                passed, failed = passed + all(found.values()), failed + (not all(found.values()))
-                for part in (it for it in found if not found[it]):
-                    print(f"{path.relative_to(ROOT)}: {what}: it is wrong whether the {part} changes")
+            count, faults = faults_of(path.read_text())
         except Unreadable as fault:
-            failed += 1
-            print(f"{path.relative_to(ROOT)}: {fault}")
-    print(f"sources: {passed} passed, {failed} failed")
-    return failed > 0
+            count, faults = 1, [str(fault)]
+        passed += count - min(count, len(faults))
+        wrong += [f"{path.relative_to(ROOT)}: {it}" for it in faults]
+    print(*wrong, f"sources: {passed} passed, {len(wrong)} failed", sep="\n")
+    return len(wrong) > 0
 
 
 if __name__ == "__main__":
