@@ -253,11 +253,10 @@ def function_at(file, text, at):
     of_trait, _, of_type = re.sub(r" where .*", "", head[len(given) :].strip()).rpartition(" for ")
     owner, rest = re.match(r"&?(\w+)(.*)", of_type.strip()).groups()
     # Arguments of the trait that are parameters of the `impl`, or the type itself, are no part of the printed name.
-    taken = re.fullmatch(r"([\w:]+)<([\w, ]*)>", of_trait)
-    if taken and set(re.findall(r"\w+", taken[2])) <= set(re.findall(r"\w+", given)):
-        of_trait = taken[1]
-    elif taken:
-        of_trait = taken[1] + "".join(it for it in re.findall(r"\w+", taken[2]) if it != of_type.strip())
+    taken = re.fullmatch(r"([\w:]+)<([\w, <>]*)>", of_trait)
+    if taken:
+        left_out = {of_type.strip(), *re.findall(r"\w+", given)}
+        of_trait = taken[1] + "".join(it for it in re.findall(r"\w+", taken[2]) if it not in left_out)
     of_trait = "".join(re.findall(r"\w+", re.sub(r"'\w+|\w+::", "", of_trait)))
     # Where the type is taken at types of its own, their names are a part of the printed name, so the whole module is asked for.
     is_plain = set(re.findall(r"[\w:]+", rest)) <= set(re.findall(r"\w+", given))
