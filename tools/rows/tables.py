@@ -6,7 +6,6 @@ from pathlib import Path
 
 HERE = Path(__file__).resolve().parent
 CRATES = HERE.parent.parent / "crates"
-NAMES = ("lists", "types", "messages", "sessions", "pools")
 
 
 def table_of(name):
@@ -14,10 +13,6 @@ def table_of(name):
     for number, line in enumerate((HERE / name).read_text().split("\n")[:-1], 1):
         if not line.startswith("##"):
             yield f"tools/rows/{name}:{number}", line
-
-
-def rows_of(name):
-    return (line for _, line in table_of(name))
 
 
 def misspelt(text):
@@ -33,7 +28,7 @@ def at(place):
         sys.exit(f"{place}: no word and no JSON stands at `{fault.doc[fault.pos :][:40]}`")
     except KeyError as fault:
         sys.exit(f"{place}: no rule knows the word {fault}")
-    except (ValueError, IndexError, TypeError, AttributeError) as fault:
+    except (ValueError, IndexError, TypeError, AttributeError, OSError) as fault:
         sys.exit(f"{place}: {fault}")
 
 
