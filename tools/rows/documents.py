@@ -4,11 +4,12 @@ The model knows nothing of bytes: a text is a list of code points, a line a list
 of what each code point takes in the encoding. It follows LSP 3.17, "Text Document Synchronization" and "Position", and what
 docs/DECISIONS.md says where they are silent; it was never made to follow the program.
 """
-import itertools
 import json
 import random
 import re
 from urllib.parse import unquote
+
+from tables import at, misspelt, table_of
 
 UNITS = {
     "utf-8": lambda c: len(c.encode("utf-8")),
@@ -335,287 +336,93 @@ class Documents:
 # Rows.
 
 
-class Table:
-    def __init__(self):
-        self.asked, self.documents = [], Documents("utf-16")
-
-    def tell(self, method, params):
-        self.asked.append(json.dumps({"method": method, "params": params}, ensure_ascii=False, separators=(",", ":")))
-        self.documents.answers(self.asked[-1])
-
-    def begin(self, encoding, params=None, **more):
-        offered = {"capabilities": {"general": {"positionEncodings": [encoding]}}, **more}
-        self.tell("initialize", offered if params is None else params)
-        if self.documents.encoding != encoding:
-            raise SystemExit(f"another encoding than {encoding}: {params}")
-
-    def opens(self, uri, text, version=1, language="plain"):
-        self.tell("textDocument/didOpen", {"textDocument": {"uri": uri, "languageId": language, "version": version, "text": text}})
-
-    def changes(self, uri, version, changes):
-        self.tell("textDocument/didChange", {"textDocument": {"uri": uri, "version": version}, "contentChanges": [change(*it) for it in changes]})
-
-    def loses(self, text):
-        """A body that is no message."""
-        if not is_unread(text):
-            raise SystemExit(f"a message: {text}")
-        self.asked.append(text)
-        self.documents.answers(text)
-
-    def saves(self, uri, **more):
-        self.tell("textDocument/didSave", {"textDocument": {"uri": uri}, **more})
-
-    def closes(self, uri):
-        self.tell("textDocument/didClose", {"textDocument": {"uri": uri}})
-
-    def looks(self, uri, *positions):
-        """At what is known, and at these positions of a document."""
-        self.tell("known", None)
-        for line, character in positions:
-            self.tell("place", {"uri": uri, "position": {"line": line, "character": character}})
+def values(text):
+    """The values that follow a word of the table: texts without a space, and JSON."""
+    while text:
+        value = text.partition(" ")[0]
+        end = len(value)
+        if text[0] in '"[{-0123456789' or value == "null":
+            value, end = json.JSONDecoder().raw_decode(text)
+        yield value
+        text = text[end:].removeprefix(" ")
 
 
-def change(span, new):
-    if span is None:
-        return {"text": new}
-    start, end = ({"line": line, "character": character} for line, character in span)
+def change_of(item):
+    """A new text, or the line and character of the start and of the end of a range, and the text that takes its place."""
+    if isinstance(item, str):
+        return {"text": item}
+    *places, new = item
+    start, end = ({"line": line, "character": character} for line, character in (places[:2], places[2:]))
     return {"range": {"start": start, "end": end}, "text": new}
 
 
-FIXED = [
-    # The example of LSP 3.17's "Position": in `a𐐀b` the b is at 3 in UTF-16, at 5 in UTF-8 and at 2 in UTF-32.
-    ("utf-16", "a\U00010400b", [(((0, 3), (0, 4)), "c")]),
-    ("utf-8", "a\U00010400b", [(((0, 5), (0, 6)), "c")]),
-    ("utf-32", "a\U00010400b", [(((0, 2), (0, 3)), "c")]),
-    # Within the surrogate pair, and within the bytes of a character.
-    ("utf-16", "a\U00010400b", [(((0, 2), (0, 2)), "|")]), ("utf-16", "a\U00010400b", [(((0, 2), (0, 3)), "")]),
-    ("utf-8", "a\U00010400b", [(((0, 3), (0, 4)), "|")]), ("utf-8", "a\u00e9\uffffb", [(((0, 2), (0, 5)), "|")]),
-    # Empty texts, and positions past each end.
-    ("utf-16", "", [(((0, 0), (0, 0)), "x")]), ("utf-16", "", [(((7, 3), (9, 1)), "x")]),
-    ("utf-16", "abc", [(((0, 99), (0, 99)), "d")]), ("utf-16", "abc\ndef", [(((0, 99), (1, 0)), "")]),
-    ("utf-16", "abc\r\ndef", [(((0, 99), (1, 0)), "|")]), ("utf-16", "abc\r\ndef", [(((0, 4), (0, 4)), "|")]),
-    ("utf-16", "abc", [(((5, 0), (5, 0)), "d")]), ("utf-16", "abc\n", [(((1, 0), (1, 0)), "d")]),
-    ("utf-16", "abc", [(((0, 0), (GREATEST, GREATEST)), "")]), ("utf-16", "abc", [(((0, 1), (0, 2**64 - 1)), "")]),
-    # Ends of lines: each kind, mixed, alone, put together and cut by edits.
-    ("utf-16", "a\rb\nc\r\nd", []), ("utf-16", "\r\r\n\n", []), ("utf-16", "\n\r", []),
-    ("utf-16", "a\rb", [(((0, 1), (1, 0)), "\r\n")]), ("utf-16", "a\r", [(((1, 0), (1, 0)), "\n")]),
-    ("utf-16", "a\rb", [(((1, 0), (1, 1)), "\n")]), ("utf-16", "a\nb", [(((0, 1), (0, 1)), "\r")]),
-    ("utf-16", "\nb", [(((0, 0), (0, 0)), "\r")]), ("utf-16", "a\rX\nb", [(((1, 0), (1, 1)), "")]),
-    ("utf-16", "a\r\nb\r\nc", [(((0, 1), (2, 0)), "")]), ("utf-16", "\u2028\x85\x0b\x0c", []),
-    # Places that a client has which sees no end in a lone carriage return, and the place behind the last line, which each client has.
-    ("utf-16", "a\nb\r\nc", [(((1, 2), (1, 2)), "+")]), ("utf-16", "a\rb\nc", [(((0, 3), (0, 3)), "+"), (((0, 0), (0, 0)), "-")]),
-    ("utf-16", "a\nb", [(((1, 0), (2, 0)), "")]), ("utf-16", "a\nb", [(((2, 1), (2, 1)), "c")]), ("utf-16", "a\nb", [(((3, 0), (3, 0)), "c")]),
-    ("utf-16", "ab", [(((0, 2), (0, 2)), "c"), (((0, 3), (0, 3)), "d"), (((0, 5), (0, 5)), "e")]),
-    ("utf-16", "\u00e9\U00010400", [(((0, 3), (0, 3)), "c")]), ("utf-16", "\u00e9\U00010400", [(((0, 5), (0, 5)), "c")]),
-    ("utf-8", "\u00e9\U00010400", [(((0, 6), (0, 6)), "c")]), ("utf-8", "\u00e9\U00010400", [(((0, 7), (0, 7)), "c")]),
-    # Whole texts, several edits in one notification, and ranges that stand the other way round.
-    ("utf-16", "foobar", [(None, "foo\nbar")]), ("utf-16", "foobar", [(((0, 5), (0, 2)), "x")]),
-    ("utf-16", "abc\ndef", [(((1, 2), (0, 1)), "x")]), ("utf-16", "a\nb", [(((9, 0), (0, 0)), "x")]),
-    ("utf-16", "a\nb\nc", [(((1, 0), (3, 0)), ""), (((0, 1), (0, 1)), "\nabc")]),
-    ("utf-16", "a", [(((0, 1), (0, 1)), "b"), (((0, 2), (0, 2)), "c"), (((0, 0), (0, 3)), "d"), (None, ""), (((0, 0), (0, 0)), "e")]),
-]
-
-# What a client offers in `initialize`, and the encoding that is agreed on.
-OFFERS = [
-    (None, "utf-16"), ({}, "utf-16"), ({"capabilities": {}}, "utf-16"), ({"capabilities": {"general": {}}}, "utf-16"),
-    ({"capabilities": {"general": {"positionEncodings": []}}}, "utf-16"),
-    ({"capabilities": {"general": {"positionEncodings": "utf-8"}}}, "utf-16"),
-    ({"capabilities": {"general": {"positionEncodings": ["ucs-2", 8, "UTF-8"]}}}, "utf-16"),
-    ({"capabilities": {"general": {"positionEncodings": ["ucs-2", "utf-32", "utf-16"]}}}, "utf-32"),
-    ({"capabilities": {"general": {"positionEncodings": ["utf-16", "utf-8"]}}}, "utf-16"),
-    ({"capabilities": {"general": {"positionEncodings": ["utf-8", "utf-16"]}}}, "utf-8"),
-]
-
-SPAN = {"start": {"line": 0, "character": 0}, "end": {"line": 0, "character": 1}}
+def offered(encoding, **more):
+    return {"capabilities": {"general": {"positionEncodings": [encoding]}}, **more}
 
 
-def back(table, uri):
-    """Each way in which a document comes back, or does not, after what was missed."""
-    return [
-        lambda: table.changes(uri, 9, [(((0, 0), (0, 0)), "-"), (None, "whole"), (((0, 5), (0, 5)), ".")]),
-        lambda: table.saves(uri, text="saved"), lambda: table.saves(uri), lambda: table.saves(uri, text=1),
-        lambda: table.opens(uri, "again", 1, "third"), lambda: table.closes(uri), lambda: table.opens(uri, "anew", None),
-    ]
+class Table:
+    """The rows that these calls make. A line of the table `documents` has one of `WORDS` and its values, or a body."""
 
+    WORDS = "tell begin offer open change save close look example".split()
 
-def wrong(table):
-    """Notifications with something wrong in them, and after each one a way back: all ways in turn, since none asks what was wrong."""
-    table.begin("utf-16", standard=True, makesLate=True)
-    a, b = "file:///a", "file:///b"
-    table.opens(a, "abc", 5)
-    table.opens(b, "x\r\ny", -2147483648, "other")
-    table.opens(a, "again", 9)
-    table.changes("file:///A", 6, [(None, "no")])
-    table.changes(a, 4, [(None, "no")])
-    table.changes(a, 5, [(((0, 3), (0, 3)), "d")])
-    table.changes(a, 6, [])
-    table.changes(a, None, [(((0, 3), (0, 3)), "e")])
-    table.changes(a, 2, [(((0, 3), (0, 3)), "f")])
-    table.tell("textDocument/didChange", {"textDocument": {"uri": a}, "contentChanges": []})
-    table.saves("file:///c")
-    table.closes("file:///c")
-    for method in ["textDocument/willSave", "textDocument/didopen", "textDocument/didCloser", "textDocument", ""]:
-        table.tell(method, {"textDocument": {"uri": a, "languageId": "l", "version": 1, "text": ""}})
-    table.looks("file:///c", (0, 0))
-    table.saves(a)
-    table.saves(b, text=5)
-    table.saves(b, text="not taken: the text is known")
-    table.saves(b, text="x\r\ny")
-    item, ways = {"uri": a, "version": 7}, itertools.cycle(back(table, a))
-    at = lambda line, character: {"textDocument": item, "contentChanges": [{"text": "y", "range": {"start": {"line": line, "character": character}, "end": {"line": line, "character": character}}}]}
-    for method, params in [
-        ("didOpen", None), ("didOpen", []), ("didOpen", {}), ("didOpen", {"textDocument": 1}),
-        ("didOpen", {"textDocument": {"languageId": "l", "version": 1, "text": ""}}),
-        ("didOpen", {"textDocument": {"uri": 1, "languageId": "l", "version": 1, "text": ""}}),
-        ("didOpen", {"textDocument": {"uri": "u", "version": 1, "text": ""}}),
-        ("didOpen", {"textDocument": {"uri": a, "version": 1, "text": ""}}),
-        ("didOpen", {"textDocument": {"uri": a, "languageId": "l", "version": 2147483648, "text": ""}}),
-        ("didOpen", {"textDocument": {"uri": a, "languageId": "l", "version": 1.5, "text": ""}}),
-        ("didOpen", {"textDocument": {"uri": a, "languageId": "l", "version": 1}}),
-        ("didChange", {"contentChanges": []}), ("didChange", {"textDocument": {"uri": a, "version": "8"}, "contentChanges": []}),
-        ("didChange", {"textDocument": {"uri": a, "version": 2**31}, "contentChanges": [{"text": "whole"}]}),
-        ("didOpen", {"textDocument": {"uri": a, "languageId": None, "version": None, "text": "o"}}), ("didOpen", {"textDocument": {"uri": "u", "text": ""}}),
-        ("didChange", {"textDocument": item}), ("didChange", {"textDocument": item, "contentChanges": {}}),
-        ("didChange", {"textDocument": item, "contentChanges": [1]}),
-        ("didChange", {"textDocument": item, "contentChanges": [{"text": "x"}, {"range": SPAN}]}),
-        ("didChange", {"textDocument": item, "contentChanges": [{"text": "x"}, {"text": "y", "range": 1}]}),
-        ("didChange", {"textDocument": item, "contentChanges": [{"text": "y", "range": {"start": SPAN["start"]}}]}),
-        ("didChange", {"textDocument": item, "contentChanges": [{"text": "y", "range": {"start": {"line": 0}, "end": SPAN["end"]}}]}),
-        ("didChange", at(-1, 0)), ("didChange", at(0, -1)), ("didChange", at(0.5, 0)), ("didChange", at(0, 1.0)), ("didChange", at(2**32, 0)),
-        ("didChange", at(0, 2**53)), ("didChange", at(0, 2**64)), ("didChange", at(True, 0)), ("didChange", at(GREATEST, GREATEST)), ("didChange", at(2**31, 0)),
-        ("didSave", {}), ("didClose", {"textDocument": {}}), ("didClose", None),
-    ]:
-        table.opens(a, "abc", 5)
-        if not table.documents.is_known(b):
-            table.opens(b, "x\r\ny", 1, "other")
-        table.tell("textDocument/" + method, params)
-        table.changes(a, 8, [(((0, 1), (0, 1)), "-")])
-        next(ways)()
-    table.opens(a, "abc", 5)
-    table.tell("textDocument/didChange", {"textDocument": item, "contentChanges": [{"text": "w", "range": None}, {"text": "y", "range": SPAN, "rangeLength": 9}]})
-    # The same of a document whose text is lost, and of one that is not open.
-    others = [("didOpen", {"textDocument": {"uri": a}}), ("didChange", at(0.5, 0))]
-    for method, params in 2 * others:
-        table.tell("textDocument/" + method, params)
-    table.closes(a)
-    table.closes(a)
-    for method, params in others:
-        table.tell("textDocument/" + method, params)
-    table.changes(a, 8, [(((0, 0), (0, 0)), "no")])
-    table.changes(a, 8, [(((0, 0), (0, 0)), "-"), (None, "yes"), (((0, 9), (0, 9)), "!")])
-    table.changes(a, 9, [(((0, 4), (0, 4)), "!")])
-    table.opens(a, "anew", 1)
+    def __init__(self):
+        self.asked, self.documents = [], Documents("utf-16")
 
+    def take(self, line):
+        word, _, rest = line.partition(" ")
+        if word == "body":
+            self.lose(rest)
+        elif word in self.WORDS:
+            getattr(self, word)(*values(rest))
+        else:
+            misspelt(f"no line begins with `{word}`, but with one of: {', '.join(['body', *self.WORDS])}")
 
-def late(table):
-    """Bursts whose changes come out of order, by ranges and by whole texts in turn, and each way back (docs/DECISIONS.md)."""
-    a = "file:///a"
-    table.begin("utf-16")
-    bursts = [
-        [(1, [(((0, 3), (0, 3)), "1")]), (3, [(((0, 4), (0, 4)), "3")]), (2, [(((0, 4), (0, 4)), "2")])],
-        [(3, [(None, "three")]), (1, [(None, "one")]), (2, [(None, "two")])],
-        [(3, [(None, "three")]), (3, [(None, "3")]), (None, [(None, "none")]), (2, [(None, "two")])],
-    ]
-    for burst, way in zip(itertools.cycle(bursts), [lambda: table.changes(a, 4, [(None, "four")]), *back(table, a)]):
-        table.opens(a, "abc", 0)
-        for version, changes in burst:
-            table.changes(a, version, changes)
-        table.changes(a, 4, [(((0, 0), (0, 0)), "4")])
-        way()
-        table.changes(a, 5, [(((0, 0), (0, 0)), "5")])
-    # What else is missed lets versions begin anew.
-    table.opens(a, "abc", 7)
-    table.tell("textDocument/didChange", {"textDocument": {"uri": a}})
-    table.changes(a, 1, [(None, "whole")])
-    table.opens(a, "anew", 0)
-    table.changes(a, 1, [(((0, 0), (0, 0)), "-")])
+    def tell(self, method, params=None):
+        self.asked.append(json.dumps({"method": method, "params": params}, ensure_ascii=False, separators=(",", ":")))
+        self.documents.answers(self.asked[-1])
 
+    def begin(self, encoding, *flags):
+        self.offer(encoding, offered(encoding, **dict.fromkeys(flags, True)))
 
-HALF = '{"method":"textDocument/didChange","params":{"textDocument":{"uri":"file:///a","version":7},"contentChanges":[{"text":"\\ud83d"}]}}'
-BODIES = [HALF, HALF.replace("\\ud83d", "\\ude00"), HALF[:-2], "nothing"]
+    def offer(self, encoding, params):
+        """What a client offers in `initialize`, and the encoding that has to be agreed on."""
+        self.tell("initialize", params)
+        if self.documents.encoding != encoding:
+            misspelt(f"another encoding than {encoding}: {params}")
 
+    def open(self, uri, version, text, language="plain"):
+        self.tell("textDocument/didOpen", {"textDocument": {"uri": uri, "languageId": language, "version": version, "text": text}})
 
-def unread(table):
-    """Bodies that are no message, in turn, and each way back."""
-    table.begin("utf-16")
-    a, b = "file:///a", "file:///b"
-    table.loses(HALF)
-    for body, way in zip(itertools.cycle(BODIES), back(table, a)):
-        table.opens(a, "abc", 5)
-        table.opens(b, "x\r\ny", 1, "other")
-        table.loses(body)
-        table.looks(a, (0, 1))
-        table.loses(body)
-        way()
-        table.changes(b, 10, [(((0, 1), (0, 1)), "+")])
+    def change(self, uri, version, changes):
+        self.tell("textDocument/didChange", {"textDocument": {"uri": uri, "version": version}, "contentChanges": [*map(change_of, changes)]})
 
+    def lose(self, text):
+        """A body that is no message."""
+        if not is_unread(text):
+            misspelt(f"a message: {text}")
+        self.asked.append(text)
+        self.documents.answers(text)
 
-def unasked(table):
-    """Texts that come with saves and were not asked for, as Emacs sends the part that is shown (docs/DECISIONS.md)."""
-    a = "file:///a"
-    table.begin("utf-16", {"includeText": False})
-    table.opens(a, "a\nb\nc", 1)
-    table.saves(a, text="b")
-    table.saves(a)
-    table.changes(a, 2, [(((1, 0), (1, 0)), "+")])
-    table.tell("textDocument/didChange", {"textDocument": {"uri": a, "version": 3}})
-    table.saves(a, text="b")
-    table.changes(a, 4, [(((0, 0), (0, 0)), "-")])
-    table.looks(a, (0, 0))
-    table.changes(a, 5, [(None, "whole")])
-    table.saves(a, text="b")
-    table.saves("file:///c", text="b")
+    def save(self, uri, more=None):
+        self.tell("textDocument/didSave", {"textDocument": {"uri": uri}, **(more or {})})
 
+    def close(self, uri):
+        self.tell("textDocument/didClose", {"textDocument": {"uri": uri}})
 
-def paths(table):
-    """Documents by their paths: RFC 8089, RFC 3986, section 2.1. Editors leave other characters without an escape than `uri_of_path`."""
-    table.begin("utf-8")
-    for uri, version in [
-        ("file:///p/@types/a+b%20(1).sums", 1), ("file:///p/%c3%a9", 2), ("file:///p/%C3%89", 3), ("file://localhost/p/b", 4),
-        ("untitled:/p/u", 5), ("file://other/p/o", 6), ("file:///p/q?/p/q", 7), ("file:///p/%2", 8), ("/p/s", 9),
-    ]:
-        table.opens(uri, "", version)
-    for path in ["/p/@types/a+b (1).sums", "/p/\u00e9", "/p/\u00c9", "/p/b", "/p/u", "/p/o", "/p/q", "/p/%2", "/p/s", "p/b", "", "/"]:
-        table.tell("path", path)
-    table.opens("file:///p/%62", "", 10)
-    table.tell("path", "/p/b")
-    table.tell("textDocument/didChange", {"textDocument": {"uri": "file:///p/%62"}})
-    table.tell("path", "/p/b")
-    table.closes("file://localhost/p/b")
-    table.tell("path", "/p/b")
+    def look(self, uri, *positions):
+        """At what is known, and at these positions of a document."""
+        self.tell("known")
+        for line, character in positions:
+            self.tell("place", {"uri": uri, "position": {"line": line, "character": character}})
 
-
-def copies(table):
-    """Copies of documents that change, are lost and are closed behind them."""
-    table.begin("utf-16")
-    a, b, c = "file:///a", "file:///b", "file:///c"
-    table.tell("keep", None)
-    table.opens(a, "a\nb", 1)
-    table.opens(b, "b", 1, "other")
-    table.opens(c, "c", 1)
-    table.tell("keep", None)
-    table.changes(a, 2, [(((1, 1), (1, 1)), "+"), (((0, 0), (0, 1)), "")])
-    table.changes(a, 3, [(((1, 0), (1, 1)), "-")])
-    table.tell("kept", None)
-    table.changes(b, 2, [(None, "whole")])
-    table.tell("textDocument/didChange", {"textDocument": {"uri": a}})
-    table.closes(c)
-    table.tell("kept", None)
-    table.saves(a, text="saved")
-    table.looks(a, (0, 5))
-    table.tell("keep", None)
-    table.changes(b, 3, [(((0, 0), (0, 5)), "")])
-    table.tell("kept", None)
-
-
-def large(table):
-    """Texts and notifications past any size at which a server might give up: LSP 3.17 has no such size."""
-    for encoding in ["utf-16", "utf-8"]:
-        table.begin(encoding)
-        for uri, text, count in [("l", "0123456789abcde\n", 131072), ("l", "\u00e9\U00010400", 350000), ("s", "", 0)]:
-            table.tell("long", {"uri": uri, "text": text, "count": count})
-        for uri, text, count in [("s", "a\n", 1200), ("s", "\u00e9", 1200), ("l", "x", 3)]:
-            table.tell("often", {"uri": uri, "text": text, "count": count})
+    def example(self, encoding, text, changes=()):
+        """A text and its changes, in both ways of ending lines where they differ."""
+        for flags in [[], ["standard"]][: 1 + ("\\r" in json.dumps([text, changes]))]:
+            self.begin(encoding, *flags)
+            self.open("u", 1, text)
+            if changes:
+                self.change("u", 2, changes)
+            self.look("u", (0, 2), (0, 3), (1, 1), (GREATEST, 0))
 
 
 LETTERS = ["a", "b", " ", "\n", "\r", "\r\n", "\n", "\u00e9", "\u00df", "e\u0301", "\u6f22", "\uffff", "\U0001F600",
@@ -640,65 +447,51 @@ def some_changes(source, text, counting):
     """Changes of one notification, each made for what the one before it leaves."""
     changes = []
     for _ in range(source.choice([1, 1, 1, 2, 3, 5])):
-        span = None
-        if source.random() < 0.95:
-            span = (some_position(source, text, counting), some_position(source, text, counting))
-        changes.append((span, some_text(source, 5)))
-        text = edited(text, *changes[-1], counting)
+        is_whole = source.random() >= 0.95
+        span = None if is_whole else [some_position(source, text, counting) for _ in range(2)]
+        new = some_text(source, 5)
+        changes.append(new if is_whole else [*span[0], *span[1], new])
+        text = edited(text, span, new, counting)
     return changes
 
 
 def session(table, source, count):
     """Opens, changes, saves and closes of several documents, one in eight of them wrong."""
     encoding = source.choice(["utf-16", "utf-16", "utf-8", "utf-32"])
-    table.begin(encoding, standard=source.random() < 0.5, makesLate=source.random() < 0.5)
+    table.offer(encoding, offered(encoding, standard=source.random() < 0.5, makesLate=source.random() < 0.5))
     counting = table.documents.counting
     for _ in range(count):
         uri = source.choice(URIS)
         held = table.documents.open.get(uri)
         if source.random() < 0.1:
             text = held[2] if held else None
-            table.looks(uri, some_position(source, text or "", counting))
+            table.look(uri, some_position(source, text or "", counting))
         kind = source.random()
         if held and source.random() < 0.06:
             name = uri if source.random() < 0.8 else None
             table.tell("textDocument/didChange", {"textDocument": {"uri": name, "version": 1}, "contentChanges": [{"text": None}]})
         elif held and held[2] is None and source.random() < 0.4:
             if source.random() < 0.5:
-                table.saves(uri, text=some_text(source, 14))
+                table.save(uri, {"text": some_text(source, 14)})
             else:
-                table.changes(uri, 4, [(None, some_text(source, 14))] + some_changes(source, "", counting))
+                table.change(uri, 4, [some_text(source, 14), *some_changes(source, "", counting)])
         elif (held is None) == (source.random() < 0.9):
-            table.opens(uri, some_text(source, 14), source.choice([None, -2, -1, 0, 1, 2, 3]))
+            table.open(uri, text=some_text(source, 14), version=source.choice([None, -2, -1, 0, 1, 2, 3]))
         elif kind < 0.08:
-            table.saves(uri)
+            table.save(uri)
         elif kind < 0.2:
-            table.closes(uri)
+            table.close(uri)
         else:
             version, _, text = held or (0, "", "")
             next_version = None if source.random() < 0.05 else (version or 0) + source.choice([1, 1, 1, 2, 0, -1])
-            table.changes(uri, next_version, some_changes(source, text or "", counting))
+            table.change(uri, next_version, some_changes(source, text or "", counting))
 
 
 def rows(seed, sessions):
     table, source = Table(), random.Random(seed)
-    for encoding, text, changes in FIXED:
-        # Both ways of ending lines, where they differ.
-        for more in [{}, {"standard": True}][: 1 + ("\\r" in json.dumps([text, changes]))]:
-            table.begin(encoding, **more)
-            table.opens("u", text)
-            if changes:
-                table.changes("u", 2, changes)
-            table.looks("u", (0, 2), (0, 3), (1, 1), (GREATEST, 0))
-    for params, encoding in OFFERS:
-        table.begin(encoding, {} if params is None else params)
-    wrong(table)
-    late(table)
-    unread(table)
-    unasked(table)
-    paths(table)
-    copies(table)
-    large(table)
+    for where, line in table_of("documents"):
+        with at(where):
+            table.take(line)
     for _ in range(sessions):
         session(table, source, 24)
     return [f"document {it}" for it in table.asked]
