@@ -11,7 +11,7 @@ from jobs import SCRIPT, job_answer, known, pool_answer
 from listed import ABORTED, Boxes
 from rules import (
     AT_END, GREATEST, STREAMS, Echo, Unwoken, answer, body_answer, escape, frame, framed, limit_in, pumped, relay_answers,
-    served_tolerantly, shown, text_of, waker_answers, written_by,
+    served, shown, text_of, waker_answers, written_by,
 )
 from tables import HERE, at, misspelt, table_of
 
@@ -49,7 +49,7 @@ def over_answer(call, device, count, data, waiting):
 
 def passes_answer(call, data):
     """What a session comes to that passes over content parts which are no messages, and how many of each kind there were."""
-    end, sent, counts = served_tolerantly(Echo() if call == "session" else Unwoken(), data, False, GREATEST)
+    end, sent, counts = served(Echo() if call == "session" else Unwoken(), data, False, GREATEST, True)
     return f"{end}; wrote {shown(b''.join(map(frame, sent)))}; passed {' '.join(map(str, counts))}"
 
 

@@ -6,7 +6,9 @@ library of this repository."""
 import json
 import random
 
-from rules import AT_END, AT_WRONG_TIME, CANCELED, ENDED, GREATEST, OF_BODY, Talker, beginning, debug_message, frame, in_order, is_id, is_note, is_request, limit_in, ordered, read, shown
+from rules import (
+    AT_END, CANCELED, ENDED, GREATEST, OF_BODY, Session, Talker, frame, in_order, is_id, is_note, limit_in, ordered, reads, shown
+)
 from tables import misspelt
 
 # The tokens that the params of a job in a pool by hand have.
@@ -330,18 +332,18 @@ class Working(Talker):
         return []
 
 
-class JobSession:
+class JobSession(Session):
     """A client, a server with jobs, a thread that writes and the workers, each of which takes steps."""
 
     def __init__(self, reads, pauses, pool, room, passes):
         # How many content parts of each kind are passed over, if that is asked.
         self.passed = dict.fromkeys(OF_BODY, 0) if passes else {}
         # What the reads give, each with the place behind it.
-        self.reads, self.pauses, self.at, self.room = iter(reads), list(pauses), 0, room
+        self.reads, self.pauses, self.at = iter(reads), list(pauses), 0
         self.pool = Pool(*pool, self.wake)
-        self.server, self.state, self.end = Working(self.pool.unanswered), "new", None
-        # What comes to the server: messages, faults and wakes. What goes to the writer, and what it wrote.
-        self.queue, self.outbox, self.written = [], [], b""
+        super().__init__(Working(self.pool.unanswered), room)
+        # What comes to the server: messages, faults and wakes. What goes to the writer, which has room for so many bytes, and what it wrote.
+        self.queue, self.outbox, self.written, self.end = [], [], b"", None
         self.is_failed, self.is_read, self.pending, self.finished = False, False, set(), ""
 
     def wake(self):
@@ -383,6 +385,9 @@ class JobSession:
     def send(self, message):
         self.outbox.append(frame(message))
 
+    def sends(self, messages):
+        self.outbox += map(frame, messages)
+
     def act(self, messages):
         """What a server does is sent. A reply counts once, and then no job is awaited for its request."""
         for it in messages:
@@ -422,41 +427,24 @@ class JobSession:
 
     def serve_next(self):
         came = self.queue.pop(0)
-        if came == "wake" and self.state == "open" and (job := self.pool.unneeded()):
-            return self.send({"method": "$/cancelRequest", "params": {"id": self.server.asked.index(job)}})
-        if came == "wake":
-            said = self.pool.message() if self.state == "open" else None
-            return self.hear(*said) if said else None
-        if self.state == "open" and self.may_pass(came):
+        if isinstance(came, dict):
+            self.end = self.hears(came)
+        elif came == "wake":
+            if self.state == "open":
+                self.woken()
+        elif self.state == "open" and self.may_pass(came):
             self.passed[came] += 1
-            return None
-        if isinstance(came, int) or came == "end":
-            self.end = AT_END[self.state] if came == "end" else f"read fault {came}"
-            return None
-        if self.state == "new" and is_request(came, "initialize"):
-            self.send({"id": came["id"], "result": {"capabilities": {}}})
-            self.state = "asked"
-        elif self.state == "asked" and is_note(came, "initialized"):
-            self.state = "open"
-            self.act(self.server.opened())
-        elif self.state == "open" and is_note(came, "exit"):
-            self.end = "closed"
-        elif self.state == "open" and is_request(came, "shutdown"):
-            self.part(came["id"])
-            self.send({"id": came["id"], "result": None})
-            self.state = "ending"
-        elif self.state == "ending" and is_note(came, "exit"):
-            self.end = "shut down"
-        elif self.state == "ending" and "method" not in came:
-            # An answer to a request of the server's own that crossed `shutdown` is passed over.
-            pass
-        elif self.state == "open":
-            self.work(came)
         else:
-            self.end = AT_WRONG_TIME[self.state] + beginning(debug_message(came))
-        return None
+            self.end = AT_END[self.state] if came == "end" else f"read fault {came}"
 
-    def part(self, name):
+    def woken(self):
+        """A request that a job sent and does not need any more is cancelled. Otherwise the server takes a message of a job."""
+        if job := self.pool.unneeded():
+            self.send({"method": "$/cancelRequest", "params": {"id": self.server.asked.index(job)}})
+        elif said := self.pool.message():
+            self.hear(*said)
+
+    def parts(self, name):
         """All jobs are forgotten. The server does its last acts, and each request that has no reply yet gets its error."""
         for it in list(self.pool.table):
             self.pool.forget(it)
@@ -466,7 +454,7 @@ class JobSession:
             self.send({"id": it, "error": ENDED})
         self.pending = set()
 
-    def work(self, came):
+    def works(self, came):
         cancels = is_note(came, "$/cancelRequest") and came["params"]["id"]
         if cancels is not False:
             self.pool.forget(cancels)
@@ -632,11 +620,10 @@ def pool_size(word):
 
 def reads_of(data, limit):
     """What reads give up to `exit`, the end or a fault that ends each session, and where each ends."""
-    at, came = 0, None
-    while came is None or (came in OF_BODY if not isinstance(came, dict) else not is_note(came, "exit")):
-        came, left = read(data[at:], limit)
-        at = len(data) - len(left)
-        yield came, at
+    for came, left in reads(data, limit):
+        yield came, len(data) - len(left)
+        if is_note(came, "exit") if isinstance(came, dict) else came not in OF_BODY:
+            return
 
 
 def job_answer(words, data, pauses):

@@ -250,8 +250,8 @@ def read_text(came):
 def read_answer(data, breaks, unread, limit, kind="BrokenPipe"):
     """What one read gives of these bytes, behind which the reader may fail by an error of this kind, and what it leaves of them and of
     the unread ones."""
-    came, left = read(data, limit)
-    if is_cut(came, left, breaks):
+    came, left = next(reads(data, limit, breaks))
+    if came == 1:
         return f"read fault 1 by {kind}; left {escape(unread)}"
     return f"{read_text(came)}; left {escape(left + unread)}"
 
@@ -372,12 +372,8 @@ class Echo:
 
 
 # The error for a request that a server still holds when `shutdown` comes: RequestCancelled (LSP 3.17, "Implementation Considerations").
+# Which of several requests gets its error first no standard says. Here they have the order of `in_order`.
 ENDED = {"code": -32800, "message": "canceled by shutdown"}
-
-
-def in_order(names):
-    """Ids, numbers before texts. Which of several requests gets its error first no standard says."""
-    return sorted(names, key=lambda it: (isinstance(it, str), it))
 
 
 # What has to be in the place of another value.
@@ -552,12 +548,19 @@ class Session:
             return "closed"
         if is_request(came, "shutdown"):
             self.state = "ending"
-            end = self.sends(self.server.parts(came["id"]))
+            end = self.parts(came["id"])
             if end:
                 return end
             # That the reply could not be sent is passed over.
             self.sends([{"id": came["id"], "result": None}])
             return None
+        return self.works(came)
+
+    def parts(self, name):
+        """What is sent before the reply to the `shutdown` with this id."""
+        return self.sends(self.server.parts(name))
+
+    def works(self, came):
         return self.sends(self.server.heard(came))
 
 
@@ -567,106 +570,74 @@ def too_early(came):
     return {"id": came["id"], "error": {"code": -32002, "message": AT_WRONG_TIME["new"] + beginning(shown)}}
 
 
-def served(server, data, breaks, limit):
-    """What a session of a server with no capabilities says at its end, and the messages that it sends for these bytes.
-
-    `breaks` says whether the reader fails behind them; else they end. Each reply is there before the next read.
-    """
-    end, session = run_of(server, data, breaks, limit, None)
-    return end, session.sent
-
-
 # Faults of a content part that is no message: not UTF-8, no JSON, no message, a list.
 OF_BODY = [8, 9, 10, 13]
 
 
-def served_tolerantly(server, data, breaks, limit, room=GREATEST):
-    """The same where content parts that are no messages are passed over, and how many of each kind there were. There is room for so many
-    messages."""
-    counts = dict.fromkeys(OF_BODY, 0)
-    end, session = run_of(server, data, breaks, limit, counts, room)
-    return end, session.sent, list(counts.values())
-
-
-def is_cut(came, data, breaks):
-    """Whether a reader that fails behind what was read fails here: a frame is not whole. The failure comes before its end does."""
-    return breaks and not data and not isinstance(came, dict) and came not in OF_BODY
-
-
-def run_of(server, data, breaks, limit, counts, room=GREATEST):
-    session = Session(server, room)
+def reads(data, limit=GREATEST, breaks=False):
+    """What each read gives, and what is left after it. `breaks` says whether the reader fails after these bytes; otherwise they end. Then
+    each read that has no whole frame fails, before the end does."""
     while True:
         came, data = read(data, limit)
-        if is_cut(came, data, breaks):
-            return "read fault 1", session
-        if came == "end":
-            return AT_END[session.state], session
-        if counts and came in OF_BODY and session.state == "open":
+        is_cut = breaks and not data and not isinstance(came, dict) and came not in OF_BODY
+        yield (1 if is_cut else came), data
+
+
+def messages_of(data, limit=GREATEST, breaks=False, room=GREATEST):
+    """The messages up to and with an `exit`, as far as there is room for them, what comes then, and what is left."""
+    messages = []
+    for came, left in reads(data, limit, breaks):
+        if not isinstance(came, dict):
+            return messages, came, left
+        if len(messages) == room:
+            return messages, "closed", left
+        messages.append(came)
+        if is_note(came, "exit"):
+            return messages, "exit", left
+
+
+def served(server, data, breaks, limit, passes=False, room=GREATEST):
+    """What a session of a server with no capabilities says at its end, the messages that it sends for these bytes, and how many content
+    parts of each kind are no messages, if it passes over them. Each reply is there before the next read."""
+    session, counts = Session(server, room), dict.fromkeys(OF_BODY, 0)
+    for came, _ in reads(data, limit, breaks):
+        if isinstance(came, dict):
+            end = session.hears(came)
+        elif passes and came in OF_BODY and session.state == "open":
             counts[came] += 1
-        elif isinstance(came, int):
-            return "out of memory" if came == 11 else f"read fault {came}", session
-        # (what is passed over wakes the server)
-        end = session.hears(came) if isinstance(came, dict) else session.sends(server.woken())
+            # (what is passed over wakes the server)
+            end = session.sends(server.woken())
+        else:
+            end = AT_END[session.state] if came == "end" else "out of memory" if came == 11 else f"read fault {came}"
         if end:
-            return end, session
+            return end, session.sent, list(counts.values())
 
 
 def pumped(data, breaks, limit):
     """What passing these messages on says, and the messages that it sends."""
-    sent = []
-    while True:
-        came, data = read(data, limit)
-        if is_cut(came, data, breaks):
-            return "read fault 1", sent
-        if came == "end":
-            return "passed on", sent
-        if isinstance(came, int):
-            return f"read fault {came}", sent
-        sent.append(came)
-        if is_note(came, "exit"):
-            return "passed on", sent
+    sent, end, _ = messages_of(data, limit, breaks)
+    return f"read fault {end}" if isinstance(end, int) else "passed on", sent
 
 
 STREAMS = {
-    "session": lambda *words: served(Echo(), *words),
-    "speaks": lambda *words: served(Talker(), *words),
-    "line": lambda *words: served(Talker(), *words),
-    "tolerant": lambda data, breaks, limit: served_tolerantly(Talker() if limit == GREATEST else Unwoken(), data, breaks, limit)[:2],
+    "session": lambda *words: served(Echo(), *words)[:2],
+    "speaks": lambda *words: served(Talker(), *words)[:2],
+    "line": lambda *words: served(Talker(), *words)[:2],
+    "tolerant": lambda data, breaks, limit: served(Talker() if limit == GREATEST else Unwoken(), data, breaks, limit, True)[:2],
     "pump": pumped,
     "burst": pumped,
 }
 
 
-def messages_of(data):
-    """The messages that come of these bytes, up to and with an `exit`, and what comes then."""
-    messages = []
-    while True:
-        came, data = read(data)
-        if not isinstance(came, dict):
-            return messages, came
-        messages.append(came)
-        if is_note(came, "exit"):
-            return messages, "exit"
-
-
 def inbox_answer(data):
-    messages, end = messages_of(data)
+    messages, end, _ = messages_of(data)
     return f"{''.join(map(text_of, messages))} Some({debug_end(end)}), closed true"
 
 
 def loop_answer(data, breaks, unread, limit, room):
     """What a loop hands on to an outbox with so much room, how it ends, and how many bytes it leaves."""
-    texts = []
-    while True:
-        came, data = read(data, limit)
-        came = 1 if is_cut(came, data, breaks) else came
-        if isinstance(came, dict):
-            end = "closed" if len(texts) == room else "exit" if is_note(came, "exit") else None
-            texts += [text_of(came)] if end != "closed" else []
-        else:
-            end = came
-        if end:
-            return f"{debug_end(end)}; sent {''.join(texts)}; left {len(data + unread)}"
+    messages, end, left = messages_of(data, limit, breaks, room)
+    return f"{debug_end(end)}; sent {''.join(map(text_of, messages))}; left {len(left + unread)}"
 
 
 def frames_answer(data, room, bad_flush, kind):
@@ -684,15 +655,15 @@ def write_answer(data, *words):
 def outbox_answer(data, room, bad_flush, kind):
     """Each message is written and flushed, up to the first that fails, which comes back, as all behind it do."""
     texts, written, flushes, fault = [], b"", 0, "None"
-    came, data = read(data)
-    while isinstance(came, dict):
+    for came, _ in reads(data):
+        if not isinstance(came, dict):
+            break
         if fault == "None":
             written += frame(came)
             flushes += len(written) <= room
             if len(written) > room or flushes == bad_flush:
                 fault, written = f"Some(Output({kind}))", written[:room]
         texts.append("taken, " if fault == "None" else f"{text_of(came)} back, ")
-        came, data = read(data)
     return f"{''.join(texts)}{fault}; wrote {shown(written)}, {flushes} flushes"
 
 
@@ -749,7 +720,7 @@ def answer(call, device, count, data, is_at_once, kind="BrokenPipe"):
     writes = f", in {len(frames)} writes" if call == "burst" else ""
     if call == "tolerant" and device not in ("limits", "headers"):
         whole = sum(len(b"".join(frames[: it + 1])) <= len(written) for it in range(len(frames)))
-        counts = served_tolerantly(Talker(), data, breaks, limit, whole if whole < len(frames) else GREATEST)[2]
+        counts = served(Talker(), data, breaks, limit, True, whole if whole < len(frames) else GREATEST)[2]
         return f"{end}; wrote {shown(written)}; passed {' '.join(map(str, counts))}"
     return f"{end}; wrote {shown(written)}{writes}"
 
