@@ -15,6 +15,7 @@ import metamodel
 from documents import Counting, agreed, place
 from members import declared
 from rules import NOT_FOUND, is_whole, misfits_of, ordered
+from tables import at, table_of
 
 
 class Misfit(ValueError):
@@ -276,85 +277,50 @@ def is_fit(how, value):
     return True
 
 
-# Types of which there are rows with all members, with those alone that have to be there, and without each of these.
-WHOLE = (
-    "InitializeParams DidOpenTextDocumentParams DidChangeTextDocumentParams WillSaveTextDocumentParams DidSaveTextDocumentParams "
-    "DidCloseTextDocumentParams TextDocumentParams TextDocumentPositionParams TextDocumentRangeParams InlayHintParams ReferenceParams "
-    "CodeActionParams CodeAction Command RenameParams DocumentFormattingParams DocumentRangeFormattingParams "
-    "ExecuteCommandParams ApplyWorkspaceEditParams ApplyWorkspaceEditResult Hover CompletionList CompletionItem SignatureHelp Location "
-    "SemanticTokens InlayHint WorkspaceSymbolParams WorkspaceSymbol PublishDiagnosticsParams ShowMessageParams ConfigurationParams "
-    "WorkDoneProgressParams WorkDoneProgressCreateParams "
-    "LocationLink HoverParams DefinitionParams CompletionParams SignatureHelpParams DocumentOnTypeFormattingParams "
-    "DidChangeWorkspaceFoldersParams DidChangeConfigurationParams DidChangeWatchedFilesParams ShowMessageRequestParams MessageActionItem "
-    "ShowDocumentParams ShowDocumentResult SetTraceParams LogTraceParams CancelParams RegistrationParams UnregistrationParams "
-    "DocumentHighlight FoldingRange SelectionRangeParams LinkedEditingRanges Moniker CodeLens DocumentLink CallHierarchyItem "
-    "CallHierarchyIncomingCallsParams CallHierarchyIncomingCall CallHierarchyOutgoingCall ColorInformation ColorPresentationParams "
-    "ColorPresentation InlineValueParams SemanticTokensDeltaParams DocumentDiagnosticParams WorkspaceDiagnosticParams "
-    "WorkspaceDiagnosticReport DiagnosticServerCancellationData CreateFilesParams RenameFilesParams FileOperationOptions "
-    "DidChangeWatchedFilesRegistrationOptions DidOpenNotebookDocumentParams DidChangeNotebookDocumentParams DidSaveNotebookDocumentParams "
-    "DidCloseNotebookDocumentParams InitializeResult"
-)
+# The words of the table `types` that stand for several rows.
 
 
-SAMPLE = {"start": {"line": 1, "character": 2}, "end": {"line": 3, "character": 4}}
+def row(name, value):
+    return f"typed {name} {ordered(value)}"
 
 
-def within(part, levels):
-    """A part of so many levels (LSP 3.17, "SelectionRange")."""
-    return {"range": part, "parent": within(part, levels - 1)} if levels > 1 else {"range": part}
+def whole_rows(name):
+    """A type with all members, with those alone that have to be there, and without each of these."""
+    whole = sample(name, "")
+    needed = [it for it in TYPES[how_of(name)] if not it.endswith("?")]
+    yield row(name, whole)
+    if len(needed) < len(whole):
+        yield row(name, {it: whole[it] for it in needed})
+    for left_out in needed:
+        yield row(name, {it: whole[it] for it in needed if it != left_out})
 
 
-def rows():
-    """Each of these types whole, at the least, and too little."""
-    yield "# Types with all members, with those that have to be there, and without one of them."
-    for name in WHOLE.split():
-        whole = sample(name, "")
-        needed = [it for it in TYPES[how_of(name)] if not it.endswith("?")]
-        yield f"typed {name} {ordered(whole)}"
-        if len(needed) < len(whole):
-            yield f"typed {name} {ordered({it: whole[it] for it in needed})}"
-        for left_out in needed:
-            yield f"typed {name} {ordered({it: whole[it] for it in needed if it != left_out})}"
-    yield "# Types with several forms."
+def form_rows(_):
+    """Each type with several forms in each of them, and as an object without members."""
     for name in sorted(CHOICES.keys() - INSIDE):
-        for way in CHOICES[name]:
-            yield f"typed {name} {ordered(sample(way, 'a'))}"
-        yield f"typed {name} {{}}"
-    for parent in [None, {"range": 5}, [], {"range": SAMPLE, "parent": {"range": SAMPLE, "parent": None}}]:
-        yield f"typed SelectionRange {ordered({'range': SAMPLE, 'parent': parent})}"
-    yield "typed SelectionRange {}"
-    yield f"typed SelectionRange {ordered(within(SAMPLE, 99))}"
-    yield "# What the standard does not name comes back, and that alone: a member that may be null does not."
-    for name in KEPT[:-2] + KEPT[-1:]:
+        yield from (row(name, sample(way, "a")) for way in CHOICES[name])
+        yield row(name, {})
+
+
+def kept_rows(_):
+    """Each type that keeps what the standard does not name, with other members."""
+    for name in sorted({*KEPT} - {"ServerCapabilities"}):
         whole = sample(name, "")
         needed = {it: whole[it] for it in TYPES[name] if not it.endswith("?")}
         for more in [{"zz": None, "a": {"data": [1, None]}}, {"Data": 1, "data ": 2, "": 3}, {"data": None, "more": {"data": 1}}]:
-            yield f"typed {name} {ordered({**needed, **more})}"
-        yield f"typed {name} {ordered({**whole, 'tooltips': 'é'})}"
-    yield "# What a server can do, in each form."
-    server = [{}, {"zz": None, "inlineCompletionProvider": True}, {"textDocumentSync": 1}, {"textDocumentSync": 3}, {"textDocumentSync": True}]
-    server += [{"textDocumentSync": {"change": 0, "save": it}} for it in [True, False, {}, {"includeText": True}, 1]]
-    server += [{"hoverProvider": it, "renameProvider": it, "codeActionProvider": it} for it in [True, False, None, {}, {"workDoneProgress": True}]]
-    server += [{name: it} for name in ["hoverProvider", "renameProvider"] for it in [1, "true", []]]
-    legend = {"tokenTypes": ["a"], "tokenModifiers": []}
-    server += [{"semanticTokensProvider": {"legend": legend, "range": it, "full": it}} for it in [True, False, {}, {"delta": True}, 1]]
-    server += [{"workspace": {"workspaceFolders": {"changeNotifications": it}}} for it in [True, "a", 1]]
-    for can in server:
-        yield f"typed InitializeResult {ordered({'capabilities': can})}"
-    yield """typed Note {"range":{"start":{"line":1,"character":2},"end":{"line":3,"character":4}},"text":"a"}"""
-    yield """typed Note {"text":"a"}"""
-    yield "# Acts by methods: params that fit, a line of 0, a key that is missing, one of another type, and a method of another kind."
-    place = {"textDocument": {"uri": "file:///a"}, "position": {"line": 3, "character": 4}}
-    for method in ["textDocument/didClose", *ACTS, "textDocument/rename"]:
-        for params in [place, {**place, "position": {"line": 0, "character": 4}}, {"textDocument": {"uri": 5}}, {"position": place["position"]}]:
-            id = {} if method == "textDocument/didClose" else {"id": 1}
-            yield f"method {ordered({**id, 'method': method, 'params': params})}"
-    yield "# A client that can be asked for its configuration, and others."
-    for client in [{"workspace": {"configuration": True}}, {"workspace": {"configuration": False}}, {}, None]:
-        for reply, settings in [([7], {"lines": 5}), ([None], {"lines": None}), ([], {}), (["x"], None), (None, {"lines": -1}), ({}, [])]:
-            yield f"configuration {ordered({'client': client, 'reply': reply, 'settings': settings})}"
-        for changed in [{"settings": {"lines": 6}}, {"settings": {"lines": "6"}}, {"settings": {"a": 6}}, {"settings": None}, {"lines": 6}, []]:
-            yield f"configuration {ordered({'client': client, 'changed': changed})}"
+            yield row(name, {**needed, **more})
+        yield row(name, {**whole, "tooltips": "é"})
+
+
+MADE = {"whole": whole_rows, "forms": form_rows, "kept": kept_rows}
+
+
+def rows():
+    """The rows of the table, each with its place there."""
+    for place, line in table_of("types"):
+        word, _, name = line.partition(" ")
+        with at(place):
+            yield from ((place, it) for it in (MADE[word](name) if word in MADE else [line]))
 
 
 # The members and the forms that some row has read.
