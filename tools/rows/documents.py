@@ -7,8 +7,9 @@ docs/DECISIONS.md says where they are silent; it was never made to follow the pr
 import json
 import random
 import re
-from urllib.parse import unquote
+from urllib.parse import unquote_to_bytes
 
+from rules import is_whole, meaning
 from tables import at, misspelt, table_of
 
 UNITS = {
@@ -130,25 +131,28 @@ def agreed(params):
 
 def version_member(item):
     """A version. None may be given, and any other value is none (docs/DECISIONS.md)."""
-    version = item.get("version")
-    return version if whole(version, -(2**31), 2**31 - 1) else None
+    return item["version"] if is_whole(item.get("version")) else None
 
 
 def is_unread(text):
-    """Whether a body is no message: it is no JSON, or a string in it has half of a surrogate pair, which no Unicode text has."""
+    """Whether a body is no JSON, which one with half of a surrogate pair is neither. Any other row of a document has to have a method."""
+    return meaning(text.encode()) in (8, 9)
+
+
+def path_of(uri):
+    """The path that a `file:` URI names (RFC 8089), in which an escape stands for its byte (RFC 3986, section 2.1), or why it names none."""
+    found = re.fullmatch("file://(?:localhost)?(/.*)", uri)
+    if not found:
+        return None, "Host" if uri.startswith("file://") else "NotFile"
+    if "?" in found[1] or "#" in found[1]:
+        return None, "Query"
+    if re.search("%(?![0-9A-Fa-f]{2})", found[1]):
+        return None, "Escape"
+    path = unquote_to_bytes(found[1])
     try:
-        json.dumps(json.loads(text), ensure_ascii=False).encode("utf-8")
-    except ValueError:
-        return True
-    return False
-
-
-def path_named(uri):
-    """The path that a `file:` URI names (RFC 8089), if it names one: an escape stands for its byte (RFC 3986, section 2.1)."""
-    found = re.fullmatch("file://(?:localhost)?(/[^?#]*)", uri)
-    if not found or re.search("%(?![0-9A-Fa-f]{2})", found[1]):
-        return None
-    return unquote(found[1])
+        return (None, "Nul") if b"\0" in path else (path.decode(), None)
+    except UnicodeDecodeError:
+        return None, "NotUtf8"
 
 
 class Documents:
@@ -216,7 +220,7 @@ class Documents:
 
     def at_path(self, path):
         """The first document whose URI names a path, and its version."""
-        named = [it for it in self.open if self.is_known(it) and path_named(it) == path]
+        named = [it for it in self.open if self.is_known(it) and path_of(it)[0] == path]
         if not named:
             return "no document"
         uri = min(named, key=lambda it: it.encode())

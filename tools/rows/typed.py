@@ -8,11 +8,11 @@ import json
 import re
 import sys
 from pathlib import Path
-from urllib.parse import quote, unquote_to_bytes
+from urllib.parse import quote
 
 sys.path.append(str(Path(__file__).resolve().parent.parent))
 import metamodel
-from documents import Counting, agreed, place
+from documents import Counting, agreed, path_of, place
 from members import declared
 from rules import NOT_FOUND, is_whole, misfits_of, ordered
 from tables import at, table_of
@@ -592,29 +592,14 @@ def uri_answer(text):
 
 def path_answer(uri):
     """The same, back."""
-    if not uri.startswith("file://"):
-        return ["NotFile"]
-    found = re.fullmatch("file://(?:localhost)?(/.*)", uri)
-    if not found:
-        return ["Host"]
-    path = found[1]
-    if "?" in path or "#" in path:
-        return ["Query"]
-    if re.search("%(?![0-9A-Fa-f]{2})", path):
-        return ["Escape"]
-    named = unquote_to_bytes(path)
-    if b"\0" in named:
-        return ["Nul"]
-    try:
-        return [quoted(named.decode())]
-    except UnicodeDecodeError:
-        return ["NotUtf8"]
+    path, fault = path_of(uri)
+    return [fault or quoted(path)]
 
 
 def names_answer(rest):
     """RFC 3986, section 2.3 and 6.2.2: URIs that differ in their escapes alone name the same."""
     uri, _, path = rest.partition(" ")
-    return ["true" if path_answer(uri) == [quoted(json.loads(path))] else "false"]
+    return ["true" if path_of(uri)[0] == json.loads(path) else "false"]
 
 
 def folders_answer(text):
@@ -622,8 +607,7 @@ def folders_answer(text):
     params = json.loads(text)
     folders, root = params.get("workspaceFolders"), params.get("rootUri")
     uris = [it["uri"] for it in folders] if folders is not None else [root] * (root is not None)
-    named = [path_answer(uri)[0] for uri in uris]
-    return [ordered([json.loads(it) for it in named if it.startswith('"')])]
+    return [ordered([path for path, fault in map(path_of, uris) if not fault])]
 
 
 def tokens_answer(text):
