@@ -165,7 +165,7 @@ def bytes_of(parts, names):
 
 
 def part(text, names):
-    """The bytes of a part of a text: of a name, of what is no message, or of a message, whose script of a job has to have known words."""
+    """The bytes of a part of a text: a name, what is no message, or a message. The script of a job has to have known words."""
     word, _, rest = text.partition(" ")
     if word in names:
         return bytes_of(names[word].replace("%", rest), names)

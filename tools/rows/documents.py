@@ -140,7 +140,7 @@ def is_unread(text):
 
 
 def path_of(uri):
-    """The path that a `file:` URI names (RFC 8089), in which an escape stands for its byte (RFC 3986, section 2.1), or why it names none."""
+    """The path that a `file:` URI names (RFC 8089), and why it names none. An escape is its byte (RFC 3986, section 2.1)."""
     found = re.fullmatch("file://(?:localhost)?(/.*)", uri)
     if not found:
         return None, "Host" if uri.startswith("file://") else "NotFile"
@@ -398,7 +398,8 @@ class Table:
         self.tell("textDocument/didOpen", {"textDocument": {"uri": uri, "languageId": language, "version": version, "text": text}})
 
     def change(self, uri, version, changes):
-        self.tell("textDocument/didChange", {"textDocument": {"uri": uri, "version": version}, "contentChanges": [*map(change_of, changes)]})
+        item = {"uri": uri, "version": version}
+        self.tell("textDocument/didChange", {"textDocument": item, "contentChanges": [*map(change_of, changes)]})
 
     def lose(self, text):
         """A body that is no message."""

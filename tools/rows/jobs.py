@@ -342,7 +342,7 @@ class JobSession(Session):
         self.reads, self.pauses, self.at = iter(reads), list(pauses), 0
         self.pool = Pool(*pool, self.wake)
         super().__init__(Working(self.pool.unanswered), room)
-        # What comes to the server: messages, faults and wakes. What goes to the writer, which has room for so many bytes, and what it wrote.
+        # What comes to the server: messages, faults and wakes. What goes to the writer, and the bytes that it wrote.
         self.queue, self.outbox, self.written, self.end = [], [], b"", None
         self.is_failed, self.is_read, self.pending, self.finished = False, False, set(), ""
 

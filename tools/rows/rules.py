@@ -575,8 +575,8 @@ OF_BODY = [8, 9, 10, 13]
 
 
 def reads(data, limit=GREATEST, breaks=False):
-    """What each read gives, and what is left after it. `breaks` says whether the reader fails after these bytes; otherwise they end. Then
-    each read that has no whole frame fails, before the end does."""
+    """What each read gives, and what is left after it. `breaks` says whether the reader fails after these bytes, also where they are
+    no whole frame. Otherwise they end."""
     while True:
         came, data = read(data, limit)
         is_cut = breaks and not data and not isinstance(came, dict) and came not in OF_BODY
@@ -597,8 +597,8 @@ def messages_of(data, limit=GREATEST, breaks=False, room=GREATEST):
 
 
 def served(server, data, breaks, limit, passes=False, room=GREATEST):
-    """What a session of a server with no capabilities says at its end, the messages that it sends for these bytes, and how many content
-    parts of each kind are no messages, if it passes over them. Each reply is there before the next read."""
+    """What a session of a server with no capabilities says at its end, the messages that it sends for these bytes, and how many
+    content parts that are no messages it ignored, of each kind. Each reply is there before the next read."""
     session, counts = Session(server, room), dict.fromkeys(OF_BODY, 0)
     for came, _ in reads(data, limit, breaks):
         if isinstance(came, dict):

@@ -14,7 +14,7 @@ sys.path.append(str(Path(__file__).resolve().parent.parent))
 import metamodel
 from documents import Counting, agreed, path_of, place
 from members import declared
-from rules import NOT_FOUND, is_whole, misfits_of, ordered
+from rules import NOT_FOUND, is_id, is_whole, misfits_of, ordered
 from tables import at, table_of
 
 
@@ -27,86 +27,79 @@ def fits(condition):
         raise Misfit
 
 
-def kind(is_right):
+class Reader:
+    """Reads a value of a type, or raises `Misfit`. `fitting` gives a value of the type for a member with this key, and `is_kept`
+    says whether such a member is always written."""
+
+    def __init__(self, read, fitting=None, is_kept=False):
+        self.read, self.is_kept = read, is_kept
+        self.fitting = fitting or (lambda key: next(it for it in [key, True, 1, "markdown"] if is_fit(read, it)))
+
+    def __call__(self, value):
+        return self.read(value)
+
+
+def kind(is_right, fitting=None):
     """The values that this is true of, each kept as it is."""
 
     def read(value):
         fits(is_right(value))
         return value
 
-    return read
+    return Reader(read, fitting)
 
 
 def is_number(value):
     return isinstance(value, int) and not isinstance(value, bool)
 
 
-TEXT = kind(lambda value: isinstance(value, str))
-TRUTH = kind(lambda value: isinstance(value, bool))
-INTEGER = kind(is_whole)
-# `uinteger` goes to 2^31 - 1 by the standard. That a number up to 2^32 - 1 is read is told in docs/DECISIONS.md.
-UNSIGNED = kind(lambda value: is_number(value) and 0 <= value < 2**32)
-NUMBER_OR_TEXT = kind(lambda value: is_whole(value) or isinstance(value, str))
-ANY = kind(lambda value: True)
-
-
-def line(value):
-    """A line. A negative one counts as 0 (LSP 3.17, "Position")."""
-    fits(is_number(value) and -(2**63) <= value < 2**32)
-    return max(0, value)
-
-
 def among(first, last):
-    """The numbers that the standard lists."""
+    """The whole numbers from the first to the last."""
     return kind(lambda value: is_number(value) and first <= value <= last)
 
 
+TEXT = kind(lambda value: isinstance(value, str))
+TRUTH = kind(lambda value: isinstance(value, bool))
+INTEGER = kind(is_whole)
+# `uinteger` goes to 2^31 - 1 by the standard. docs/DECISIONS.md says that a number up to 2^32 - 1 is read.
+UNSIGNED = among(0, 2**32 - 1)
+NUMBER_OR_TEXT = kind(is_id)
+ANY = kind(lambda value: True)
+# A line. A negative one counts as 0 (LSP 3.17, "Position").
+LINE = Reader(lambda value: max(0, among(-(2**63), 2**32 - 1)(value)))
+# A number with a fraction, as JSON writes it.
+DECIMAL = Reader(lambda value: float(kind(lambda it: isinstance(it, float) or is_number(it))(value)), lambda key: 0.5)
+# A text that only informs. One that does not fit is as if it were the empty one (docs/DECISIONS.md).
+TEXT_OR_EMPTY = Reader(lambda value: value if isinstance(value, str) else "", is_kept=True)
+
+
 def named(*names):
-    read = kind(lambda value: value in names)
-    read.fitting = lambda key: names[0]
-    return read
+    return kind(lambda value: value in names, lambda key: names[0])
 
 
-def decimal(value):
-    """A number with a fraction, as JSON writes it."""
-    fits(isinstance(value, float) or is_number(value))
-    return float(value)
-
-
-decimal.fitting = lambda key: 0.5
+def items(read, value):
+    fits(isinstance(value, list))
+    return [read_as(read, it) for it in value]
 
 
 def some(read):
     """A list."""
-
-    def items(value):
-        fits(isinstance(value, list))
-        return [read_as(read, it) for it in value]
-
-    items.fitting = lambda key: [sample(read, key)]
-    return items
+    return Reader(lambda value: items(read, value), lambda key: [sample(read, key)])
 
 
 def each(read):
     """An object with a value for each name."""
 
-    def members(value):
+    def read_all(value):
         fits(isinstance(value, dict))
         return {name: read_as(read, it) for name, it in value.items()}
 
-    members.fitting = lambda key: {"file:///a": sample(read, key)}
-    return members
+    return Reader(read_all, lambda key: {"file:///a": sample(read, key)})
 
 
 def nullable(read):
     """A member that is always written. The library also takes it as null if it is missing."""
-
-    def or_null(value):
-        return None if value is None else read_as(read, value)
-
-    or_null.fitting = lambda key: sample(read, key)
-    or_null.is_kept = True
-    return or_null
+    return Reader(lambda value: None if value is None else read_as(read, value), lambda key: sample(read, key), is_kept=True)
 
 
 def if_fits(read):
@@ -118,47 +111,25 @@ def if_fits(read):
         except Misfit:
             return None
 
-    or_none.fitting = lambda key: sample(read, key)
-    return or_none
-
-
-def text_or_empty(value):
-    """A text that only informs. One that does not fit is as if it were the empty one (docs/DECISIONS.md)."""
-    return value if isinstance(value, str) else ""
-
-
-text_or_empty.is_kept = True
+    return Reader(or_none, lambda key: sample(read, key))
 
 
 def those_that_fit(read):
     """A list, without the items that do not fit (docs/DECISIONS.md)."""
-
-    def items(value):
-        fits(isinstance(value, list))
-        return [it for it in map(if_fits(read), value) if it is not None]
-
-    items.fitting = lambda key: [sample(read, key)]
-    return items
+    return Reader(lambda value: [it for it in items(if_fits(read), value) if it is not None], lambda key: [sample(read, key)])
 
 
 def offsets(value):
     """A list of two offsets (LSP 3.17, "ParameterInformation")."""
     fits(isinstance(value, list) and len(value) == 2)
-    return [read_as(UNSIGNED, it) for it in value]
+    return items(UNSIGNED, value)
 
 
-offsets.fitting = lambda key: [2, 5]
+# Symbols inside another, a list that is always written.
+CHILDREN = Reader(lambda value: items("DocumentSymbol", [] if value is None else value), lambda key: [], is_kept=True)
 
 
-def children(value):
-    """Symbols inside another, a list that is always written."""
-    return some("DocumentSymbol")([] if value is None else value)
-
-
-children.fitting = lambda key: []
-children.is_kept = True
-
-
+@Reader
 def offer(value):
     """Something that a server offers, by a boolean or by options, of which nothing is kept (LSP 3.17, "ServerCapabilities")."""
     fits(isinstance(value, (bool, dict)))
@@ -173,10 +144,10 @@ def options(how, inside=None):
             return read_as(how, {inside: value} if is_number(value) else value)
         return None if value is False else read_as(how, {} if value is True else value)
 
-    read.fitting = lambda key: sample(how, key)
-    return read
+    return Reader(read, lambda key: sample(how, key))
 
 
+@Reader
 def progress(value):
     """LSP 3.17, "Work Done Progress": what its `kind` says."""
     fits(isinstance(value, dict) and value.get("kind") in ("begin", "report", "end"))
@@ -185,14 +156,15 @@ def progress(value):
 
 # The types that stand in no table: those of a place and of a change, and one of the program of rows.
 BY_HAND = {
-    "Position": {"line": line, "character": UNSIGNED},
+    "Position": {"line": LINE, "character": UNSIGNED},
     "Range": {"start": "Position", "end": "Position"},
     "ContentChange": {"range?": "Range", "text": TEXT},
     "Note": {"range": "Range", "text": TEXT},
 }
 PLAINLY = {
-    "String": TEXT, "bool": TRUTH, "u32": UNSIGNED, "i32": INTEGER, "f64": decimal, "Value": ANY, "T": progress, "NumberOrString": NUMBER_OR_TEXT,
-    "MarkupKind": named("plaintext", "markdown"), "LabelOffsets": offsets,
+    "String": TEXT, "bool": TRUTH, "u32": UNSIGNED, "i32": INTEGER, "f64": DECIMAL, "Value": ANY, "T": progress,
+    "NumberOrString": NUMBER_OR_TEXT, "MarkupKind": named("plaintext", "markdown"),
+    "LabelOffsets": Reader(offsets, lambda key: [2, 5]),
 }
 DECLARED = declared()[0]
 
@@ -213,11 +185,11 @@ def member_of(it):
     """The name of a member, with `?` if it may be missing or null, and how its value is read, by its marks."""
     key, how = it.key + "?" * (it.how == "optional"), how_of(it.type) if it.how != "named" else named(it.type)
     if it.key == "children":
-        return "children?", children
+        return "children?", CHILDREN
     if it.offer is not None:
         return key, offer if it.type == "bool" else options(how, it.offer or None)
     if it.is_lenient and it.how == "required":
-        return key, text_or_empty if it.type == "String" else those_that_fit(how_of(it.type[4:-1]))
+        return key, TEXT_OR_EMPTY if it.type == "String" else those_that_fit(how_of(it.type[4:-1]))
     how = if_fits(how) if it.is_lenient else how
     return key, nullable(how) if it.how == "nullable" else how
 
@@ -266,7 +238,7 @@ def sample(how, key):
         return sample(CHOICES[how][0], key)
     if isinstance(how, str):
         return {name.rstrip("?"): sample(member, name.rstrip("?")) for name, member in TYPES[how].items()}
-    return how.fitting(key) if hasattr(how, "fitting") else next(it for it in [key, True, 1, "markdown"] if is_fit(how, it))
+    return how.fitting(key)
 
 
 def is_fit(how, value):
@@ -470,13 +442,13 @@ def configuration_answer(text):
     said = [f"{asked}7" if can else asked]
     reply, settings, value = given.get("reply"), given.get("settings"), 80
     for found in [reply[-1] if isinstance(reply, list) and reply else None, settings.get("lines") if isinstance(settings, dict) else None]:
-        taken = is_number(found) and 0 <= found < 2**32
+        taken = is_fit(UNSIGNED, found)
         value = found if taken else value
         said.append(f"{'taken' if taken else 'kept'} {value}")
     changed = given.get("changed")
     settings = changed.get("settings") if isinstance(changed, dict) and not can else None
     found = settings.get("lines") if isinstance(settings, dict) else None
-    value = found if is_number(found) and 0 <= found < 2**32 else value
+    value = found if is_fit(UNSIGNED, found) else value
     return [", ".join([*said, f"{asked}8" if can else asked, str(value)])]
 
 
@@ -533,13 +505,9 @@ def first(value):
     return read_as(SMALL, value[0])
 
 
-def or_zero(value):
-    """A number, or 0 for another value."""
-    return value if is_number(value) and 0 <= value < 2**64 else 0
-
-
-SMALL = kind(lambda value: is_number(value) and 0 <= value < 2**8)
-LONG = kind(lambda value: is_number(value) and -(2**63) <= value < 2**63)
+SMALL = among(0, 2**8 - 1)
+LONG = among(-(2**63), 2**63 - 1)
+UNSIGNED_LONG = among(0, 2**64 - 1)
 LISTS = each(some(SMALL))
 STRICT = alone(of_members(a=SMALL, b_=SMALL))
 # By serde's rules. A list stands for an object's members in their order, if the object says so.
@@ -547,8 +515,8 @@ PLAIN = {
     "bool": TRUTH,
     "u8": SMALL,
     "i64": LONG,
-    "u64": kind(lambda value: is_number(value) and 0 <= value < 2**64),
-    "f64": lambda value: float(kind(lambda value: isinstance(value, float) or is_number(value))(value)),
+    "u64": UNSIGNED_LONG,
+    "f64": DECIMAL,
     "char": kind(lambda value: isinstance(value, str) and len(value) == 1),
     "text": TEXT,
     "any": ANY,
@@ -561,7 +529,7 @@ PLAIN = {
     "tagged": tagged,
     "flat": of_members(z=SMALL, a=SMALL, b_=SMALL),
     "first": first,
-    "or zero": or_zero,
+    "or zero": lambda value: value if is_fit(UNSIGNED_LONG, value) else 0,
     "empty": lambda value: fits(value == {}),
 }
 
@@ -634,4 +602,8 @@ def lines_answer(text):
     return [" ".join(it for ends in ("\r?\n", "\r\n|\n|\r") for it in [*map(quoted, re.split(ends, json.loads(text))), "none"])]
 
 
-ROWS = {"method": acts_answer, "configuration": configuration_answer, "plain": plain_answers, "typed": typed_answer, "uri": uri_answer, "path": path_answer, "names": names_answer, "folders": folders_answer, "tokens": tokens_answer, "offset": offset_answer, "lines": lines_answer}
+ROWS = {
+    "method": acts_answer, "configuration": configuration_answer, "plain": plain_answers, "typed": typed_answer,
+    "uri": uri_answer, "path": path_answer, "names": names_answer, "folders": folders_answer, "tokens": tokens_answer,
+    "offset": offset_answer, "lines": lines_answer,
+}
