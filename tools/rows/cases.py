@@ -11,7 +11,7 @@ from jobs import SCRIPT, job_answer, known, pool_answer
 from listed import ABORTED, Boxes
 from rules import (
     AT_END, GREATEST, STREAMS, Echo, Unwoken, answer, body_answer, escape, frame, framed, limit_in, pumped, relay_answers,
-    served, shown, text_of, waker_answers, written_by,
+    seen, served, shown, text_of, waker_answers, written_by,
 )
 from tables import HERE, at, misspelt, table_of
 
@@ -23,11 +23,7 @@ TURNS = 99
 
 def over_answer(call, device, count, data, waiting):
     """What the threads of a connection answer that sends each message back: the fault of the one that reads is told first."""
-    if device == "ends":
-        data = data[:count]
-    breaks = device == "breaks" and count <= len(data)
-    if breaks:
-        data = data[:count]
+    data, _, breaks = seen(device, count, data)
     end, sent = pumped(data, breaks, limit_in(device, count))
     end = "fine" if end == "passed on" else end
     frames = [len(frame(it)) for it in sent]

@@ -104,8 +104,7 @@ def calls_answer(row):
         call, _, turns = name.partition(":")
         call, turns = call.removeprefix(">"), int(turns or 0)
         known = {"start": boxes.start, "wait": boxes.wait, "finish": boxes.finish}
-        texts.append(f"{name.partition(':')[0]}{':' if ':' in name else ''}{name.partition(':')[2]} ")
-        texts.append((known[call](turns) if call in known else boxes.shut(call)) + "; ")
+        texts.append(f"{name} {known[call](turns) if call in known else boxes.shut(call)}; ")
     sent = "".join(map(text_of, boxes.sent))
     left = f"left {len(boxes.events)} and {len(boxes.answers)}; {boxes.seconds} seconds"
     return [f"{''.join(texts)}sent {sent}; {left}"]

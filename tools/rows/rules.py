@@ -575,8 +575,8 @@ OF_BODY = [8, 9, 10, 13]
 
 
 def reads(data, limit=GREATEST, breaks=False):
-    """What each read gives, and what is left after it. `breaks` says whether the reader fails after these bytes, also where they are
-    no whole frame. Otherwise they end."""
+    """What each read gives, and what is left after it. `breaks` says whether the reader fails after these bytes, also where they
+    are no whole frame. Otherwise they end."""
     while True:
         came, data = read(data, limit)
         is_cut = breaks and not data and not isinstance(came, dict) and came not in OF_BODY
@@ -686,17 +686,20 @@ def gathered(frames):
     return parts
 
 
+def seen(device, count, data, kind="BrokenPipe"):
+    """The bytes that a reader gives before it fails or they end, those that it keeps, and whether it fails."""
+    # (a read that was interrupted goes on)
+    breaks = device in ("breaks", "looks") and count <= len(data) and kind != "Interrupted"
+    count = count if breaks or device == "ends" else len(data)
+    return data[:count], data[count:] if breaks else b"", breaks
+
+
 def answer(call, device, count, data, is_at_once, kind="BrokenPipe"):
     """What has to come of a case at one of its places. `is_at_once` says whether all bytes are shown at once, `kind` is that of the error
     with which a device fails."""
     if device in ("no_reader", "no_writer"):
         return "thread not started, 0 calls"
-    if device == "ends":
-        data = data[:count]
-    # (a read that was interrupted goes on)
-    breaks, unread = device in ("breaks", "looks") and count <= len(data) and kind != "Interrupted", b""
-    if breaks:
-        data, unread = data[:count], data[count:]
+    data, unread, breaks = seen(device, count, data, kind)
     limit = limit_in(device, count)
     if call == "read":
         return read_answer(data, breaks, unread, limit, kind)
@@ -708,6 +711,12 @@ def answer(call, device, count, data, is_at_once, kind="BrokenPipe"):
         return loop_answer(data, breaks, unread, limit, count if device == "fills" else GREATEST)
     if call in ("write", "frames", "outbox"):
         return WRITERS[call](data, count if device == "fills" else GREATEST, count if device == "flushes" else 0, kind)
+    return stream_answer(call, device, count, data, breaks, is_at_once)
+
+
+def stream_answer(call, device, count, data, breaks, is_at_once):
+    """What has to come of a call that reads up to an end and writes meanwhile, over a device that may fail at a write or a flush."""
+    limit = limit_in(device, count)
     end, sent = STREAMS[call](data, breaks, limit)
     frames = [frame(it) for it in sent]
     if call in ("pump", "burst") and is_at_once:
