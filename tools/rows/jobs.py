@@ -244,6 +244,13 @@ class Pool:
             self.say(job, ("report", {"method": "$/progress", "params": params}))
         return is_taken
 
+    def replied(self, job, reply):
+        """The client's reply to the request of a job, or that there will be none. It counts if the job still waits."""
+        if job in self.unanswered:
+            self.unanswered.remove(job)
+        if not (job.is_cancelled or job.is_answered):
+            job.is_answered, job.reply = True, reply
+
     def unneeded(self):
         """A job that is to end, whose request to the client has no reply yet: it is cancelled there, once (LSP 3.17, "Cancellation Support")."""
         for job in self.unanswered:
@@ -276,9 +283,9 @@ class Pool:
 class Working(Talker):
     """The server that speaks, with jobs. Each has a number."""
 
-    def __init__(self, unanswered):
+    def __init__(self, pool):
         super().__init__()
-        self.numbered, self.starts, self.later, self.kept, self.unanswered = 0, [], [], {}, unanswered
+        self.numbered, self.starts, self.later, self.kept, self.pool = 0, [], [], {}, pool
 
     def make(self, script, params):
         self.numbered += 1
@@ -301,10 +308,7 @@ class Working(Talker):
         if not isinstance(why, Job):
             return super().replied(came)
         self.asked[came["id"]] = None
-        if why in self.unanswered:
-            self.unanswered.remove(why)
-        if not why.is_cancelled:
-            why.is_answered, why.reply = True, {it: came[it] for it in came if it in ("result", "error")}
+        self.pool.replied(why, {it: came[it] for it in came if it in ("result", "error")})
         return []
 
     def heard(self, came):
@@ -341,7 +345,7 @@ class JobSession(Session):
         # What the reads give, each with the place behind it.
         self.reads, self.pauses, self.at = iter(reads), list(pauses), 0
         self.pool = Pool(*pool, self.wake)
-        super().__init__(Working(self.pool.unanswered), room)
+        super().__init__(Working(self.pool), room)
         # What comes to the server: messages, faults and wakes. What goes to the writer, and the bytes that it wrote.
         self.queue, self.outbox, self.written, self.end = [], [], b"", None
         self.is_failed, self.is_read, self.pending, self.finished = False, False, set(), ""
@@ -559,10 +563,7 @@ class HandPool:
             self.pool.cancel_progress(words)
         elif verb in ("reply", "give_up"):
             for job in self.asked[int(words) : int(words) + 1]:
-                if job in self.pool.unanswered:
-                    self.pool.unanswered.remove(job)
-                if not (job.is_cancelled or job.is_answered):
-                    job.is_answered, job.reply = True, {"result": True} if verb == "reply" else None
+                self.pool.replied(job, {"result": True} if verb == "reply" else None)
         if not self.todo:
             self.pool.end()
 

@@ -715,7 +715,7 @@ def answer(call, device, count, data, is_at_once, kind="BrokenPipe"):
 
 
 def stream_answer(call, device, count, data, breaks, is_at_once):
-    """What has to come of a call that reads up to an end and writes meanwhile, over a device that may fail at a write or a flush."""
+    """What has to come of a call that reads up to an end and writes meanwhile, where a write or a flush may fail."""
     limit = limit_in(device, count)
     end, sent = STREAMS[call](data, breaks, limit)
     frames = [frame(it) for it in sent]

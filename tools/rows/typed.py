@@ -385,18 +385,13 @@ def document_capabilities_answers(params):
     return [ordered(can), ordered({**(server if isinstance(server, dict) else {}), **can})]
 
 
-OTHERS = {
-    "ServerCapabilities": capabilities_answer,
-}
-
-
 def typed_answer(text):
     name, _, value = text.partition(" ")
     value = json.loads(value)
     if name == "DocumentCapabilities":
         return document_capabilities_answers(value)
     try:
-        return [ordered(OTHERS[name](value) if name in OTHERS else read_as(name, value))]
+        return [ordered(capabilities_answer(value) if name == "ServerCapabilities" else read_as(name, value))]
     except Misfit:
         return ["refused"]
 
