@@ -18,8 +18,7 @@ UNAWAITED = 50
 
 ECHO = b'{"jsonrpc":"2.0","id":5,"method":"demo/echo","params":[1]}'
 ECHO_REPLY = b'{"jsonrpc":"2.0","id":5,"result":[1]}'
-
-USAGE = "usage: lsp_demo pump [LIMIT] | serve | tcp ADDR\n"
+UNKNOWN_REPLY = b'{"jsonrpc":"2.0","id":"x","error":{"code":-32601,"message":"method not found"}}'
 
 NESTED = {
     "emoji": "\U0001f600",
@@ -55,10 +54,7 @@ WHOLE_SESSION = [
     (b'{"jsonrpc":"2.0","id":7,"method":"demo/echo"}', b'{"jsonrpc":"2.0","id":7,"result":null}'),
     (b'{"jsonrpc":"2.0","method":"demo/unknown","params":{"a":1}}', None),
     (b'{"jsonrpc":"2.0","id":99,"result":"for no request of the server"}', None),
-    (
-        b'{"jsonrpc":"2.0","id":"x","method":"foo"}',
-        b'{"jsonrpc":"2.0","id":"x","error":{"code":-32601,"message":"method not found"}}',
-    ),
+    (b'{"jsonrpc":"2.0","id":"x","method":"foo"}', UNKNOWN_REPLY),
     (SHUTDOWN, SHUTDOWN_REPLY),
     (EXIT, None),
 ]
@@ -166,12 +162,6 @@ def check_output_closed_midway(command):
         ends_badly(client, "channel closed")
 
 
-def check_words(program, words, said):
-    print(f"arguments: {' '.join(words)}")
-    with started([program, *words]) as client:
-        expect("the status, standard output and standard error", client.end(), (1, b"", said))
-
-
 def check_all(program):
     command = [program, "serve"]
     start = lambda: started(command)
@@ -181,7 +171,6 @@ def check_all(program):
     check_unawaited(start)
     check_closed_output(command)
     check_output_closed_midway(command)
-    check_words(program, ["serve", "twice"], USAGE)
 
 
 if __name__ == "__main__":

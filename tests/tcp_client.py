@@ -15,20 +15,7 @@ from pathlib import Path
 sys.dont_write_bytecode = True
 
 from client import (
-    ASKED,
-    BAD_ENDS,
-    BEGUN,
-    ECHO,
-    ECHO_REPLY,
-    ECHOED,
-    USAGE,
-    WHOLE_SESSION,
-    check_bad_end,
-    check_session,
-    check_unawaited,
-    check_words,
-    ends_badly,
-    ends_well,
+    ASKED, BAD_ENDS, BEGUN, ECHO, ECHO_REPLY, ECHOED, WHOLE_SESSION, check_bad_end, check_session, check_unawaited, ends_badly, ends_well,
     expect_text,
 )
 from lsp import (
@@ -204,11 +191,11 @@ def check_burst(program):
     print(f"two requests together: both replies after {median * 1e6:.0f} us, the median of 101, in round {round_number}")
 
 
-def check_address_in_use(program):
-    with socket.socket() as listener:
-        listener.bind((HOST, 0))
-        listener.listen()
-        check_words(program, ["tcp", f"{HOST}:{listener.getsockname()[1]}"], "lsp_demo: socket fault\n")
+def check_no_address(program, address):
+    """An address at which it can't listen."""
+    print(f"the address {address}")
+    with started([program, "tcp", address]) as client:
+        expect("the status, standard output and standard error", client.end(), (1, b"", "lsp_demo: socket fault\n"))
 
 
 def check_all(program):
@@ -224,10 +211,9 @@ def check_all(program):
     check_gone(program, "a client that resets its connection", ECHOED, "read fault 1", resets=True)
     for check in [check_never_reads, check_never_reads_and_stays, check_burst]:
         check(program)
-    check_words(program, ["tcp"], USAGE)
-    check_words(program, ["tcp", HOST, "1"], USAGE)
-    check_words(program, ["tcp", HOST], "lsp_demo: socket fault\n")
-    check_address_in_use(program)
+    check_no_address(program, HOST)
+    with socket.create_server((HOST, 0)) as used:
+        check_no_address(program, "%s:%d" % used.getsockname())
 
 
 if __name__ == "__main__":
