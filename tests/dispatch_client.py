@@ -23,15 +23,11 @@ def hold(name, params):
     return b'{"jsonrpc":"2.0","id":%s,"method":"demo/hold","params":%s}' % (compact(name), compact(params))
 
 
-def cancel(params):
-    return b'{"jsonrpc":"2.0","method":"$/cancelRequest","params":%s}' % params
+def cancel(name):
+    return b'{"jsonrpc":"2.0","method":"$/cancelRequest","params":{"id":%s}}' % compact(name)
 
 
-def cancel_id(name):
-    return cancel(b'{"id":%s}' % compact(name))
-
-
-def cancelled(name):
+def canceled(name):
     return b'{"jsonrpc":"2.0","id":%s,"error":{"code":-32800,"message":"canceled by client"}}' % compact(name)
 
 
@@ -39,8 +35,25 @@ def result(name, params):
     return b'{"jsonrpc":"2.0","id":%s,"result":%s}' % (compact(name), compact(params))
 
 
-def unknown(name):
-    return b'{"jsonrpc":"2.0","id":%s,"error":{"code":-32601,"message":"method not found"}}' % compact(name)
+# Cancellations that name no kept request: without params, and with these.
+NO_NAMES = [b"null", b"{}", b"[]", b"[5]", b"5", *(b'{"id":%s}' % it for it in [b"null", b"6", b"5.5", b'"5"', b"[5]"]), b'{"ID":5}']
+NO_CANCELLATIONS = [b'{"jsonrpc":"2.0","method":"$/cancelRequest"}']
+NO_CANCELLATIONS += [b'{"jsonrpc":"2.0","method":"$/cancelRequest","params":%s}' % it for it in NO_NAMES]
+UNKNOWN = b'{"jsonrpc":"2.0","id":7,"error":{"code":-32601,"message":"method not found"}}'
+# What is sent, and the replies. An id that comes again replaces the request kept under it, and one that was cancelled is new.
+SESSIONS = {
+    "cancellations that name no kept request: none is answered": (
+        [hold(5, [1]), *NO_CANCELLATIONS, RELEASE], [result(5, [1])],
+    ),
+    "an id that comes again: one reply, to the last request": (
+        [hold(5, ["old"]), hold(6, []), hold(5, ["new"]), RELEASE, hold(5, [1]), cancel(5), hold(5, [2]), RELEASE],
+        [result(6, []), result(5, ["new"]), canceled(5), result(5, [2])],
+    ),
+    "a request of the protocol's own that nobody knows: one reply": (
+        [b'{"jsonrpc":"2.0","id":7,"method":"$/x"}', b'{"jsonrpc":"2.0","method":"$/y"}', cancel(7)], [UNKNOWN],
+    ),
+    "requests that are kept at shutdown: no reply": ([hold(number, [number]) for number in range(10)], []),
+}
 
 
 def whole_session(command, sent, wanted):
@@ -59,57 +72,20 @@ def check_many(command):
     ids = [number if number % 2 else f"request {number}" for number in range(COUNT)]
     chance.shuffle(ids)
     dropped = chance.sample(ids, COUNT // 2)
-    gone = set(dropped)
     sent = [hold(name, [name, place]) for place, name in enumerate(ids)]
-    sent += [cancel_id(name) for name in dropped]
-    sent += [cancel_id(name) for name in dropped[:100]]
-    sent += [RELEASE]
-    sent += [cancel_id(name) for name in ids[:100]]
-    sent += [RELEASE]
-    wanted = [cancelled(name) for name in dropped]
-    wanted += [result(name, [name, place]) for place, name in enumerate(ids) if name not in gone]
+    sent += [*map(cancel, dropped), *map(cancel, dropped[:100]), RELEASE, *map(cancel, ids[:100]), RELEASE]
+    gone = set(dropped)
+    wanted = [*map(canceled, dropped), *(result(name, [name, place]) for place, name in enumerate(ids) if name not in gone)]
     whole_session(command, sent, wanted)
     print(f"{COUNT} requests kept, {len(dropped)} cancelled, {COUNT - len(dropped)} released: one reply each")
-
-
-def check_bad_cancellations(command):
-    names = [b"null", b"{}", b"[]", b"[5]", b"5", b'{"id":null}', b'{"id":6}', b'{"id":5.5}', b'{"id":"5"}', b'{"id":[5]}', b'{"ID":5}']
-    sent = [hold(5, [1])]
-    sent += [b'{"jsonrpc":"2.0","method":"$/cancelRequest"}']
-    sent += [cancel(params) for params in names]
-    sent += [RELEASE]
-    whole_session(command, sent, [result(5, [1])])
-    print(f"{len(names) + 1} cancellations that name no kept request: none is answered")
-
-
-def check_ids_again(command):
-    """An id that comes again replaces the request that is kept under it, and one that was cancelled is new."""
-    sent = [hold(5, ["old"]), hold(6, []), hold(5, ["new"]), RELEASE]
-    wanted = [result(6, []), result(5, ["new"])]
-    sent += [hold(5, [1]), cancel_id(5), hold(5, [2]), RELEASE]
-    wanted += [cancelled(5), result(5, [2])]
-    whole_session(command, sent, wanted)
-    print("an id that comes again: one reply, to the last request")
-
-
-def check_own_methods(command):
-    sent = [b'{"jsonrpc":"2.0","id":7,"method":"$/x"}', b'{"jsonrpc":"2.0","method":"$/y"}', cancel_id(7)]
-    whole_session(command, sent, [unknown(7)])
-    print("a request of the protocol's own that nobody knows: one reply")
-
-
-def check_kept_at_the_end(command):
-    whole_session(command, [hold(number, [number]) for number in range(10)], [])
-    print("requests that are kept at shutdown: no reply")
 
 
 def check_all(program):
     command = [program, "serve"]
     check_many(command)
-    check_bad_cancellations(command)
-    check_ids_again(command)
-    check_own_methods(command)
-    check_kept_at_the_end(command)
+    for what, (sent, wanted) in SESSIONS.items():
+        whole_session(command, sent, wanted)
+        print(what)
 
 
 if __name__ == "__main__":
