@@ -35,6 +35,9 @@
 #include <unistd.h>
 
 enum kind { MEMORY, THREAD, SOCKET, READ, WRITE, FAILED, LEFT, MOST, ELSEWHERE, NUMBERS = 9 };
+static const char *const NAMES[NUMBERS] = {
+    [MEMORY] = "memory", [THREAD] = "thread", [SOCKET] = "socket", [READ] = "read", [WRITE] = "write", [ELSEWHERE] = "elsewhere",
+};
 enum how { IS_ERROR, IS_INTERRUPT, IS_SHORT };
 
 static _Atomic uint64_t not_shared[NUMBERS];
@@ -78,20 +81,14 @@ __attribute__((constructor)) static void start(void) {
     const char *pieces = strstr(plan, " in ");
     if (pieces && sscanf(pieces, " in %llu", &most) == 1)
         piece = most;
-    lasts = is(word, "memory-from");
     how = is(manner, "interrupt") ? IS_INTERRUPT : is(manner, "short") ? IS_SHORT : IS_ERROR;
-    if (is(word, "memory") || lasts)
-        kind_to_fail = MEMORY;
-    else if (is(word, "elsewhere") || is(word, "elsewhere-from"))
-        kind_to_fail = ELSEWHERE;
-    else if (is(word, "thread"))
-        kind_to_fail = THREAD;
-    else if (is(word, "socket"))
-        kind_to_fail = SOCKET;
-    else if (is(word, "read"))
-        kind_to_fail = READ;
-    else if (is(word, "write"))
-        kind_to_fail = WRITE;
+    char *from = strstr(word, "-from");
+    if (from)
+        *from = '\0';
+    for (int kind = 0; kind < NUMBERS; kind++)
+        if (NAMES[kind] && is(word, NAMES[kind]))
+            kind_to_fail = kind;
+    lasts = from && kind_to_fail == MEMORY;
     // What this library itself has called so far is no call of the program.
     memset((void *)counts, 0, NUMBERS * sizeof(uint64_t));
 }
@@ -255,35 +252,18 @@ static int no_room(void) {
     return -1;
 }
 
-int socket(int domain, int type, int protocol) {
-    return fails(SOCKET) ? no_room() : (int)syscall(SYS_socket, domain, type, protocol);
-}
+#define CALL(name, parameters, ...) \
+    int name parameters { return fails(SOCKET) ? no_room() : (int)syscall(SYS_##name, __VA_ARGS__); }
 
-int bind(int file, const struct sockaddr *address, socklen_t length) {
-    return fails(SOCKET) ? no_room() : (int)syscall(SYS_bind, file, address, length);
-}
-
-int listen(int file, int waiting) { return fails(SOCKET) ? no_room() : (int)syscall(SYS_listen, file, waiting); }
-
-int accept4(int file, struct sockaddr *address, socklen_t *length, int flags) {
-    return fails(SOCKET) ? no_room() : (int)syscall(SYS_accept4, file, address, length, flags);
-}
-
-int connect(int file, const struct sockaddr *address, socklen_t length) {
-    return fails(SOCKET) ? no_room() : (int)syscall(SYS_connect, file, address, length);
-}
-
-int setsockopt(int file, int level, int name, const void *value, socklen_t length) {
-    return fails(SOCKET) ? no_room() : (int)syscall(SYS_setsockopt, file, level, name, value, length);
-}
-
-int getsockname(int file, struct sockaddr *address, socklen_t *length) {
-    return fails(SOCKET) ? no_room() : (int)syscall(SYS_getsockname, file, address, length);
-}
-
-int shutdown(int file, int ways) { return fails(SOCKET) ? no_room() : (int)syscall(SYS_shutdown, file, ways); }
-
-int dup(int file) { return fails(SOCKET) ? no_room() : (int)syscall(SYS_dup, file); }
+CALL(socket, (int domain, int type, int protocol), domain, type, protocol)
+CALL(bind, (int file, const struct sockaddr *address, socklen_t length), file, address, length)
+CALL(listen, (int file, int waiting), file, waiting)
+CALL(accept4, (int file, struct sockaddr *address, socklen_t *length, int flags), file, address, length, flags)
+CALL(connect, (int file, const struct sockaddr *address, socklen_t length), file, address, length)
+CALL(setsockopt, (int file, int level, int name, const void *value, socklen_t size), file, level, name, value, size)
+CALL(getsockname, (int file, struct sockaddr *address, socklen_t *length), file, address, length)
+CALL(shutdown, (int file, int ways), file, ways)
+CALL(dup, (int file), file)
 
 int fcntl(int file, int command, ...) {
     va_list arguments;
