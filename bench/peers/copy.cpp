@@ -1,7 +1,5 @@
 // Frames without JSON: `pump` writes each again, `serve` those that the bench made as requests. One thread.
 // It is what the bytes and the system calls cost alone.
-#include <algorithm>
-
 #include "frames.h"
 
 static const char REQUEST[] = "{\"jsonrpc\":\"2.0\",\"id\":";
@@ -9,9 +7,8 @@ static const char EXIT[] = "{\"jsonrpc\":\"2.0\",\"method\":\"exit\"}";
 
 int main(int count, char **words) {
     bool is_pump = count > 1 && !strcmp(words[1], "pump");
-    auto frames = new Frames;
     std::string body, frame;
-    while (frames->body(body)) {
+    while (read_frame(body)) {
         bool is_request = !body.compare(0, sizeof REQUEST - 1, REQUEST);
         if ((is_pump || is_request) && !write_frame(frame, body.data(), body.size())) return 1;
         if (body == EXIT) return 0;

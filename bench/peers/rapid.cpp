@@ -1,7 +1,5 @@
 // RapidJSON: `pump` reads each message as a document and writes its text, `serve` answers `demo/echo` with its params, and
 // `drops COUNT` drops them and answers with a list of COUNT places. One thread.
-#include <algorithm>
-
 #include <rapidjson/document.h>
 #include <rapidjson/stringbuffer.h>
 #include <rapidjson/writer.h>
@@ -39,9 +37,8 @@ int main(int count, char **words) {
         Value place(rapidjson::kObjectType);
         places.PushBack(place.AddMember("character", 7, pool).AddMember("line", line, pool), pool);
     }
-    auto frames = new Frames;
     std::string body, frame;
-    while (frames->body(body)) {
+    while (read_frame(body)) {
         Document message;
         message.Parse(body.data(), body.size());
         if (message.HasParseError() || !message.IsObject()) return 1;
