@@ -23,12 +23,7 @@ sys.dont_write_bytecode = True
 from editor import session
 from lsp import HOST, INITIALIZE, INITIALIZED, Client, Program, accepted, built, expect, expect_soon, frame, free_port, run, started
 
-WAYS = [
-    ["example_diagnostics"],
-    ["example_search"],
-    ["example_search", "threads"],
-    ["example_search", "jobs"],
-]
+WAYS = [["example_diagnostics"], ["example_search"], ["example_search", "threads"], ["example_search", "jobs"]]
 LEFT = "the client left without a shutdown"
 # A descriptor each for standard input, output and error, and for the socket that listens.
 FOR_NO_CLIENT = 4

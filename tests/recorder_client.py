@@ -70,26 +70,25 @@ def listening():
     return listener, listener.getsockname()[1]
 
 
-def is_over(demo, recording, told=""):
-    expect("the end of the recorder", recording.end(), (0, b"", told))
-    expect("the end of the server", demo.end(), (0, b"", ""))
-
-
-def check_session(log):
+def check_session(log, session=SESSION, told="", start=recorder):
     print("a session is recorded")
-    with server() as demo, recorder(demo.port, log) as recording, recording.connect() as client:
-        client.exchange(framed(SESSION))
-        client.connection.close()
-        is_over(demo, recording)
-    expect("the recording", log.read_bytes(), lines_of(SESSION))
+    with server() as demo, start(demo.port, log) as recording, recording.connect() as client:
+        client.exchange(framed(session))
+        if client.connection:
+            client.connection.close()
+        expect("the end of the recorder", client.end(), (0, b"", told))
+        expect("the end of the server", demo.end(), (0, b"", ""))
+    expect("the recording", log.read_bytes(), lines_of(session))
 
 
 def check_document(log):
     print("a change of a document that is not open is told while the session goes on")
-    with server() as demo, recorder(demo.port, log) as recording, recording.connect() as client:
-        client.exchange(framed([*SESSION[:2], (CHANGE, None), *SESSION[3:]]))
-        client.connection.close()
-        is_over(demo, recording, NOT_OPEN)
+    check_session(log, [*SESSION[:2], (CHANGE, None), *SESSION[3:]], told=NOT_OPEN)
+
+
+def check_pipes(log):
+    print("through pipes too")
+    check_session(log, start=piped_recorder)
 
 
 def check_early_close(log):
@@ -121,15 +120,6 @@ def check_last_words(log):
             expect("what came", client.rest(), frame(LAST_WORDS))
             expect("the end of the recorder", recording.end(), (0, b"", TOO_EARLY))
         expect("the recording", log.read_bytes(), b"<- " + LAST_WORDS + b"\n")
-
-
-def check_pipes(log):
-    print("a session through pipes is recorded")
-    with server() as demo, piped_recorder(demo.port, log) as recording:
-        client = recording.connect()
-        client.exchange(framed(SESSION))
-        is_over(demo, client)
-    expect("the recording", log.read_bytes(), lines_of(SESSION))
 
 
 def check_replay(log):

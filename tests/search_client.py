@@ -76,16 +76,21 @@ def is_hovered_meanwhile(client):
     return list(replies) == [hover, search]
 
 
+def was_canceled(reply, who):
+    """Whether a search was cancelled, by its reply. Otherwise it has its outcome."""
+    if "error" in reply:
+        expect("the error of a cancelled search", reply["error"], {"code": -32800, "message": f"canceled by {who}"})
+    else:
+        expect("how many headings it found", len(reply["result"]), DOCUMENTS * HEADINGS)
+    return "error" in reply
+
+
 def is_cancelled(client):
     """A search that is cancelled at once: whether it was. Else its outcome came first."""
     search = client.request("workspace/symbol", {"query": "one"})
     client.notify("$/cancelRequest", {"id": search})
     (reply,) = read_to_all(client, [search])
-    if "error" in reply:
-        expect("the error of a cancelled search", reply["error"]["code"], -32800)
-        return True
-    expect("how many headings it found", len(reply["result"]), DOCUMENTS * HEADINGS)
-    return False
+    return was_canceled(reply, "client")
 
 
 def runs_at_shutdown(program):
@@ -99,11 +104,7 @@ def runs_at_shutdown(program):
         expect("the reply behind it", client.body(), SHUTDOWN_REPLY)
         client.send_bytes(frame(EXIT))
         expect("after the last reply", client.rest(), b"")
-    if "error" in reply:
-        expect("the error of the search", reply["error"], {"code": -32800, "message": "canceled by shutdown"})
-        return True
-    expect("how many headings it found", len(reply["result"]), DOCUMENTS * HEADINGS)
-    return False
+    return was_canceled(reply, "shutdown")
 
 
 NOTE = "file:///note.sums"
@@ -165,20 +166,15 @@ def is_opened_twice(client):
         changes(client, version, edit(0, 6, 7, digit))
         look(client, "an edit", [marks()], f"old = {digit}\n")
     opens(client, 0, "# 𝒙\nnew = one\n")
-    told = [log(WARNING, "the document was open already"), marks("`one`: has no value")]
-    look(client, "a second open", told, "# 𝒙\nnew = one\n")
+    look(client, "a second open", [AGAIN, marks("`one`: has no value")], "# 𝒙\nnew = one\n")
     changes(client, 1, edit(1, 6, 9, "1"), edit(0, 2, 4, "😀"))
     look(client, "an edit behind it", [marks()], "# 😀\nnew = 1\n")
 
 
+AGAIN = log(WARNING, "the document was open already")
 # For each way back: its name, what the client sends, what is told, and the client's text then.
 WAYS_BACK = [
-    (
-        "an open",
-        lambda client: opens(client, 1, "b = 2\n"),
-        [log(WARNING, "the document was open already"), marks()],
-        "b = 2\n",
-    ),
+    ("an open", lambda client: opens(client, 1, "b = 2\n"), [AGAIN, marks()], "b = 2\n"),
     ("a whole text", lambda client: changes(client, 7, {"text": "c = d\n"}), [marks("`d`: has no value")], "c = d\n"),
     (
         "a whole text between edits",

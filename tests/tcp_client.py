@@ -45,7 +45,6 @@ def served(program):
 
 def check_pieces(program):
     """A whole session, a byte at a time, by a client that says at once that nothing more comes."""
-    print("a session that comes byte by byte, with no wait for a reply")
     with served(program) as client:
         for byte in b"".join(frame(sent) for sent, _ in WHOLE_SESSION):
             client.send_bytes(bytes([byte]))
@@ -61,7 +60,6 @@ def check_pieces(program):
 
 def check_slow(program):
     """A message comes a byte a second at first, and then stops for a while in its midst."""
-    print("a client that sends a byte a second, and then stalls")
     with served(program) as client:
         client.exchange(BEGUN)
         message = frame(ECHO)
@@ -77,7 +75,6 @@ def check_slow(program):
 
 def check_half_closed(program):
     """The client says that nothing more comes, and then reads."""
-    print("a client that closes one half of its connection")
     with served(program) as client:
         client.send_bytes(frame(INITIALIZE) + frame(INITIALIZED) + frame(ECHO) * 10)
         client.close_input()
@@ -98,7 +95,6 @@ def check_flood(program):
 
 def check_one_client(program):
     """While a client is served no other is taken."""
-    print("a second client")
     with served(program) as client:
         client.exchange(BEGUN)
         try:
@@ -148,7 +144,6 @@ def send_until_held_back(client, data):
 
 def check_never_reads(program):
     """The client sends until nothing more is taken, reads nothing, and is gone."""
-    print("a client that never reads")
     with served(program) as client:
         client.send_bytes(frame(INITIALIZE) + frame(INITIALIZED))
         taken = send_until_held_back(client, long_echo(MEGABYTE))
@@ -160,7 +155,6 @@ def check_never_reads(program):
 def check_never_reads_and_stays(program):
     """The client ends its session, and stays without having read a long reply. The program gives it up by a clock of its own, after half a
     minute."""
-    print("a client that never reads, and stays")
     with served(program) as client:
         client.exchange(BEGUN)
         client.send_bytes(long_echo(10 * MEGABYTE) + frame(SHUTDOWN) + frame(EXIT))
@@ -205,11 +199,13 @@ def check_all(program):
         check_bad_end(start, case)
     check_unawaited(start)
     for check in [check_pieces, check_slow, check_half_closed, check_flood, check_one_client]:
+        print(check.__doc__)
         check(program)
     check_gone(program, "a client that is gone in the middle of a message", ECHOED + [(frame(ECHO)[:-1], None)], "read fault 7")
     check_gone(program, "a client that is gone in the middle of a header", ASKED + [(b"Content-", None)], "read fault 3")
     check_gone(program, "a client that resets its connection", ECHOED, "read fault 1", resets=True)
     for check in [check_never_reads, check_never_reads_and_stays, check_burst]:
+        print(check.__doc__)
         check(program)
     check_no_address(program, HOST)
     with socket.create_server((HOST, 0)) as used:

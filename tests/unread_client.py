@@ -15,7 +15,6 @@ import os
 import select
 import sys
 import time
-from pathlib import Path
 
 sys.dont_write_bytecode = True
 
@@ -50,29 +49,23 @@ PARAMS = {
 }
 
 
-def processor_ticks(client):
-    """How long all its threads have run."""
-    words = Path(f"/proc/{client.program.process.pid}/stat").read_text().rsplit(")", 1)[1].split()
-    return int(words[11]) + int(words[12])
-
-
-def write_some(client, rest):
-    """How many bytes are taken: all by a program that has gone, whose memory then tells that."""
-    try:
-        return os.write(client.sink.fileno(), rest[: 1 << 16])
-    except BrokenPipeError:
-        return len(rest)
+def processor_time(client):
+    """How long all its threads have run, in hundredths of a second, by the clock of the process that clock_getcpuclockid(3) names."""
+    return round(time.clock_gettime(~client.program.process.pid << 3 | 2), 2)
 
 
 def send_unread(client, bodies):
-    """Sends until nothing moves any more: how many of the bytes were sent."""
-    rest = memoryview(b"".join(frame(body) for body in bodies))
+    """Sends until nothing moves any more: how many of the bytes were sent. A program that has gone takes all, and its memory tells that."""
+    rest = memoryview(b"".join(map(frame, bodies)))
     whole, end = len(rest), time.monotonic() + LONGEST
     seen, since = None, time.monotonic()
     while time.monotonic() < min(end, since + STILL):
         if rest and select.select([], [client.sink], [], 0)[1]:
-            rest = rest[write_some(client, rest) :]
-        now = (len(rest), processor_ticks(client))
+            try:
+                rest = rest[os.write(client.sink.fileno(), rest[: 1 << 16]) :]
+            except BrokenPipeError:
+                rest = rest[:0]
+        now = (len(rest), processor_time(client))
         if now != seen:
             seen, since = now, time.monotonic()
         else:
