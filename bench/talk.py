@@ -33,12 +33,9 @@ class Run:
     peak: int = 0
 
 
-def words_of(program, load):
-    return [load.places if word == "PLACES" else word for word in program.commands[load.kind]]
-
-
 def started(program, load, environment, source=subprocess.PIPE):
-    return Program(words_of(program, load), environment=os.environ | dict(program.environment) | environment, source=source)
+    words = [load.places if word == "PLACES" else word for word in program.commands[load.kind]]
+    return Program(words, environment=os.environ | dict(program.environment) | environment, source=source)
 
 
 def through(program, load, environment, path):
@@ -93,12 +90,12 @@ def check_model(program, load, body):
     """The first reply means what it has to mean."""
     came = json.loads(body)
     if program.copies:
-        right = body == load.body
+        is_right = body == load.body
     elif load.wanted:
-        right = came == load.wanted
+        is_right = came == load.wanted
     else:
-        right = came["method"] == "textDocument/publishDiagnostics" and came["params"]["diagnostics"] == []
-    if not right:
+        is_right = came["method"] == "textDocument/publishDiagnostics" and came["params"]["diagnostics"] == []
+    if not is_right:
         raise Difference(f"the first reply is wrong: {body[:200]!r}")
 
 
@@ -120,13 +117,12 @@ def conversation(program, load, environment, window):
     began = time.perf_counter()
     with started(program, load, environment) as running, running.connect() as client:
         client.header = ANY_HEADER
-        return converse(client, program, load, window, began)
+        client.send_bytes(frame(INITIALIZE))
+        client.body()
+        return converse(client, program, load, window, time.perf_counter() - began)
 
 
-def converse(client, program, load, window, began):
-    client.send_bytes(frame(INITIALIZE))
-    client.body()
-    start = time.perf_counter() - began
+def converse(client, program, load, window, start):
     client.send_bytes(frame(INITIALIZED))
     rest = client.program.memory("VmRSS")
     if load.opening:
