@@ -31,11 +31,9 @@ serde = "1"
 serde_derive = "1"
 serde_json = "1"
 """
-CARGO_SETTINGS = """[source.crates-io]
-replace-with = "debian"
-
-[source.debian]
-directory = "{registry}"
+CARGO_SETTINGS = """[source]
+crates-io.replace-with = "debian"
+debian.directory = "{registry}"
 
 [net]
 offline = true
@@ -137,9 +135,10 @@ def build_crate(folder):
     return Program("crate", serving([path]) | {"pump": [path, "pump"]}, version)
 
 
-def serving(command):
-    """The words of the kinds that a server knows."""
-    return {"echo": [*command, "serve"], "result": [*command, "drops", "PLACES"], "text": [*command, "texts"]}
+def serving(command, *kinds):
+    """The words of the kinds that a server knows: of all, if none is named."""
+    words = {"echo": [*command, "serve"], "result": [*command, "drops", "PLACES"], "text": [*command, "texts"]}
+    return {kind: words[kind] for kind in kinds or words}
 
 
 def built_by_cpp(source, *options):
@@ -149,12 +148,9 @@ def built_by_cpp(source, *options):
 
 
 def build_rapid():
-    headers = unpacked(["rapidjson-dev"]) / "usr/include"
-    path = built_by_cpp("rapid.cpp", "-I", headers)
+    path = built_by_cpp("rapid.cpp", "-I", unpacked(["rapidjson-dev"]) / "usr/include")
     version = f"RapidJSON {version_of('rapidjson-dev')}, {run(['g++', '--version']).splitlines()[0]}"
-    commands = serving([path]) | {"pump": [path, "pump"]}
-    del commands["text"]
-    return Program("RapidJSON", commands, version)
+    return Program("RapidJSON", {**serving([path], "echo", "result"), "pump": [path, "pump"]}, version)
 
 
 def build_copy():
@@ -174,8 +170,7 @@ def build_python():
 def build_node():
     root = unpacked(["node-" + name for name in NODE], SUITE)
     version = f"vscode-languageserver {version_of('node-vscode-languageserver', SUITE)}, Node {run(['node', '--version']).strip()}"
-    command = ["node", SOURCES / "server.js"]
-    return Program("Node", serving(command), version, (("NODE_PATH", f"{root}/usr/share/nodejs"),))
+    return Program("Node", serving(["node", SOURCES / "server.js"]), version, (("NODE_PATH", f"{root}/usr/share/nodejs"),))
 
 
 def tcmalloc():
@@ -184,14 +179,11 @@ def tcmalloc():
     return str(next(root.glob("usr/lib/*/libtcmalloc_minimal.so.4"))), version_of("libtcmalloc-minimal4")
 
 
-def build_all(names, crate_folder):
-    """The peers of these names that can be built here."""
-    builds = {"crate": lambda: build_crate(crate_folder), "RapidJSON": build_rapid, "copy": build_copy, "Python": build_python,
-              "Node": build_node}
-    programs = []
-    for name in names:
+def build_all(crate_folder):
+    """The peers that can be built here."""
+    for name, build in [("crate", lambda: build_crate(crate_folder)), ("RapidJSON", build_rapid), ("copy", build_copy),
+                        ("Python", build_python), ("Node", build_node)]:
         try:
-            programs.append(builds[name]())
+            yield build()
         except Missing as missing:
             print(f"left out: {name}: {missing}", file=sys.stderr)
-    return programs
