@@ -15,18 +15,16 @@ from pathlib import Path
 sys.dont_write_bytecode = True
 
 from client import (
-    ASKED, BAD_ENDS, BEGUN, ECHO, ECHO_REPLY, ECHOED, WHOLE_SESSION, check_bad_end, check_session, check_unawaited, ends_badly, ends_well,
-    expect_text,
+    ASKED, BAD_ENDS, BEGUN, ECHO, ECHO_REPLY, ECHOED, WHOLE_SESSION, check_bad_end, check_session, check_unawaited, ends_badly,
+    ends_well, expect_text,
 )
 from lsp import (
     EXIT, HOST, INITIALIZE, INITIALIZE_REPLY, INITIALIZED, PATIENCE, SHUTDOWN, SHUTDOWN_REPLY, Difference, bodies, expect, frame,
     run_on, started,
 )
+from unread_client import is_asleep, send_unread
 
 MEGABYTE = 1_000_000
-# What is taken for held back: all threads asleep at each of so many looks, so long after one another, and nothing taken.
-LOOKS = 20
-BETWEEN_LOOKS = 0.05
 # A reply that waits for an acknowledgement of the one before comes after some 40 ms, whatever else the machine does.
 LONGEST_BURST = 0.02
 BURST_ROUNDS = 100
@@ -36,7 +34,7 @@ FLOOD = 100_000
 
 
 def long_echo(size):
-    return frame(b'{"jsonrpc":"2.0","id":6,"method":"demo/echo","params":["%s"]}' % (b"x" * size))
+    return b'{"jsonrpc":"2.0","id":6,"method":"demo/echo","params":["%s"]}' % (b"x" * size)
 
 
 def served(program):
@@ -117,36 +115,11 @@ def check_gone(program, name, sent, text, resets=False):
         ends_badly(client, text)
 
 
-def is_asleep(process):
-    """Whether all threads of a process wait for something else than a processor."""
-    states = [path.read_text().rpartition(")")[2].split()[0] for path in Path(f"/proc/{process.pid}/task").glob("*/stat")]
-    return all(state == "S" for state in states)
-
-
-def is_held_back(client):
-    """Whether the program takes nothing more. On a busy machine it may only be slow, but some thread of it waits for a processor then."""
-    for _ in range(LOOKS):
-        if select.select([], [client.sink], [], BETWEEN_LOOKS)[1] or not is_asleep(client.program.process):
-            return False
-    return True
-
-
-def send_until_held_back(client, data):
-    """Sends the data again and again, until nothing more is taken. It gives how many bytes were taken."""
-    taken = 0
-    while taken < 100 * MEGABYTE:
-        if select.select([], [client.sink], [], BETWEEN_LOOKS)[1]:
-            taken += client.sink.send(data[taken % len(data) :])
-        elif is_held_back(client):
-            return taken
-    raise Difference("all of it was taken")
-
-
 def check_never_reads(program):
     """The client sends until nothing more is taken, reads nothing, and is gone."""
     with served(program) as client:
-        client.send_bytes(frame(INITIALIZE) + frame(INITIALIZED))
-        taken = send_until_held_back(client, long_echo(MEGABYTE))
+        taken = send_unread(client, [INITIALIZE, INITIALIZED, *[long_echo(MEGABYTE)] * 100])
+        expect(f"whether it is held back after {taken} bytes", taken < 100 * MEGABYTE and is_asleep(client.program.process), True)
         print(f"    held back after {taken / MEGABYTE:.1f} MB")
         client.connection.close()
         ends_badly(client, "channel closed")
@@ -157,7 +130,7 @@ def check_never_reads_and_stays(program):
     minute."""
     with served(program) as client:
         client.exchange(BEGUN)
-        client.send_bytes(long_echo(10 * MEGABYTE) + frame(SHUTDOWN) + frame(EXIT))
+        client.send_bytes(b"".join(map(frame, [long_echo(10 * MEGABYTE), SHUTDOWN, EXIT])))
         expect("the status, standard output and standard error", client.program.end(), (1, b"", "lsp_demo: write fault 1\n"))
 
 

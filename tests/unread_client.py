@@ -15,6 +15,7 @@ import os
 import select
 import sys
 import time
+from pathlib import Path
 
 sys.dont_write_bytecode = True
 
@@ -49,27 +50,26 @@ PARAMS = {
 }
 
 
-def processor_time(client):
-    """How long all its threads have run, in hundredths of a second, by the clock of the process that clock_getcpuclockid(3) names."""
-    return round(time.clock_gettime(~client.program.process.pid << 3 | 2), 2)
+def is_asleep(process):
+    """Whether all threads of a process wait for something else than a processor."""
+    states = [path.read_text().rpartition(")")[2].split()[0] for path in Path(f"/proc/{process.pid}/task").glob("*/stat")]
+    return all(state == "S" for state in states)
 
 
 def send_unread(client, bodies):
-    """Sends until nothing moves any more: how many of the bytes were sent. A program that has gone takes all, and its memory tells that."""
+    """Sends until nothing moves any more: how many of the bytes were sent. A program that has gone takes all: its memory tells."""
     rest = memoryview(b"".join(map(frame, bodies)))
-    whole, end = len(rest), time.monotonic() + LONGEST
-    seen, since = None, time.monotonic()
+    whole, end, since = len(rest), time.monotonic() + LONGEST, time.monotonic()
     while time.monotonic() < min(end, since + STILL):
         if rest and select.select([], [client.sink], [], 0)[1]:
             try:
                 rest = rest[os.write(client.sink.fileno(), rest[: 1 << 16]) :]
             except BrokenPipeError:
                 rest = rest[:0]
-        now = (len(rest), processor_time(client))
-        if now != seen:
-            seen, since = now, time.monotonic()
-        else:
+        elif is_asleep(client.program.process):
             time.sleep(0.01)
+            continue
+        since = time.monotonic()
     return whole - len(rest)
 
 
