@@ -77,9 +77,7 @@ def ends_where_nobody_reads(way):
 
 def kept(process):
     """How many threads and descriptors a program has."""
-    with open(f"/proc/{process.pid}/status") as status:
-        threads = next(int(line.split()[1]) for line in status if line.startswith("Threads:"))
-    return threads, len(os.listdir(f"/proc/{process.pid}/fd"))
+    return tuple(len(os.listdir(f"/proc/{process.pid}/{of}")) for of in ("task", "fd"))
 
 
 def serves_the_next(way):
