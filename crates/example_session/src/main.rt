@@ -26,14 +26,18 @@ struct Documents {
 
 impl Handler for Documents {
     ghost use Rattle.serde_json.specs.Data.{number, unsigned};
-    ghost use Rattle.std.specs.Prelude.{◌≡◌, ◌+◌, ◌≤◌, Ok, codes};
+    ghost use Rattle.std.specs.Prelude.{◌≡◌, ◌≢◌, ◌+◌, ◌-◌, ◌^◌, min, Ok, codes};
 
-    // A request changes nothing, and the count is told who asks for it. A notification opens at most one document.
+    // A request changes nothing, and the count is told who asks for it. `didOpen` adds one, up to the greatest number that there is, and
+    // `didClose` takes one away, down to zero. No other notification changes anything.
     ghost answers = { λ old _ method _ outcome new.
         (new ≡ old) × (method ≡ codes "demo/openDocuments"
         → outcome ≡ Ok (number (unsigned old.open_count))) };
 
-    ghost notes = { λ old _ _ new. new.open_count ≤ old.open_count + 1 };
+    ghost notes = { λ old method _ new.
+        (method ≡ codes "textDocument/didOpen" → new.open_count ≡ min (old.open_count + 1) (2 ^ 32 - 1))
+        × (method ≡ codes "textDocument/didClose" → new.open_count ≡ old.open_count - 1)
+        × (method ≢ codes "textDocument/didOpen" → method ≢ codes "textDocument/didClose" → new ≡ old) };
 
     fn answer(&mut self, request: &Request) -> Result<Result<Value, ResponseError>, AllocError> {
         if request.method.as_str() == "demo/openDocuments" {
