@@ -1,8 +1,10 @@
 pub mod Accounts
 pub mod BothEnds
+pub mod ByteHistory
 pub mod ClientReading
 pub mod Dialogs
 pub mod Driving
+pub mod FrameReading
 pub mod Handing
 pub mod Handshake
 pub mod Late
@@ -13,6 +15,7 @@ pub mod TransportRuns
 pub mod Noting
 pub mod Ordering
 pub mod Passing
+pub mod PendingFrames
 pub mod Phases
 pub mod Ran
 pub mod ReadsOn

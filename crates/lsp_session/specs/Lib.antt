@@ -4,6 +4,8 @@ pub mod ActBytes
 pub mod Answered
 pub mod BothEnds
 pub mod Boxes
+pub mod ByteSession
+pub mod ByteSessions
 pub mod ClientReads
 pub mod Dialog
 pub mod Event
@@ -19,6 +21,7 @@ pub mod Outputs
 pub mod Passing
 pub mod PassingBoxes
 pub mod PassingBytes
+pub mod PendingOutput
 pub mod Prompt
 pub mod ProtocolError
 pub mod ProtocolErrorLaws

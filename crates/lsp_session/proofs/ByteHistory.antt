@@ -1,0 +1,235 @@
+-- What a session between bytes did, exchange after exchange.
+use Rattle.std.proofs.Common.{◌≡◌, refl, sym, ap, subst, ◌∙◌, inl, inr, ℕ, ◌≤◌, ◌+◌, ◌-◌, List, [], ◌∷◌, ◌++◌}
+use Rattle.std.proofs.Common.{append_assoc, take, drop, take_all, length-drop}
+use Rattle.std.proofs.Math.Seq.{take-add}
+use Rattle.std.proofs.Common.{append-nil, length, arith, Ok, Err}
+use Rattle.std.specs.List.{FoldsTo}
+use Rattle.lsp_message.specs.Message.{Message}
+use Rattle.lsp_message.specs.declared.frame.limits.Limits.{Limits}
+use Rattle.lsp_session.specs.ByteSession.{Standing, Exchanged, Exchanges, Goes, Answers, Comes, IsFrameRead, reads_of}
+use Rattle.lsp_session.specs.ByteSession.{writes_of, WritesTurn}
+use Rattle.lsp_session.specs.Event.{Event, message, closed}
+use Rattle.lsp_session.specs.Machine.{Advances, IsAwaited}
+use Rattle.lsp_session.specs.PendingOutput.{AddsFrames, AddsSome}
+use Rattle.lsp_session.specs.ProtocolError.{ProtocolFault, out_of_memory}
+use Rattle.lsp_session.specs.Session.{Behavior}
+use Rattle.lsp_session.specs.SessionOutcome.{served_by}
+use Rattle.lsp_session.specs.TransportTurn.{IsOver}
+use Rattle.lsp_session.specs.declared.loops.machine.Stage.{Stage}
+use Rattle.lsp_session.specs.declared.loops.machine.Stage.TheVariants.{Starting, Replied, Serving, Asked, Ended}
+
+-- a session that has not ended counts as one
+abbrev pub open_count : Stage → ℕ
+open_count (Ended outcome) = 0
+open_count stage = 1
+
+pub open_counts : (stage : Stage) → (IsOver stage → ⊥) → open_count stage ≡ 1
+open_counts Starting lasts = refl
+open_counts Replied lasts = refl
+open_counts Serving lasts = refl
+open_counts (Asked id) lasts = refl
+open_counts (Ended outcome) lasts = absurd (lasts tt)
+
+pub over_counts : (stage : Stage) → IsOver stage → open_count stage ≡ 0
+over_counts (Ended outcome) over = refl
+over_counts Starting over = absurd over
+over_counts Replied over = absurd over
+over_counts Serving over = absurd over
+over_counts (Asked id) over = absurd over
+
+pub counts_one : (stage : Stage) → open_count stage ≤ 1
+counts_one Starting = omega arith
+counts_one Replied = omega arith
+counts_one Serving = omega arith
+counts_one (Asked id) = omega arith
+counts_one (Ended outcome) = omega arith
+
+folds_then : {P A : Type 0} (R : P → A → P → Type 0) (p : P) (xs : List A) (q : P) (ys : List A) (r : P)
+    → FoldsTo R p xs q → FoldsTo R q ys r → FoldsTo R p (xs ++ ys) r
+folds_then R p [] q ys r same more = subst (λ a. FoldsTo R a ys r) (sym same) more
+folds_then R p (x ∷ xs) q ys r (mid, one, rest) more = (mid, one, folds_then R mid xs q ys r rest more)
+
+reads_then : (xs ys : List Exchanged) → reads_of (xs ++ ys) ≡ reads_of xs ++ reads_of ys
+reads_then [] ys = refl
+reads_then (x ∷ xs) ys = ap (λ l. x.read ++ l) (reads_then xs ys) ∙ sym (append_assoc x.read (reads_of xs)
+    (reads_of ys))
+
+writes_then : (xs ys : List Exchanged) → writes_of (xs ++ ys) ≡ writes_of xs ++ writes_of ys
+writes_then [] ys = refl
+writes_then (x ∷ xs) ys = ap (λ l. x.written ++ l) (writes_then xs ys) ∙ sym (append_assoc x.written (writes_of xs)
+    (writes_of ys))
+
+module _ (limits : Limits) (most : ℕ) {S : Type 0} (may : Behavior S) where
+  -- bytes came, and no message is whole
+  pub goes_gathering : (a : Standing S) (u x : List ℕ) → Goes limits most may a u x a (u ++ x)
+  goes_gathering a u x = record { exchanges = []; taken = refl; read = refl; written = sym (append-nil a.pending) }
+
+  -- nothing came
+  pub goes_nowhere : (a : Standing S) (u : List ℕ) → Goes limits most may a u [] a u
+  goes_nowhere a u = record {
+    exchanges = [];
+    taken = refl;
+    read = append-nil u;
+    written = sym (append-nil a.pending);
+  }
+
+  pub goes_then : (a b c : Standing S) (u v w x y : List ℕ) → Goes limits most may a u x b v
+      → Goes limits most may b v y c w → Goes limits most may a u (x ++ y) c w
+  goes_then a b c u v w x y first more = record {
+    exchanges = first.exchanges ++ more.exchanges;
+    taken = folds_then (Exchanges limits most may) a first.exchanges b more.exchanges c first.taken more.taken;
+    read = sym (append_assoc u x y) ∙ ap (λ l. l ++ y) first.read ∙ append_assoc (reads_of first.exchanges) v y
+        ∙ ap (λ l. reads_of first.exchanges ++ l) more.read
+        ∙ sym (append_assoc (reads_of first.exchanges) (reads_of more.exchanges) w)
+        ∙ ap (λ l. l ++ w) (sym (reads_then first.exchanges more.exchanges));
+    written = more.written ∙ ap (λ l. l ++ writes_of more.exchanges) first.written
+        ∙ append_assoc a.pending (writes_of first.exchanges) (writes_of more.exchanges)
+        ∙ ap (λ l. a.pending ++ l) (sym (writes_then first.exchanges more.exchanges));
+  }
+
+  -- bytes came, and then something was taken
+  pub goes_on : (a c : Standing S) (u v w x : List ℕ) → v ≡ u ++ x → Goes limits most may a v [] c w
+      → Goes limits most may a u x c w
+  goes_on a c u v w x is more = subst (λ l. Goes limits most may a u l c w) (append-nil x)
+      (goes_then a a c u (u ++ x) w x [] (goes_gathering a u x) (subst (λ l. Goes limits most may a l [] c w) is more))
+
+  -- further bytes of the same piece came
+  pub goes_more : (a b c : Standing S) (u v w bytes : List ℕ) (n r : ℕ) → Goes limits most may a u (take n bytes) b v
+      → Goes limits most may b v (take r (take (length bytes - n) (drop n bytes))) c w
+      → Goes limits most may a u (take (n + r) bytes) c w
+  goes_more a b c u v w bytes n r first more =
+      let behind : take (length bytes - n) (drop n bytes) ≡ drop n bytes = take_all _ _ (omega (
+        arith,
+        length-drop n bytes,
+      )) in
+      subst (λ l. Goes limits most may a u l c w) (ap (λ l. take n bytes ++ take r l) behind
+      ∙ sym (take-add n r bytes)) (goes_then a b c u v w (take n bytes) (take r (take (length bytes - n)
+      (drop n bytes)))
+      first more)
+
+  -- the same bytes were unread, and the same are
+  pub goes_kept : (a c : Standing S) (u v x w : List ℕ) → v ≡ u → Goes limits most may a v x c w
+      → Goes limits most may a u x c w
+  goes_kept a c u v x w same went = subst (λ l. Goes limits most may a l x c w) same went
+
+  pub goes_still : (a : Standing S) (u w : List ℕ) → w ≡ u → Goes limits most may a u [] a w
+  goes_still a u w same = subst (λ l. Goes limits most may a u [] a l) (sym same) (goes_nowhere a u)
+
+  one : (a c : Standing S) (x : Exchanged) → Exchanges limits most may a x c → (u w : List ℕ) → u ≡ x.read ++ w
+      → Goes limits most may a u [] c w
+  one a c x is u w same = record {
+    exchanges = x ∷ [];
+    taken = (c, is, refl);
+    read = append-nil u ∙ same ∙ ap (λ l. l ++ w) (sym (append-nil x.read));
+    written = is.answers.pending ∙ ap (λ l. a.pending ++ l) (sym (append-nil x.written));
+  }
+
+  -- the messages end
+  pub goes_closed : (a c : Standing S) (u w : List ℕ) → w ≡ u → Comes may a closed c → Goes limits most may a u [] c w
+  goes_closed a c u w same (inl (awaited, written, answers)) =
+      one a c (record { event = closed; read = []; written = written }) (record {
+        awaited = awaited;
+        read = refl;
+        room = tt;
+        answers = answers;
+      }) u w (sym same)
+  goes_closed a c u w same (inr (never, kept)) =
+      subst (λ b. Goes limits most may a u [] b w) (sym kept) (subst (λ l. Goes limits most may a u [] a l) (sym same)
+      (goes_nowhere a u))
+
+  awaited_message : (stage : Stage) (m : Message) → (IsOver stage → ⊥) → IsAwaited stage (message m)
+  awaited_message Starting m lasts = tt
+  awaited_message Replied m lasts = tt
+  awaited_message Serving m lasts = tt
+  awaited_message (Asked id) m lasts = tt
+  awaited_message (Ended outcome) m lasts = absurd (lasts tt)
+
+  -- the message of a whole frame is taken
+  pub goes_message : (a c : Standing S) (m : Message) (frame u v w : List ℕ) → IsFrameRead limits m frame
+      → u ≡ frame ++ v → w ≡ v → length a.pending ≤ most → (IsOver a.stage → ⊥) → Comes may a (message m) c
+      → Goes limits most may a u [] c w
+  goes_message a c m frame u v w is cut same room lasts (inl (awaited, written, answers)) =
+      one a c (record { event = message m; read = frame; written = written }) (record {
+        awaited = awaited;
+        read = is;
+        room = room;
+        answers = answers;
+      }) u w (cut ∙ ap (λ l. frame ++ l) (sym same))
+  goes_message a c m frame u v w is cut same room lasts (inr (never, kept)) =
+      absurd (never (awaited_message a.stage m lasts))
+
+  over_end : (stage : Stage) → IsAwaited stage closed → (s s' : S) (sent : List Message) (gone : Stage) → Advances may
+      (stage, s) closed sent (gone, s') → IsOver gone
+  over_end stage awaited s s' sent gone ends = subst IsOver (sym ends.now) tt
+
+  over_wrote : (sent : List Message) (written : List ℕ) (gone stage : Stage) → IsOver gone
+      → WritesTurn sent written gone
+      stage → IsOver stage
+  over_wrote sent written gone stage over (inl all) = subst IsOver (sym all.0) over
+  over_wrote sent written gone stage over (inr some) = subst IsOver (sym some.over) tt
+
+  awaits_end : (stage : Stage) → (IsAwaited stage closed → ⊥) → IsOver stage
+  awaits_end Starting never = absurd (never tt)
+  awaits_end Replied never = absurd (never tt)
+  awaits_end Serving never = absurd (never tt)
+  awaits_end (Asked id) never = absurd (never tt)
+  awaits_end (Ended outcome) never = tt
+
+  -- the end of the messages ends a session
+  pub closed_over : (a c : Standing S) → Comes may a closed c → IsOver c.stage
+  closed_over a c (inl (awaited, written, answers)) =
+      over_wrote answers.sent written answers.gone c.stage (over_end a.stage awaited a.service c.service answers.sent
+      answers.gone answers.advances) answers.writes
+  closed_over a c (inr (never, kept)) = subst (λ (b : Standing S). IsOver b.stage) (sym kept) (awaits_end a.stage never)
+
+-- what is taken of the rest of a piece is within the piece
+pub within_more : (n r : ℕ) (bytes : List ℕ) → n ≤ length bytes → r ≤ length (take (length bytes - n) (drop n bytes))
+    → n + r ≤ length bytes
+within_more n r bytes first more =
+    let all : length (take (length bytes - n) (drop n bytes)) ≡ length (drop n bytes) = ap (λ (l : List ℕ). length l)
+    (take_all _ _ (omega (arith, length-drop n bytes))) in
+    omega (arith, all, length-drop n bytes, first, more)
+
+-- the same bounds
+pub goes_same : (limits limits' : Limits) (most most' : ℕ) {S : Type 0} (may : Behavior S) (a c : Standing S)
+    (u x w : List ℕ) → limits' ≡ limits → most' ≡ most → Goes limits' most' may a u x c w
+    → Goes limits most may a u x c w
+goes_same limits limits' most most' may a c u x w same as_many went =
+    subst (λ l. Goes l most may a u x c w) same (subst (λ n. Goes limits' n may a u x c w) as_many went)
+
+module _ {S : Type 0} (may : Behavior S) (old new : Standing S) (event : Event) (sent : List Message) (gone : Stage)
+    (advances : Advances may (old.stage, old.service) event sent (gone, new.service)) where
+  -- all that a turn sends is written
+  pub answers_all : new.stage ≡ gone → AddsFrames {E = ProtocolFault} old.pending sent (Ok tt) new.pending
+      → (written : List ℕ) × Answers may old event written new
+  answers_all stands (frames, are, added) = (
+    frames,
+    record {
+      sent = sent;
+      gone = gone;
+      advances = advances;
+      writes = inl (stands, are);
+      pending = added;
+    },
+  )
+
+  -- memory ran out for a part of it
+  pub answers_some : new.stage ≡ Ended (served_by (Err out_of_memory)) → AddsSome old.pending sent new.pending
+      → (written : List ℕ) × Answers may old event written new
+  answers_some over r = (
+    r.frames,
+    record {
+      sent = sent;
+      gone = gone;
+      advances = advances;
+      writes = inr (record {
+        part = r.part;
+        unsent = r.unsent;
+        more = r.more;
+        cut = r.cut;
+        are_frames = r.are_frames;
+        over = over;
+      });
+      pending = r.added;
+    },
+  )

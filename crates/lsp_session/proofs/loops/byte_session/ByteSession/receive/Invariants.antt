@@ -1,0 +1,16 @@
+use Rattle.std.proofs.Common.{◌≤◌, ◌+◌, ◌-◌, length, take}
+use Rattle.lsp_session.proofs.ByteHistory.{open_count}
+use Rattle.lsp_session.specs.ByteSession.{Goes}
+use Rattle.lsp_session.specs.ByteSessions.{standing, unread, KeepsBounds}
+use Rattle.lsp_session.proofs.loops.byte_session.ByteSession.receive.Given as goal
+
+abbrev pub invariant-loop-taken : goal.invariant-loop-taken
+invariant-loop-taken g l = record {
+  within : l.taken ≤ length l.bytes;
+  goes : Goes l.fn.self.input.limits l.fn.self.most_pending g.S.Service.behavior (standing l.fn.self) (unread l.fn.self)
+      (take l.taken l.bytes) (standing l.self) (unread l.self);
+  kept : KeepsBounds l.fn.self l.self;
+}
+
+abbrev pub decreases-loop-taken : goal.decreases-loop-taken
+decreases-loop-taken g l = length l.bytes - l.taken + open_count l.self.core.stage

@@ -1,0 +1,118 @@
+-- A session between bytes and bytes (LSP 3.17, "Base Protocol" and "Server lifecycle"): what it took, and what it has
+-- to send.
+use Rattle.std.specs.List.{FoldsTo}
+use Rattle.std.specs.Prelude.{◌≡◌, ◌⊎◌, ◌≤◌, ◌++◌, ◌∷◌, ℕ, List, [], length, take, Option, Some, None, Result, Ok, Err}
+use Rattle.lsp_message.specs.Frame.{Begins, reading_within}
+use Rattle.lsp_message.specs.Message.{Message}
+use Rattle.lsp_message.specs.View.{message_view}
+use Rattle.lsp_message.specs.Written.{AreFramesOf}
+use Rattle.lsp_message.specs.declared.frame.ReadFault.{ReadFault}
+use Rattle.lsp_message.specs.declared.frame.ReadFault.TheVariants.{Input, Memory}
+use Rattle.lsp_message.specs.declared.frame.limits.Limits.{Limits}
+use Rattle.lsp_message.specs.declared.msg.Message as msg
+use Rattle.lsp_session.specs.Event.{Event, message}
+use Rattle.lsp_session.specs.Machine.{Advances, IsAwaited}
+use Rattle.lsp_session.specs.ProtocolError.{out_of_memory}
+use Rattle.lsp_session.specs.Session.{Behavior}
+use Rattle.lsp_session.specs.SessionOutcome.{served_by}
+use Rattle.lsp_session.specs.declared.loops.machine.Stage.{Stage}
+use Rattle.lsp_session.specs.declared.loops.machine.Stage.TheVariants.{Ended}
+
+-- these bytes are the frame of the message, whatever follows them
+abbrev pub IsFrameRead : Limits → Message → List ℕ → Type 0
+IsFrameRead limits m frame = (rest : List ℕ) → Begins limits (frame ++ rest) m rest
+
+-- The bytes begin with this fault. Of a want of memory nothing is said of the bytes.
+abbrev pub BeginsWithFault : Limits → List ℕ → ReadFault → Type 0
+BeginsWithFault limits text (Input kind) = Unit {0}
+BeginsWithFault limits text Memory = Unit {0}
+BeginsWithFault limits text fault = (reading_within limits text).outcome ≡ Err fault
+
+-- the first message of the bytes and the length of its frame, no message, or their fault
+abbrev pub ReadsFirst : Limits → List ℕ → Result (Option (msg.Message × ℕ)) ReadFault → Type 0
+ReadsFirst limits text (Ok (Some found)) = IsFrameRead limits (message_view found.0) (take found.1 text)
+ReadsFirst limits text (Ok None) = Unit {0}
+ReadsFirst limits text (Err fault) = BeginsWithFault limits text fault
+
+-- the first message is taken off the bytes, or they stay
+abbrev pub ReadsOne : Limits → List ℕ → Result (Option msg.Message) ReadFault → List ℕ → Type 0
+ReadsOne limits text (Ok (Some m)) left = (frame : List ℕ) × IsFrameRead limits (message_view m) frame
+    × (text ≡ frame ++ left)
+ReadsOne limits text (Ok None) left = left ≡ text
+ReadsOne limits text (Err fault) left = (left ≡ text) × BeginsWithFault limits text fault
+
+-- the bytes that are read for an event: a message has its frame, and the other events have no bytes
+abbrev pub IsReadFor : Limits → Event → List ℕ → Type 0
+IsReadFor limits (message m) read = IsFrameRead limits m read
+IsReadFor limits event read = read ≡ []
+
+-- a message is taken only while at most so many bytes are pending
+abbrev pub HasRoomFor : ℕ → Event → List ℕ → Type 0
+HasRoomFor most (message m) pending = length pending ≤ most
+HasRoomFor most event pending = Unit {0}
+
+-- where a session stands: the stage of its machine, its service, and the bytes that it has to send
+pub record Standing (S : Type 0) : Type 0 where
+  pub stage : Stage
+  pub service : S
+  pub pending : List ℕ
+
+-- Memory ran out when the frames of these messages were made. Frames of the first of them are written, and the session
+-- has ended.
+pub record RunsOut (sent : List Message) (written : List ℕ) (stage : Stage) : Type 0 where
+  pub part : List Message
+  pub unsent : Message
+  pub more : List Message
+  pub cut : sent ≡ part ++ unsent ∷ more
+  pub are_frames : AreFramesOf part written
+  pub over : stage ≡ Ended (served_by (Err out_of_memory))
+
+-- What is written for the messages of a turn, after which the session goes to this stage: their frames, in order.
+abbrev pub WritesTurn : List Message → List ℕ → Stage → Stage → Type 0
+WritesTurn sent written gone stage = ((stage ≡ gone) × AreFramesOf sent written) ⊎ RunsOut sent written stage
+
+module _ {S : Type 0} (may : Behavior S) where
+  -- the session takes an event, and these bytes are written for it
+  pub record Answers (old : Standing S) (event : Event) (written : List ℕ) (new : Standing S) : Type 0 where
+    pub sent : List Message
+    pub gone : Stage
+    pub advances : Advances may (old.stage, old.service) event sent (gone, new.service)
+    pub writes : WritesTurn sent written gone new.stage
+    pub pending : new.pending ≡ old.pending ++ written
+
+  -- an event that the session does not await changes nothing
+  abbrev pub Comes : Standing S → Event → Standing S → Type 0
+  Comes old event new = (IsAwaited old.stage event × (written : List ℕ) × Answers old event written new)
+      ⊎ ((IsAwaited old.stage event → ⊥) × (new ≡ old))
+
+-- an event that a session took, the bytes that were read for it, and those that are written for it
+pub record Exchanged : Type 0 where
+  pub event : Event
+  pub read : List ℕ
+  pub written : List ℕ
+
+-- all bytes that were read, and all that were written
+abbrev pub reads_of : List Exchanged → List ℕ
+reads_of [] = []
+reads_of (x ∷ xs) = x.read ++ reads_of xs
+
+abbrev pub writes_of : List Exchanged → List ℕ
+writes_of [] = []
+writes_of (x ∷ xs) = x.written ++ writes_of xs
+
+module _ (limits : Limits) (most : ℕ) {S : Type 0} (may : Behavior S) where
+  -- one exchange of a session
+  pub record Exchanges (old : Standing S) (x : Exchanged) (new : Standing S) : Type 0 where
+    pub awaited : IsAwaited old.stage x.event
+    pub read : IsReadFor limits x.event x.read
+    pub room : HasRoomFor most x.event old.pending
+    pub answers : Answers may old x.event x.written new
+
+  -- What a session did: its exchanges, one after another. The bytes that were unread and those that came are what was
+  -- read for the exchanges, and then what is unread now. What was pending and what was written for the exchanges is
+  -- pending now, in this order.
+  pub record Goes (old : Standing S) (unread came : List ℕ) (new : Standing S) (left : List ℕ) : Type 0 where
+    pub exchanges : List Exchanged
+    pub taken : FoldsTo Exchanges old exchanges new
+    pub read : unread ++ came ≡ reads_of exchanges ++ left
+    pub written : new.pending ≡ old.pending ++ writes_of exchanges

@@ -1,0 +1,272 @@
+// A session of a server between bytes and bytes.
+ghost use Rattle.std.specs.Prelude.{◌≡◌, ◌≤◌, ◌<◌, ◌⊎◌, [], length, drop as drop_front, take, IsTrue, None, Some};
+ghost use Rattle.lsp_session.specs.ByteSession.{Comes, Goes};
+ghost use Rattle.lsp_session.specs.ByteSessions.{standing, unread, KeepsBounds};
+ghost use Rattle.lsp_session.specs.Event.{closed, timeout, woken};
+ghost use Rattle.lsp_session.specs.Machine.{awaited_in, came_view, outcome_of};
+ghost use Rattle.lsp_session.specs.SessionFault.{session_answer as session_answer_spec};
+ghost use Rattle.lsp_session.specs.TransportTurn.{IsOver};
+ghost use Rattle.lsp_session.specs.declared.loops.ReadEnd.TheVariants.{Fault};
+ghost use Rattle.lsp_session.specs.declared.loops.machine.Stage.TheVariants as stage;
+
+use crate::error::ProtocolError;
+use crate::loops::ReadEnd;
+use crate::loops::frame_input::FrameInput;
+use crate::loops::handler::SessionEnd;
+use crate::loops::machine::{Awaits, Came, SessionCore};
+use crate::loops::pending_output::PendingOutput;
+use crate::loops::service::Service;
+use crate::loops::stream_session::{SessionFault, session_answer};
+use lsp_message::{Limits, ReadFault};
+use std::alloc::Global;
+
+/// A session of a server between bytes and bytes (LSP 3.17, "Base Protocol" and "Server lifecycle"). It does no IO: the caller hands it the
+/// bytes that came, and sends its output. So it runs in an event loop, in a test, or behind an interface of another language.
+///
+/// The session does at each message what `serve_transport` says. It holds the bytes of one frame at most, which has at most the bytes that
+/// its `Limits` allow. While more than `most_pending` bytes are to be sent it takes no input, so it holds at most these, and what it sends for
+/// one more event.
+///
+/// At bytes that are no message the session ends, as one with the policy `EndSession` does. The answer of `into_parts` is then
+/// `SessionFault::Read`, and the bytes stay unread. If memory runs out, it ends, and the answer is `SessionFault::Memory`.
+///
+/// This loop runs a session over a reader and a writer. `input` has the bytes that were read and not taken:
+///
+/// ```text
+/// while !session.is_done() {
+///     if !session.output().is_empty() {
+///         let count = writer.write(session.output())?;
+///         session.sent(count);
+///     } else if input.is_empty() {
+///         match reader.read(&mut buffer)? {
+///             0 => session.closed(),
+///             count => input.extend_from_slice(&buffer[..count])?,
+///         }
+///     } else {
+///         let count = session.receive(&input);
+///         drop(input.drain(..count));
+///     }
+/// }
+/// let (answer, service) = session.into_parts();
+/// ```
+#[derive(Drop)]
+pub struct ByteSession<S> {
+    core: SessionCore,
+    service: S,
+    most_pending: usize,
+    input: FrameInput,
+    output: PendingOutput,
+    end: Option<ReadEnd>,
+}
+
+impl<S: Service> ByteSession<S> {
+    /// A session that awaits `initialize`, for messages within limits. It takes no memory.
+    pub fn new(alloc: Global, service: S, limits: Limits, most_pending: usize) -> ByteSession<S>
+        ensures starts { standing result ≡ record { stage = stage.Starting; service = service; pending = [] } }
+        ensures unread { unread result ≡ [] }
+        ensures limits { result.input.limits ≡ limits }
+        ensures most { result.most_pending ≡ most_pending }
+        ensures unended { result.end ≡ None }
+    {
+        ByteSession {
+            core: SessionCore::new(alloc),
+            service,
+            most_pending,
+            input: FrameInput::new(alloc, limits),
+            output: PendingOutput::new(alloc),
+            end: None,
+        }
+    }
+
+    /// What the session waits for.
+    pub fn awaits(&self) -> Awaits
+        ensures { result ≡ awaited_in (standing self.now).stage }
+    {
+        self.core.awaits()
+    }
+
+    /// Whether `receive` takes bytes: the session has not ended, and at most `most_pending` bytes are to be sent.
+    pub fn wants_input(&self) -> bool
+        ensures pending { IsTrue result → length (standing self.now).pending ≤ self.now.most_pending }
+        ensures waits { IsTrue result → IsOver (standing self.now).stage → ⊥ }
+        ensures refuses { (IsTrue result → ⊥) → IsOver (standing self.now).stage ⊎ (self.now.most_pending < length (standing self.now).pending) }
+    {
+        self.core.awaits() != Awaits::Nothing && self.output.as_slice().len() <= self.most_pending
+    }
+
+    /// Takes bytes that came, in pieces of any size, and serves each message that is whole. Returns how many bytes it took: all of them, unless
+    /// the session ends or more than `most_pending` bytes are to be sent. Hand it the others again when enough of the output was sent.
+    pub fn receive(&mut self, bytes: &[u8]) -> usize
+        ensures within { result ≤ length bytes.now }
+        ensures goes { Goes self.old.input.limits self.old.most_pending S.behavior (standing self.old) (unread self.old)
+            (take result bytes.now) (standing self.new) (unread self.new) }
+        ensures all { (result ≡ length bytes.now) ⊎ IsOver (standing self.new).stage
+            ⊎ (self.new.most_pending < length (standing self.new).pending) }
+        ensures kept { KeepsBounds self.old self.new }
+    {
+        let mut taken = 0;
+        while taken < bytes.len() && self.wants_input() {
+            taken += self.receive_part(&bytes[taken..]);
+        }
+        taken
+    }
+
+    /// Takes bytes up to the end of a line of the header part or of the content part. Returns how many.
+    fn receive_part(&mut self, bytes: &[u8]) -> usize
+        requires room { length (standing self.old).pending ≤ self.old.most_pending }
+        requires waits { IsOver (standing self.old).stage → ⊥ }
+        ensures within { result ≤ length bytes.now }
+        ensures some { (0 < length bytes.now → 0 < result) ⊎ IsOver (standing self.new).stage }
+        ensures goes { Goes self.old.input.limits self.old.most_pending S.behavior (standing self.old) (unread self.old)
+            (take result bytes.now) (standing self.new) (unread self.new) }
+        ensures kept { KeepsBounds self.old self.new }
+    {
+        match self.input.gather(bytes) {
+            Ok(count) => {
+                self.advance();
+                count
+            }
+            Err(_) => {
+                self.fail(ReadFault::Memory);
+                0
+            }
+        }
+    }
+
+    /// Serves the message that is whole after bytes were gathered, or ends at their fault.
+    fn advance(&mut self)
+        requires room { length (standing self.old).pending ≤ self.old.most_pending }
+        requires waits { IsOver (standing self.old).stage → ⊥ }
+        ensures goes { Goes self.old.input.limits self.old.most_pending S.behavior (standing self.old) (unread self.old) []
+            (standing self.new) (unread self.new) }
+        ensures kept { KeepsBounds self.old self.new }
+    {
+        if !self.input.is_ready() {
+            return;
+        }
+        self.take_message();
+    }
+
+    /// Serves the message that the unread bytes begin with, or ends at their fault.
+    fn take_message(&mut self)
+        requires room { length (standing self.old).pending ≤ self.old.most_pending }
+        requires waits { IsOver (standing self.old).stage → ⊥ }
+        ensures goes { Goes self.old.input.limits self.old.most_pending S.behavior (standing self.old) (unread self.old) []
+            (standing self.new) (unread self.new) }
+        ensures kept { KeepsBounds self.old self.new }
+    {
+        match self.input.read() {
+            Ok(Some(message)) => self.come(Came::Message(message)),
+            Ok(None) => {}
+            Err(fault) => self.fail(fault),
+        }
+    }
+
+    /// Ends the messages with this fault.
+    fn fail(&mut self, fault: ReadFault)
+        ensures goes { Goes self.old.input.limits self.old.most_pending S.behavior (standing self.old) (unread self.old) []
+            (standing self.new) (unread self.new) }
+        ensures ends { self.new.end ≡ Some (Fault fault) }
+        ensures over { IsOver (standing self.new).stage }
+        ensures kept { KeepsBounds self.old self.new }
+    {
+        self.end = Some(ReadEnd::Fault(fault));
+        self.come(Came::Closed);
+    }
+
+    /// Hands an event to the session, and keeps what that sends. Drops one that the session does not take.
+    fn come(&mut self, came: Came)
+        ensures comes { Comes S.behavior (standing self.old) (came_view came) (standing self.new) }
+        ensures input { self.new.input ≡ self.old.input }
+        ensures end { self.new.end ≡ self.old.end }
+        ensures most { self.new.most_pending ≡ self.old.most_pending }
+    {
+        if !self.core.takes(&came) {
+            return drop(came);
+        }
+        let turn = self.core.advance(&mut self.service, came);
+        match self.output.add_turn(turn) {
+            Ok(()) => {}
+            Err(error) => {
+                drop(error);
+                self.core.fail(ProtocolError::out_of_memory());
+            }
+        }
+    }
+
+    /// Says that no more bytes come. The session ends. If a frame is not whole then, that is the fault that a reader meets there.
+    pub fn closed(&mut self)
+        ensures comes { Comes S.behavior (standing self.old) closed (standing self.new) }
+        ensures unread { unread self.new ≡ unread self.old }
+        ensures over { IsOver (standing self.new).stage }
+        ensures kept { KeepsBounds self.old self.new }
+    {
+        if self.core.awaits() == Awaits::Nothing {
+            return;
+        }
+        self.end = Some(match self.input.fault_at_end() {
+            Some(fault) => ReadEnd::Fault(fault),
+            None => ReadEnd::End,
+        });
+        self.come(Came::Closed);
+    }
+
+    /// Says that something is ready for which the service waits. The session takes it only from `initialized` up to `shutdown`.
+    pub fn woken(&mut self)
+        ensures comes { Comes S.behavior (standing self.old) woken (standing self.new) }
+        ensures unread { unread self.new ≡ unread self.old }
+        ensures kept { KeepsBounds self.old self.new }
+    {
+        self.come(Came::Woken);
+    }
+
+    /// Says that no message came within 30 seconds. The session takes it only while it awaits `exit`, and ends.
+    pub fn timeout(&mut self)
+        ensures comes { Comes S.behavior (standing self.old) timeout (standing self.new) }
+        ensures unread { unread self.new ≡ unread self.old }
+        ensures kept { KeepsBounds self.old self.new }
+    {
+        self.come(Came::Timeout);
+    }
+
+    /// The bytes that are to be sent.
+    pub fn output(&self) -> &[u8]
+        ensures { result.now ≡ (standing self.now).pending }
+    {
+        self.output.as_slice()
+    }
+
+    /// Says that so many of the first bytes of `output` were sent, and drops these.
+    pub fn sent(&mut self, count: usize)
+        requires { count ≤ length (standing self.old).pending }
+        ensures sent { standing self.new ≡ record (standing self.old) { pending = drop_front count (standing self.old).pending } }
+        ensures unread { unread self.new ≡ unread self.old }
+        ensures kept { KeepsBounds self.old self.new }
+    {
+        self.output.sent(count);
+    }
+
+    /// Whether the session has ended and all its output was sent.
+    pub fn is_done(&self) -> bool
+        ensures done { IsTrue result → IsOver (standing self.now).stage × ((standing self.now).pending ≡ []) }
+        ensures undone { IsOver (standing self.now).stage → (standing self.now).pending ≡ [] → IsTrue result }
+    {
+        self.core.awaits() == Awaits::Nothing && self.output.as_slice().is_empty()
+    }
+
+    /// How the session ended, and the service. Call `closed` first. Of several faults that fit, the answer has the first of `Memory`, `Read` and
+    /// `Protocol`.
+    pub fn into_parts(self) -> (Result<SessionEnd, SessionFault>, S)
+        ensures answer { result.0 ≡ session_answer_spec (outcome_of (standing self).stage).stop
+            (outcome_of (standing self).stage).answer self.end None }
+        ensures service { result.1 ≡ (standing self).service }
+    {
+        let ByteSession {
+            core,
+            service,
+            end,
+            ..
+        } = self;
+        (session_answer(core.into_outcome(), end, None), service)
+    }
+}
