@@ -82,6 +82,10 @@ impl Server for Speaking {
         Ok(Vec::new(self.alloc))
     }
 
+    fn woken(&mut self, alloc: Global) -> Result<Acts, AllocError> {
+        Ok(Vec::new(alloc))
+    }
+
     fn shutdown(&mut self, alloc: Global) -> Result<Vec<Act<()>>, AllocError> {
         Ok(Vec::new(alloc))
     }

@@ -9,7 +9,6 @@
 
 ghost use Rattle.lsp_session.specs.StreamTransports.{IsUnused, Serves};
 ghost use Rattle.lsp_acts.specs.QueuedServer.{ServerSession};
-ghost use Rattle.lsp_acts.specs.Stated.{unwoken};
 
 use anyhow::{Result as Answer, bail};
 use lsp_documents::{Agreed, DocumentUpdate, TextDocuments, UpdateFault};
@@ -121,6 +120,10 @@ impl Server for Checker {
         self.mark_all(&mut acts)?;
         self.answer_waiting(&mut acts)?;
         Ok(acts)
+    }
+
+    fn woken(&mut self, alloc: Global) -> Result<Acts, AllocError> {
+        Ok(Vec::new(alloc))
     }
 
     fn shutdown(&mut self, alloc: Global) -> Result<Vec<Act<Asked>>, AllocError> {
@@ -304,7 +307,7 @@ fn serve<R: BufRead, W: Write>(
     checker: Checker,
 ) -> (Checker, Result<SessionEnd, SessionFault>)
     requires { IsUnused transport.old }
-    ensures { Serves (ServerSession (unwoken ⟦<Checker as Server>⟧) checker result.0) transport.old result.1 transport.new }
+    ensures { Serves (ServerSession ⟦<Checker as Server>⟧ checker result.0) transport.old result.1 transport.new }
 {
     session_with_over(alloc, transport, checker)
 }

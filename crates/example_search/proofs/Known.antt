@@ -5,7 +5,7 @@ use Rattle.lsp_message.specs.Message.{Message}
 use Rattle.lsp_acts.proofs.Counting.{used_once}
 use Rattle.lsp_acts.specs.Law.{IsWhole, KeepsLaws}
 use Rattle.lsp_acts.specs.QueuedServer.{ServerSession, held_by}
-use Rattle.lsp_acts.specs.Stated.{Stated}
+use Rattle.lsp_acts.specs.declared.server.Server.{Ghosts as Stated}
 use Rattle.lsp_session.specs.Session.{Exchange, SessionAnswer, Stop}
 use Rattle.example_search.specs.Promise.{AnswersOnce}
 

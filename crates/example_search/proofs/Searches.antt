@@ -24,7 +24,6 @@ use Rattle.lsp_message.specs.Message.{Message, request, notification, response}
 use Rattle.lsp_message.specs.Methods.{is_initialize}
 use Rattle.lsp_acts.specs.Acts.{Act, TakesBack, replies}
 use Rattle.lsp_acts.specs.Law.{AnswersInitialize, Initializes}
-use Rattle.lsp_acts.specs.Stated.{unwoken}
 use Rattle.lsp_acts.specs.declared.server.Server.{Ghosts as Plain}
 use Rattle.lsp_session.specs.Session.{Exchange, came_of}
 use Rattle.example_search.proofs.Symbols.{answered}
@@ -148,17 +147,17 @@ module _ {F P : Type 0} (plain : Plain Sums P) (may : StatedJobs Sums Search F P
 
     -- up to the result of `initialize` no document is open
     none_open : (early : List Exchange) (old start : Sums) → HasNone old.documents
-        → AnswersInitialize (unwoken plain) old early start → HasNone start.documents
+        → AnswersInitialize plain old early start → HasNone start.documents
     none_open [] old start none same = subst (λ (s : Sums). HasNone s.documents) (sym same) none
     none_open (x ∷ early) old start none run = none_open early run.0 start (at x.came run.1) run.2
       where
-        by : (b : Bool) (m : Message) → MatchBool b (Initializes (unwoken plain) old m x.sent run.0) (run.0 ≡ old)
+        by : (b : Bool) (m : Message) → MatchBool b (Initializes plain old m x.sent run.0) (run.0 ≡ old)
             → HasNone run.0.documents
         by true m i = states.initialized old i.params i.outcome run.0 i.gave
         by false m same = subst (λ (s : Sums). HasNone s.documents) (sym same) none
 
         at : (came : Option Message)
-            → IsSomeAnd came (λ m. MatchBool (is_initialize m) (Initializes (unwoken plain) old m x.sent run.0)
+            → IsSomeAnd came (λ m. MatchBool (is_initialize m) (Initializes plain old m x.sent run.0)
             (run.0 ≡ old)) → HasNone run.0.documents
         at None never = absurd never
         at (Some m) answered = by (is_initialize m) m answered

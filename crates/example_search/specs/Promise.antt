@@ -6,7 +6,6 @@ use Rattle.lsp_message.specs.Id.{Id}
 use Rattle.lsp_message.specs.Message.{Message}
 use Rattle.lsp_acts.specs.Law.{how_many, is_request_under, IsWhole, NeverMore, OnceOrEnded}
 use Rattle.lsp_acts.specs.QueuedServer.{ServerSession, held_by}
-use Rattle.lsp_acts.specs.Stated.{Stated}
 use Rattle.lsp_acts.specs.declared.server.Server.{Ghosts as Plain}
 use Rattle.lsp_session.specs.Session.{Exchange, messages_of, SessionAnswer, Stop}
 use Rattle.example_search.specs.Open.{SearchesOpenTexts}
@@ -15,7 +14,7 @@ use Rattle.example_search.specs.Open.{SearchesOpenTexts}
 -- replies under an id than it had sent requests. A request whose id it used once has exactly one reply. Or it has none:
 -- the server still keeps it, or the session ended at it, since the lifecycle does not allow it. If a write or an
 -- allocation failed, replies may be missing.
-pub record AnswersOnce {S P : Type 0} (may : Stated S P) (first last : S)
+pub record AnswersOnce {S P : Type 0} (may : Plain S P) (first last : S)
     (exchanges : List Exchange) (stop : Stop) (shutdown_reply : Option Message)
     (answer : SessionAnswer) : Type 0 where
   pub session : ServerSession may first last exchanges stop shutdown_reply answer

@@ -111,6 +111,10 @@ impl Server for Sums {
         Ok(acts)
     }
 
+    fn woken(&mut self, alloc: Global) -> Result<Acts, AllocError> {
+        Ok(Vec::new(alloc))
+    }
+
     fn shutdown(&mut self, alloc: Global) -> Result<Vec<Act<()>>, AllocError> {
         Ok(Vec::new(alloc))
     }

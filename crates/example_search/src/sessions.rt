@@ -6,7 +6,6 @@ ghost use Rattle.lsp_session.specs.StreamTransports.{IsUnused, Serves};
 ghost use Rattle.lsp_threads.specs.Passing.{GivenTo, OfTaken, TakenFrom, noted};
 ghost use Rattle.lsp_threads.specs.Threads.{ThreadsTell, ThreadsTellOver};
 ghost use Rattle.lsp_jobs.specs.JobLaw.{LawfulJobSession};
-ghost use Rattle.lsp_acts.specs.Stated.{unwoken};
 ghost use Rattle.example_search.specs.Open.{HasNone, SearchesOpenTexts};
 ghost use Rattle.example_search.specs.Promise.{AnswersOnce, SearchSession};
 
@@ -39,7 +38,7 @@ pub fn serve<R: BufRead, W: Write>(
     sums: Sums,
 ) -> (Sums, Result<SessionEnd, SessionFault>)
     requires { IsUnused transport.old }
-    ensures { Serves (AnswersOnce (unwoken ⟦<Sums as Server>⟧) sums result.0) transport.old result.1 transport.new }
+    ensures { Serves (AnswersOnce ⟦<Sums as Server>⟧ sums result.0) transport.old result.1 transport.new }
 {
     server_keeps_laws::<Sums>();
     session_with_over(alloc, transport, sums)
@@ -58,7 +57,7 @@ where
     R: BufRead + Drop + Send + 'static,
     W: Write + Drop + Send + 'static,
     ensures told { IfOk result.1 (λ done. OfTaken done.taken.parts (λ text.
-        ThreadsTell ⟦<PassedOver as BadContentPolicy>⟧.passes client.limits (AnswersOnce (unwoken ⟦<Sums as Server>⟧) sums result.0)
+        ThreadsTell ⟦<PassedOver as BadContentPolicy>⟧.passes client.limits (AnswersOnce ⟦<Sums as Server>⟧ sums result.0)
         text passed_over.old passed_over.new (Some []) (noted done.given) done.answer)) }
     ensures passed { IfOk result.1 (λ done. TakenFrom (R.remaining client.reader) done.taken.parts
         × GivenTo (W.contents client.writer) done.given.parts (W.contents done.writer)) }

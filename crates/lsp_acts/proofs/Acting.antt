@@ -11,7 +11,7 @@ use Rattle.lsp_acts.specs.Law.{Handed}
 use Rattle.lsp_acts.specs.QueuedServer.{WorksSending, Works, PartsSending}
 use Rattle.lsp_acts.specs.SentByActs.{brought_by, sends_by, all_sends, queues_at, cancelled_answer, acts_done_at}
 use Rattle.lsp_acts.specs.SentByActs.{ActsAt, ActsAtShutdown}
-use Rattle.lsp_acts.specs.Stated.{Stated}
+use Rattle.lsp_acts.specs.declared.server.Server.{Ghosts as Stated}
 use Rattle.serde_json.specs.Data.{Data}
 use Rattle.std.proofs.Common.{◌≡◌, refl, sym, ◌∙◌, ap, List, [], ◌∷◌, ◌++◌, length, append_assoc, append-nil, arith}
 use Rattle.std.proofs.Common.{Option, Some, None, Bool, true, false, cond}

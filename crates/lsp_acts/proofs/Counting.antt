@@ -14,7 +14,7 @@ use Rattle.lsp_acts.specs.QueuedServer.{with_queues, WorksSending, PartsSending}
 use Rattle.lsp_acts.specs.SentByActs.{queues_at, acts_done_at, cancelled_answer}
 use Rattle.lsp_acts.specs.View.{queues_of, seen}
 use Rattle.lsp_acts.specs.declared.queued_server.QueuedServer.{QueuedServer}
-use Rattle.lsp_acts.specs.Stated.{Stated}
+use Rattle.lsp_acts.specs.declared.server.Server.{Ghosts as Stated}
 use Rattle.lsp_session.proofs.Ran.{Ran, reaches_ran, steps_both, one_step, sends_both, stops_by, IsNoRequest, Idle}
 use Rattle.lsp_session.proofs.Ran.{early_request, early_note, unasked, uninvited, leaves, exits, late, stays, StepCase}
 use Rattle.lsp_session.proofs.Ran.{at_initialize, at_initialized, at_served, at_woken, at_shutdown, idle, row}

@@ -7,16 +7,15 @@ use Rattle.lsp_message.specs.Message.{Message, ErrorObject, request, notificatio
 use Rattle.lsp_message.specs.Methods.{is_initialize}
 use Rattle.lsp_queue.specs.Queue.{Pending}
 use Rattle.lsp_acts.proofs.Acting.{acts_at}
-use Rattle.lsp_acts.specs.Acts.{Act, asks, tells, Queues, cancelled_by, does, empty_queues, ends_all, released}
+use Rattle.lsp_acts.specs.Acts.{Act, asks, tells, Queues, cancelled_by, does, empty_queues, ends_all, released, stays}
 use Rattle.lsp_acts.specs.Law.{one_if, acts_of, all_sent, kept_under, was_given, is_reply_under, is_request_under}
 use Rattle.lsp_acts.specs.Law.{how_many, held_under, AnswersCancelled, AnswersLast, NeverMore, OnceOrEnded}
 use Rattle.lsp_acts.specs.Law.{WasToSend, Call, SendsActs, TakesCalls, TakesPart, GivesOwnPayloads, KeepsLaws}
 use Rattle.lsp_acts.specs.QueuedServer.{with_queues, ServerSession, WorksSending}
-use Rattle.lsp_acts.specs.Stated.{Stated, unwoken}
+use Rattle.lsp_acts.specs.declared.server.Server.{Ghosts as Stated}
 use Rattle.lsp_acts.specs.SentByActs.{ActsAtShutdown, all_sends, acts_done_at, cancelled_answer, queues_at}
 use Rattle.lsp_acts.specs.View.{seen}
 use Rattle.lsp_acts.specs.declared.queued_server.QueuedServer.{QueuedServer}
-use Rattle.lsp_acts.specs.declared.server.Server.{Ghosts}
 use Rattle.lsp_session.proofs.Ran.{Ran, StepCase, row, at_initialize, at_initialized, at_served, at_woken, at_shutdown}
 use Rattle.lsp_session.proofs.Ran.{idle, reaches_ran, no_one}
 use Rattle.lsp_session.proofs.Refused.{served_first}
@@ -267,10 +266,11 @@ module _ {S P : Type 0} (may : Stated S P) (method : List ℕ) (params : Data) (
       cc (e)
 
 -- a server that waits for nothing did something at a wake
-pub acts_unwoken : {S P : Type 0} (may : Ghosts S P) (count : ℕ) (old new : S) (payload : Option P) (act : Act P)
-    (acts : List (Act P)) (more : List (Call P))
-    → TakesCalls (unwoken may) count old (record { came = None; payload = payload; acts = act ∷ acts } ∷ more) new → ⊥
-acts_unwoken may count old new payload act acts more took = cc (took.2.0.0)
+pub acts_unwoken : {S P : Type 0} (may : Stated S P) → ((old new : S) (acts : List (Act P)) → may.wakes old acts new
+    → stays old acts new)
+    → (count : ℕ) (old new : S) (payload : Option P) (act : Act P) (acts : List (Act P)) (more : List (Call P))
+    → TakesCalls may count old (record { came = None; payload = payload; acts = act ∷ acts } ∷ more) new → ⊥
+acts_unwoken may waits count old new payload act acts more took = cc ((waits old took.0 (act ∷ acts) took.2.0).0)
 
 -- ---- all of it
 

@@ -22,7 +22,7 @@ use Rattle.lsp_acts.specs.View.{seen, queues_of}
 use Rattle.lsp_acts.specs.declared.queued_server.QueuedServer.{QueuedServer}
 use Rattle.lsp_acts.specs.SentByActs.{brought_by, queues_at, cancelled_answer, acts_done_at}
 use Rattle.lsp_acts.proofs.Acting.{acts_at, at_count, at_sent, sent_so, ids_counted}
-use Rattle.lsp_acts.specs.Stated.{Stated}
+use Rattle.lsp_acts.specs.declared.server.Server.{Ghosts as Stated}
 
 pub requests-append : (xs ys : List Message) → requests_in (xs ++ ys) ≡ requests_in xs ++ requests_in ys
 requests-append [] ys = refl

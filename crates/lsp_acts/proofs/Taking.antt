@@ -25,19 +25,17 @@ use Rattle.lsp_acts.specs.Acts.{Act, Queues, TakesBack, cleared, does_all, empty
 use Rattle.lsp_acts.specs.Law.{requests_in, request_of, ids_after_all, all_sent, acts_of, is_call, IsUnserved}
 use Rattle.lsp_acts.specs.Law.{PartsFirst, SendsActs, TakesCalls, TakesPart, GivesPayloads, GoesOn, Initializes}
 use Rattle.lsp_acts.specs.Law.{KeepsLaws, LawfulSession}
-use Rattle.lsp_acts.specs.QueuedServer.{with_queues, woken_with_queues, held_by, OpensSending, ServerSession}
+use Rattle.lsp_acts.specs.QueuedServer.{with_queues, held_by, OpensSending, ServerSession}
 use Rattle.lsp_acts.specs.QueuedServer.{WorksSending}
 use Rattle.lsp_acts.specs.declared.queued_server.QueuedServer.{QueuedServer}
-use Rattle.lsp_acts.specs.declared.queued_server.WokenQueuedServer.{WokenQueuedServer}
 use Rattle.lsp_acts.specs.SentByActs.{ActsAtShutdown}
 use Rattle.lsp_acts.proofs.Acting.{acts_at_shutdown, sent_at_shutdown, sent_all as acts_sent}
-use Rattle.lsp_acts.proofs.Holding.{session_held}
 use Rattle.lsp_acts.proofs.Counting.{Fresh, kept_to_last, never_more, answered_last, answers_cancelled, all_steps}
 use Rattle.lsp_acts.proofs.Counting.{none_held}
 use Rattle.lsp_acts.proofs.Returning.{requests-append, ids_all, sent-append, sent_all, parted_none, Agrees}
 use Rattle.lsp_acts.proofs.Returning.{agrees_start, agrees_acts, Fits, own_payloads, GivesAll, call_all}
 use Rattle.lsp_acts.specs.View.{queues_of, seen}
-use Rattle.lsp_acts.specs.Stated.{Stated}
+use Rattle.lsp_acts.specs.declared.server.Server.{Ghosts as Stated}
 use Rattle.lsp_session.proofs.Ordering.{keeps_order}
 
 module _ {S P : Type 0} (may : Stated S P) where
@@ -411,17 +409,6 @@ module _ {S P : Type 0} (may : Stated S P) where
       shutdown_reply answer
   session_of old new first last begun left xs stop shutdown_reply answer out =
       record { old = old; new = new; from_first = begun; to_last = left; out = out }
-
-  -- the same of one that is woken
-  pub woken_session_of : (old new : WokenQueuedServer S P) (first last : S) → seen old.queued ≡ (first, empty_queues)
-      → last ≡ new.queued.server
-      → (xs : List Exchange) (stop : Stop) (shutdown_reply : Option Message) (answer : SessionAnswer)
-      → SessionOut (woken_with_queues may) old new xs stop shutdown_reply answer → ServerSession may first last xs stop
-      shutdown_reply answer
-  woken_session_of old new first last begun left xs stop shutdown_reply answer out =
-      session_of old.queued new.queued first last begun left xs stop shutdown_reply answer
-      (session_held (λ (w : WokenQueuedServer S P). w.queued) (with_queues may) old new xs stop shutdown_reply
-      answer out)
 
   module _ (first last : S) (xs : List Exchange) (stop : Stop) (shutdown_reply : Option Message)
       (answer : SessionAnswer) where

@@ -23,6 +23,10 @@ pub data Act (P : Type 0) : Type 0 where
   -- it cancels each request of its own that keeps such a payload, if it has no reply yet
   cancels : (P → Bool) → Act P
 
+-- at a wake nothing is done, and nothing changes
+abbrev pub stays : {S P : Type 0} → S → List (Act P) → S → Type 0
+stays old acts new = (acts ≡ []) × (new ≡ old)
+
 -- the client's requests that are held, the server's own requests, and what is to be sent
 pub record Queues (P : Type 0) : Type 0 where
   pub held : Pending (Unit {0})

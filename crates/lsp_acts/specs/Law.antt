@@ -23,7 +23,7 @@ use Rattle.lsp_acts.specs.Acts.{ids_after, unsent, TakesBack}
 use Rattle.lsp_acts.specs.QueuedServer.{ServerSession, held_by}
 use Rattle.lsp_acts.specs.SentByActs.{ActsAt, ActsAtShutdown, all_sends}
 pub use Rattle.lsp_acts.specs.SentByActs.{Handed}
-use Rattle.lsp_acts.specs.Stated.{Stated}
+use Rattle.lsp_acts.specs.declared.server.Server.{Ghosts as Stated}
 
 abbrev pub one_if : Bool → ℕ
 one_if true = 1

@@ -9,20 +9,7 @@ use Rattle.lsp_acts.specs.Acts.{Queues, Acts, AnswersHeld, cancelled_by, cleared
 use Rattle.lsp_acts.specs.Acts.{released, answers_cancelled}
 use Rattle.lsp_acts.specs.View.{queues_of, seen}
 use Rattle.lsp_acts.specs.declared.queued_server.QueuedServer.{QueuedServer}
-use Rattle.lsp_acts.specs.declared.queued_server.WokenQueuedServer.{WokenQueuedServer}
-use Rattle.lsp_acts.specs.Stated.{Stated}
-
--- a service that holds another, and does what that one does
-abbrev pub held_as : {V W : Type 0} → (W → V) → Behavior V → Behavior W
-held_as part may = record {
-  initializes = λ old params outcome new. may.initializes (part old) params outcome (part new);
-  at_initialized = λ old sent new. may.at_initialized (part old) sent (part new);
-  outputs = λ old m sent new. may.outputs (part old) m sent (part new);
-  wakes = λ old sent new. may.wakes (part old) sent (part new);
-  at_shutdown = λ old id sent new. may.at_shutdown (part old) id sent (part new);
-  after_memory_fault = λ old new. may.after_memory_fault (part old) (part new);
-  passes_late = may.passes_late;
-}
+use Rattle.lsp_acts.specs.declared.server.Server.{Ghosts as Stated}
 
 -- what a server stated that it may do
 module _ {S P : Type 0} (may : Stated S P) where
@@ -76,10 +63,6 @@ module _ {S P : Type 0} (may : Stated S P) where
     after_memory_fault = λ old new. Unit {0};
     passes_late = true;
   }
-
-  -- the same of a server that is woken
-  abbrev pub woken_with_queues : Behavior (WokenQueuedServer S P)
-  woken_with_queues = held_as (λ w. w.queued) with_queues
 
   -- A session of a server, from its first state to its last. Its queues are empty at first.
   pub record ServerSession (first last : S) (exchanges : List Exchange) (stop : Stop)

@@ -6,7 +6,7 @@ use Rattle.lsp_message.specs.Message.{Message, request, notification, response}
 use Rattle.lsp_queue.specs.Queue.{pending_of, count_of, ids_where}
 use Rattle.lsp_acts.specs.Acts.{Act, tells, asks, replies, cancels, Queues, is_spent, does, does_all, unsent, holds}
 use Rattle.lsp_acts.specs.Acts.{given, released, canceled, ends_all, cancelled_by, cancel_all, cleared, TakesBack}
-use Rattle.lsp_acts.specs.Stated.{Stated}
+use Rattle.lsp_acts.specs.declared.server.Server.{Ghosts as Stated}
 
 module _ {P : Type 0} where
   -- What an act sends: a notification; a request, if an id is left, under the next id; the answer of a request that is

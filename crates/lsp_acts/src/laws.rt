@@ -16,19 +16,17 @@ ghost use Rattle.lsp_session.specs.declared.loops.stream_transport.StreamTranspo
 ghost use Rattle.lsp_acts.specs.Acts.{Queues, empty_queues};
 ghost use Rattle.lsp_acts.specs.Law.{is_request_under, how_many, AnswersLast, AnswersLastInFull, IsGone, IsOwedWhatIsHeld, IsWhole, KeepsLaws, LawfulSession, NeverMore, OnceOrEnded, WasToSend};
 ghost use Rattle.lsp_acts.specs.SentByActs.{ActsAt};
-ghost use Rattle.lsp_acts.specs.Stated.{unwoken, with_wakes};
-ghost use Rattle.lsp_acts.specs.QueuedServer.{with_queues, woken_with_queues, ServerSession, WorksSending, held_by};
+ghost use Rattle.lsp_acts.specs.QueuedServer.{with_queues, ServerSession, WorksSending, held_by};
 ghost use Rattle.lsp_acts.specs.View.{seen};
 ghost use Rattle.lsp_acts.specs.declared.queued_server.QueuedServer.{QueuedServer as QueuedOf};
-ghost use Rattle.lsp_acts.specs.declared.queued_server.WokenQueuedServer.{WokenQueuedServer as WokenQueuedOf};
 
-use crate::server::{Server, WokenServer};
+use crate::server::Server;
 use lsp_session::{BadContentPolicy, Inbox, Outbox};
 use std::io::{BufRead, Write};
 
 /// What a session of a server says of its exchanges implies the laws: a fact of each session that was run by `session_with`, with a
-/// limit or without one. `server_that_asks_keeps_laws` has it in bytes with a policy, `server_over_boxes_keeps_laws` over boxes,
-/// `woken_server_keeps_laws` of a server that is woken, and `lsp_server::laws` in threads.
+/// limit or without one. `server_that_asks_keeps_laws` has it in bytes with a policy, `server_over_boxes_keeps_laws` over boxes, and
+/// `lsp_server::laws` in threads.
 ///
 /// In each beginning of the session the replies under an id are no more than the client's requests under it: no reply goes to
 /// anything else, and none comes twice. Since the last request under an id came, it got exactly one reply. Or it got none: it is still
@@ -44,14 +42,14 @@ use std::io::{BufRead, Write};
 pub fn server_keeps_laws<S: Server>()
     ensures exchanges { (first last : S) (exchanges : List Exchange) (stop : Stop)
         (shutdown_reply : Option Message) (answer : SessionAnswer)
-        → (session : ServerSession (unwoken S.Server) first last exchanges stop shutdown_reply
+        → (session : ServerSession S.Server first last exchanges stop shutdown_reply
         answer)
-        → KeepsLaws (unwoken S.Server) first last (held_by (unwoken S.Server) session) exchanges
+        → KeepsLaws S.Server first last (held_by S.Server session) exchanges
         stop shutdown_reply answer }
     ensures bytes { (limit : Limits) (first last : S) (text : List ℕ)
         (left before after : Option (List ℕ)) (answer : Result EndOfSession FaultOfSession)
-        → Gives limit (ServerSession (unwoken S.Server) first last) text left before after answer
-        → Gives limit (LawfulSession (unwoken S.Server) first last) text left before after answer }
+        → Gives limit (ServerSession S.Server first last) text left before after answer
+        → Gives limit (LawfulSession S.Server first last) text left before after answer }
 {}
 
 /// `server_keeps_laws` of a session with a policy: a fact of each session that was run by `session_with`. With a policy that passes
@@ -60,17 +58,17 @@ pub fn server_that_asks_keeps_laws<S: Server, L: BadContentPolicy>()
     ensures bytes { (limit : Limits) (first last : S) (text : List ℕ) (left : Option (List ℕ))
         (policy policy_last : L) (before after : Option (List ℕ))
         (answer : Result EndOfSession FaultOfSession)
-        → GivesAndTells L.passes limit (ServerSession (unwoken S.Server) first last) text left policy
+        → GivesAndTells L.passes limit (ServerSession S.Server first last) text left policy
         policy_last before after answer
-        → GivesAndTells L.passes limit (LawfulSession (unwoken S.Server) first last) text left policy
+        → GivesAndTells L.passes limit (LawfulSession S.Server first last) text left policy
         policy_last before after answer }
     ensures nothing_passed { (limit : Limits) (first last : S) (text : List ℕ) (left : Option (List ℕ))
         (policy policy_last : L) (before after : Option (List ℕ))
         (answer : Result EndOfSession FaultOfSession)
         → PassesNothingOver L.passes
-        → GivesAndTells L.passes limit (ServerSession (unwoken S.Server) first last) text left policy
+        → GivesAndTells L.passes limit (ServerSession S.Server first last) text left policy
         policy_last before after answer
-        → Gives limit (ServerSession (unwoken S.Server) first last) text left before after answer }
+        → Gives limit (ServerSession S.Server first last) text left before after answer }
 {}
 
 /// `server_keeps_laws` of a session over a transport, of whatever reader and writer: a fact of each session that was run by
@@ -78,33 +76,17 @@ pub fn server_that_asks_keeps_laws<S: Server, L: BadContentPolicy>()
 pub fn server_over_a_transport_keeps_laws<R: BufRead, W: Write, L: BadContentPolicy, S: Server>()
     ensures { (first last : S) (before after : TransportOf R W L)
         (answer : Result EndOfSession FaultOfSession)
-        → Serves (ServerSession (unwoken S.Server) first last) before answer after
-        → Serves (LawfulSession (unwoken S.Server) first last) before answer after }
+        → Serves (ServerSession S.Server first last) before answer after
+        → Serves (LawfulSession S.Server first last) before answer after }
 {}
 
 /// `server_keeps_laws` of a session over boxes: a fact of each session of a `QueuedServer` (`queued_server_runs_its_server`) that was run by
 /// `serve_service`.
 pub fn server_over_boxes_keeps_laws<I: Inbox, O: Outbox, S: Server>()
     ensures { (first last : S) (before after : I × O) (answer : SessionAnswer)
-        → Runs I.receives O.sends (ServerSession (unwoken S.Server) first last) before answer after
-        → Runs I.receives O.sends (LawfulSession (unwoken S.Server) first last) before answer
+        → Runs I.receives O.sends (ServerSession S.Server first last) before answer after
+        → Runs I.receives O.sends (LawfulSession S.Server first last) before answer
         after }
-{}
-
-/// `server_keeps_laws` of a server that is woken: a fact of each session of a `WokenQueuedServer` (`woken_queued_server_runs_its_server`). At each
-/// wake that was told to it the server did what it states of one.
-pub fn woken_server_keeps_laws<I: Inbox, O: Outbox, S: WokenServer>()
-    ensures exchanges { (first last : S) (exchanges : List Exchange) (stop : Stop)
-        (shutdown_reply : Option Message) (answer : SessionAnswer)
-        → (session : ServerSession (with_wakes S.Server S.wakes) first last exchanges stop
-        shutdown_reply answer)
-        → KeepsLaws (with_wakes S.Server S.wakes) first last
-        (held_by (with_wakes S.Server S.wakes) session) exchanges stop shutdown_reply answer }
-    ensures boxes { (first last : S) (before after : I × O) (answer : SessionAnswer)
-        → Runs I.receives O.sends (ServerSession (with_wakes S.Server S.wakes) first last) before
-        answer after
-        → Runs I.receives O.sends (LawfulSession (with_wakes S.Server S.wakes) first last) before
-        answer after }
 {}
 
 /// A session of a server beside its queues is one of the server: a fact of each session of a `QueuedServer`, which `serve_service` and
@@ -114,78 +96,33 @@ pub fn queued_server_runs_its_server<I: Inbox, O: Outbox, S: Server, L: BadConte
     ensures exchanges { (old new : QueuedOf S S.Payload) (server : S) (exchanges : List Exchange)
         (stop : Stop) (shutdown_reply : Option Message) (answer : SessionAnswer)
         → seen old ≡ (server, empty_queues)
-        → SessionOut (with_queues (unwoken S.Server)) old new exchanges stop shutdown_reply answer
-        → ServerSession (unwoken S.Server) server new.server exchanges stop shutdown_reply answer }
+        → SessionOut (with_queues S.Server) old new exchanges stop shutdown_reply answer
+        → ServerSession S.Server server new.server exchanges stop shutdown_reply answer }
     ensures boxes { (old new : QueuedOf S S.Payload) (server : S) (before after : I
         × O) (answer : SessionAnswer)
         → seen old ≡ (server, empty_queues)
-        → Runs I.receives O.sends (SessionOut (with_queues (unwoken S.Server)) old new) before
+        → Runs I.receives O.sends (SessionOut (with_queues S.Server) old new) before
         answer after
-        → Runs I.receives O.sends (ServerSession (unwoken S.Server) server new.server) before answer
+        → Runs I.receives O.sends (ServerSession S.Server server new.server) before answer
         after }
     ensures bytes { (old new : QueuedOf S S.Payload) (server : S) (limit : Limits) (text : List ℕ)
         (left : Option (List ℕ)) (policy policy_last : L) (before after : Option (List ℕ))
         (answer : Result EndOfSession FaultOfSession)
         → seen old ≡ (server, empty_queues)
-        → GivesAndTells L.passes limit (SessionOut (with_queues (unwoken S.Server)) old new) text
+        → GivesAndTells L.passes limit (SessionOut (with_queues S.Server) old new) text
         left policy policy_last before after answer
-        → GivesAndTells L.passes limit (ServerSession (unwoken S.Server) server new.server) text left
+        → GivesAndTells L.passes limit (ServerSession S.Server server new.server) text left
         policy policy_last before after answer }
 {}
 
-/// `queued_server_runs_its_server` of a server that is woken: a fact of each session of a `WokenQueuedServer`. At a content part that the policy
-/// passes over the server is woken, and what it does then is what it states of a wake. In bytes the session keeps the laws too.
-pub fn woken_queued_server_runs_its_server<
-    I: Inbox,
-    O: Outbox,
-    S: WokenServer,
-    L: BadContentPolicy,
->()
-    ensures exchanges { (old new : WokenQueuedOf S S.Payload) (server : S)
-        (exchanges : List Exchange) (stop : Stop) (shutdown_reply : Option Message)
-        (answer : SessionAnswer)
-        → seen old.queued ≡ (server, empty_queues)
-        → SessionOut (woken_with_queues (with_wakes S.Server S.wakes)) old new exchanges stop
-        shutdown_reply answer
-        → ServerSession (with_wakes S.Server S.wakes) server new.queued.server exchanges stop
-        shutdown_reply answer }
-    ensures boxes { (old new : WokenQueuedOf S S.Payload) (server : S) (before after : I
-        × O) (answer : SessionAnswer)
-        → seen old.queued ≡ (server, empty_queues)
-        → Runs I.receives O.sends
-        (SessionOut (woken_with_queues (with_wakes S.Server S.wakes)) old new) before answer
-        after
-        → Runs I.receives O.sends
-        (ServerSession (with_wakes S.Server S.wakes) server new.queued.server) before answer
-        after }
-    ensures bytes { (old new : WokenQueuedOf S S.Payload) (server : S) (limit : Limits) (text : List ℕ)
-        (left : Option (List ℕ)) (policy policy_last : L) (before after : Option (List ℕ))
-        (answer : Result EndOfSession FaultOfSession)
-        → seen old.queued ≡ (server, empty_queues)
-        → GivesAndTells L.passes limit
-        (SessionOut (woken_with_queues (with_wakes S.Server S.wakes)) old new) text left policy
-        policy_last before after answer
-        → GivesAndTells L.passes limit
-        (LawfulSession (with_wakes S.Server S.wakes) server new.queued.server) text left policy
-        policy_last before after answer }
-{}
-
-/// What a server stated of a message is what it did, and what its acts send is all that is sent, in their order: each
+/// What a server stated of a message or a wake is what it did, and what its acts send is all that is sent, in their order: each
 /// notification, each request for which an id is left, the answer of each request that is held, and each cancellation of a request
-/// of its own that has no reply yet. At a wake it does nothing.
+/// of its own that has no reply yet.
 pub fn call_sends_its_acts<S: Server>()
     ensures { (old : S × Queues S.Payload) (came : Option Message) (sent : List Message) (new : S
         × Queues S.Payload)
-        → WorksSending (unwoken S.Server) old came sent new
-        → ActsAt (unwoken S.Server) old came sent new }
-{}
-
-/// `call_sends_its_acts` of a server that is woken: what it stated of a wake is what it did at one, and what its acts send is all that is sent.
-pub fn woken_call_sends_its_acts<S: WokenServer>()
-    ensures { (old : S × Queues S.Payload) (came : Option Message) (sent : List Message) (new : S
-        × Queues S.Payload)
-        → WorksSending (with_wakes S.Server S.wakes) old came sent new
-        → ActsAt (with_wakes S.Server S.wakes) old came sent new }
+        → WorksSending S.Server old came sent new
+        → ActsAt S.Server old came sent new }
 {}
 
 /// Of a client that is gone, the last request under each id has exactly one reply, or it has none and is still held: a fact of each

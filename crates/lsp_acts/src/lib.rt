@@ -12,6 +12,6 @@ mod server;
 mod sessions;
 
 pub use lsp_session::{Output, Service, serve_service, session_of_service};
-pub use queued_server::{QueuedServer, WokenQueuedServer, cancelled_id};
-pub use server::{Act, Server, WokenServer};
+pub use queued_server::{QueuedServer, cancelled_id};
+pub use server::{Act, Server};
 pub use sessions::{session_with, session_with_over};

@@ -10,11 +10,10 @@ ghost use Rattle.lsp_message.specs.declared.msg.code.ErrorCode.TheVariants.{Requ
 ghost use Rattle.lsp_queue.specs.Queue.{count_of};
 ghost use Rattle.lsp_session.specs.OutputView.{sent_view, to_send_view};
 ghost use Rattle.lsp_acts.specs.Acts.{tells, asks, replies, cancels, does, does_all, empty_queues, is_spent, unsent, unsent_by, TakesBack, holds, given, with_message, answers_cancelled, cancel_method, cleared, cancelled_by, cancel_params as cancel_params_spec, Acts, AnswersHeld};
-ghost use Rattle.lsp_acts.specs.QueuedServer.{with_queues, woken_with_queues, Works, Parts};
-ghost use Rattle.lsp_acts.specs.Stated.{unwoken, with_wakes};
+ghost use Rattle.lsp_acts.specs.QueuedServer.{with_queues, Works, Parts};
 ghost use Rattle.lsp_acts.specs.View.{act_view, queues_of, listed, seen};
 
-use crate::server::{Act, Server, WokenServer};
+use crate::server::{Act, Server};
 use lsp_message::{
     ErrorCode, Message, Notification, Request, RequestId, Response, ResponseError, ResultText,
 };
@@ -264,7 +263,7 @@ pub fn cancelled_id(notification: &Notification) -> Result<Option<RequestId>, Al
     id_to_cancel(&notification.params)
 }
 
-/// A server beside its queues. It is told of no wake; `WokenQueuedServer` tells it.
+/// A server beside its queues, as a service that a session runs.
 #[derive(Drop)]
 pub struct QueuedServer<S, P> {
     server: S,
@@ -335,7 +334,7 @@ impl<S: Server> QueuedServer<S, S::Payload> {
     /// Does the last acts of the server, and answers what it leaves. `shutdown` came under this id.
     fn on_shutdown(&mut self, id: &RequestId) -> Result<(), AllocError>
         ensures { IfOk result (λ _.
-            Parts (unwoken S.Server) (seen self.old) id.now (seen self.new)) }
+            Parts S.Server (seen self.old) id.now (seen self.new)) }
     {
         self.queues.requests.incoming.complete(id);
         let acts = self.server.shutdown(self.queues.alloc)?;
@@ -345,7 +344,7 @@ impl<S: Server> QueuedServer<S, S::Payload> {
 
     fn on_request(&mut self, request: Request) -> Result<(), AllocError>
         ensures { IfOk result (λ _.
-            Works (unwoken S.Server) (seen self.old) (Some (request_view request))
+            Works S.Server (seen self.old) (Some (request_view request))
             (seen self.new)) }
     {
         self.queues.hold(&request.id)?;
@@ -355,7 +354,7 @@ impl<S: Server> QueuedServer<S, S::Payload> {
 
     fn on_notification(&mut self, notification: Notification) -> Result<(), AllocError>
         ensures { IfOk result (λ _.
-            Works (unwoken S.Server) (seen self.old) (Some (notification_view notification))
+            Works S.Server (seen self.old) (Some (notification_view notification))
             (seen self.new)) }
     {
         let cancelled = cancelled_id(&notification)?;
@@ -366,7 +365,7 @@ impl<S: Server> QueuedServer<S, S::Payload> {
 
     fn on_response(&mut self, response: Response) -> Result<(), AllocError>
         ensures { IfOk result (λ _.
-            Works (unwoken S.Server) (seen self.old) (Some (response_view response))
+            Works S.Server (seen self.old) (Some (response_view response))
             (seen self.new)) }
     {
         match self.queues.requests.outgoing.complete(response.id) {
@@ -377,12 +376,19 @@ impl<S: Server> QueuedServer<S, S::Payload> {
             None => Ok(()),
         }
     }
+
+    fn on_wake(&mut self) -> Result<(), AllocError>
+        ensures { IfOk result (λ _. Works S.Server (seen self.old) None (seen self.new)) }
+    {
+        let acts = self.server.woken(self.queues.alloc)?;
+        self.perform_all(acts)
+    }
 }
 
 impl<S: Server> Service for QueuedServer<S, S::Payload> {
     type Output = Output;
 
-    ghost behavior = { with_queues (unwoken S.Server) };
+    ghost behavior = { with_queues S.Server };
 
     fn initialize(&mut self, params: Value) -> Result<Result<Value, ResponseError>, AllocError> {
         self.server.initialize(params)
@@ -408,8 +414,8 @@ impl<S: Server> Service for QueuedServer<S, S::Payload> {
         Ok(Output::Several(self.queues.take_sent()))
     }
 
-    /// The server waits for nothing, and is told of no wake.
     fn woken(&mut self) -> Result<Output, AllocError> {
+        self.on_wake()?;
         Ok(Output::Several(self.queues.take_sent()))
     }
 
@@ -421,77 +427,5 @@ impl<S: Server> Service for QueuedServer<S, S::Payload> {
     /// A reply to a request of the server's own may cross the `shutdown` of its client.
     fn passes_late(&self) -> bool {
         true
-    }
-}
-
-/// A server beside its queues that is woken: each wake is told to it, and it does what it states of one.
-#[derive(Drop)]
-pub struct WokenQueuedServer<S, P> {
-    queued: QueuedServer<S, P>,
-}
-
-impl<S: WokenServer> WokenQueuedServer<S, S::Payload> {
-    /// A server beside empty queues. It takes no memory.
-    pub fn new(alloc: Global, server: S) -> Self
-        ensures { seen result.queued ≡ (server, empty_queues) }
-    {
-        WokenQueuedServer {
-            queued: QueuedServer::new(alloc, server),
-        }
-    }
-
-    /// The server, without its queues. What it still held, where no `shutdown` came, gets no reply.
-    pub fn into_server(self) -> S
-        ensures { result ≡ self.queued.server }
-    {
-        self.queued.into_server()
-    }
-
-    fn on_wake(&mut self) -> Result<(), AllocError>
-        ensures { IfOk result (λ _.
-            Works (with_wakes S.Server S.wakes) (seen self.old.queued) None
-            (seen self.new.queued)) }
-    {
-        let acts = self.queued.server.woken(self.queued.queues.alloc)?;
-        self.queued.perform_all(acts)
-    }
-}
-
-impl<S: WokenServer> Service for WokenQueuedServer<S, S::Payload> {
-    type Output = Output;
-
-    ghost behavior = { woken_with_queues (with_wakes S.Server S.wakes) };
-
-    fn initialize(&mut self, params: Value) -> Result<Result<Value, ResponseError>, AllocError> {
-        self.queued.initialize(params)
-    }
-
-    fn initialized(&mut self) -> Result<Output, AllocError> {
-        self.queued.initialized()
-    }
-
-    fn request(&mut self, request: Request) -> Result<Output, AllocError> {
-        self.queued.request(request)
-    }
-
-    fn notification(&mut self, notification: Notification) -> Result<Output, AllocError> {
-        self.queued.notification(notification)
-    }
-
-    fn response(&mut self, response: Response) -> Result<Output, AllocError> {
-        self.queued.response(response)
-    }
-
-    fn woken(&mut self) -> Result<Output, AllocError> {
-        self.on_wake()?;
-        Ok(Output::Several(self.queued.queues.take_sent()))
-    }
-
-    fn shutdown(&mut self, id: &RequestId) -> Result<Output, AllocError> {
-        self.queued.shutdown(id)
-    }
-
-    fn passes_late(&self) -> bool {
-        self.queued.passes_late()
     }
 }

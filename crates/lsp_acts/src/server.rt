@@ -27,14 +27,16 @@ pub enum Act<P> {
 }
 
 /// A server that speaks. What each method gives are acts, which are done in order when it returns. An `Err` is a failed
-/// allocation, and ends the session; nothing is sent for that message. One that waits for more than messages is a `WokenServer` too.
+/// allocation, and ends the session; nothing is sent for that message.
 ///
-/// The ghost members say what a server promises. If an `impl` leaves one out, it promises nothing there: the method may do anything.
+/// The ghost members say what a server promises. If an `impl` leaves one out, it promises nothing there: the method may do anything. Only
+/// `wakes` is another: an `impl` that leaves it out promises that a wake changes nothing.
 pub trait Server {
     ghost use Rattle.serde_json.specs.Data.{Data};
     ghost use Rattle.std.specs.Prelude.{ℕ, Result, ⊤};
     ghost use Rattle.lsp_message.specs.Id.{Id};
     ghost use Rattle.lsp_message.specs.Message.{ErrorObject};
+    ghost use Rattle.lsp_acts.specs.Acts.{stays};
 
     /// What the server keeps for the reply to a request of its own. `Act::Cancel` finds requests by it.
     type Payload: Drop + PartialEq;
@@ -54,6 +56,9 @@ pub trait Server {
     /// At a reply to a request of its own it may do this, and change so.
     ghost replied: { Self → Self.Payload → Result Data ErrorObject → List (PlainAct Self.Payload)
         → Self → Type 0 } = { λ _ _ _ _ _. ⊤ };
+
+    /// At a wake it may do this, and change so. A server that waits for nothing but messages does nothing then.
+    ghost wakes: { Self → List (PlainAct Self.Payload) → Self → Type 0 } = { stays };
 
     /// At `shutdown` it may do this last, and change so.
     ghost at_shutdown: { Self → List (PlainAct Self.Payload) → Self → Type 0 } = { λ _ _ _. ⊤ };
@@ -98,6 +103,12 @@ pub trait Server {
         ensures { IfOk result (λ acts.
             replied self.old «payload» (outcome_view outcome) (map (act_view Self.Payload.eq) acts.items) self.new) };
 
+    /// Something that the server waits for is ready, and the inbox told so (`WakingInbox::receive_or_woken`); or the session skipped a content
+    /// part that is no message, as its policy wants (`BadContentPolicy`). A wake comes after `initialized` and before `shutdown`, and nowhere
+    /// else. What it gives are acts, as at a message. A server that waits for nothing but messages gives an empty vector.
+    fn woken(&mut self, alloc: Global) -> Result<Vec<Act<Self::Payload>>, AllocError>
+        ensures { IfOk result (λ acts. wakes self.old (map (act_view Self.Payload.eq) acts.items) self.new) };
+
     /// What it does last: `shutdown` came (LSP 3.17, "Shutdown Request"). After these acts each request that it still holds gets the error
     /// -32800, `canceled by shutdown`, and then `shutdown` its null. Nothing comes to it after that, so a request that it sends now gets no
     /// reply. A server with nothing to do gives an empty vector.
@@ -109,19 +120,4 @@ pub trait Server {
     /// 2147483648 requests of the session; all else goes on.
     fn unsent(&mut self, payload: Self::Payload) -> Result<(), AllocError>
         ensures { IfOk result (λ _. takes_back self.old «payload» self.new) };
-}
-
-/// A server that is woken: it waits for more than the messages of its client. Beside its queues, as a `WokenQueuedServer`, it is woken. Each
-/// one says what it does at a wake: `wakes` has no default.
-pub trait WokenServer: Server {
-    ghost use Rattle.std.specs.Prelude.{List};
-    ghost use Rattle.lsp_acts.specs.Acts.{Act as PlainAct};
-
-    /// At a wake it may do this, and change so.
-    ghost wakes: { Self → List (PlainAct Self.Payload) → Self → Type 0 };
-
-    /// Something that it waits for is ready, and the inbox told so (`WakingInbox::receive_or_woken`). It comes after `initialized` and before
-    /// `shutdown`, and nowhere else. What it gives are acts, as at a message.
-    fn woken(&mut self, alloc: Global) -> Result<Vec<Act<Self::Payload>>, AllocError>
-        ensures { IfOk result (λ acts. wakes self.old (map (act_view Self.Payload.eq) acts.items) self.new) };
 }

@@ -2,7 +2,6 @@
 ghost use Rattle.std.specs.Prelude.{IfSome};
 ghost use Rattle.lsp_session.specs.PassingBytes.{GivesAndTells};
 ghost use Rattle.lsp_session.specs.StreamTransports.{IsUnused, Serves};
-ghost use Rattle.lsp_acts.specs.Stated.{unwoken};
 ghost use Rattle.lsp_acts.specs.QueuedServer.{ServerSession};
 
 use crate::queued_server::QueuedServer;
@@ -21,13 +20,10 @@ use std::io::{BufRead, Write};
 /// over a transport, with a contract for every reader and writer.
 ///
 /// The lifecycle, the faults, the limits, and what is left in the reader are those of `session_of_service`. So is what comes of a content
-/// part that is no message: `policy` is asked whether to read on, and with `EndSession` such a part ends the session. The
-/// server is told nothing of it. The answer is
+/// part that is no message: `policy` is asked whether to read on, and with `EndSession` such a part ends the session. Where it reads on, the
+/// server is woken (`Server::woken`). The answer is
 /// - `Ok`, if the session ended by `exit`, or from `initialized` on by the end of the input,
 /// - `Err` of what a session over a reader and a writer can fail with: see `SessionFault`.
-///
-/// A server that is woken (`WokenServer`) is woken at each such content part, if you run it beside its queues: `session_of_service` of a
-/// `WokenQueuedServer`.
 ///
 /// `laws::server_keeps_laws` says what holds of each session: under no id does the client get more replies than it sent requests.
 pub fn session_with<R: BufRead, W: Write, S: Server, L: BadContentPolicy>(
@@ -39,7 +35,7 @@ pub fn session_with<R: BufRead, W: Write, S: Server, L: BadContentPolicy>(
     limits: Limits,
 ) -> (S, Result<SessionEnd, SessionFault>)
     ensures { IfSome (R.remaining reader.old) (λ text.
-        GivesAndTells L.passes limits (ServerSession (unwoken S.Server) server result.0) text
+        GivesAndTells L.passes limits (ServerSession S.Server server result.0) text
         (R.remaining reader.new)
         policy.old policy.new (W.contents writer.old) (W.contents writer.new) result.1) }
 {
@@ -57,7 +53,7 @@ pub fn session_with_over<R: BufRead, W: Write, S: Server, L: BadContentPolicy>(
     server: S,
 ) -> (S, Result<SessionEnd, SessionFault>)
     requires { IsUnused transport.old }
-    ensures { Serves (ServerSession (unwoken S.Server) server result.0) transport.old result.1 transport.new }
+    ensures { Serves (ServerSession S.Server server result.0) transport.old result.1 transport.new }
 {
     let mut queued = QueuedServer::new(alloc, server);
     let answer = transport.serve(&mut queued);

@@ -13,7 +13,6 @@ use Rattle.lsp_acts.proofs.Counting.{how_many-append, none_cancelled}
 use Rattle.lsp_acts.specs.Acts.{Act, Queues, tells, asks, replies, cancels, TakesBack, cancelled_by}
 use Rattle.lsp_acts.specs.Acts.{does, does_all, is_spent}
 use Rattle.lsp_acts.specs.Law.{Handed, how_many, is_reply_under}
-use Rattle.lsp_acts.specs.Stated.{Stated}
 use Rattle.lsp_acts.specs.SentByActs.{all_sends, sends_by, acts_done_at, cancelled_answer}
 use Rattle.lsp_acts.specs.declared.server.Server.{Ghosts as Plain}
 use Rattle.lsp_jobs.proofs.SlotChanges.{spares-append, fewer_requests, unanswered_has, went_all, without_request, Went}
@@ -189,7 +188,7 @@ module _ {S J F P : Type 0} (plain : Plain S P) (may : StatedJobs S J F P)
       at false is has = (inl (has, is), tt)
 
 module _ (T : Type 0) {S J F P : Type 0} (plain : Plain S P) (may : StatedJobs S J F P) where
-  abbrev W : Stated (PooledServer T S J F) (RequestOrigin P)
+  abbrev W : Plain (PooledServer T S J F) (RequestOrigin P)
   W = seen_with_jobs T plain may
 
   abbrev pended : PooledServer T S J F → PendingJobs J

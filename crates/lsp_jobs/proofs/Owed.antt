@@ -18,7 +18,7 @@ use Rattle.lsp_acts.specs.Acts.{Act, Queues, replies, cancelled_by, canceled, do
 use Rattle.lsp_acts.specs.Law.{came_with, held_under, how_many, is_reply_under, is_request_under, one_if}
 use Rattle.lsp_acts.specs.QueuedServer.{OpensSending, WorksSending}
 use Rattle.lsp_acts.specs.SentByActs.{acts_done_at, cancelled_answer, queues_at}
-use Rattle.lsp_acts.specs.Stated.{Stated}
+use Rattle.lsp_acts.specs.declared.server.Server.{Ghosts as Stated}
 use Rattle.lsp_acts.specs.View.{queues_of, seen}
 use Rattle.lsp_acts.specs.declared.queued_server.QueuedServer.{QueuedServer}
 use Rattle.lsp_jobs.specs.Ends.{Outcome}

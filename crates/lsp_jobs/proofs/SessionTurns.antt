@@ -21,7 +21,6 @@ use Rattle.lsp_acts.proofs.Counting.{Fresh}
 use Rattle.lsp_acts.specs.Acts.{Act, Queues, TakesBack, unsent}
 use Rattle.lsp_acts.specs.Law.{AnswersInitialize, Call, Initializes}
 use Rattle.lsp_acts.specs.QueuedServer.{with_queues, OpensSending, WorksSending}
-use Rattle.lsp_acts.specs.Stated.{Stated, unwoken}
 use Rattle.lsp_acts.specs.SentByActs.{ActsAt, acts_done_at, all_sends, queues_at}
 use Rattle.lsp_acts.specs.View as queues
 use Rattle.lsp_acts.specs.declared.queued_server.QueuedServer.{QueuedServer}
@@ -48,7 +47,7 @@ no_cancel (notification method params) acts is =
     subst (λ (name : List ℕ). acts_done_at (Some (notification name params)) acts ≡ acts)
     (sym ((bytes_eq-Decides method (codes "initialized")).0 is)) (append-nil acts)
 
-module _ {S P : Type 0} (may : Stated S P) where
+module _ {S P : Type 0} (may : Plain S P) where
   -- what one message does up to the result of `initialize`
   abbrev Begins : S → Exchange → S → Type 0
   Begins old x new = IsSomeAnd x.came (λ m. MatchBool (is_initialize m) (Initializes may old m x.sent new) (new ≡ old))
@@ -90,7 +89,7 @@ module _ {S J F P : Type 0} (plain : Plain S P) (may : StatedJobs S J F P) where
   }
 
 module _ (T : Type 0) {S J F P : Type 0} (plain : Plain S P) (may : StatedJobs S J F P) (first : S) where
-  abbrev W : Stated (PooledServer T S J F) (RequestOrigin P)
+  abbrev W : Plain (PooledServer T S J F) (RequestOrigin P)
   W = seen_with_jobs T plain may
 
   abbrev Working : Type 0
@@ -110,7 +109,7 @@ module _ (T : Type 0) {S J F P : Type 0} (plain : Plain S P) (may : StatedJobs S
 
   -- up to the result of `initialize`
   abbrev Early : List Exchange → Working → Type 0
-  Early earlier w = Fresh W w × (pending w ≡ no_jobs) × AnswersInitialize (unwoken plain) first earlier w.server.server
+  Early earlier w = Fresh W w × (pending w ≡ no_jobs) × AnswersInitialize plain first earlier w.server.server
 
   abbrev Ready : List Exchange → Phase → Working → Type 0
   Ready earlier starting w = Early earlier w
@@ -248,12 +247,12 @@ module _ (T : Type 0) {S J F P : Type 0} (plain : Plain S P) (may : StatedJobs S
 
   -- a message that comes before the result
   abbrev Begun : Working → Exchange → Working → Message → Bool → Type 0
-  Begun w x w' m b = MatchBool b (Initializes (unwoken plain) w.server.server m x.sent w'.server.server)
+  Begun w x w' m b = MatchBool b (Initializes plain w.server.server m x.sent w'.server.server)
       (w'.server.server ≡ w.server.server)
 
   begins_at : (w w' : Working) (x : Exchange) (full : List Message) (q : Phase)
       → ((r : Message) → full ≡ r ∷ [] → x.sent ≡ r ∷ []) → Step (with_queues W) starting w x.came full q w'
-      → Begins (unwoken plain) w.server.server x w'.server.server
+      → Begins plain w.server.server x w'.server.server
   begins_at w w' x full q one step = at x.came step
     where
       by : (i : Id) (method : List ℕ) (params : Data) (b : Bool)
@@ -280,7 +279,7 @@ module _ (T : Type 0) {S J F P : Type 0} (plain : Plain S P) (may : StatedJobs S
 
   -- a message for which the server is not called
   idly : (earlier : List Exchange) (p q : Phase) (w w' : Working) (x : Exchange) (m : Message) (full : List Message)
-      → w' ≡ w → (p ≡ starting → AnswersInitialize (unwoken plain) first (earlier ++ x ∷ []) w'.server.server)
+      → w' ≡ w → (p ≡ starting → AnswersInitialize plain first (earlier ++ x ∷ []) w'.server.server)
       → Ready earlier p w → Idle p m full q → Ready (earlier ++ x ∷ []) q w'
   idly earlier p q w w' x m full same early ready idles = at idles
     where
@@ -308,10 +307,10 @@ module _ (T : Type 0) {S J F P : Type 0} (plain : Plain S P) (may : StatedJobs S
       one : (r : Message) → full ≡ r ∷ [] → x.sent ≡ r ∷ []
       one r e = part_one x.sent more full r part some e
 
-      early : p ≡ starting → AnswersInitialize (unwoken plain) first (earlier ++ x ∷ []) w'.server.server
+      early : p ≡ starting → AnswersInitialize plain first (earlier ++ x ∷ []) w'.server.server
       early begun =
           let before : Early earlier w = (rw begun at ready) in
-          begins_more (unwoken plain) first w.server.server w'.server.server earlier x before.2
+          begins_more plain first w.server.server w'.server.server earlier x before.2
           (begins_at w w' x full q one (rw begun at step))
 
       after : (i : Id) (method : List ℕ) (params : Data) (outcome : Result Data ErrorObject)

@@ -10,7 +10,6 @@ use Rattle.lsp_message.specs.Methods.{is_initialize, is_initialized}
 use Rattle.lsp_session.specs.Session.{Exchange}
 use Rattle.lsp_acts.specs.Acts.{Act, TakesBack, cancelled_by, unsent}
 use Rattle.lsp_acts.specs.Law.{AnswersInitialize, Call, Handed, Initializes, TakesCalls, TakesPart, ids_after_all}
-use Rattle.lsp_acts.specs.Stated.{Stated}
 use Rattle.lsp_acts.specs.declared.server.Server.{Ghosts as Plain}
 use Rattle.lsp_jobs.proofs.Answering.{back_pending, does_jobs, requests_then, FromCall}
 use Rattle.lsp_jobs.proofs.SlotChanges.{fewer_slots, moves_all, unanswered_slot, went_all, Went}
@@ -148,7 +147,7 @@ module _ {S J F P : Type 0} (plain : Plain S P) (may : StatedJobs S J F P) where
       ]
 
 module _ (T : Type 0) {S J F P : Type 0} (plain : Plain S P) (may : StatedJobs S J F P) where
-  abbrev W : Stated (PooledServer T S J F) (RequestOrigin P)
+  abbrev W : Plain (PooledServer T S J F) (RequestOrigin P)
   W = seen_with_jobs T plain may
 
   abbrev pended : PooledServer T S J F → PendingJobs J

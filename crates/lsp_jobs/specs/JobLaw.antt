@@ -9,7 +9,6 @@ use Rattle.lsp_acts.specs.Acts.{Act, Queues, replies}
 use Rattle.lsp_acts.specs.Law.{AnswersInitialize, KeepsLaws, how_many, is_reply_under}
 use Rattle.lsp_acts.specs.QueuedServer.{held_by}
 use Rattle.lsp_acts.specs.SentByActs.{acts_done_at, all_sends}
-use Rattle.lsp_acts.specs.Stated.{unwoken}
 use Rattle.lsp_acts.specs.declared.server.Server.{Ghosts as Plain}
 use Rattle.lsp_jobs.specs.Ends.{Came, ComesTo, End, Outcome, reply_of}
 use Rattle.lsp_jobs.specs.JobSession.{JobSession, seen_with_jobs}
@@ -66,7 +65,7 @@ module _ {S J F P : Type 0} (plain : Plain S P) (may : StatedJobs S J F P) where
     pub cut : exchanges ≡ early ++ later
     pub result : EndsWithResult early
     pub start : S
-    pub initialized : AnswersInitialize (unwoken plain) first early start
+    pub initialized : AnswersInitialize plain first early start
     pub taken : AreTakenAt later turns
     pub linked : AreTurns plain may start turns now
 

@@ -3,7 +3,6 @@ use Rattle.std.specs.Prelude.{◌≡◌, List, Option}
 use Rattle.lsp_message.specs.Message.{Message}
 use Rattle.lsp_session.specs.Session.{Exchange, SessionAnswer, Stop}
 use Rattle.lsp_acts.specs.QueuedServer.{ServerSession}
-use Rattle.lsp_acts.specs.Stated.{Stated}
 use Rattle.lsp_acts.specs.declared.server.Server.{Ghosts as Plain}
 use Rattle.lsp_jobs.specs.Pooled.{with_jobs}
 use Rattle.lsp_jobs.specs.Seen.{seen}
@@ -14,7 +13,7 @@ use Rattle.lsp_jobs.specs.declared.pooled_server.PooledServer.{PooledServer}
 
 module _ (T : Type 0) {S J F P : Type 0} (plain : Plain S P) (may : StatedJobs S J F P) where
   -- `with_jobs`, of what is seen of a server with its pool
-  abbrev pub seen_with_jobs : Stated (PooledServer T S J F) (RequestOrigin P)
+  abbrev pub seen_with_jobs : Plain (PooledServer T S J F) (RequestOrigin P)
   seen_with_jobs =
       let w = with_jobs may plain in record {
         initializes = λ old params outcome new. w.initializes (seen old) params outcome (seen new);

@@ -4,7 +4,6 @@ use Rattle.std.specs.List.{FoldsTo}
 use Rattle.std.specs.Prelude.{◌≡◌, ◌⊎◌, ℕ, true, false, List, [], ◌∷◌, ◌++◌, Option, Some, None, Err, MatchOption}
 use Rattle.lsp_message.specs.Id.{Id}
 use Rattle.lsp_acts.specs.Acts.{Act, tells, asks, replies, cancels, cancelled_by}
-use Rattle.lsp_acts.specs.Stated.{Stated}
 use Rattle.lsp_acts.specs.declared.server.Server.{Ghosts as Plain}
 use Rattle.lsp_jobs.specs.Asking.{ByServers, WhoseAsked, of_job}
 use Rattle.lsp_jobs.specs.Ends.{Came, ComesTo, End, Outcome, end_of, ended, no_memory, reply_of, too_many}
@@ -164,7 +163,7 @@ module _ {S J F P : Type 0} (may : StatedJobs S J F P) where
   -- What a server with its jobs may do. A request that the server may call long is answered by a job that is for it,
   -- or at once; another by the server. A reply to a request of a job is not told to the server. At `shutdown` no job
   -- is started, and none is pending any more.
-  abbrev pub with_jobs : Plain S P → Stated (S × PendingJobs J) (RequestOrigin P)
+  abbrev pub with_jobs : Plain S P → Plain (S × PendingJobs J) (RequestOrigin P)
   with_jobs plain = record {
     initializes = λ old params outcome new. plain.initializes old.0 params outcome new.0
         × (new.1 ≡ old.1);

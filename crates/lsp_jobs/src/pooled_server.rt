@@ -23,7 +23,7 @@ use crate::job::{DoneJob, Interrupted, Job, Ran};
 use crate::job_server::{AnsweredBy, JobEnd, JobServer, SlotChange, Slots};
 use crate::names::JobName;
 use crate::pool::{JobMessage, JobPool, SubmitFault};
-use lsp_acts::{Act, Server, WokenServer, cancelled_id};
+use lsp_acts::{Act, Server, cancelled_id};
 use lsp_message::{ErrorCode, Notification, Request, RequestId, ResponseError, ResultText};
 use serde_json::Value;
 use std::alloc::{AllocError, Global};
@@ -489,6 +489,8 @@ where
 
     ghost replied = { (seen_with_jobs T S.Server (stated_jobs S.JobServer.own ⟦<S::Slots as Slots<S, J>>⟧ J.Job)).replied };
 
+    ghost wakes = { (seen_with_jobs T S.Server (stated_jobs S.JobServer.own ⟦<S::Slots as Slots<S, J>>⟧ J.Job)).wakes };
+
     ghost at_shutdown = { (seen_with_jobs T S.Server (stated_jobs S.JobServer.own ⟦<S::Slots as Slots<S, J>>⟧ J.Job)).at_shutdown };
 
     ghost takes_back = { (seen_with_jobs T S.Server (stated_jobs S.JobServer.own ⟦<S::Slots as Slots<S, J>>⟧ J.Job)).takes_back };
@@ -541,36 +543,6 @@ where
         }
     }
 
-    fn shutdown(
-        &mut self,
-        alloc: Global,
-    ) -> Result<Vec<Act<RequestOrigin<S::Payload>>>, AllocError> {
-        self.pool.forget_all();
-        let acts = self.server.shutdown(alloc)?;
-        acts_by_server(self.alloc, acts)
-    }
-
-    fn unsent(&mut self, payload: RequestOrigin<S::Payload>) -> Result<(), AllocError> {
-        match payload {
-            RequestOrigin::ByServer(payload) => self.server.unsent(payload),
-            RequestOrigin::ByJob(number) => {
-                self.pool.give_up(number);
-                Ok(())
-            }
-        }
-    }
-}
-
-impl<T, S, J> WokenServer for PooledServer<T, S, J>
-where
-    T: Wait + Drop,
-    S: JobServer<J> + Drop,
-    J: Job,
-{
-    ghost use Rattle.lsp_jobs.specs.JobSession.{seen_with_jobs};
-
-    ghost wakes = { (seen_with_jobs T S.Server (stated_jobs S.JobServer.own ⟦<S::Slots as Slots<S, J>>⟧ J.Job)).wakes };
-
     fn woken(&mut self, alloc: Global) -> Result<Vec<Act<RequestOrigin<S::Payload>>>, AllocError> {
         if let Some(number) = self.pool.take_unneeded() {
             return one_act(alloc, Act::Cancel(RequestOrigin::ByJob(number)));
@@ -590,6 +562,25 @@ where
             JobMessage::Ran(ran) => {
                 let acts = self.end_run(name, ran)?;
                 self.acts_with_changes(acts)
+            }
+        }
+    }
+
+    fn shutdown(
+        &mut self,
+        alloc: Global,
+    ) -> Result<Vec<Act<RequestOrigin<S::Payload>>>, AllocError> {
+        self.pool.forget_all();
+        let acts = self.server.shutdown(alloc)?;
+        acts_by_server(self.alloc, acts)
+    }
+
+    fn unsent(&mut self, payload: RequestOrigin<S::Payload>) -> Result<(), AllocError> {
+        match payload {
+            RequestOrigin::ByServer(payload) => self.server.unsent(payload),
+            RequestOrigin::ByJob(number) => {
+                self.pool.give_up(number);
+                Ok(())
             }
         }
     }

@@ -9,7 +9,7 @@ use crate::job::Job;
 use crate::job_server::{JobServer, Slots};
 use crate::pool::{PoolSize, start_pool};
 use crate::pooled_server::PooledServer;
-use lsp_acts::WokenQueuedServer;
+use lsp_acts::QueuedServer;
 use lsp_relay::relay;
 use lsp_session::BadContentPolicy;
 use lsp_threads::{
@@ -85,7 +85,7 @@ where
         Err(fault) => return (server, Err(fault)),
     };
     let pooled = PooledServer::new(alloc, server, pool);
-    let mut queued = WokenQueuedServer::new(alloc, pooled);
+    let mut queued = QueuedServer::new(alloc, pooled);
     let ends = (tx, rx);
     let done = run_threads_of_service_over(
         rt,

@@ -13,7 +13,7 @@ use Rattle.lsp_queue.specs.Queue.{Pending}
 use Rattle.lsp_acts.specs.Acts.{Act, is_spent, tells, asks, replies, cancels}
 use Rattle.lsp_acts.specs.Law.{acts_of, all_sent, request_of, requests_in}
 use Rattle.lsp_acts.specs.Law.{KeepsLaws, GivesPayloads, GoesOn, TakesPart, WasToSend}
-use Rattle.lsp_acts.specs.Stated.{Stated}
+use Rattle.lsp_acts.specs.declared.server.Server.{Ghosts as Stated}
 use Rattle.lsp_session.specs.Finish.{is_initialized}
 use Rattle.lsp_session.specs.Session.{Exchange, sends_of, SessionAnswer}
 use Rattle.lsp_session.specs.Session.{Stop, refused, decided, no_more, timed_out, exhausted}

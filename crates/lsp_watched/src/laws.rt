@@ -10,7 +10,6 @@ ghost use Rattle.lsp_peers.specs.History.{Entry, IsHistory};
 ghost use Rattle.lsp_peers.specs.declared.step.Side.{Side};
 ghost use Rattle.lsp_queue.specs.Queue.{Pending};
 ghost use Rattle.lsp_acts.specs.Law.{KeepsLaws, NeverMore};
-ghost use Rattle.lsp_acts.specs.Stated.{unwoken, with_wakes};
 ghost use Rattle.lsp_session.specs.Answered.{AnswersRequests};
 ghost use Rattle.lsp_session.specs.Session.{Exchange, SessionAnswer, Stop};
 ghost use Rattle.lsp_session.specs.SessionLaws.{KeepsOrder};
@@ -20,7 +19,7 @@ ghost use Rattle.lsp_watched.specs.Recorded.{IsRecorded};
 ghost use Rattle.lsp_watched.specs.Sessions.{IsLogOfSession, ClientKeepsIds};
 ghost use Rattle.lsp_watched.specs.Sessions.{ServerIsClean, ServerKeepsLifecycle, ServerRepliesFit};
 
-use lsp_acts::{Server, WokenServer};
+use lsp_acts::Server;
 use lsp_peers::laws::{a_beginning_is_a_history, each_request_is_in_one_place};
 
 /// In the log of a history of two peers no message breaks a rule of ids (JSON-RPC 2.0, sections 4 and 5), whichever of
@@ -83,16 +82,7 @@ pub fn recorded_server_of_replies_is_clean()
 pub fn recorded_server_is_clean<S: Server>()
     ensures { (first last : S) (held : Pending (Unit {0})) (exchanges : List Exchange) (stop : Stop)
         (shutdown_reply : Option Message) (answer : SessionAnswer) (log : Log)
-        → KeepsLaws (unwoken S.Server) first last held exchanges stop shutdown_reply answer
-        → IsRecorded exchanges log → ClientKeepsIds log → ServerIsClean log }
-{}
-
-/// `recorded_server_is_clean` of a server that is woken: a fact of each session that keeps the laws
-/// (`lsp_acts::laws::woken_server_keeps_laws`).
-pub fn recorded_woken_server_is_clean<S: WokenServer>()
-    ensures { (first last : S) (held : Pending (Unit {0})) (exchanges : List Exchange) (stop : Stop)
-        (shutdown_reply : Option Message) (answer : SessionAnswer) (log : Log)
-        → KeepsLaws (with_wakes S.Server S.wakes) first last held exchanges stop shutdown_reply answer
+        → KeepsLaws S.Server first last held exchanges stop shutdown_reply answer
         → IsRecorded exchanges log → ClientKeepsIds log → ServerIsClean log }
 {}
 

@@ -9,7 +9,7 @@ use crate::sessions::{
 };
 use crate::signals::Signals;
 use crate::table::{Call, Device, Given};
-use lsp_acts::{QueuedServer, WokenQueuedServer, session_with, session_with_over};
+use lsp_acts::{QueuedServer, session_with, session_with_over};
 use lsp_message::{Front, Limits, Message, Passed, ReadFault, WriteFault, front, write_frames};
 use lsp_session::{
     BadContentPolicy, EndSession, Event, FaultCounts, FrameOutbox, Ignore, Inbox, ListOutbox,
@@ -353,11 +353,12 @@ fn spoken_woken(trial: &mut Trial) -> Result<Attempt, Stop> {
 
 fn woken(
     trial: &mut Trial,
-    talker: Talker,
+    mut talker: Talker,
     counts: &mut FaultCounts,
 ) -> Result<SessionEnd, SessionFault> {
     let alloc = trial.alloc;
-    let mut queued = WokenQueuedServer::new(alloc, talker);
+    talker.tells_wakes = true;
+    let mut queued = QueuedServer::new(alloc, talker);
     let Trial { reader, writer, .. } = trial;
     let end = session_of_service(alloc, reader, writer, &mut queued, counts, Limits::none());
     drop(queued);

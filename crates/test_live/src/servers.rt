@@ -1,7 +1,7 @@
 // The handler of all rows, and their server: it speaks, asks, and starts jobs.
 use crate::jobs::{Found, Means, Scripted, list_of, own_slot};
 use crate::signals::{Signal, Signals};
-use lsp_acts::{Act, Server, WokenServer};
+use lsp_acts::{Act, Server};
 use lsp_jobs::{AnsweredBy, JobEnd, JobName, JobServer, Slot, SlotChange, Slots};
 use lsp_message::{Notification, Request, RequestId, ResponseError};
 use lsp_session::{Handler, initialize_result};
@@ -65,7 +65,7 @@ pub enum Asked {
 ///   request whose id is the first of the params itself, and at `withdraw` it cancels what it asked for that request. At one whose method
 ///   begins with `$/` or `window/` it does nothing.
 /// - At another notification it pushes its params, asks for the configuration and answers what it keeps. At a wake it pushes `demo/woken`,
-///   and answers what it keeps.
+///   and answers what it keeps, if `tells_wakes` is set.
 /// - At a reply with the configuration it pushes the number of the question.
 /// - Of a job in a slot that found no room it pushes the slot's name.
 #[derive(Drop)]
@@ -74,6 +74,8 @@ pub struct Talker {
     signals: Arc<Signals>,
     questions: u64,
     held: Vec<RequestId>,
+    /// Whether it does something at a wake.
+    pub tells_wakes: bool,
     numbered: AtomicU64,
     changes: Vec<Change>,
     later: Vec<Change>,
@@ -103,6 +105,7 @@ impl Talker {
             signals,
             questions: 0,
             held: Vec::new(alloc),
+            tells_wakes: false,
             numbered: AtomicU64::new(0),
             changes: Vec::new(alloc),
             later: Vec::new(alloc),
@@ -259,6 +262,10 @@ impl Talker {
 }
 
 impl Server for Talker {
+    ghost use Rattle.std.specs.Prelude.{⊤};
+
+    ghost wakes = { λ _ _ _. ⊤ };
+
     type Payload = Asked;
 
     fn initialize(&mut self, params: Value) -> Result<Result<Value, ResponseError>, AllocError> {
@@ -334,6 +341,14 @@ impl Server for Talker {
         }
     }
 
+    fn woken(&mut self, _alloc: Global) -> Result<Acts, AllocError> {
+        if !self.tells_wakes {
+            return Ok(Vec::new(self.alloc));
+        }
+        let acts = self.tell("demo/woken", Value::Null)?;
+        self.release(acts)
+    }
+
     fn shutdown(&mut self, alloc: Global) -> Result<Acts, AllocError> {
         if self.held.is_empty() {
             return Ok(Vec::new(alloc));
@@ -344,17 +359,6 @@ impl Server for Talker {
     fn unsent(&mut self, asked: Asked) -> Result<(), AllocError> {
         drop(asked);
         Ok(())
-    }
-}
-
-impl WokenServer for Talker {
-    ghost use Rattle.std.specs.Prelude.{⊤};
-
-    ghost wakes = { λ _ _ _. ⊤ };
-
-    fn woken(&mut self, _alloc: Global) -> Result<Acts, AllocError> {
-        let acts = self.tell("demo/woken", Value::Null)?;
-        self.release(acts)
     }
 }
 

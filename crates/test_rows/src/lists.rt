@@ -15,7 +15,7 @@ use crate::boxes::{Events, Habit, Sent};
 use crate::messages::message_in;
 use crate::said::{Said, Stepped};
 use crate::servers::{Echo, Talker};
-use lsp_acts::{QueuedServer, WokenQueuedServer};
+use lsp_acts::QueuedServer;
 use lsp_message::{Request, RequestId, WriteFault};
 use lsp_session::{
     Event, ListGate, ListInbox, ListOutbox, ProtocolError, SessionEnd, WriteEnd, finish,
@@ -262,7 +262,9 @@ fn woken(
     inbox: &mut Events<'_>,
     outbox: &mut Sent<'_>,
 ) -> Result<SessionEnd, ProtocolError> {
-    let mut service = WokenQueuedServer::new(alloc, Talker::new(alloc));
+    let mut talker = Talker::new(alloc);
+    talker.tells_wakes = true;
+    let mut service = QueuedServer::new(alloc, talker);
     let served = serve_service(alloc, inbox, outbox, &mut service);
     drop(service);
     served.answer

@@ -1,7 +1,7 @@
 // A handler, and a server that speaks.
 use crate::typed;
 use crate::typed::{both, kept, listed, refused};
-use lsp_acts::{Act, Server, WokenServer};
+use lsp_acts::{Act, Server};
 use lsp_message::{Notification, Request, RequestId, ResponseError};
 use lsp_session::{Handler, initialize_result};
 use serde_json::{Map, Value};
@@ -101,6 +101,8 @@ pub struct Talker {
     alloc: Global,
     questions: u64,
     held: Vec<RequestId>,
+    /// Whether it does something at a wake.
+    pub tells_wakes: bool,
 }
 
 type Acts = Vec<Act<Asked>>;
@@ -112,6 +114,7 @@ impl Talker {
             alloc,
             questions: 0,
             held: Vec::new(alloc),
+            tells_wakes: false,
         }
     }
 
@@ -167,6 +170,10 @@ impl Talker {
 }
 
 impl Server for Talker {
+    ghost use Rattle.std.specs.Prelude.{⊤};
+
+    ghost wakes = { λ _ _ _. ⊤ };
+
     type Payload = Asked;
 
     fn initialize(&mut self, params: Value) -> Result<Result<Value, ResponseError>, AllocError> {
@@ -211,6 +218,14 @@ impl Server for Talker {
         }
     }
 
+    fn woken(&mut self, _alloc: Global) -> Result<Acts, AllocError> {
+        if !self.tells_wakes {
+            return Ok(Vec::new(self.alloc));
+        }
+        let acts = listed(self.alloc, Act::tell(self.alloc, "demo/woken", &()));
+        self.release(acts)
+    }
+
     fn shutdown(&mut self, alloc: Global) -> Result<Acts, AllocError> {
         if self.held.is_empty() {
             return Ok(Vec::new(alloc));
@@ -221,16 +236,5 @@ impl Server for Talker {
     fn unsent(&mut self, asked: Asked) -> Result<(), AllocError> {
         drop(asked);
         Ok(())
-    }
-}
-
-impl WokenServer for Talker {
-    ghost use Rattle.std.specs.Prelude.{⊤};
-
-    ghost wakes = { λ _ _ _. ⊤ };
-
-    fn woken(&mut self, _alloc: Global) -> Result<Acts, AllocError> {
-        let acts = listed(self.alloc, Act::tell(self.alloc, "demo/woken", &()));
-        self.release(acts)
     }
 }

@@ -2,13 +2,12 @@ use Rattle.std.proofs.Common.{refl}
 use Rattle.lsp_session.specs.Session.{SessionOut}
 use Rattle.lsp_session.proofs.Lending.{runs_as, over_as}
 use Rattle.lsp_acts.specs.QueuedServer.{with_queues, ServerSession}
-use Rattle.lsp_acts.specs.Stated.{unwoken}
 use Rattle.lsp_acts.proofs.Taking.{session_of}
 use Rattle.lsp_acts.proofs.laws.queued_server_runs_its_server.Goals as goal
 
 pub returns : goal.returns
 returns g c =
-    let may = unwoken g.S.Server in
+    let may = g.S.Server in
     record {
       exchanges = λ old new server xs stop shutdown_reply answer begun out. session_of may old new server new.server
           begun refl xs stop shutdown_reply answer out;

@@ -1,6 +1,6 @@
 use Rattle.std.proofs.Common.{ap, ◌∙◌, true}
 use Rattle.lsp_session.specs.Session.{SessionOut}
-use Rattle.lsp_acts.specs.QueuedServer.{woken_with_queues}
+use Rattle.lsp_acts.specs.QueuedServer.{with_queues}
 use Rattle.lsp_threads.proofs.Sessions.{started_told_as, taken_told_as}
 use Rattle.lsp_threads.specs.Passing.{noted}
 use Rattle.lsp_threads.specs.declared.run.Threaded.{Threaded}
@@ -17,7 +17,7 @@ returns-clause-session g c =
     let old = c.new-queued.result in
     let new = c.run_threads_of_service_over-done.new.service in
     started_told_as true g.L.BadContentPolicy.passes c.args.options.limits c.args.policy.now _
-    (SessionOut (woken_with_queues may) old new) (JobSession g.row.T.Denot g.S.Server jobs
+    (SessionOut (with_queues may) old new) (JobSession g.row.T.Denot g.S.Server jobs
     c.args.server _)
     (job_session g.row.T.Denot g.S.Server jobs old new c.new-pooled.result c.args.server _
     c.new-queued.ensures
@@ -33,7 +33,7 @@ returns-clause-told g c =
     let old = c.new-queued.result in
     let new = c.run_threads_of_service_over-done.new.service in
     taken_told_as true g.L.BadContentPolicy.passes c.args.options.limits c.args.policy.now _
-    (SessionOut (woken_with_queues may) old new) (JobSession g.row.T.Denot g.S.Server jobs
+    (SessionOut (with_queues may) old new) (JobSession g.row.T.Denot g.S.Server jobs
     c.args.server _)
     (job_session g.row.T.Denot g.S.Server jobs old new c.new-pooled.result c.args.server _
     c.new-queued.ensures

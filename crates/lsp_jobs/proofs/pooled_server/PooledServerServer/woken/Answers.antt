@@ -6,7 +6,7 @@ use Rattle.lsp_jobs.specs.PoolView.{came_view}
 use Rattle.lsp_jobs.specs.Pooled.{Ends, reply_at}
 use Rattle.lsp_jobs.specs.Seen.{seen}
 use Rattle.lsp_jobs.specs.Stated.{stated_jobs}
-use Rattle.lsp_jobs.proofs.pooled_server.PooledServerWokenServer.woken.Goals as goal
+use Rattle.lsp_jobs.proofs.pooled_server.PooledServerServer.woken.Goals as goal
 
 pub returns-in_ok-acts-in-Ran : goal.returns-in_ok-acts-in-Ran
 returns-in_ok-acts-in-Ran g c =
