@@ -6,7 +6,7 @@ use Rattle.lsp_session.proofs.Ran.{StepCase, row, at_initialize, at_initialized,
 use Rattle.lsp_session.proofs.Ran.{Idle, early_request, early_note, unasked, uninvited, leaves, exits, late, stays}
 use Rattle.lsp_session.specs.Boxes.{Sends, Receives}
 use Rattle.lsp_session.specs.Event.{Event}
-use Rattle.lsp_session.specs.HandlerService.{KeepsHandler, lent_handler}
+use Rattle.lsp_session.specs.HandlerService.{KeepsHandler, held_handler, lent_handler, own_handler}
 use Rattle.lsp_session.specs.HandlerSession.{initialize_result, of_handler}
 use Rattle.lsp_session.specs.Prompt.{Talks}
 use Rattle.lsp_session.specs.Session.{Behavior, SessionAnswer, Exchange, Stop, decided, timed_out, refused, exhausted}
@@ -16,6 +16,7 @@ use Rattle.lsp_session.specs.SessionBytes.{ReadsMessage, SessionOver, Gives}
 use Rattle.lsp_session.specs.SessionRun.{Runs}
 use Rattle.lsp_session.specs.declared.lifecycle.SendFault.{SendFault}
 use Rattle.lsp_session.specs.declared.loops.handler.SessionEnd.{SessionEnd}
+use Rattle.lsp_session.specs.declared.loops.handler_application.HandlerApplication.{HandlerApplication}
 use Rattle.lsp_session.specs.declared.loops.handler_service.HandlerService.{HandlerService}
 use Rattle.lsp_session.specs.declared.loops.stream_session.SessionFault.{SessionFault}
 use Rattle.serde_json.specs.Data.{Data}
@@ -23,21 +24,22 @@ use Rattle.serde_json.specs.View.{view}
 use Rattle.std.proofs.Common.{◌≡◌, refl, ◌∙◌, ap, inl, inr, ◌⊎◌, ℕ, List, [], ◌∷◌, ◌++◌, Option, Some, None, IfSome}
 use Rattle.std.specs.Prelude.{Result, Ok}
 
-module _ {H : Type 0} (answers : H → Id → List ℕ → Data → Result Data ErrorObject → H → Type 0) (notes : H → List ℕ
+module _ {S H : Type 0} (handler_of : S → H) (name_of : S → ℕ) (capabilities_of : S → Data) (answers : H → Id
+    → List ℕ → Data → Result Data ErrorObject → H → Type 0) (notes : H → List ℕ
     → Data → H → Type 0) (capabilities : Data) where
-  abbrev lent : Behavior (HandlerService H)
-  lent = lent_handler answers notes
+  abbrev lent : Behavior S
+  lent = held_handler handler_of name_of capabilities_of answers notes
 
   abbrev plain : Behavior H
   plain = of_handler answers notes capabilities
 
   -- the capabilities are there until `initialize` is answered
-  abbrev pub Has : Phase → HandlerService H → Type 0
-  Has starting s = view s.capabilities.now ≡ capabilities
+  abbrev pub Has : Phase → S → Type 0
+  Has starting s = capabilities_of s ≡ capabilities
   Has phase s = Unit {0}
 
   -- one message, and the handler that was lent is still that one
-  has_idle : (p p' : Phase) (s s' : HandlerService H) (m : Message) (sent : List Message) → Has p s → s' ≡ s
+  has_idle : (p p' : Phase) (s s' : S) (m : Message) (sent : List Message) → Has p s → s' ≡ s
       → Idle p m sent p' → Has p' s'
   has_idle p p' s s' m sent has same (early_request i method params reply here is early output next) = rw (next, same)
       (rw here at has)
@@ -49,10 +51,10 @@ module _ {H : Type 0} (answers : H → Id → List ℕ → Data → Result Data 
   has_idle p p' s s' m sent has same (late i here is output next) = rw next tt
   has_idle p p' s s' m sent has same (stays i shown here other output next) = rw next tt
 
-  step_case_as : (p p' : Phase) (s s' : HandlerService H) (came : Option Message) (sent : List Message) → Has p s
+  step_case_as : (p p' : Phase) (s s' : S) (came : Option Message) (sent : List Message) → Has p s
       → StepCase lent p s came sent p' s'
-      → Step plain p s.handler.now came sent p' s'.handler.now × Has p' s' × (s'.handler.ghost_name
-      ≡ s.handler.ghost_name)
+      → Step plain p (handler_of s) came sent p' (handler_of s') × Has p' s' × ((name_of s')
+      ≡ (name_of s))
   step_case_as p p' s s' came sent has (at_initialize i method params outcome here is asks given output next) =
       let last : p' ≡ replied = next ∙ ap (λ (x : Result Data ErrorObject). phase_after x) given.0 in
       let outcome_is = given.0 ∙ ap (λ (x : Data). Ok (initialize_result x)) (rw here at has) in
@@ -81,27 +83,27 @@ module _ {H : Type 0} (answers : H → Id → List ℕ → Data → Result Data 
   step_case_as p p' s s' came sent has (at_shutdown i method params parting here is asks given output next) =
       (rw (here, is, asks) (parting, (given.0, given.1.0), output, next), rw next tt, given.1.1)
   step_case_as p p' s s' came sent has (idle m there same step row) = (
-    rw (there, ap (λ (x : HandlerService H). x.handler.now) same) (step H plain s.handler.now refl),
+    rw (there, ap handler_of same) (step H plain (handler_of s) refl),
     has_idle p p' s s' m sent has same row,
-    ap (λ (x : HandlerService H). x.handler.ghost_name) same,
+    ap name_of same,
   )
 
-  steps_as : (p p' : Phase) (s s' : HandlerService H) (xs : List Exchange) → Has p s → Steps lent p s xs p' s'
-      → Steps plain p s.handler.now xs p' s'.handler.now × Has p' s' × (s'.handler.ghost_name ≡ s.handler.ghost_name)
+  steps_as : (p p' : Phase) (s s' : S) (xs : List Exchange) → Has p s → Steps lent p s xs p' s'
+      → Steps plain p (handler_of s) xs p' (handler_of s') × Has p' s' × ((name_of s') ≡ (name_of s))
   steps_as p p' s s' [] has steps = (
-    (steps.0, ap (λ (x : HandlerService H). x.handler.now) steps.1),
+    (steps.0, ap handler_of steps.1),
     rw (steps.0, steps.1) has,
-    ap (λ (x : HandlerService H). x.handler.ghost_name) steps.1,
+    ap name_of steps.1,
   )
   steps_as p p' s s' (x ∷ xs) has steps =
       let one = step_case_as p steps.0 s steps.1 x.came x.sent has (row lent p steps.0 s steps.1 x.came x.sent
       steps.2) in
       let more = steps_as steps.0 p' steps.1 s' xs one.1 steps.3 in
-      ((steps.0, steps.1.handler.now, one.0, more.0), more.1, more.2 ∙ one.2)
+      ((steps.0, (handler_of steps.1), one.0, more.0), more.1, more.2 ∙ one.2)
 
-  to_as : (stop : Stop) (p p' : Phase) (s s' : HandlerService H) (xs : List Exchange) → Has p s → Reaches lent stop p s
+  to_as : (stop : Stop) (p p' : Phase) (s s' : S) (xs : List Exchange) → Has p s → Reaches lent stop p s
       xs p' s'
-      → Reaches plain stop p s.handler.now xs p' s'.handler.now × (s'.handler.ghost_name ≡ s.handler.ghost_name)
+      → Reaches plain stop p (handler_of s) xs p' (handler_of s') × ((name_of s') ≡ (name_of s))
   to_as (refused fault) p p' s s' xs has broken =
       let before = steps_as p broken.next s broken.mid broken.earlier has broken.steps in
       let full = broken.part ++ broken.not_sent ∷ broken.more in
@@ -115,7 +117,7 @@ module _ {H : Type 0} (answers : H → Id → List ℕ → Data → Result Data 
           more = broken.more;
           cut = broken.cut;
           next = broken.next;
-          mid = broken.mid.handler.now;
+          mid = (handler_of broken.mid);
           steps = before.0;
           step = one.0;
           matters = broken.matters;
@@ -124,23 +126,24 @@ module _ {H : Type 0} (answers : H → Id → List ℕ → Data → Result Data 
       )
   to_as stop p p' s s' xs has steps = let all = steps_as p p' s s' xs has steps in (all.0, all.2)
 
-  module _ (s s' : HandlerService H) (h' : H) (back : s'.handler.ghost_name ≡ s.handler.ghost_name → h'
-      ≡ s'.handler.now) where
-    same : (after : HandlerService H) → after.handler.ghost_name ≡ s.handler.ghost_name → s' ≡ after → h'
-        ≡ after.handler.now
-    same after name e = back (ap (λ (x : HandlerService H). x.handler.ghost_name) e ∙ name)
-        ∙ ap (λ (x : HandlerService H). x.handler.now) e
+  module _ (s s' : S) (h' : H) (back : (name_of s') ≡ (name_of s) → h'
+      ≡ (handler_of s')) where
+    same : (after : S) → (name_of after) ≡ (name_of s) → s' ≡ after → h'
+        ≡ (handler_of after)
+    same after name e = back (ap name_of e ∙ name)
+        ∙ ap handler_of e
 
-    unserved : (after : HandlerService H) → after.handler.ghost_name ≡ s.handler.ghost_name → (s' ≡ after)
-        ⊎ KeepsHandler after s' → (h' ≡ after.handler.now) ⊎ (h' ≡ after.handler.now)
+    unserved : (after : S) → (name_of after) ≡ (name_of s) → (s' ≡ after)
+        ⊎ KeepsHandler handler_of name_of capabilities_of after s' → (h' ≡ (handler_of after)) ⊎ (h' ≡
+        (handler_of after))
     unserved after name left = elim left [
       | inl e ↦ inl (same after name e)
       | inr keeps ↦ inr (back (keeps.1 ∙ name) ∙ keeps.0)
     ]
 
-    left_as : (p : Phase) (stop : Stop) (answer : SessionAnswer) (after : HandlerService H) → after.handler.ghost_name
-        ≡ s.handler.ghost_name
-        → Stops lent p after stop answer s' → Stops plain p after.handler.now stop answer h'
+    left_as : (p : Phase) (stop : Stop) (answer : SessionAnswer) (after : S) → (name_of after)
+        ≡ (name_of s)
+        → Stops lent p after stop answer s' → Stops plain p (handler_of after) stop answer h'
     left_as (ended shutdown_reply by) decided answer after name stops = (stops.0, same after name stops.1)
     left_as (ended shutdown_reply by) stop answer after name stops = absurd stops
     left_as p decided answer after name stops = absurd stops
@@ -150,18 +153,41 @@ module _ {H : Type 0} (answers : H → Id → List ℕ → Data → Result Data 
     left_as p exhausted answer after name stops = (stops.0, unserved after name stops.1)
     left_as p stop answer after name stops = (stops.0, same after name stops.1)
 
-    pub session_as : (h : H) → s.handler.now ≡ h → view s.capabilities.now ≡ capabilities
+    pub held_as : (h : H) → (handler_of s) ≡ h → capabilities_of s ≡ capabilities
         → (xs : List Exchange) (stop : Stop) (shutdown_reply : Option Message) (answer : SessionAnswer)
         → SessionOut lent s s' xs stop shutdown_reply answer → SessionOut plain h h' xs stop shutdown_reply answer
-    session_as h start has xs stop shutdown_reply answer out =
+    held_as h start has xs stop shutdown_reply answer out =
         let steps = to_as stop starting out.last s out.after xs has out.reached in
         record {
           last = out.last;
-          after = out.after.handler.now;
+          after = (handler_of out.after);
           reached = rw start at steps.0;
           shutdown_reply_is = out.shutdown_reply_is;
           stopped = left_as out.last stop answer out.after steps.1 out.stopped;
         }
+
+-- of a handler that was lent
+pub session_as : {H : Type 0} (answers : H → Id → List ℕ → Data → Result Data ErrorObject → H → Type 0) (notes : H
+    → List
+    ℕ → Data → H → Type 0) (capabilities : Data) (s s' : HandlerService H) (h' : H)
+    → (s'.handler.ghost_name ≡ s.handler.ghost_name → h' ≡ s'.handler.now)
+    → (h : H) → s.handler.now ≡ h → view s.capabilities.now ≡ capabilities
+    → (xs : List Exchange) (stop : Stop) (shutdown_reply : Option Message) (answer : SessionAnswer)
+    → SessionOut (lent_handler answers notes) s s' xs stop shutdown_reply answer
+    → SessionOut (of_handler answers notes capabilities) h h' xs stop shutdown_reply answer
+session_as {H} answers notes capabilities s s' h' back = held_as (λ (s : HandlerService H). s.handler.now) (λ
+    (s : HandlerService H). s.handler.ghost_name)
+    (λ (s : HandlerService H). view s.capabilities.now) answers notes capabilities s s' h' back
+
+-- of one that is owned
+pub own_as : {H : Type 0} (answers : H → Id → List ℕ → Data → Result Data ErrorObject → H → Type 0) (notes : H → List
+    ℕ → Data → H → Type 0) (s s' : HandlerApplication H)
+    → (xs : List Exchange) (stop : Stop) (shutdown_reply : Option Message) (answer : SessionAnswer)
+    → SessionOut (own_handler answers notes) s s' xs stop shutdown_reply answer
+    → SessionOut (of_handler answers notes (view s.capabilities)) s.handler s'.handler xs stop shutdown_reply answer
+own_as {H} answers notes s s' = held_as (λ (s : HandlerApplication H). s.handler) (λ (s : HandlerApplication H). 0)
+    (λ (s : HandlerApplication H). view s.capabilities) answers notes
+    (view s.capabilities) s s' s'.handler (λ names. refl) s.handler refl refl
 
 -- A session that is described otherwise.
 module _ (P Q : SessionPart)

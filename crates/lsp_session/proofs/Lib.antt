@@ -7,6 +7,7 @@ pub mod Driving
 pub mod FrameReading
 pub mod Handing
 pub mod Handshake
+pub mod Knowing
 pub mod Late
 pub mod Lending
 pub mod MachineRows

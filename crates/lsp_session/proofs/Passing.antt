@@ -12,7 +12,6 @@ use Rattle.lsp_message.specs.declared.frame.WriteFault.{WriteFault}
 use Rattle.lsp_message.specs.declared.frame.limits.Limits.{Limits}
 use Rattle.lsp_session.proofs.Handing.{begins}
 use Rattle.lsp_session.proofs.Lending.{over_as}
-use Rattle.lsp_session.proofs.Ran.{is_no_exit, Facts}
 use Rattle.lsp_session.proofs.SessionGives.{no_timeout as stream_no_timeout, reads_within, closed_ends, decided_ends}
 use Rattle.lsp_session.proofs.SessionGives.{EndsSo, NotRefused, GetsPart, gets_written, gets_keeps}
 use Rattle.lsp_session.proofs.Waiting.{FoldsTo-split}
@@ -21,7 +20,7 @@ use Rattle.lsp_session.specs.FrameBoxes.{FrameOutboxSends}
 use Rattle.lsp_session.specs.Session.{Exchange, came_of, messages_of, sends_of, SessionAnswer, SessionPart, Stop}
 use Rattle.lsp_session.specs.Session.{decided, no_more, timed_out, refused, exhausted}
 use Rattle.lsp_session.specs.SessionBytes.{ReadsMessage, IsUnsent, LeftWithin, Ends, Wrote, Gives as SessionGives}
-use Rattle.lsp_session.specs.SessionOutcome.{reason_of, StopsFor}
+use Rattle.lsp_session.specs.SessionOutcome.{is_no_exit, StopsAtExit, reason_of, StopsFor}
 use Rattle.lsp_session.specs.SessionFault.{session_answer}
 use Rattle.lsp_session.specs.SessionRun.{came_in, is_open, Brings, Runs}
 use Rattle.lsp_session.specs.Streams.{Stream, StreamReads, Reads}
@@ -279,7 +278,8 @@ module _ (others : Type 0) {L : Type 0} (passes : L → ReadFault → L → Type
         (before, read, inr (at, passes), ([], left ∙ ap (λ (r : Reading Message). Some r.rest) (sym passes.2)))
 
     -- the frames that were used, and what is left after them
-    left_within : (came : List (Option Message)) (stop : Stop) → Brings events came stop → Facts stop (messages_in came)
+    left_within : (came : List (Option Message)) (stop : Stop) → Brings events came stop → StopsAtExit stop
+        (messages_in came)
         → Reached came stop Within
     left_within came no_more brought facts = elim brought.1 [
       | inl last ↦ let c = closed_at last.0 came last.1 last.2 brought.0 facts in
@@ -312,7 +312,7 @@ module _ (others : Type 0) {L : Type 0} (passes : L → ReadFault → L → Type
 
     -- what is left if a write or an allocation failed
     pub left_after : (came : List (Option Message)) (stop : Stop) → Brings events came stop
-        → Facts stop (messages_in came)
+        → StopsAtExit stop (messages_in came)
         → Reached came stop (λ at. LeftWithin limit stop at.0 new.0.remaining)
     left_after came decided brought facts = let all = open_brought came brought.0 brought.1 in (
       (all.at, new.1),
@@ -337,11 +337,11 @@ module _ (others : Type 0) {L : Type 0} (passes : L → ReadFault → L → Type
       Ended stop at = EndsSo limit shutdown_reply answer sends a b wrote stop new.0.end new.0.remaining at
 
       -- as many were taken as can be counted
-      many_ends : (all : Brought text old.1 came new) → Facts no_more (messages_in came) → Ended no_more all.at
+      many_ends : (all : Brought text old.1 came new) → StopsAtExit no_more (messages_in came) → Ended no_more all.at
       many_ends all facts = rw (all.end, facts) ((refl, open_within came all), wrote)
 
       -- no write failed
-      pub frames_end : (stop : Stop) → Brings events came stop → NotRefused stop → Facts stop (messages_in came)
+      pub frames_end : (stop : Stop) → Brings events came stop → NotRefused stop → StopsAtExit stop (messages_in came)
           → Reached came stop (λ at. Ended stop at.0)
       frames_end decided brought taken facts =
           let all = open_brought came brought.0 brought.1 in (
@@ -388,7 +388,8 @@ module _ {L : Type 0} (passes : L → ReadFault → L → Type 0) (limit : Limit
       (reason : StopReason)
       (knows : (xs : List Exchange) (stop : Stop) (shutdown_reply : Option Message) (answer : SessionAnswer)
       → P xs stop shutdown_reply answer
-      → Q xs stop shutdown_reply answer × StopsFor reason xs stop shutdown_reply answer × Facts stop (messages_of xs))
+      → Q xs stop shutdown_reply answer × StopsFor reason xs stop shutdown_reply answer × StopsAtExit stop
+      (messages_of xs))
       (inbox inbox' : TolerantInbox R L) (outbox outbox' : FrameOutbox W) (unended : inbox.end ≡ None)
       (limited : inbox.limits ≡ limit)
       (unfailed : outbox.fault ≡ None)
@@ -423,7 +424,7 @@ module _ {L : Type 0} (passes : L → ReadFault → L → Type 0) (limit : Limit
         run = (seen_all ⊥ passes limit remaining runs.events inbox inbox' limited runs.received).0
 
         known_of : Q runs.exchanges runs.stop runs.shutdown_reply answer × StopsFor reason runs.exchanges runs.stop
-            runs.shutdown_reply answer × Facts runs.stop (messages_of runs.exchanges)
+            runs.shutdown_reply answer × StopsAtExit runs.stop (messages_of runs.exchanges)
         known_of = knows runs.exchanges runs.stop runs.shutdown_reply answer runs.part
 
         gives : (result : Result SessionEnd SessionFault)

@@ -7,6 +7,7 @@ use Rattle.lsp_session.specs.Session.{Behavior, Exchange, came_of, messages_of, 
 use Rattle.lsp_session.specs.Session.{refused, Phase, starting, replied, serving, asked, ended, Reaches, Stops}
 use Rattle.lsp_session.specs.Session.{SessionFrom, sends_of, shutdown_reply_of, offered_reply_of, phase_after, Step}
 use Rattle.lsp_session.specs.Session.{Steps, is_reply, is_served, Fails, Leaves, is_shutdown}
+use Rattle.lsp_session.specs.SessionOutcome.{is_no_exit, StopsAtExit}
 use Rattle.lsp_session.specs.SessionRun.{all_of}
 use Rattle.lsp_session.specs.declared.lifecycle.SendFault.{SendFault}
 use Rattle.lsp_session.specs.declared.loops.handler.SessionEnd.TheVariants.{Closed, ShutDown}
@@ -417,14 +418,6 @@ stops_by may (ended n by) s s' decided answer stops = (refl, stops.0)
 stops_by may (ended n by) s s' stop answer stops = absurd stops
 stops_by may p s s' stop answer stops = λ e. (rw e at stops)
 
-abbrev pub is_no_exit : Message → Bool
-is_no_exit m = not (is_exit m)
-
--- what is known of the messages: no `exit` came if no more came
-abbrev pub Facts : Stop → List Message → Type 0
-Facts no_more messages = list_all is_no_exit messages ≡ true
-Facts stop messages = Unit {0}
-
 served_is_no_exit : (m : Message) → is_served m ≡ true → is_no_exit m ≡ true
 served_is_no_exit m served = (and-true (not (is_shutdown m)) (is_no_exit m) served).1
 
@@ -496,13 +489,13 @@ module _ {S : Type 0} (may : Behavior S) (stop : Stop) where
 module _ {S : Type 0} (may : Behavior S) where
   at_no_more : (q : Phase) (s s' : S) (xs : List Exchange) (answer : SessionAnswer) → Known may no_more q xs
       → Stops may q s no_more answer s'
-      → Facts no_more (messages_of xs)
+      → StopsAtExit no_more (messages_of xs)
   at_no_more (ended shutdown_reply by) s s' xs answer is stops = absurd stops
   at_no_more q s s' xs answer is stops = is
 
   pub session_facts : (p : Phase) (s s' : S) → ended_by p ≡ None → (xs : List Exchange) (stop : Stop) (shutdown_reply :
       Option Message) (answer : SessionAnswer)
-      → SessionFrom may p s s' xs stop shutdown_reply answer → Facts stop (messages_of xs)
+      → SessionFrom may p s s' xs stop shutdown_reply answer → StopsAtExit stop (messages_of xs)
   session_facts p s s' on xs no_more shutdown_reply answer out = at_no_more out.last out.after s' xs answer
       (known may no_more p out.last s out.after xs on out.reached) out.stopped
   session_facts p s s' on xs stop shutdown_reply answer out = tt

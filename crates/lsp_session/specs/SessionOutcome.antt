@@ -1,8 +1,11 @@
 -- Why a session stopped, as its result tells it.
-use Rattle.std.specs.Prelude.{◌≡◌, Result, Ok, Err}
+use Rattle.std.specs.List.{list_all}
+use Rattle.std.specs.Prelude.{◌≡◌, Bool, true, not, List, Result, Ok, Err}
+use Rattle.lsp_message.specs.Message.{Message}
+use Rattle.lsp_message.specs.Methods.{is_exit}
 use Rattle.lsp_session.specs.ProtocolError.{ProtocolFault, disconnected, shutdown_timeout, shutdown_disconnected}
 use Rattle.lsp_session.specs.ProtocolError.{out_of_memory, refused_closed, refused_memory}
-use Rattle.lsp_session.specs.Session.{SessionPart, Stop, decided, no_more, timed_out, refused, exhausted}
+use Rattle.lsp_session.specs.Session.{SessionPart, messages_of, Stop, decided, no_more, timed_out, refused, exhausted}
 use Rattle.lsp_session.specs.declared.loops.session_outcome.SessionOutcome.{SessionOutcome}
 use Rattle.lsp_session.specs.declared.loops.session_outcome.StopReason.{StopReason}
 use Rattle.lsp_session.specs.declared.loops.session_outcome.StopReason.TheVariants.{Decided, NoMore, TimedOut, Refused}
@@ -18,6 +21,19 @@ reason_of exhausted = Exhausted
 -- the session stopped for this reason
 abbrev pub StopsFor : StopReason → SessionPart
 StopsFor reason exchanges stop shutdown_reply answer = reason ≡ reason_of stop
+
+abbrev pub is_no_exit : Message → Bool
+is_no_exit m = not (is_exit m)
+
+-- A session stops at `exit`: if it stopped since no more messages came, none of those that came was `exit`.
+abbrev pub StopsAtExit : Stop → List Message → Type 0
+StopsAtExit no_more messages = list_all is_no_exit messages ≡ true
+StopsAtExit stop messages = Unit {0}
+
+-- the session stopped for this reason, and at `exit`
+abbrev pub StopsBy : StopReason → SessionPart
+StopsBy reason exchanges stop shutdown_reply answer = StopsFor reason exchanges stop shutdown_reply answer
+    × StopsAtExit stop (messages_of exchanges)
 
 -- For private clauses: why a session stopped that ends with this fault.
 abbrev pub reason_of_fault : ProtocolFault → StopReason

@@ -16,10 +16,10 @@ pub use lifecycle::{
     wait_within, without_result,
 };
 pub use loops::{
-    BadContentPolicy, ClientStreams, EndSession, FaultCounts, FrameOutbox, Handler, HandlerService,
-    Ignore, Output, PassedOver, ReadEnd, Sendable, Service, SessionEnd, SessionFault,
-    SessionOutcome, StopReason, StreamInbox, StreamTransport, ToSend, TolerantInbox, Transcript,
-    WriteEnd, initialize_result, is_of_content, read_loop, read_loop_within, serve, serve_service,
-    serve_transport, session, session_answer, session_of_service, session_transcribed,
-    session_within, write_loop,
+    Application, BadContentPolicy, ClientStreams, EndSession, FaultCounts, FrameOutbox, Handler,
+    HandlerApplication, HandlerService, Ignore, Output, PassedOver, ReadEnd, Sendable, Service,
+    ServiceApplication, SessionEnd, SessionFault, SessionOutcome, StopReason, StreamInbox,
+    StreamTransport, ToSend, TolerantInbox, Transcript, WriteEnd, initialize_result, is_of_content,
+    read_loop, read_loop_within, serve, serve_service, serve_transport, session, session_answer,
+    session_of_service, session_transcribed, session_within, write_loop,
 };

@@ -12,7 +12,6 @@ use Rattle.lsp_message.specs.declared.frame.WriteFault.TheVariants.{Output, Memo
 use Rattle.lsp_message.specs.declared.frame.limits.Limits.{Limits}
 use Rattle.lsp_relay.specs.declared.ends.Parcel.{Parcel}
 use Rattle.lsp_session.proofs.Handing.{AreFramesOf-push}
-use Rattle.lsp_session.proofs.Ran.{Facts}
 use Rattle.lsp_session.proofs.Passing.{frames_end, GivesOr, left_after, ReadsFrames}
 use Rattle.lsp_session.proofs.SessionGives.{NotRefused}
 use Rattle.lsp_session.specs.Boxes.{Sends, Receives, Takes}
@@ -20,7 +19,7 @@ use Rattle.lsp_session.specs.PassingBytes.{HearsLast}
 use Rattle.lsp_session.specs.Session.{came_of, messages_of, sends_of, Exchange, SessionAnswer, SessionPart, Stop}
 use Rattle.lsp_session.specs.Session.{refused}
 use Rattle.lsp_session.specs.SessionBytes.{LeftWithin, Wrote}
-use Rattle.lsp_session.specs.SessionOutcome.{reason_of, StopsFor}
+use Rattle.lsp_session.specs.SessionOutcome.{reason_of, StopsAtExit, StopsFor}
 use Rattle.lsp_session.specs.SessionFault.{session_answer}
 use Rattle.lsp_session.specs.SessionRun.{all_of, Gets, OffersLast, RefusesLast, Runs}
 use Rattle.lsp_session.specs.Streams.{Stream}
@@ -205,11 +204,12 @@ module _ {I O L : Type 0} (receives : Receives I) (sends : Sends O) (wakeable : 
     → Type 0) (limit : Limits) (P Q : SessionPart) (reason : StopReason)
     (knows : (xs : List Exchange) (stop : Stop) (shutdown_reply : Option Message) (answer : SessionAnswer)
     → P xs stop shutdown_reply answer
-    → Q xs stop shutdown_reply answer × StopsFor reason xs stop shutdown_reply answer × Facts stop (messages_of xs))
+    → Q xs stop shutdown_reply answer × StopsFor reason xs stop shutdown_reply answer × StopsAtExit stop
+    (messages_of xs))
     (a b : Option (List ℕ)) (old new : I × O) (answer : SessionAnswer) (runs : Runs receives sends P old answer
     new) where
   known_of : Q runs.exchanges runs.stop runs.shutdown_reply answer × StopsFor reason runs.exchanges runs.stop
-      runs.shutdown_reply answer × Facts runs.stop (messages_of runs.exchanges)
+      runs.shutdown_reply answer × StopsAtExit runs.stop (messages_of runs.exchanges)
   known_of = knows runs.exchanges runs.stop runs.shutdown_reply answer runs.part
 
   -- others wake it only if they can
