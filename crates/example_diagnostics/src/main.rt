@@ -15,8 +15,8 @@ use lsp_documents::{Agreed, DocumentUpdate, TextDocuments, UpdateFault};
 use lsp_methods::{Configuration, answer, publish, read, reply};
 use lsp_server::clients::{ClientOptions, serve_clients};
 use lsp_server::{
-    Act, EndSession, Notification, Request, ResponseError, Server, SessionEnd, SessionFault,
-    StreamTransport, session_with_over,
+    Act, BadContentPolicy, EndSession, Notification, Request, ResponseError, Server, SessionEnd,
+    SessionFault, StreamTransport, session_with_over,
 };
 use lsp_text::{Text, TextDocument};
 use lsp_types::methods::{DefinitionRequest, HoverRequest};
@@ -307,7 +307,7 @@ fn serve<R: BufRead, W: Write>(
     checker: Checker,
 ) -> (Checker, Result<SessionEnd, SessionFault>)
     requires { IsUnused transport.old }
-    ensures { Serves (ServerSession ⟦<Checker as Server>⟧ checker result.0) transport.old result.1 transport.new }
+    ensures { Serves ⟦<EndSession as BadContentPolicy>⟧.passes (ServerSession ⟦<Checker as Server>⟧ checker result.0) transport.old result.1 transport.new }
 {
     session_with_over(alloc, transport, checker)
 }

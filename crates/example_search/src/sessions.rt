@@ -38,7 +38,7 @@ pub fn serve<R: BufRead, W: Write>(
     sums: Sums,
 ) -> (Sums, Result<SessionEnd, SessionFault>)
     requires { IsUnused transport.old }
-    ensures { Serves (AnswersOnce ⟦<Sums as Server>⟧ sums result.0) transport.old result.1 transport.new }
+    ensures { Serves ⟦<PassedOver as BadContentPolicy>⟧.passes (AnswersOnce ⟦<Sums as Server>⟧ sums result.0) transport.old result.1 transport.new }
 {
     server_keeps_laws::<Sums>();
     session_with_over(alloc, transport, sums)

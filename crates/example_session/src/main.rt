@@ -8,8 +8,8 @@ ghost use Rattle.lsp_session.specs.StreamTransports.{IsUnused, Serves};
 
 use anyhow::{Result, bail};
 use lsp_server::{
-    ClientStreams, EndSession, Handler, Notification, Request, ResponseError, SessionEnd,
-    SessionFault, StreamTransport,
+    BadContentPolicy, ClientStreams, EndSession, Handler, Notification, Request, ResponseError,
+    SessionEnd, SessionFault, StreamTransport,
 };
 use serde_json::{Value, json};
 use std::alloc::{AllocError, Global};
@@ -64,7 +64,7 @@ fn serve<R: BufRead, W: Write>(
     documents: &mut Documents,
 ) -> Result<SessionEnd, SessionFault>
     requires { IsUnused transport.old }
-    ensures { Serves
+    ensures { Serves ⟦<EndSession as BadContentPolicy>⟧.passes
         (SessionOut (of_handler ⟦<Documents as Handler>⟧.answers ⟦<Documents as Handler>⟧.notes (view capabilities))
         documents.old documents.new) transport.old result transport.new }
 {

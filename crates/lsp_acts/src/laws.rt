@@ -76,8 +76,8 @@ pub fn server_that_asks_keeps_laws<S: Server, L: BadContentPolicy>()
 pub fn server_over_a_transport_keeps_laws<R: BufRead, W: Write, L: BadContentPolicy, S: Server>()
     ensures { (first last : S) (before after : TransportOf R W L)
         (answer : Result EndOfSession FaultOfSession)
-        → Serves (ServerSession S.Server first last) before answer after
-        → Serves (LawfulSession S.Server first last) before answer after }
+        → Serves L.passes (ServerSession S.Server first last) before answer after
+        → Serves L.passes (LawfulSession S.Server first last) before answer after }
 {}
 
 /// `server_keeps_laws` of a session over boxes: a fact of each session of a `QueuedServer` (`queued_server_runs_its_server`) that was run by

@@ -53,7 +53,7 @@ pub fn session_with_over<R: BufRead, W: Write, S: Server, L: BadContentPolicy>(
     server: S,
 ) -> (S, Result<SessionEnd, SessionFault>)
     requires { IsUnused transport.old }
-    ensures { Serves (ServerSession S.Server server result.0) transport.old result.1 transport.new }
+    ensures { Serves L.passes (ServerSession S.Server server result.0) transport.old result.1 transport.new }
 {
     let mut queued = QueuedServer::new(alloc, server);
     let answer = transport.serve(&mut queued);

@@ -3,15 +3,18 @@ use Rattle.lsp_message.specs.Message.{Message}
 use Rattle.lsp_message.specs.Told.{Parts}
 use Rattle.lsp_message.specs.declared.frame.ReadFault.{ReadFault}
 use Rattle.lsp_session.proofs.Accounts.{talks_in_order}
+use Rattle.lsp_session.proofs.Knowing.{Knows}
 use Rattle.lsp_session.proofs.TransportInOrder.{keeps_account, keeps_ends}
 use Rattle.lsp_session.proofs.Tellings.{talks_keeps}
 use Rattle.lsp_session.specs.Account.{Act, gave, took, lost, sending, ActsInOrder}
-use Rattle.lsp_session.specs.ActBytes.{Note, EndsAfter, SentParts, TellsActs, ToldSession, acts_in, bytes_taken}
+use Rattle.lsp_session.specs.ActBytes.{AsksPolicy, Note, EndsAfter, SkipsNothing, SentParts, TellsActs, ToldSession}
+use Rattle.lsp_session.specs.ActBytes.{acts_in, bytes_taken}
 use Rattle.lsp_session.specs.ActBytes.{bytes_given}
 use Rattle.lsp_session.specs.Boxes.{Receives}
 use Rattle.lsp_session.specs.Event.{Event, message, timeout, closed, woken}
 use Rattle.lsp_session.specs.Passing.{TolerantGives}
 use Rattle.lsp_session.specs.PassingBoxes.{stream_of}
+use Rattle.lsp_session.specs.PassingBytes.{PassesNothingOver}
 use Rattle.lsp_session.specs.Prompt.{Talks}
 use Rattle.lsp_session.specs.Session.{Behavior, starting, SessionAnswer, SessionPart, Exchange, Stop, SessionOut}
 use Rattle.lsp_session.specs.SessionOutcome.{StopsFor}
@@ -85,6 +88,43 @@ tells_sent : (limit : Limits) (end : Option ReadEnd) (old new : Option WriteFaul
 tells_sent limit end old new m (Ok done) parts sent = ((new, sent, refl), refl, append-nil (concat parts))
 tells_sent limit end old new m (Err fault) parts sent = ((new, sent, refl), refl, append-nil (concat parts))
 
+AsksPolicy-append : {L : Type 0} (limit : Limits) (passes : L → ReadFault → L → Type 0) (ns ms : List Note) (a b c : L)
+    → AsksPolicy limit passes a ns b → AsksPolicy limit passes b ms c → AsksPolicy limit passes a (ns ++ ms) c
+AsksPolicy-append limit passes [] ms a b c first second = subst (λ policy. AsksPolicy limit passes policy ms c) first
+    second
+AsksPolicy-append limit passes ((gave event, parts) ∷ ns) ms a b c first second = (
+  first.0,
+  first.1,
+  AsksPolicy-append limit passes ns ms first.0 b c first.2 second,
+)
+AsksPolicy-append limit passes ((took m, parts) ∷ ns) ms a b c first second = AsksPolicy-append limit passes ns ms a b c
+    first second
+AsksPolicy-append limit passes ((lost m, parts) ∷ ns) ms a b c first second = AsksPolicy-append limit passes ns ms a b c
+    first second
+
+asks_sent : {L : Type 0} (limit : Limits) (passes : L → ReadFault → L → Type 0) (m : Message) (outcome : Result
+    (Unit {0}) SendFault) (parts : Parts) (a b : L) → b ≡ a
+    → AsksPolicy limit passes a ((sending m outcome, parts) ∷ []) b
+asks_sent limit passes m (Ok done) parts a b same = same
+asks_sent limit passes m (Err fault) parts a b same = same
+
+-- a policy that allows nothing to be skipped
+pub skips_nothing : {L : Type 0} (passes : L → ReadFault → L → Type 0) → PassesNothingOver passes → (limit : Limits)
+    (notes : List Note) (old new : L) → AsksPolicy limit passes old notes new → SkipsNothing notes
+skips_nothing passes nothing limit [] old new asked = tt
+skips_nothing passes nothing limit ((gave woken, parts) ∷ notes) old new asked =
+    absurd (nothing old asked.1.0 asked.0 asked.1.3)
+skips_nothing passes nothing limit ((gave (message m), parts) ∷ notes) old new asked =
+    skips_nothing passes nothing limit notes asked.0 new asked.2
+skips_nothing passes nothing limit ((gave timeout, parts) ∷ notes) old new asked =
+    skips_nothing passes nothing limit notes asked.0 new asked.2
+skips_nothing passes nothing limit ((gave closed, parts) ∷ notes) old new asked =
+    skips_nothing passes nothing limit notes asked.0 new asked.2
+skips_nothing passes nothing limit ((took m, parts) ∷ notes) old new asked =
+    skips_nothing passes nothing limit notes old new asked
+skips_nothing passes nothing limit ((lost m, parts) ∷ notes) old new asked =
+    skips_nothing passes nothing limit notes old new asked
+
 -- what ended the messages
 ends_after : {L : Type 0} (passes : L → ReadFault → L → Type 0) (limit : Limits) (old new : Stream × L) (event : Event)
     → TolerantGives passes limit old event new → EndsAfter limit old.0.end event new.0.end
@@ -122,6 +162,7 @@ module _ {R W L : Type 0} (remaining : R → Option (List ℕ)) (passes : L → 
   Tells old new = (new.limits ≡ old.limits) × (notes : List Note) × (notes_of new.transcript.now
       ≡ notes_of old.transcript.now ++ notes) × TellsActs old.limits (ended old) notes (ended new)
       × PassesBetween remaining contents notes old new
+      × AsksPolicy old.limits passes old.policy.now notes new.policy.now
 
   tells_own : (a : StreamTransport R W L) → Tells a a
   tells_own a = (
@@ -133,6 +174,7 @@ module _ {R W L : Type 0} (remaining : R → Option (List ℕ)) (passes : L → 
       Consumes-nil (remaining a.reader.now),
       Appends-nil (contents a.writer.now),
     ),
+    refl,
   )
 
   tells_then : (a b c : StreamTransport R W L) → Tells a b → Tells b c → Tells a c
@@ -148,6 +190,8 @@ module _ {R W L : Type 0} (remaining : R → Option (List ℕ)) (passes : L → 
       subst (Appends (contents a.writer.now) (contents c.writer.now)) (sym (given-append first.1 second.1))
           (Appends-trans _ _ _ _ _ first.4.1 second.4.1),
     ),
+    AsksPolicy-append a.limits passes first.1 second.1 a.policy.now b.policy.now c.policy.now first.5
+        (subst (λ n. AsksPolicy n passes b.policy.now second.1 c.policy.now) first.0 second.5),
   )
 
   tells_received : (a : StreamTransport R W L) (event : Event) (b : StreamTransport R W L) → StreamTransportGives
@@ -159,7 +203,7 @@ module _ {R W L : Type 0} (remaining : R → Option (List ℕ)) (passes : L → 
         told.1,
         (
           b.end,
-          told.3,
+          told.3.0,
           ends_after passes a.limits (stream_of remaining (inbox_of a), a.policy.now) (
             stream_of remaining
                 (inbox_of b),
@@ -173,6 +217,7 @@ module _ {R W L : Type 0} (remaining : R → Option (List ℕ)) (passes : L → 
           subst (λ (o : FrameOutbox W). Appends (contents a.writer.now) (contents o.writer.now) []) (sym gives.1)
               (Appends-nil (contents a.writer.now)),
         ),
+        (b.policy.now, told.3.1, refl),
       )
 
   tells_sending : (a : StreamTransport R W L) (m : Message) (outcome : Result (Unit {0}) SendFault) (b : StreamTransport
@@ -194,16 +239,17 @@ module _ {R W L : Type 0} (remaining : R → Option (List ℕ)) (passes : L → 
               (Consumes-nil (remaining a.reader.now))),
           subst (Appends (contents a.writer.now) (contents b.writer.now)) (sym is.2) told.2.appended,
         ),
+        asks_sent a.limits passes m outcome told.0 a.policy.now b.policy.now (ap (λ (i : TolerantInbox R L).
+            i.policy.now) sends.1),
       )
 
-  module _ {S : Type 0} (may : Behavior S) (listens : Receives (StreamTransport R W L)) (s s' : S)
-      (old new : StreamTransport R W L) (unused : IsUnused old) (reason : StopReason) (answer : SessionAnswer)
-      (talks : Talks (StreamTransportGives remaining passes) listens (StreamTransportSends contents) starting
-      (Both (SessionOut may s s') (StopsFor reason)) old answer new) where
+  module _ (listens : Receives (StreamTransport R W L)) (P Q : SessionPart) (reason : StopReason)
+      (knows : Knows P Q reason) (old new : StreamTransport R W L) (unused : IsUnused old) (answer : SessionAnswer)
+      (talks : Talks (StreamTransportGives remaining passes) listens (StreamTransportSends contents) starting P old
+      answer new) where
     tells : Tells old new
     tells = talks_keeps (StreamTransportGives remaining passes) listens (StreamTransportSends contents) Tells tells_own
-        tells_then tells_received tells_sending starting (Both (SessionOut may s s') (StopsFor reason)) old new
-        answer talks
+        tells_then tells_received tells_sending starting P old new answer talks
 
     all_noted : tells.1 ≡ notes_of new.transcript.now
     all_noted = sym (tells.2 ∙ ap (λ (notes : List Note). notes ++ tells.1) unused.2)
@@ -221,44 +267,51 @@ module _ {R W L : Type 0} (remaining : R → Option (List ℕ)) (passes : L → 
     all_passed = subst (λ (notes : List Note). PassesBetween remaining contents notes old new) all_noted tells.4
 
     -- and the acts are those of the session, in order
-    pub told_session : ToldSession old.limits (SessionOut may s s') (notes_of new.transcript.now) (session_answer reason
-        answer new.end new.fault)
+    pub told_session : ToldSession old.limits Q (notes_of new.transcript.now) (session_answer reason answer new.end
+        new.fault)
     told_session =
         let t = talks_in_order (StreamTransportGives remaining passes) listens (StreamTransportSends contents)
-        (λ (t : StreamTransport R W L). account_of t) (keeps_account remaining passes contents) starting
-        (Both (SessionOut may s s') (StopsFor reason)) old new answer talks in
+        (λ (t : StreamTransport R W L). account_of t) (keeps_account remaining passes contents) starting P old
+        new answer talks in
         let all : t.0 ≡ acts_in (notes_of new.transcript.now) = sym (t.1 ∙ ap (λ (notes : List Note). acts_in notes
         ++ t.0) unused.2) in
         let run = t.2 in
+        let known = knows (run.whole ++ run.last) run.stop run.shutdown_reply answer run.part.0 in
         record {
           exchanges = run.whole ++ run.last;
           stop = run.stop;
           shutdown_reply = run.shutdown_reply;
           answer = answer;
-          part = run.part.0.0;
+          part = known.0;
           in_order = subst (λ (acts : List Act). ActsInOrder acts (run.whole ++ run.last) run.stop run.shutdown_reply)
               all run.part.1;
           end = new.end;
           fault = new.fault;
           told = tells_its_bytes;
           reason = reason;
-          stops = run.part.0.1;
+          stops = known.1.0;
           is = refl;
         }
 
-    pub serves : Serves (SessionOut may s s') old (session_answer reason answer new.end new.fault) new
+    -- and the policy allowed what was skipped
+    asks_its_policy : AsksPolicy old.limits passes old.policy.now (notes_of new.transcript.now) new.policy.now
+    asks_its_policy = subst (λ (notes : List Note). AsksPolicy old.limits passes old.policy.now notes new.policy.now)
+        all_noted tells.5
+
+    pub serves : Serves passes Q old (session_answer reason answer new.end new.fault) new
     serves = record {
       told = told_session;
-      same_ends = keeps_ends remaining passes contents may listens s s' old new
-          unused reason answer talks;
+      same_ends = keeps_ends remaining passes contents listens P Q reason knows old new unused answer talks;
+      asked = asks_its_policy;
     }
 
 -- a session serves in other words
-pub serves_as : {R W L : Type 0} (P Q : SessionPart) → ((xs : List Exchange) (stop : Stop) (reply : Option Message)
+pub serves_as : {R W L : Type 0} (passes : L → ReadFault → L → Type 0) (P Q : SessionPart) → ((xs : List Exchange)
+    (stop : Stop) (reply : Option Message)
     (answer : SessionAnswer) → P xs stop reply answer → Q xs stop reply answer)
-    → (old new : StreamTransport R W L) (result : Result SessionEnd SessionFault) → Serves P old result new
-    → Serves Q old result new
-serves_as P Q turned old new result serves = record {
+    → (old new : StreamTransport R W L) (result : Result SessionEnd SessionFault) → Serves passes P old result
+    new → Serves passes Q old result new
+serves_as passes P Q turned old new result serves = record {
   told = record {
     exchanges = serves.told.exchanges;
     stop = serves.told.stop;
@@ -274,4 +327,5 @@ serves_as P Q turned old new result serves = record {
     is = serves.told.is;
   };
   same_ends = serves.same_ends;
+  asked = serves.asked;
 }

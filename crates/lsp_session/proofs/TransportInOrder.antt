@@ -4,7 +4,7 @@ use Rattle.lsp_message.specs.declared.frame.limits.Limits.{Limits}
 use Rattle.lsp_session.proofs.Accounts.{talks_in_order}
 use Rattle.lsp_session.proofs.TransportRuns.{transport_runs}
 use Rattle.lsp_session.proofs.Passing.{session_gives}
-use Rattle.lsp_session.proofs.Ran.{session_facts}
+use Rattle.lsp_session.proofs.Knowing.{Knows}
 use Rattle.lsp_session.specs.Account.{Act, KeepsAccount, InOrder}
 use Rattle.lsp_session.specs.ActBytes.{Note, acts_in}
 use Rattle.lsp_session.specs.Boxes.{Receives}
@@ -12,8 +12,7 @@ use Rattle.lsp_session.specs.FrameBoxes.{FrameOutboxSends}
 use Rattle.lsp_session.specs.PassingBoxes.{TolerantInboxGives}
 use Rattle.lsp_session.specs.PassingBytes.{GivesAndTells}
 use Rattle.lsp_session.specs.Prompt.{Talks}
-use Rattle.lsp_session.specs.Session.{Behavior, starting, SessionAnswer, SessionPart, SessionOut}
-use Rattle.lsp_session.specs.SessionOutcome.{StopsFor}
+use Rattle.lsp_session.specs.Session.{starting, SessionAnswer, SessionPart}
 use Rattle.lsp_session.specs.SessionFault.{session_answer}
 use Rattle.lsp_session.specs.SessionLaws.{Both}
 use Rattle.lsp_session.specs.SessionRun.{Runs}
@@ -43,20 +42,19 @@ module _ {R W L : Type 0} (remaining : R → Option (List ℕ)) (passes : L → 
   abbrev names : StreamTransport R W L → ℕ × ℕ × ℕ × ℕ
   names t = (t.reader.ghost_name, t.writer.ghost_name, t.policy.ghost_name, t.transcript.ghost_name)
 
-  module _ {S : Type 0} (may : Behavior S) (listens : Receives (StreamTransport R W L)) (s s' : S)
-      (old new : StreamTransport R W L) (unused : IsUnused old) (reason : StopReason) (answer : SessionAnswer)
-      (talks : Talks (StreamTransportGives remaining passes) listens (StreamTransportSends contents) starting
-      (Both (SessionOut may s s') (StopsFor reason)) old answer new) where
+  module _ (listens : Receives (StreamTransport R W L)) (P Q : SessionPart) (reason : StopReason)
+      (knows : Knows P Q reason) (old new : StreamTransport R W L) (unused : IsUnused old) (answer : SessionAnswer)
+      (talks : Talks (StreamTransportGives remaining passes) listens (StreamTransportSends contents) starting P old
+      answer new) where
     -- of the acts of the session, which are all of the transcript
     abbrev Turns : List Act → SessionPart
-    Turns acts = Both (Both (SessionOut may s s') (StopsFor reason)) (InOrder acts)
+    Turns acts = Both P (InOrder acts)
 
     in_order : Talks (StreamTransportGives remaining passes) listens (StreamTransportSends contents) starting
         (Turns (account_of new)) old answer new
     in_order =
         let t = talks_in_order (StreamTransportGives remaining passes) listens (StreamTransportSends contents)
-        (λ (t : StreamTransport R W L). account_of t) keeps_account starting (Both (SessionOut may s s')
-        (StopsFor reason)) old new answer talks in
+        (λ (t : StreamTransport R W L). account_of t) keeps_account starting P old new answer talks in
         let all : account_of new ≡ t.0 = t.1 ∙ ap (λ (notes : List Note). acts_in notes ++ t.0) unused.2 in
         subst (λ (acts : List Act). Talks (StreamTransportGives remaining passes) listens
         (StreamTransportSends contents) starting (Turns acts) old answer new) (sym all) t.2
@@ -89,16 +87,12 @@ module _ {R W L : Type 0} (remaining : R → Option (List ℕ)) (passes : L → 
         starting (Turns (account_of new)) old answer new in_order
 
     -- a session over a transport, in bytes
-    pub gives_in_order : GivesInOrder remaining passes contents (SessionOut may s s') old (session_answer reason answer
-        new.end new.fault) new
+    pub gives_in_order : GivesInOrder remaining passes contents Q old (session_answer reason answer new.end new.fault)
+        new
     gives_in_order = session_gives passes old.limits remaining contents (Turns (account_of new))
-        (Both (SessionOut may s s') (InOrder (account_of new))) reason
-        (λ xs stop shutdown_reply answer both. (
-          (both.0.0, both.1),
-          both.0.1,
-          session_facts may starting s s' refl xs
-              stop shutdown_reply answer both.0.0,
-        ))
+        (Both Q (InOrder (account_of new))) reason
+        (λ xs stop shutdown_reply answer both.
+        let known = knows xs stop shutdown_reply answer both.0 in ((known.0, both.1), known.1.0, known.1.1))
         (inbox_of old) (inbox_of new) (outbox_of old) (outbox_of new) unused.0 refl unused.1 answer ran.0
         old.reader.now new.reader.now old.writer.now new.writer.now old.policy.now new.policy.now
         refl refl refl (λ same. refl) (λ same. refl) (λ same. refl)
@@ -110,17 +104,12 @@ module _ {R W L : Type 0} (remaining : R → Option (List ℕ)) (passes : L → 
         → (new.reader.ghost_name ≡ old.reader.ghost_name → last ≡ new.reader.now)
         → (new.policy.ghost_name ≡ old.policy.ghost_name → policy' ≡ new.policy.now)
         → (new.writer.ghost_name ≡ old.writer.ghost_name → last' ≡ new.writer.now)
-        → IfSome (remaining first) (λ text. GivesAndTells passes limit (SessionOut may s s') text (remaining last)
+        → IfSome (remaining first) (λ text. GivesAndTells passes limit Q text (remaining last)
         policy policy' (contents first') (contents last')
         (session_answer reason answer new.end new.fault))
-    lent_gives limit limited = session_gives passes limit remaining contents (Turns (account_of new)) (SessionOut may s
-        s') reason
-        (λ xs stop shutdown_reply answer both. (
-          both.0.0,
-          both.0.1,
-          session_facts may starting s s' refl xs stop
-              shutdown_reply answer both.0.0,
-        ))
+    lent_gives limit limited = session_gives passes limit remaining contents (Turns (account_of new)) Q reason
+        (λ xs stop shutdown_reply answer both.
+        let known = knows xs stop shutdown_reply answer both.0 in (known.0, known.1.0, known.1.1))
         (inbox_of old) (inbox_of new) (outbox_of old) (outbox_of new) unused.0 limited unused.1 answer ran.0
 
     pub keeps_ends : KeepsEnds old new

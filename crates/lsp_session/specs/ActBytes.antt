@@ -63,6 +63,26 @@ module _ (limit : Limits) where
   EventParts None event new parts = ⊥
   EventParts (Some end) event new parts = (event ≡ closed) × (parts ≡ [])
 
+  -- What a policy allowed at an event. A wake tells of a content part that is no message, with a fault that the policy
+  -- passes. At each other event the policy stays as it is.
+  abbrev pub AllowsAt : {L : Type 0} → (L → ReadFault → L → Type 0) → L → Event → L → Parts → Type 0
+  AllowsAt passes old woken new parts =
+      (fault : ReadFault) × (is_of_content fault ≡ true) × AreOf (Err fault) parts × passes old fault new
+  AllowsAt passes old event new parts = new ≡ old
+
+  -- What is said of the parts that were taken for an event, of what ended the messages and of the policy.
+  abbrev pub TakenFor : {L : Type 0} → (L → ReadFault → L → Type 0) → Option ReadEnd × L → Event → Option ReadEnd × L
+      → Parts → Type 0
+  TakenFor passes old event new parts = EventParts old.0 event new.0 parts × AllowsAt passes old.1 event new.1 parts
+
+  -- Which content parts were skipped, and that the policy allowed each: it went so from old to new, content part after
+  -- content part. A policy that counts them has counted just these.
+  abbrev pub AsksPolicy : {L : Type 0} → (L → ReadFault → L → Type 0) → L → List Note → L → Type 0
+  AsksPolicy passes old [] new = new ≡ old
+  AsksPolicy {L} passes old ((gave event, parts) ∷ notes) new = (mid : L) × AllowsAt passes old event mid parts
+      × AsksPolicy passes mid notes new
+  AsksPolicy passes old ((act, parts) ∷ notes) new = AsksPolicy passes old notes new
+
   -- what ended the messages after an event, if this did before it
   abbrev pub EndsAfter : Option ReadEnd → Event → Option ReadEnd → Type 0
   EndsAfter None (message m) new = new ≡ (if is_exit m then Some Exit else None)
@@ -82,6 +102,12 @@ module _ (limit : Limits) where
 -- the acts alone
 abbrev pub acts_in : List Note → List Act
 acts_in notes = map (λ note. note.0) notes
+
+-- no content part was skipped
+abbrev pub SkipsNothing : List Note → Type 0
+SkipsNothing [] = Unit {0}
+SkipsNothing ((gave woken, parts) ∷ notes) = ⊥
+SkipsNothing ((act, parts) ∷ notes) = SkipsNothing notes
 
 -- all bytes that were taken
 abbrev pub bytes_taken : List Note → List ℕ

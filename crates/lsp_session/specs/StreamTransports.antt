@@ -4,7 +4,7 @@ use Rattle.lsp_message.specs.Message.{Message}
 use Rattle.lsp_message.specs.declared.frame.ReadFault.{ReadFault}
 use Rattle.lsp_message.specs.Told.{Parts, Takes, Gives}
 use Rattle.lsp_session.specs.Account.{Act, gave, sending, InOrder}
-use Rattle.lsp_session.specs.ActBytes.{Note, EventParts, SentParts, Passes, ToldSession, acts_in}
+use Rattle.lsp_session.specs.ActBytes.{Note, AsksPolicy, TakenFor, SentParts, Passes, ToldSession, acts_in}
 use Rattle.lsp_session.specs.Event.{Event}
 use Rattle.lsp_session.specs.FrameBoxes.{FrameOutboxSends}
 use Rattle.lsp_session.specs.PassingBoxes.{EndsAtContent, TolerantInboxGives}
@@ -52,7 +52,7 @@ module _ {R W L : Type 0} where
       × (outbox_of new ≡ outbox_of old) × (new.transcript.ghost_name ≡ old.transcript.ghost_name)
       × ((parts : Parts) × (notes_of new.transcript.now ≡ notes_of old.transcript.now ++ (gave event, parts) ∷ [])
       × Takes parts [] parts (remaining old.reader.now) (remaining new.reader.now)
-      × EventParts old.limits old.end event new.end parts)
+      × TakenFor old.limits passes (old.end, old.policy.now) event (new.end, new.policy.now) parts)
 
   -- A wait that also gives wakes ended the messages at a content part that is no message only if the policy may end
   -- them.
@@ -75,11 +75,12 @@ module _ {R W L : Type 0} where
       × SentParts old.fault (sending m outcome) new.fault parts)
 
   -- A session over a transport that was not used yet: the transcript tells it, byte for byte, and the transport has the
-  -- ends that it had.
-  pub record Serves (P : SessionPart) (old : StreamTransport R W L) (result : Result SessionEnd SessionFault)
-      (new : StreamTransport R W L) : Type 0 where
+  -- ends that it had. Each content part that was skipped is no message, and the policy allowed that.
+  pub record Serves (passes : L → ReadFault → L → Type 0) (P : SessionPart) (old : StreamTransport R W L)
+      (result : Result SessionEnd SessionFault) (new : StreamTransport R W L) : Type 0 where
     pub told : ToldSession old.limits P (notes_of new.transcript.now) result
     pub same_ends : KeepsEnds old new
+    pub asked : AsksPolicy old.limits passes old.policy.now (notes_of new.transcript.now) new.policy.now
 
   -- the bytes of these notes are all that passed
   abbrev pub PassesBetween : (R → Option (List ℕ)) → (W → Option (List ℕ)) → List Note → StreamTransport R W L

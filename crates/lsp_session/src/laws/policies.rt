@@ -3,6 +3,7 @@ ghost use Rattle.serde_json.specs.View.{view};
 ghost use Rattle.std.specs.Prelude.{true, false, ℕ, List, Option, Result};
 ghost use Rattle.lsp_message.specs.Message.{Message};
 ghost use Rattle.lsp_message.specs.declared.frame.limits.Limits.{Limits};
+ghost use Rattle.lsp_session.specs.ActBytes.{SkipsNothing};
 ghost use Rattle.lsp_session.specs.Answered.{AnswersRequests};
 ghost use Rattle.lsp_session.specs.HandlerService.{lent_handler};
 ghost use Rattle.lsp_session.specs.HandlerSession.{of_handler};
@@ -10,11 +11,15 @@ ghost use Rattle.lsp_session.specs.PassingBytes.{GivesAndTells, PassesNothingOve
 ghost use Rattle.lsp_session.specs.Session.{Exchange, SessionAnswer, Stop, SessionOut};
 ghost use Rattle.lsp_session.specs.SessionBytes.{Gives};
 ghost use Rattle.lsp_session.specs.SessionLaws.{Both, KeepsOrder};
+ghost use Rattle.lsp_session.specs.StreamTransports.{Serves};
+ghost use Rattle.lsp_session.specs.Transcripts.{notes_of};
 ghost use Rattle.lsp_session.specs.declared.loops.handler.SessionEnd.{SessionEnd as EndOfSession};
 ghost use Rattle.lsp_session.specs.declared.loops.handler_service.HandlerService.{HandlerService as ServiceOf};
 ghost use Rattle.lsp_session.specs.declared.loops.stream_session.SessionFault.{SessionFault as FaultOfSession};
+ghost use Rattle.lsp_session.specs.declared.loops.stream_transport.StreamTransport.{StreamTransport as TransportOf};
 
-use crate::loops::{BadContentPolicy, Handler, Service};
+use crate::loops::{Application, BadContentPolicy, Handler, Service};
+use std::io::{BufRead, Write};
 
 /// With a policy that passes over nothing, such as `EndSession`, a session of `session_of_service` is one in which each frame is a
 /// message: what `session` says of its session is so of this one.
@@ -25,6 +30,14 @@ pub fn nothing_is_passed_over<S: Service, L: BadContentPolicy>()
         → GivesAndTells L.passes limit (SessionOut S.behavior old new) text left first last before
         after answer
         → Gives limit (SessionOut S.behavior old new) text left before after answer }
+{}
+
+/// With a policy that allows nothing to be skipped, such as `EndSession`, no content part is skipped in a session over a transport, of whatever
+/// reader and writer. A fact of each session that `StreamTransport::serve` ran.
+pub fn nothing_is_skipped<R: BufRead, W: Write, L: BadContentPolicy, A: Application>()
+    ensures { (old new : A) (before after : TransportOf R W L) (answer : Result EndOfSession FaultOfSession)
+        → PassesNothingOver L.passes → Serves L.passes (A.session old new) before answer after
+        → SkipsNothing (notes_of after.transcript.now) }
 {}
 
 /// `sessions::session_keeps_order` of a session with a policy: a fact of each session that was run by `session_of_service`.

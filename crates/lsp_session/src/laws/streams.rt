@@ -80,7 +80,7 @@ pub fn transport_tells_its_bytes<R: BufRead, W: Write, L: BadContentPolicy, S: S
         → Talks (StreamTransportGives R.remaining L.passes) (StreamTransportListens L.ends)
         (StreamTransportSends W.contents)
         starting (Both (SessionOut S.behavior old new) (StopsFor reason)) before answer after
-        → Serves (SessionOut S.behavior old new) before
+        → Serves L.passes (SessionOut S.behavior old new) before
         (session_answer_spec reason answer after.end after.fault) after
         × PassesBetween R.remaining W.contents (notes_of after.transcript.now) before after }
 {}

@@ -101,7 +101,7 @@ impl<'a, R: BufRead, W: Write, L: BadContentPolicy> StreamTransport<'a, R, W, L>
     /// transcript tells which bytes were taken for each message, which were given for each, and in which order.
     pub fn serve<S: Service>(&mut self, service: &mut S) -> Result<SessionEnd, SessionFault>
         requires { IsUnused self.old }
-        ensures serves { Serves (SessionOut S.behavior service.old service.new) self.old result self.new }
+        ensures serves { Serves L.passes (SessionOut S.behavior service.old service.new) self.old result self.new }
         ensures passed { PassesBetween R.remaining W.contents (notes_of self.new.transcript.now) self.old self.new }
     {
         let served = serve_transport(self.alloc, self, service);
@@ -115,7 +115,7 @@ impl<'a, R: BufRead, W: Write, L: BadContentPolicy> StreamTransport<'a, R, W, L>
         handler: &mut H,
     ) -> Result<SessionEnd, SessionFault>
         requires { IsUnused self.old }
-        ensures serves { Serves (SessionOut (of_handler H.answers H.notes (view capabilities)) handler.old handler.new) self.old result self.new }
+        ensures serves { Serves L.passes (SessionOut (of_handler H.answers H.notes (view capabilities)) handler.old handler.new) self.old result self.new }
         ensures passed { PassesBetween R.remaining W.contents (notes_of self.new.transcript.now) self.old self.new }
     {
         let mut capabilities = capabilities;

@@ -1,7 +1,7 @@
 // An inbox that reads messages, and asks a policy whether to read on after a content part that is none.
 ghost use Rattle.std.specs.Prelude.{◌≡◌, None};
 ghost use Rattle.lsp_message.specs.Told.{Told};
-ghost use Rattle.lsp_session.specs.ActBytes.{EventParts, ReadParts};
+ghost use Rattle.lsp_session.specs.ActBytes.{ReadParts, TakenFor};
 ghost use Rattle.lsp_session.specs.Event.{arrival_view, event_view};
 ghost use Rattle.lsp_session.specs.Passing.{is_of_content as is_of_content_spec};
 ghost use Rattle.lsp_session.specs.PassingBoxes.{EndsAtContent, NeverEndsAtContent, ReadsNext, TolerantInboxGives};
@@ -114,7 +114,8 @@ impl<'a, R: BufRead, L: BadContentPolicy> TolerantInbox<'a, R, L> {
         ensures gives { TolerantInboxGives R.remaining L.passes self.old (arrival_view result)
             self.new }
         ensures reads_on { EndsAtContent L.ends self.old self.new }
-        ensures told { Told (EventParts self.old.limits self.old.end (arrival_view result) self.new.end)
+        ensures told { Told (TakenFor self.old.limits L.passes (self.old.end, self.old.policy.now) (arrival_view result)
+            (self.new.end, self.new.policy.now))
             taken.old.parts taken.new.parts (R.remaining self.old.reader.now) (R.remaining self.new.reader.now) }
     {
         match self.read_next(taken) {
@@ -133,7 +134,8 @@ impl<'a, R: BufRead, L: BadContentPolicy> TolerantInbox<'a, R, L> {
     /// What one wait gives that gives no wakes.
     pub(crate) fn next_event(&mut self, taken: &mut Passed) -> Event
         ensures gives { TolerantInboxGives R.remaining L.passes self.old (event_view result) self.new }
-        ensures told { Told (EventParts self.old.limits self.old.end (event_view result) self.new.end)
+        ensures told { Told (TakenFor self.old.limits L.passes (self.old.end, self.old.policy.now) (event_view result)
+            (self.new.end, self.new.policy.now))
             taken.old.parts taken.new.parts (R.remaining self.old.reader.now) (R.remaining self.new.reader.now) }
     {
         match self.read_next(taken) {

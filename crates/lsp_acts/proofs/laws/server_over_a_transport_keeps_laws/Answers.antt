@@ -7,5 +7,5 @@ use Rattle.lsp_acts.proofs.laws.server_over_a_transport_keeps_laws.Goals as goal
 pub returns : goal.returns
 returns g c = λ first last before after answer serves.
     let may = g.S.Server in
-    serves_as (ServerSession may first last) (LawfulSession may first last) (lawful may first last) before after
+    serves_as _ (ServerSession may first last) (LawfulSession may first last) (lawful may first last) before after
     answer serves

@@ -8,7 +8,7 @@ pub returns : goal.returns
 returns g c =
     let old = c.new-queued.result in
     let new = c.serve-answer.new.service in
-    serves_as (SessionOut (with_queues g.S.Server) old new) (ServerSession g.S.Server
+    serves_as _ (SessionOut (with_queues g.S.Server) old new) (ServerSession g.S.Server
     c.args.server _)
     (session_of g.S.Server old new c.args.server _ c.new-queued.ensures c.into_server.ensures) _ _ _
     c.serve-answer.ensures.serves

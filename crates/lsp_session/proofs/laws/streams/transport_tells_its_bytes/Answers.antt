@@ -1,12 +1,19 @@
+use Rattle.lsp_session.specs.SessionOutcome.{StopsFor}
+use Rattle.lsp_session.specs.Session.{SessionOut}
+use Rattle.lsp_session.specs.SessionLaws.{Both}
 use Rattle.lsp_session.specs.StreamTransports.{StreamTransportListens}
+use Rattle.lsp_session.proofs.Knowing.{knows_service}
 use Rattle.lsp_session.proofs.TellsBytes.{serves, all_passed}
 use Rattle.lsp_session.proofs.laws.streams.transport_tells_its_bytes.Goals as goal
 
 pub returns : goal.returns
 returns g c = λ old new before after reason answer unused talks.
-    let listens = StreamTransportListens g.L.BadContentPolicy.ends in (
-      serves g.R.Read.remaining g.L.BadContentPolicy.passes g.W.Write.contents g.S.Service.behavior listens old
-          new before after unused reason answer talks,
-      all_passed g.R.Read.remaining g.L.BadContentPolicy.passes g.W.Write.contents g.S.Service.behavior listens old
-          new before after unused reason answer talks,
+    let listens = StreamTransportListens g.L.BadContentPolicy.ends in
+    let may = g.S.Service.behavior in
+    let P = Both (SessionOut may old new) (StopsFor reason) in
+    let knows = knows_service may old new reason in (
+      serves g.R.Read.remaining g.L.BadContentPolicy.passes g.W.Write.contents listens P (SessionOut may old new) reason
+          knows before after unused answer talks,
+      all_passed g.R.Read.remaining g.L.BadContentPolicy.passes g.W.Write.contents listens P (SessionOut may old new)
+          reason knows before after unused answer talks,
     )

@@ -13,7 +13,7 @@ returns-clause-serves g c =
     let notes = g.H.Handler.notes in
     let old = c.new-service.result in
     let new = c.serve.new.service in
-    serves_as (SessionOut (lent_handler answers notes) old new) (SessionOut (of_handler answers notes
+    serves_as g.L.BadContentPolicy.passes (SessionOut (lent_handler answers notes) old new) (SessionOut (of_handler answers notes
     (view c.args.capabilities)) c.args.handler.now _)
     (session_as answers notes (view c.args.capabilities) old new _ (λ names. c.handler-1.given.1
     (sym c.new-service.ensures.same_handler ∙ sym names))
