@@ -2,7 +2,7 @@
 //!
 //!     bench json                                  each message once more, by `serde_json` alone: the least cost
 //!     bench session [speaking] [null]             a session on one thread: each request gets its params back, or null
-//!     bench threads pass | pump | run_threads | run_threads_with
+//!     bench threads pass | pump | run_threads | run_in_threads
 //!                                                 messages passed on by one thread and by two; the sessions on three threads
 //!     bench drops session | run_threads | connection COUNT
 //!                                                 a server that drops its params, and answers with a list of COUNT places, or for 0 null
@@ -12,7 +12,7 @@
 //!     bench all                                   each of these on the same input, under its name
 //!
 //! All but `queues` and `texts` read frames from standard input, and write frames to standard output. `speaking` is a server that speaks
-//! (`session_with`), which gives the same replies. `all` leaves out `drops`, and `jobs`, whose replies come in the order in which they are
+//! (`QueuedServer`), which gives the same replies. `all` leaves out `drops`, and `jobs`, whose replies come in the order in which they are
 //! ready.
 #![tactic(auto)]
 
@@ -58,7 +58,7 @@ static ALL: [&str; 10] = [
     "threads pass",
     "threads pump",
     "threads run_threads",
-    "threads run_threads_with",
+    "threads run_in_threads",
     "queues",
     "texts",
 ];
@@ -161,7 +161,7 @@ where
     match measure {
         "threads pump" => threads::pump_on(rt, alloc, reader),
         "threads run_threads" => threads::serve(rt, alloc, reader, Echo::new(false)),
-        "threads run_threads_with" => threads::serve_speaking(rt, alloc, reader),
+        "threads run_in_threads" => threads::serve_speaking(rt, alloc, reader),
         "queues" => queues::tell_found(rt, alloc),
         "texts" => texts::tell_length(rt, alloc),
         _ => run_alone(alloc, measure, &mut reader, &mut io::writer(rt)),

@@ -2,7 +2,8 @@
 use crate::session::ended;
 use anyhow::Result;
 use lsp_server::{
-    Act, EndSession, Limits, Notification, Request, ResponseError, Server, session_with,
+    Act, EndSession, Limits, Notification, QueuedServer, Request, ResponseError, Server,
+    StreamTransport, Transcript,
 };
 use lsp_session::initialize_result;
 use serde_json::{Map, Value};
@@ -102,14 +103,18 @@ pub fn serve<R: BufRead, W: Write>(
     writer: &mut W,
     is_null: bool,
 ) -> Result<()> {
-    let server = Speaking { alloc, is_null };
-    let (_, answer) = session_with(
+    let mut application = QueuedServer::new(alloc, Speaking { alloc, is_null });
+    let mut policy = EndSession;
+    let mut transcript = Transcript::new();
+    let limits = Limits::none();
+    let mut transport = StreamTransport::within(
         alloc,
         reader,
         writer,
-        server,
-        &mut EndSession,
-        Limits::none(),
+        &mut policy,
+        limits,
+        &mut transcript,
     );
+    let answer = transport.serve(&mut application);
     ended(answer)
 }

@@ -5,7 +5,7 @@ use crate::{Host, session};
 use anyhow::{Error, Result};
 use lsp_server::{
     EndSession, FrameOutbox, ReadEnd, StandardOutput, StartFault, ThreadOptions, Threaded, pump,
-    read_loop, run_threads, run_threads_with,
+    read_loop, run_in_threads, run_threads,
 };
 use serde_json::{Map, Value};
 use std::alloc::Global;
@@ -60,17 +60,17 @@ where
         alloc,
         is_null: false,
     };
-    let options = ThreadOptions::new();
-    let done = run_threads_with(
+    let mut application = QueuedServer::new(alloc, speaking);
+    let done = run_in_threads(
         rt,
         alloc,
         reader,
         StandardOutput::new(*rt),
-        speaking,
+        &mut application,
         &mut EndSession,
-        options,
+        ThreadOptions::new(),
     );
-    ended(done.1)
+    ended(done)
 }
 
 /// How a session in threads ended.

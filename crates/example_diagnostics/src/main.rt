@@ -15,8 +15,8 @@ use lsp_documents::{Agreed, DocumentUpdate, TextDocuments, UpdateFault};
 use lsp_methods::{Configuration, answer, publish, read, reply};
 use lsp_server::clients::{ClientOptions, serve_clients};
 use lsp_server::{
-    Act, BadContentPolicy, EndSession, Notification, Request, ResponseError, Server, SessionEnd,
-    SessionFault, StreamTransport, session_with_over,
+    Act, BadContentPolicy, EndSession, Notification, QueuedServer, Request, ResponseError, Server,
+    SessionEnd, SessionFault, StreamTransport,
 };
 use lsp_text::{Text, TextDocument};
 use lsp_types::methods::{DefinitionRequest, HoverRequest};
@@ -302,14 +302,14 @@ fn heading_above(text: &Text, line: u32) -> Option<u32> {
 /// Serves the client of a transport. Of whatever reader and writer, also of standard input and output or a socket: the bytes that were taken are
 /// frames of messages, and those that were given are frames of what a session of a `Checker` sends for them, each before the next byte is taken.
 fn serve<R: BufRead, W: Write>(
-    alloc: Global,
     transport: &mut StreamTransport<'_, R, W, EndSession>,
-    checker: Checker,
-) -> (Checker, Result<SessionEnd, SessionFault>)
+    checker: &mut QueuedServer<Checker, Asked>,
+) -> Result<SessionEnd, SessionFault>
     requires { IsUnused transport.old }
-    ensures { Serves ⟦<EndSession as BadContentPolicy>⟧.passes (ServerSession ⟦<Checker as Server>⟧ checker result.0) transport.old result.1 transport.new }
+    ensures { Serves ⟦<EndSession as BadContentPolicy>⟧.passes
+        (ServerSession ⟦<Checker as Server>⟧ checker.old.server checker.new.server) transport.old result transport.new }
 {
-    session_with_over(alloc, transport, checker)
+    transport.serve(checker)
 }
 
 fn main(rt: HostRuntime) -> Answer<()> {
@@ -319,8 +319,8 @@ fn main(rt: HostRuntime) -> Answer<()> {
     let served = serve_clients(&rt, words.as_slice(), options, |mut client| {
         let mut policy = EndSession;
         let mut transport = client.transport(alloc, &mut policy);
-        let (_checker, answer) = serve(alloc, &mut transport, Checker::new(alloc));
-        answer
+        let mut application = QueuedServer::new(alloc, Checker::new(alloc));
+        serve(&mut transport, &mut application)
     })?;
     match served? {
         SessionEnd::ShutDown => Ok(()),

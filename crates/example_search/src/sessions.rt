@@ -15,8 +15,8 @@ use lsp_jobs::laws::{requests_are_answered_by_their_jobs, session_with_jobs_keep
 use lsp_jobs::{Job, JobServer, NoSlots, PoolSize, Slots, run_jobs};
 use lsp_server::laws::server_keeps_laws;
 use lsp_server::{
-    BadContentPolicy, ClientStreams, PassedOver, Server, SessionEnd, SessionFault, StartFault,
-    StreamTransport, ThreadOptions, Threaded, run_threads_with, session_with_over,
+    BadContentPolicy, ClientStreams, PassedOver, QueuedServer, Server, SessionEnd, SessionFault,
+    StartFault, StreamTransport, ThreadOptions, Threaded, run_in_threads,
 };
 use std::alloc::Global;
 use std::io::{BufRead, Write};
@@ -38,10 +38,13 @@ pub fn serve<R: BufRead, W: Write>(
     sums: Sums,
 ) -> (Sums, Result<SessionEnd, SessionFault>)
     requires { IsUnused transport.old }
-    ensures { Serves ⟦<PassedOver as BadContentPolicy>⟧.passes (AnswersOnce ⟦<Sums as Server>⟧ sums result.0) transport.old result.1 transport.new }
+    ensures { Serves ⟦<PassedOver as BadContentPolicy>⟧.passes (AnswersOnce ⟦<Sums as Server>⟧ sums result.0)
+        transport.old result.1 transport.new }
 {
     server_keeps_laws::<Sums>();
-    session_with_over(alloc, transport, sums)
+    let mut application = QueuedServer::new(alloc, sums);
+    let answer = transport.serve(&mut application);
+    (application.server, answer)
 }
 
 /// `serve` with a thread that reads and one that writes. Its author knows the same of it, but for the order between reading and writing.
@@ -66,7 +69,17 @@ where
     let mut options = ThreadOptions::new();
     options.limits = client.limits;
     let (reader, writer) = (client.reader, client.writer);
-    run_threads_with(rt, alloc, reader, writer, sums, passed_over, options)
+    let mut application = QueuedServer::new(alloc, sums);
+    let done = run_in_threads(
+        rt,
+        alloc,
+        reader,
+        writer,
+        &mut application,
+        passed_over,
+        options,
+    );
+    (application.server, done)
 }
 
 /// Two searches run at a time, and 16 more may wait. The next gets an error.

@@ -2,14 +2,17 @@
 #![tactic(auto)]
 
 ghost use Rattle.serde_json.specs.View.{view};
+ghost use Rattle.lsp_session.specs.Answered.{AnswersRequests};
 ghost use Rattle.lsp_session.specs.HandlerSession.{of_handler};
 ghost use Rattle.lsp_session.specs.Session.{SessionOut};
+ghost use Rattle.lsp_session.specs.SessionLaws.{Both};
 ghost use Rattle.lsp_session.specs.StreamTransports.{IsUnused, Serves};
 
 use anyhow::{Result, bail};
+use lsp_server::laws::sessions::session_answers_requests;
 use lsp_server::{
-    BadContentPolicy, ClientStreams, EndSession, Handler, Notification, Request, ResponseError,
-    SessionEnd, SessionFault, StreamTransport,
+    BadContentPolicy, ClientStreams, EndSession, Handler, HandlerApplication, Notification,
+    Request, ResponseError, SessionEnd, SessionFault, StreamTransport,
 };
 use serde_json::{Value, json};
 use std::alloc::{AllocError, Global};
@@ -57,33 +60,36 @@ impl Handler for Documents {
 }
 
 /// Serves the client of a transport. Of whatever reader and writer, also of standard input and output: the bytes that were taken are frames of
-/// messages, and those that were given are frames of what a session of `Documents` sends for them, each before the next byte is taken.
+/// messages, and those that were given are frames of what a session of `Documents` sends for them, each before the next byte is taken. Each
+/// request gets one reply.
 fn serve<R: BufRead, W: Write>(
     transport: &mut StreamTransport<'_, R, W, EndSession>,
-    capabilities: Value,
-    documents: &mut Documents,
+    documents: &mut HandlerApplication<Documents>,
 ) -> Result<SessionEnd, SessionFault>
     requires { IsUnused transport.old }
     ensures { Serves ⟦<EndSession as BadContentPolicy>⟧.passes
-        (SessionOut (of_handler ⟦<Documents as Handler>⟧.answers ⟦<Documents as Handler>⟧.notes (view capabilities))
-        documents.old documents.new) transport.old result transport.new }
+        (Both (SessionOut (of_handler ⟦<Documents as Handler>⟧.answers ⟦<Documents as Handler>⟧.notes
+        (view documents.old.capabilities)) documents.old.handler documents.new.handler) AnswersRequests)
+        transport.old result transport.new }
 {
-    transport.serve_handler(capabilities, documents)
+    session_answers_requests::<Documents>();
+    transport.serve(documents)
 }
 
 fn main(rt: HostRuntime) -> Result<()> {
     let alloc = rt.alloc();
     // The client is to tell what it opens and closes.
     let capabilities = json!(in alloc; { "textDocumentSync": { "openClose": true } })?;
-    let mut documents = Documents {
+    let documents = Documents {
         alloc,
         open_count: 0,
     };
+    let mut application = HandlerApplication::new(alloc, capabilities, documents);
     let reader = BufReader::new(alloc, rt.reader())?;
     let mut client = ClientStreams::new(reader, io::writer(&rt));
     let mut policy = EndSession;
     let mut transport = client.transport(alloc, &mut policy);
-    match serve(&mut transport, capabilities, &mut documents)? {
+    match serve(&mut transport, &mut application)? {
         SessionEnd::ShutDown => Ok(()),
         SessionEnd::Closed => bail!("the client left without a shutdown"),
     }

@@ -1,18 +1,11 @@
 //! What a session of a server does, in its user's words.
 ghost use Rattle.std.specs.FinMap as map;
-ghost use Rattle.std.specs.Prelude.{◌≡◌, ℕ, List, Option, Result};
+ghost use Rattle.std.specs.Prelude.{◌≡◌, List, Option};
 ghost use Rattle.lsp_message.specs.Id.{Id};
 ghost use Rattle.lsp_message.specs.Message.{Message};
-ghost use Rattle.lsp_message.specs.declared.frame.limits.Limits.{Limits};
 ghost use Rattle.lsp_queue.specs.Queue.{Pending};
-ghost use Rattle.lsp_session.specs.PassingBytes.{GivesAndTells, PassesNothingOver};
 ghost use Rattle.lsp_session.specs.Session.{Exchange, SessionAnswer, SessionOut, Stop, messages_of};
-ghost use Rattle.lsp_session.specs.SessionBytes.{Gives};
-ghost use Rattle.lsp_session.specs.SessionRun.{Runs};
-ghost use Rattle.lsp_session.specs.StreamTransports.{Serves};
-ghost use Rattle.lsp_session.specs.declared.loops.handler.SessionEnd.{SessionEnd as EndOfSession};
-ghost use Rattle.lsp_session.specs.declared.loops.stream_session.SessionFault.{SessionFault as FaultOfSession};
-ghost use Rattle.lsp_session.specs.declared.loops.stream_transport.StreamTransport.{StreamTransport as TransportOf};
+ghost use Rattle.lsp_session.specs.SessionLaws.{Implies};
 ghost use Rattle.lsp_acts.specs.Acts.{Queues, empty_queues};
 ghost use Rattle.lsp_acts.specs.Law.{is_request_under, how_many, AnswersLast, AnswersLastInFull, IsGone, IsOwedWhatIsHeld, IsWhole, KeepsLaws, LawfulSession, NeverMore, OnceOrEnded, WasToSend};
 ghost use Rattle.lsp_acts.specs.SentByActs.{ActsAt};
@@ -21,12 +14,9 @@ ghost use Rattle.lsp_acts.specs.View.{seen};
 ghost use Rattle.lsp_acts.specs.declared.queued_server.QueuedServer.{QueuedServer as QueuedOf};
 
 use crate::server::Server;
-use lsp_session::{BadContentPolicy, Inbox, Outbox};
-use std::io::{BufRead, Write};
 
-/// What a session of a server says of its exchanges implies the laws: a fact of each session that was run by `session_with`, with a
-/// limit or without one. `server_that_asks_keeps_laws` has it in bytes with a policy, `server_over_boxes_keeps_laws` over boxes, and
-/// `lsp_server::laws` in threads.
+/// What a session of a server says of its exchanges implies the laws: a fact of the exchanges of each session of a `QueuedServer`, and so of the session
+/// in each form: by `lawful` and the lemmas of `lsp_session`, file `proofs/Forms`.
 ///
 /// In each beginning of the session the replies under an id are no more than the client's requests under it: no reply goes to
 /// anything else, and none comes twice. Since the last request under an id came, it got exactly one reply. Or it got none: it is still
@@ -46,73 +36,17 @@ pub fn server_keeps_laws<S: Server>()
         answer)
         → KeepsLaws S.Server first last (held_by S.Server session) exchanges
         stop shutdown_reply answer }
-    ensures bytes { (limit : Limits) (first last : S) (text : List ℕ)
-        (left before after : Option (List ℕ)) (answer : Result EndOfSession FaultOfSession)
-        → Gives limit (ServerSession S.Server first last) text left before after answer
-        → Gives limit (LawfulSession S.Server first last) text left before after answer }
+    ensures lawful { (first last : S) → Implies (ServerSession S.Server first last) (LawfulSession S.Server first last) }
 {}
 
-/// `server_keeps_laws` of a session with a policy: a fact of each session that was run by `session_with`. With a policy that passes
-/// over nothing, such as `EndSession`, it is one in which each frame is a message (`nothing_passed`).
-pub fn server_that_asks_keeps_laws<S: Server, L: BadContentPolicy>()
-    ensures bytes { (limit : Limits) (first last : S) (text : List ℕ) (left : Option (List ℕ))
-        (policy policy_last : L) (before after : Option (List ℕ))
-        (answer : Result EndOfSession FaultOfSession)
-        → GivesAndTells L.passes limit (ServerSession S.Server first last) text left policy
-        policy_last before after answer
-        → GivesAndTells L.passes limit (LawfulSession S.Server first last) text left policy
-        policy_last before after answer }
-    ensures nothing_passed { (limit : Limits) (first last : S) (text : List ℕ) (left : Option (List ℕ))
-        (policy policy_last : L) (before after : Option (List ℕ))
-        (answer : Result EndOfSession FaultOfSession)
-        → PassesNothingOver L.passes
-        → GivesAndTells L.passes limit (ServerSession S.Server first last) text left policy
-        policy_last before after answer
-        → Gives limit (ServerSession S.Server first last) text left before after answer }
-{}
-
-/// `server_keeps_laws` of a session over a transport, of whatever reader and writer: a fact of each session that was run by
-/// `session_with_over`.
-pub fn server_over_a_transport_keeps_laws<R: BufRead, W: Write, L: BadContentPolicy, S: Server>()
-    ensures { (first last : S) (before after : TransportOf R W L)
-        (answer : Result EndOfSession FaultOfSession)
-        → Serves L.passes (ServerSession S.Server first last) before answer after
-        → Serves L.passes (LawfulSession S.Server first last) before answer after }
-{}
-
-/// `server_keeps_laws` of a session over boxes: a fact of each session of a `QueuedServer` (`queued_server_runs_its_server`) that was run by
-/// `serve_service`.
-pub fn server_over_boxes_keeps_laws<I: Inbox, O: Outbox, S: Server>()
-    ensures { (first last : S) (before after : I × O) (answer : SessionAnswer)
-        → Runs I.receives O.sends (ServerSession S.Server first last) before answer after
-        → Runs I.receives O.sends (LawfulSession S.Server first last) before answer
-        after }
-{}
-
-/// A session of a server beside its queues is one of the server: a fact of each session of a `QueuedServer`, which `serve_service` and
-/// `serve_transport` run over boxes and `session_of_service` over bytes. The queues are empty at first (`QueuedServer::new`), and
-/// `QueuedServer::into_server` gives the server back.
-pub fn queued_server_runs_its_server<I: Inbox, O: Outbox, S: Server, L: BadContentPolicy>()
-    ensures exchanges { (old new : QueuedOf S S.Payload) (server : S) (exchanges : List Exchange)
+/// A session of a server beside its queues is one of the server: a fact of the exchanges of each session that was run with a `QueuedServer` as a service.
+/// The queues are empty at first (`QueuedServer::new`). Run as an application, it promises this itself.
+pub fn queued_server_runs_its_server<S: Server>()
+    ensures { (old new : QueuedOf S S.Payload) (server : S) (exchanges : List Exchange)
         (stop : Stop) (shutdown_reply : Option Message) (answer : SessionAnswer)
         → seen old ≡ (server, empty_queues)
         → SessionOut (with_queues S.Server) old new exchanges stop shutdown_reply answer
         → ServerSession S.Server server new.server exchanges stop shutdown_reply answer }
-    ensures boxes { (old new : QueuedOf S S.Payload) (server : S) (before after : I
-        × O) (answer : SessionAnswer)
-        → seen old ≡ (server, empty_queues)
-        → Runs I.receives O.sends (SessionOut (with_queues S.Server) old new) before
-        answer after
-        → Runs I.receives O.sends (ServerSession S.Server server new.server) before answer
-        after }
-    ensures bytes { (old new : QueuedOf S S.Payload) (server : S) (limit : Limits) (text : List ℕ)
-        (left : Option (List ℕ)) (policy policy_last : L) (before after : Option (List ℕ))
-        (answer : Result EndOfSession FaultOfSession)
-        → seen old ≡ (server, empty_queues)
-        → GivesAndTells L.passes limit (SessionOut (with_queues S.Server) old new) text
-        left policy policy_last before after answer
-        → GivesAndTells L.passes limit (ServerSession S.Server server new.server) text left
-        policy policy_last before after answer }
 {}
 
 /// What a server stated of a message or a wake is what it did, and what its acts send is all that is sent, in their order: each

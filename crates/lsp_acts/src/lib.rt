@@ -1,5 +1,5 @@
-//! Servers that give acts, and a session of one beside its queues of requests. The session itself, which takes any `Service`, is
-//! in `lsp_session`.
+//! Servers that give acts, each an application beside its queues of requests (`QueuedServer`). The session itself, which runs any
+//! `Application`, is in `lsp_session`.
 #![tactic(auto)]
 
 mod act_diagnostics;
@@ -9,9 +9,7 @@ mod act_window;
 pub mod laws;
 mod queued_server;
 mod server;
-mod sessions;
 
-pub use lsp_session::{Output, Service, serve_service, session_of_service};
+pub use lsp_session::{Application, Output, Service, serve_service};
 pub use queued_server::{QueuedServer, cancelled_id};
 pub use server::{Act, Server};
-pub use sessions::{session_with, session_with_over};

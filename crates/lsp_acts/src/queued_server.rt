@@ -18,7 +18,9 @@ use lsp_message::{
     ErrorCode, Message, Notification, Request, RequestId, Response, ResponseError, ResultText,
 };
 use lsp_queue::{RegisterFault, ReqQueue, id_to_cancel};
-use lsp_session::{Output, Service, ToSend};
+use lsp_session::{
+    Application, Output, Service, SessionOutcome, TextOutbox, ToSend, WakingInbox, serve_transport,
+};
 use serde_json::{Map, Value, put};
 use std::alloc::{AllocError, Global};
 use std::mem;
@@ -266,14 +268,16 @@ pub fn cancelled_id(notification: &Notification) -> Result<Option<RequestId>, Al
 /// A server beside its queues, as a service that a session runs.
 #[derive(Drop)]
 pub struct QueuedServer<S, P> {
-    server: S,
+    /// What you wrote. A session leaves it as it ended.
+    pub server: S,
     queues: Queues<P>,
 }
 
 impl<S: Server> QueuedServer<S, S::Payload> {
     /// A server beside empty queues. It takes no memory.
     pub fn new(alloc: Global, server: S) -> Self
-        ensures { seen result ≡ (server, empty_queues) }
+        ensures server { result.server ≡ server }
+        ensures queues { seen result ≡ (server, empty_queues) }
     {
         QueuedServer {
             server,
@@ -427,5 +431,22 @@ impl<S: Server> Service for QueuedServer<S, S::Payload> {
     /// A reply to a request of the server's own may cross the `shutdown` of its client.
     fn passes_late(&self) -> bool {
         true
+    }
+}
+
+impl<S: Server> Application for QueuedServer<S, S::Payload> {
+    ghost use Rattle.lsp_acts.specs.QueuedServer.{ServerSession};
+
+    ghost session = { λ old new. ServerSession S.Server old.server new.server };
+
+    /// A session begins with empty queues: no request of the client before is owed to this one.
+    fn run<T: WakingInbox + TextOutbox>(
+        &mut self,
+        alloc: Global,
+        transport: &mut T,
+    ) -> SessionOutcome {
+        let queues = Queues::new(self.queues.alloc);
+        self.queues = queues;
+        serve_transport(alloc, transport, self)
     }
 }

@@ -138,7 +138,7 @@ pub type Streams<R> = ClientStreams<
 /// option that LSP does not have is named on standard error and passed over, since editors give one list of words to many servers, and a
 /// server that ends at a word can't be used at all.
 ///
-/// `serve` runs the session of one client, whose streams it is given: over a transport of them, for example by `session_with_over`, or in
+/// `serve` runs the session of one client, whose streams it is given: over a transport of them by `StreamTransport::serve`, or in
 /// threads that own the reader and the writer.
 ///
 /// <!-- from crates/example_diagnostics/src/main.rt -->
@@ -147,8 +147,8 @@ pub type Streams<R> = ClientStreams<
 /// let served = serve_clients(&rt, words.as_slice(), options, |mut client| {
 ///     let mut policy = EndSession;
 ///     let mut transport = client.transport(alloc, &mut policy);
-///     let (_checker, answer) = serve(alloc, &mut transport, Checker::new(alloc));
-///     answer
+///     let mut application = QueuedServer::new(alloc, Checker::new(alloc));
+///     serve(&mut transport, &mut application)
 /// })?;
 /// ```
 ///

@@ -1,8 +1,9 @@
 //! The scaffold under language servers (LSP 3.17, JSON-RPC 2.0): it carries messages between an editor and a server, does the
 //! handshake and the shutdown, and keeps the requests that have no reply yet.
 //!
-//! Start with `session` for a server that answers, `session_with` for one that also speaks first, or `Connection` for a loop of
-//! your own. `docs/WRITING_A_SERVER.md` goes through all three.
+//! Write a `Handler` for a server that answers, or a `Server` for one that also speaks first, and make an `Application` of it:
+//! `HandlerApplication::new` or `QueuedServer::new`. Run it with `StreamTransport::serve` on one thread, or with `run_in_threads`. Take a
+//! `Connection` for a loop of your own. `docs/WRITING_A_SERVER.md` goes through all three.
 #![tactic(auto)]
 
 mod channel_account;
@@ -22,7 +23,6 @@ mod relays;
 mod serving_thread;
 mod socket;
 mod stdio;
-mod threads;
 mod transport;
 mod unread_weights;
 mod words;
@@ -39,12 +39,7 @@ pub use lsp_acts::Output;
 pub use lsp_acts::QueuedServer;
 pub use lsp_acts::Server;
 pub use lsp_acts::Service;
-pub use lsp_acts::WokenQueuedServer;
-pub use lsp_acts::WokenServer;
 pub use lsp_acts::serve_service;
-pub use lsp_acts::session_of_service;
-pub use lsp_acts::session_with;
-pub use lsp_acts::session_with_over;
 pub use lsp_message::ErrorCode;
 pub use lsp_message::ExtractError;
 pub use lsp_message::Front;
@@ -72,6 +67,7 @@ pub use lsp_queue::Incoming;
 pub use lsp_queue::Outgoing;
 pub use lsp_queue::RegisterFault;
 pub use lsp_queue::ReqQueue;
+pub use lsp_session::Application;
 pub use lsp_session::Arrival;
 pub use lsp_session::BadContentPolicy;
 pub use lsp_session::CallGate;
@@ -82,7 +78,7 @@ pub use lsp_session::FaultCounts;
 pub use lsp_session::FrameOutbox;
 pub use lsp_session::Gate;
 pub use lsp_session::Handler;
-pub use lsp_session::HandlerService;
+pub use lsp_session::HandlerApplication;
 pub use lsp_session::Ignore;
 pub use lsp_session::Inbox;
 pub use lsp_session::ListGate;
@@ -94,6 +90,7 @@ pub use lsp_session::PassedOver;
 pub use lsp_session::ProtocolError;
 pub use lsp_session::ReadEnd;
 pub use lsp_session::SendFault;
+pub use lsp_session::ServiceApplication;
 pub use lsp_session::SessionEnd;
 pub use lsp_session::SessionFault;
 pub use lsp_session::SessionOutcome;
@@ -114,7 +111,6 @@ pub use lsp_session::read_loop_within;
 pub use lsp_session::serve;
 pub use lsp_session::serve_transport;
 pub use lsp_session::session;
-pub use lsp_session::session_transcribed;
 pub use lsp_session::session_within;
 pub use lsp_session::shutdown;
 pub use lsp_session::start_within;
@@ -130,8 +126,8 @@ pub use lsp_threads::UNREAD_BYTES;
 pub use lsp_threads::pump;
 pub use lsp_threads::pump_telling;
 pub use lsp_threads::pump_within;
+pub use lsp_threads::run_in_threads;
 pub use lsp_threads::run_threads;
-pub use lsp_threads::run_threads_of_service;
 pub use lsp_threads::run_threads_within;
 pub use memory::keep_freed_memory;
 pub use relays::Parcel;
@@ -141,5 +137,4 @@ pub use relays::relay;
 pub use serving_thread::spawn;
 pub use serving_thread::spawn_with;
 pub use stdio::StandardOutput;
-pub use threads::run_threads_with;
 pub use unread_weights::UNREAD_WEIGHT;

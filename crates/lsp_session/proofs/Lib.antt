@@ -4,6 +4,7 @@ pub mod ByteHistory
 pub mod ClientReading
 pub mod Dialogs
 pub mod Driving
+pub mod Forms
 pub mod FrameReading
 pub mod Handing
 pub mod Handshake

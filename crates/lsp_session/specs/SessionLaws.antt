@@ -27,6 +27,11 @@ abbrev pub Both : SessionPart → SessionPart → SessionPart
 Both P Q exchanges stop shutdown_reply answer = P exchanges stop shutdown_reply answer
     × Q exchanges stop shutdown_reply answer
 
+-- whatever the exchanges are, if this holds of a session, so does that
+abbrev pub Implies : SessionPart → SessionPart → Type 0
+Implies P Q = (exchanges : List Exchange) (stop : Stop) (shutdown_reply : Option Message) (answer : SessionAnswer)
+    → P exchanges stop shutdown_reply answer → Q exchanges stop shutdown_reply answer
+
 -- a reply that is an error
 abbrev pub is_refusal : Message → Bool
 is_refusal (response i (Err error)) = true

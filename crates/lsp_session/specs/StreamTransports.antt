@@ -89,13 +89,19 @@ module _ {R W L : Type 0} where
       Passes notes (remaining old.reader.now) (remaining new.reader.now) (contents old.writer.now)
       (contents new.writer.now)
 
+  -- A session over a transport, bytes in to bytes out, if the reader's bytes are known.
+  abbrev pub GivesBetween : (R → Option (List ℕ)) → (L → ReadFault → L → Type 0)
+      → (W → Option (List ℕ)) → SessionPart → StreamTransport R W L → Result SessionEnd SessionFault
+      → StreamTransport R W L → Type 0
+  GivesBetween remaining passes contents P old result new =
+      IfSome (remaining old.reader.now) (λ text.
+      GivesAndTells passes old.limits P text (remaining new.reader.now)
+      old.policy.now new.policy.now (contents old.writer.now)
+      (contents new.writer.now) result)
+
   -- A session over a transport, bytes in to bytes out; and what the transport did is in order, for the same exchanges.
   abbrev pub GivesInOrder : (R → Option (List ℕ)) → (L → ReadFault → L → Type 0)
       → (W → Option (List ℕ)) → SessionPart → StreamTransport R W L → Result SessionEnd SessionFault
       → StreamTransport R W L → Type 0
   GivesInOrder remaining passes contents P old result new =
-      IfSome (remaining old.reader.now) (λ text.
-      GivesAndTells passes old.limits (Both P (InOrder (account_of new))) text
-      (remaining new.reader.now)
-      old.policy.now new.policy.now (contents old.writer.now)
-      (contents new.writer.now) result)
+      GivesBetween remaining passes contents (Both P (InOrder (account_of new))) old result new

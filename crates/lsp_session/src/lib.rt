@@ -21,5 +21,5 @@ pub use loops::{
     ServiceApplication, SessionEnd, SessionFault, SessionOutcome, StopReason, StreamInbox,
     StreamTransport, ToSend, TolerantInbox, Transcript, WriteEnd, initialize_result, is_of_content,
     read_loop, read_loop_within, serve, serve_service, serve_transport, session, session_answer,
-    session_of_service, session_transcribed, session_within, write_loop,
+    session_within, write_loop,
 };

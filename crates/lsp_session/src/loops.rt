@@ -49,9 +49,7 @@ pub use passed_over::PassedOver;
 pub use service::{Output, Sendable, Service, ToSend};
 pub use session_outcome::{SessionOutcome, StopReason};
 pub use stream_inbox::StreamInbox;
-pub use stream_session::{
-    SessionFault, session, session_answer, session_of_service, session_transcribed, session_within,
-};
+pub use stream_session::{SessionFault, session, session_answer, session_within};
 pub use stream_transport::StreamTransport;
 pub use tolerant_inbox::{TolerantInbox, is_of_content};
 pub use transcript::Transcript;

@@ -17,6 +17,7 @@ use Rattle.lsp_session.specs.SessionOutcome.{StopsAtExit, StopsFor}
 use Rattle.lsp_session.specs.SessionFault.{session_answer}
 use Rattle.lsp_session.specs.SessionRun.{Runs}
 use Rattle.lsp_session.specs.declared.loops.ReadEnd.{ReadEnd}
+use Rattle.lsp_session.specs.declared.loops.application.ServiceApplication.{ServiceApplication}
 use Rattle.lsp_session.specs.declared.loops.handler.SessionEnd.{SessionEnd}
 use Rattle.lsp_session.specs.declared.loops.handler_service.HandlerService.{HandlerService}
 use Rattle.lsp_session.specs.declared.loops.session_outcome.StopReason.{StopReason}
@@ -35,7 +36,8 @@ use Rattle.lsp_threads.specs.Threads.{ReadsFrameOrWakes, ReadsOrWakes, session_e
 module _ {L : Type 0} (passes : L → ReadFault → L → Type 0) (limit : Limits) (P Q : SessionPart) (reason : StopReason)
     (knows : (xs : List Exchange) (stop : Stop) (shutdown_reply : Option Sent) (answer : SessionAnswer)
     → P xs stop shutdown_reply answer
-    → Q xs stop shutdown_reply answer × StopsFor reason xs stop shutdown_reply answer × StopsAtExit stop (messages_of xs))
+    → Q xs stop shutdown_reply answer × StopsFor reason xs stop shutdown_reply answer × StopsAtExit stop
+    (messages_of xs))
     (a b : Option (List ℕ)) (inbox inbox' : Receiving × L) (outbox outbox' : Replying) (answer : SessionAnswer)
     (runs : Runs (ContentsGive passes) RepliesSend P (inbox, outbox) answer (inbox', outbox')) where
   -- what the threads of a session come to in bytes
@@ -183,11 +185,11 @@ module _ (wakeable : Bool) {L : Type 0} (passes : L → ReadFault → L → Type
     started_told P Q to taken given answer_of (Err fault) tells = tt
 
 -- a handler that was lent to a session which did not start is as it was
-pub unstarted_handler : {H T F : Type 0} (old new : HandlerService H) (first last : H) → (new.handler.ghost_name
-    ≡ old.handler.ghost_name → last ≡ new.handler.now)
-    → old.handler.now ≡ first → (X : Type 0) (result : Result T F) → OnErr result ((new ≡ old) × X) → OnErr result (last
-    ≡ first)
+pub unstarted_handler : {H T F : Type 0} (old new : ServiceApplication (HandlerService H)) (first last : H)
+    → (new.service.handler.ghost_name ≡ old.service.handler.ghost_name → last ≡ new.service.handler.now)
+    → old.service.handler.now ≡ first → (X : Type 0) (result : Result T F) → OnErr result ((new ≡ old) × X)
+    → OnErr result (last ≡ first)
 unstarted_handler old new first last same unchanged X (Ok done) kept = tt
 unstarted_handler old new first last same unchanged X (Err fault) kept =
-    same (ap (λ (s : HandlerService _). s.handler.ghost_name) kept.0) ∙ ap (λ (s : HandlerService _). s.handler.now)
-    kept.0 ∙ unchanged
+    same (ap (λ (a : ServiceApplication (HandlerService _)). a.service.handler.ghost_name) kept.0)
+    ∙ ap (λ (a : ServiceApplication (HandlerService _)). a.service.handler.now) kept.0 ∙ unchanged

@@ -24,7 +24,7 @@ mod workers;
 pub use content_batch::{Contents, ContentsPlan, ContentsRx, ContentsTx};
 pub use pumping::{PumpFault, PumpOutcome, pump, pump_by, pump_telling, pump_within};
 pub use run::{
-    ThreadOptions, Threaded, UNREAD_BYTES, UNWRITTEN_BYTES, run_threads, run_threads_of_service,
-    run_threads_of_service_over, run_threads_within,
+    ThreadOptions, Threaded, UNREAD_BYTES, UNWRITTEN_BYTES, run_in_threads, run_in_threads_over,
+    run_threads, run_threads_within,
 };
 pub use workers::StartFault;

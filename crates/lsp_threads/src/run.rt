@@ -1,4 +1,4 @@
-//! Sessions whose reader and writer run in threads of their own: of a handler, and of any service.
+//! Sessions whose reader and writer run in threads of their own: of a handler, and of any application.
 ghost use Rattle.serde_json.specs.View.{view};
 ghost use Rattle.std.specs.Prelude.{◌≡◌, [], IfOk, IfSome, OnErr, Some};
 ghost use Rattle.lsp_message.specs.Frame.{no_limit, of_content};
@@ -13,7 +13,8 @@ use crate::workers::{ROOM, StartFault};
 use lsp_message::{Limits, Passed};
 use lsp_relay::relay;
 use lsp_session::{
-    BadContentPolicy, EndSession, Handler, HandlerService, Service, SessionEnd, SessionFault,
+    Application, BadContentPolicy, EndSession, Handler, HandlerService, ServiceApplication,
+    SessionEnd, SessionFault,
 };
 use serde_json::Value;
 use std::alloc::Global;
@@ -157,39 +158,44 @@ where
         text (W.contents writer) (W.contents done.writer) done.answer)) }
 {
     let mut capabilities = capabilities;
-    let mut service = HandlerService::new(alloc, &mut capabilities, handler);
+    let service = HandlerService::new(alloc, &mut capabilities, handler);
+    let mut application = ServiceApplication { service };
     let mut options = ThreadOptions::new();
     options.limits = Limits {
         header: None,
         content: limit,
     };
-    run_threads_of_service(
+    run_in_threads(
         rt,
         alloc,
         reader,
         writer,
-        &mut service,
+        &mut application,
         &mut EndSession,
         options,
     )
 }
 
-/// Runs a session of a service (LSP 3.17, "Server lifecycle") with a thread that reads, a thread that writes and the
-/// service on the caller's thread. In every schedule its answer and the bytes that it writes are such as a session allows.
+/// Runs a session of an application (LSP 3.17, "Server lifecycle") with a thread that reads, a thread that writes and the application on the
+/// caller's thread, and gives its answer. Call this if your server is to read on while it works. `StreamTransport::serve` of `lsp_session` does
+/// the same on one thread, and says in which order bytes were taken and given, which no clause says here. In every schedule the answer and
+/// the bytes that are written are such as a session allows.
 ///
-/// Starts, faults, replies that are gathered, and the end are as in `run_threads`, but for content parts that are no messages.
+/// Starts, faults, replies that are gathered, and the end are as in `run_threads`, but for content parts that are no messages. If a thread could
+/// not be started, or an allocation failed, it gives a `StartFault`: nothing was read or written then, and the application and the policy are
+/// as they were.
 ///
-/// At a content part that is no message (see `lsp_session::is_of_content`) `policy` is asked, at once and on your thread. Where
-/// it reads on, nothing is answered, the service is woken, and the next frame follows. That is so from `initialized` up to `shutdown`, if
-/// a service can be woken. Where the policy ends the session, and before and after in any case, such a part is `SessionFault::Read`, and
-/// what was read behind it is dropped. So is each other fault of reading at any time. With `EndSession` nothing is ever passed over
-/// (`laws::nothing_is_passed_over_in_threads`). A handler's session reads on as the service `HandlerService`.
-pub fn run_threads_of_service<T, R, W, S, L>(
+/// At a content part that is no message (see `lsp_session::is_of_content`) `policy` is asked, at once and on your thread. If
+/// it reads on, nothing is answered, the application is woken, and the next message follows. That is so from `initialized` up to `shutdown`, if
+/// it can be woken. If the policy ends the session, and before and after in any case, such a part is `SessionFault::Read`, and
+/// what was read after it is dropped. So is each other fault of reading at any time. With `EndSession` nothing is ever skipped
+/// (`laws::nothing_is_passed_over_in_threads`).
+pub fn run_in_threads<T, R, W, A, L>(
     rt: &T,
     alloc: Global,
     reader: R,
     writer: W,
-    service: &mut S,
+    application: &mut A,
     policy: &mut L,
     options: ThreadOptions,
 ) -> Result<Threaded<W>, StartFault>
@@ -197,38 +203,47 @@ where
     T: Threads + Wait + Copy + Drop + Send + 'static,
     R: BufRead + Drop + Send + 'static,
     W: Write + Drop + Send + 'static,
-    S: Service,
+    A: Application,
     L: BadContentPolicy,
-    ensures unstarted { OnErr result ((service.new ≡ service.old) × (policy.new ≡ policy.old)) }
+    ensures unstarted { OnErr result ((application.new ≡ application.old) × (policy.new ≡ policy.old)) }
     ensures told { IfOk result (λ done. OfTaken done.taken.parts (λ text.
-        ThreadsTell L.passes options.limits (SessionOut S.behavior service.old service.new) text
+        ThreadsTell L.passes options.limits (A.session application.old application.new) text
         policy.old policy.new (Some []) (noted done.given) done.answer)) }
     ensures passed { IfOk result (λ done. TakenFrom (R.remaining reader) done.taken.parts
         × GivenTo (W.contents writer) done.given.parts (W.contents done.writer)) }
     ensures session { IfSome (R.remaining reader) (λ text. IfOk result (λ done.
-        ThreadsTell L.passes options.limits (SessionOut S.behavior service.old service.new) text
+        ThreadsTell L.passes options.limits (A.session application.old application.new) text
         policy.old policy.new (W.contents writer) (W.contents done.writer) done.answer)) }
 {
     let Ok(ends) = relay::<Contents, ContentsPlan>(alloc, ROOM) else {
         return Err(StartFault::Memory);
     };
-    run_threads_of_service_over(rt, alloc, ends, reader, writer, service, policy, options)
+    run_in_threads_over(
+        rt,
+        alloc,
+        ends,
+        reader,
+        writer,
+        application,
+        policy,
+        options,
+    )
 }
 
-/// As `run_threads_of_service`, over a relay that the caller made, which nothing has passed: `relay::<Contents, ContentsPlan>`. Wakers of the relay wake
-/// the service, from `initialized` up to `shutdown`; a wake before or after is passed over. If you made no waker, the service is woken
+/// As `run_in_threads`, over a relay that the caller made, which nothing has passed: `relay::<Contents, ContentsPlan>`. Wakers of the relay wake
+/// the application, from `initialized` up to `shutdown`; a wake before or after is passed over. If you made no waker, the application is woken
 /// only at a content part that is passed over. That a wake arrives is tested, and no part of this contract.
 ///
 /// Both ends of the relay are gone when this returns, also after a fault: a wake gives false from then on, and one that waits for
-/// room gives up (tested as well). `service` and `policy` run on the caller's thread, and should not wake the session themselves: the
+/// room gives up (tested as well). `application` and `policy` run on the caller's thread, and should not wake the session themselves: the
 /// relay may be full.
-pub fn run_threads_of_service_over<T, R, W, S, L>(
+pub fn run_in_threads_over<T, R, W, A, L>(
     rt: &T,
     alloc: Global,
     ends: (ContentsTx, ContentsRx),
     reader: R,
     writer: W,
-    service: &mut S,
+    application: &mut A,
     policy: &mut L,
     options: ThreadOptions,
 ) -> Result<Threaded<W>, StartFault>
@@ -236,24 +251,24 @@ where
     T: Threads + Wait + Copy + Drop + Send + 'static,
     R: BufRead + Drop + Send + 'static,
     W: Write + Drop + Send + 'static,
-    S: Service,
+    A: Application,
     L: BadContentPolicy,
     requires fresh { (ends.0.sent ≡ []) × (ends.1.taken ≡ []) }
     requires same { ends.1.relay ≡ ends.0.relay }
-    ensures unstarted { OnErr result ((service.new ≡ service.old) × (policy.new ≡ policy.old)) }
+    ensures unstarted { OnErr result ((application.new ≡ application.old) × (policy.new ≡ policy.old)) }
     ensures told { IfOk result (λ done. OfTaken done.taken.parts (λ text.
         ThreadsTellOver ends.0.wakeable L.passes options.limits
-        (SessionOut S.behavior service.old service.new) text
+        (A.session application.old application.new) text
         policy.old policy.new (Some []) (noted done.given) done.answer)) }
     ensures passed { IfOk result (λ done. TakenFrom (R.remaining reader) done.taken.parts
         × GivenTo (W.contents writer) done.given.parts (W.contents done.writer)) }
     ensures session { IfSome (R.remaining reader) (λ text. IfOk result (λ done.
         ThreadsTellOver ends.0.wakeable L.passes options.limits
-        (SessionOut S.behavior service.old service.new) text
+        (A.session application.old application.new) text
         policy.old policy.new (W.contents writer) (W.contents done.writer) done.answer)) }
 {
     match start_both(rt, options, alloc, ends, reader, writer) {
-        Ok(workers) => Ok(serve_between(rt, alloc, workers, service, policy)),
+        Ok(workers) => Ok(serve_between(rt, alloc, workers, application, policy)),
         Err(fault) => Err(fault),
     }
 }

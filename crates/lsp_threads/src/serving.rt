@@ -1,6 +1,5 @@
 //! The session between the two threads, and how they are started.
 ghost use Rattle.std.specs.Prelude.{◌≡◌, [], IfOk, Some};
-ghost use Rattle.lsp_session.specs.Session.{SessionOut};
 ghost use Rattle.lsp_threads.specs.Contents.{LeavesReading, source_of};
 ghost use Rattle.lsp_threads.specs.Passing.{GivenTo, OfTaken, TakenFrom, noted};
 ghost use Rattle.lsp_threads.specs.Threads.{ThreadsTellOver, session_end as session_end_spec};
@@ -16,7 +15,7 @@ use crate::watched_writer::{WatchedWriter, WriteFaults, write_faults};
 use crate::workers::{ROOM, Reader, StartFault, Writer, start_reader, start_writer};
 use lsp_message::{Limits, Passed, ReadFault, WriteFault};
 use lsp_relay::{AnyPlan, Parcel, RelayRx, RelayTx, Source, plan, relay, settle_all};
-use lsp_session::{BadContentPolicy, ReadEnd, Service, session_answer};
+use lsp_session::{Application, BadContentPolicy, ReadEnd, session_answer};
 use std::alloc::Global;
 use std::io::{BufRead, ErrorKind, Write};
 use std::marker::Brand;
@@ -162,18 +161,18 @@ fn end_writing<T: Threads + Wait, W: Write + Drop>(
 }
 
 /// The session between the two threads.
-pub(crate) fn serve_between<T, R, W, S, L>(
+pub(crate) fn serve_between<T, R, W, A, L>(
     rt: &T,
     alloc: Global,
     workers: Workers<R, W>,
-    service: &mut S,
+    application: &mut A,
     policy: &mut L,
 ) -> Threaded<W>
 where
     T: Threads + Wait + Copy + Drop,
     R: BufRead + Drop,
     W: Write + Drop,
-    S: Service,
+    A: Application,
     L: BadContentPolicy,
     requires reading { (workers.rx.taken ≡ [])
         × (workers.reading.promise.tx.value.relay ≡ workers.rx.relay)
@@ -185,7 +184,7 @@ where
         × (workers.writing.promise.rx.value.relay ≡ workers.replies.relay) }
     ensures told { OfTaken result.taken.parts (λ text.
         ThreadsTellOver workers.reading.promise.tx.value.wakeable L.passes
-        workers.reading.promise.limits (SessionOut S.behavior service.old service.new) text
+        workers.reading.promise.limits (A.session application.old application.new) text
         policy.old policy.new (Some []) (noted result.given) result.answer) }
     ensures taken { TakenFrom (R.remaining workers.reading.promise.reader.value)
         result.taken.parts }
@@ -204,7 +203,7 @@ where
     let mut parts = ContentParts::new(*rt, alloc, rx, takes);
     let mut outbox = ReplyOutbox::new(*rt, alloc, replies, unwritten, faults);
     let mut ends = ThreadEnds::new(alloc, &mut parts, policy, &mut outbox);
-    let served = serve_ends(alloc, &mut ends, service);
+    let served = serve_ends(alloc, &mut ends, application);
     let ended = ends.end();
     let drained = parts.is_drained();
     let at_exit = matches!(ended, Some(ReadEnd::Exit));

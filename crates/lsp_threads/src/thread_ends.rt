@@ -1,8 +1,7 @@
 //! The caller's ends of a session in threads: an inbox over a relay of content parts, and the outbox of its replies, as one value.
 ghost use Rattle.std.specs.Prelude.{◌≡◌, [], None};
 ghost use Rattle.lsp_session.specs.Event.{arrival_view, event_view};
-ghost use Rattle.lsp_session.specs.SessionOutcome.{StopsFor};
-ghost use Rattle.lsp_session.specs.Session.{SessionOut};
+ghost use Rattle.lsp_session.specs.SessionOutcome.{StopsBy};
 ghost use Rattle.lsp_session.specs.SessionLaws.{Both};
 ghost use Rattle.lsp_session.specs.SessionRun.{Runs};
 ghost use Rattle.lsp_threads.specs.Contents.{ContentsGive};
@@ -13,8 +12,8 @@ use crate::content_parts::{ContentParts, Next};
 use crate::reply_outbox::ReplyOutbox;
 use lsp_message::{Message, ReadFault, RequestId, ResultText};
 use lsp_session::{
-    Arrival, BadContentPolicy, Event, Inbox, Outbox, ReadEnd, SendFault, Service, SessionOutcome,
-    TextOutbox, WakingInbox, is_exit, is_of_content, serve_transport,
+    Application, Arrival, BadContentPolicy, Event, Inbox, Outbox, ReadEnd, SendFault,
+    SessionOutcome, TextOutbox, WakingInbox, is_exit, is_of_content,
 };
 use std::alloc::Global;
 use std::sync::Wait;
@@ -187,17 +186,17 @@ impl<'a, R: Wait + Copy + Drop, L: BadContentPolicy> TextOutbox for ThreadEnds<'
     }
 }
 
-/// Runs a session of a server over the caller's ends. All that is sent for a message is handed over before a wait for the next.
-pub fn serve_ends<R: Wait + Copy + Drop, L: BadContentPolicy, S: Service>(
+/// Runs a session of an application over the caller's ends. All that is sent for a message is handed over before a wait for the next.
+pub fn serve_ends<R: Wait + Copy + Drop, L: BadContentPolicy, A: Application>(
     alloc: Global,
     ends: &mut ThreadEnds<'_, R, L>,
-    service: &mut S,
+    application: &mut A,
 ) -> SessionOutcome
     ensures runs { Runs (ContentsGive L.passes) RepliesSend
-        (Both (SessionOut S.behavior service.old service.new) (StopsFor result.stop))
+        (Both (A.session application.old application.new) (StopsBy result.stop))
         (seen_of ends.old, ends.old.outbox.now.replies) result.answer
         (seen_of ends.new, ends.new.outbox.now.replies) }
     ensures lent { KeepsLent ends.old ends.new }
 {
-    serve_transport(alloc, ends, service)
+    application.run(alloc, ends)
 }

@@ -9,12 +9,12 @@ use crate::sessions::{
 };
 use crate::signals::Signals;
 use crate::table::{Call, Device, Given};
-use lsp_acts::{QueuedServer, session_with, session_with_over};
+use lsp_acts::QueuedServer;
 use lsp_message::{Front, Limits, Message, Passed, ReadFault, WriteFault, front, write_frames};
 use lsp_session::{
-    BadContentPolicy, EndSession, Event, FaultCounts, FrameOutbox, Ignore, Inbox, ListOutbox,
-    Outbox, ReadEnd, SendFault, SessionEnd, SessionFault, StreamInbox, StreamTransport, Transcript,
-    read_loop, read_loop_within, session, session_of_service, session_within,
+    Application, BadContentPolicy, EndSession, Event, FaultCounts, FrameOutbox, Ignore, Inbox,
+    ListOutbox, Outbox, ReadEnd, SendFault, SessionEnd, SessionFault, StreamInbox, StreamTransport,
+    Transcript, read_loop, read_loop_within, session, session_within,
 };
 use serde_json::{Map, Value};
 use std::alloc::{AllocError, Global};
@@ -300,20 +300,38 @@ fn limited<L: BadContentPolicy>(
     policy: &mut L,
 ) -> Result<SessionEnd, SessionFault> {
     let limits = trial.run.limits();
-    let Trial { reader, writer, .. } = trial;
-    let (talker, end) = session_with(trial.alloc, reader, writer, talker, policy, limits);
-    drop(talker);
+    let mut queued = QueuedServer::new(trial.alloc, talker);
+    let end = served(trial, &mut queued, policy, limits);
+    drop(queued);
     end
 }
 
 fn unlimited(trial: &mut Trial, talker: Talker) -> Result<SessionEnd, SessionFault> {
-    let alloc = trial.alloc;
-    let mut queued = QueuedServer::new(alloc, talker);
-    let Trial { reader, writer, .. } = trial;
-    let limits = Limits::none();
-    let end = session_of_service(alloc, reader, writer, &mut queued, &mut EndSession, limits);
+    let mut queued = QueuedServer::new(trial.alloc, talker);
+    let end = served(trial, &mut queued, &mut EndSession, Limits::none());
     drop(queued);
     end
+}
+
+/// How a session of an application over the reader and the writer ends.
+fn served<A: Application, L: BadContentPolicy>(
+    trial: &mut Trial,
+    application: &mut A,
+    policy: &mut L,
+    limits: Limits,
+) -> Result<SessionEnd, SessionFault> {
+    let alloc = trial.alloc;
+    let Trial { reader, writer, .. } = trial;
+    let mut transcript = Transcript::new();
+    let mut transport = StreamTransport::within(
+        alloc,
+        reader,
+        writer,
+        policy,
+        limits,
+        &mut transcript,
+    );
+    transport.serve(application)
 }
 
 /// The same over one value that holds the reader and the writer.
@@ -330,8 +348,9 @@ fn spoken_over_transport(trial: &mut Trial) -> Result<Attempt, Stop> {
         Limits::none(),
         &mut transcript,
     );
-    let (talker, end) = session_with_over(alloc, &mut transport, talker);
-    drop(talker);
+    let mut queued = QueuedServer::new(alloc, talker);
+    let end = transport.serve(&mut queued);
+    drop(queued);
     drop(transport);
     ended(trial, end)
 }
@@ -356,11 +375,9 @@ fn woken(
     mut talker: Talker,
     counts: &mut FaultCounts,
 ) -> Result<SessionEnd, SessionFault> {
-    let alloc = trial.alloc;
     talker.tells_wakes = true;
-    let mut queued = QueuedServer::new(alloc, talker);
-    let Trial { reader, writer, .. } = trial;
-    let end = session_of_service(alloc, reader, writer, &mut queued, counts, Limits::none());
+    let mut queued = QueuedServer::new(trial.alloc, talker);
+    let end = served(trial, &mut queued, counts, Limits::none());
     drop(queued);
     end
 }

@@ -11,10 +11,10 @@ use crate::table::{Call, Device, Given};
 use lsp_acts::QueuedServer;
 use lsp_jobs::{PoolSize, run_jobs};
 use lsp_server::{Connection, Limits, UNREAD_WEIGHT};
-use lsp_session::{FaultCounts, HandlerService, Service, SessionEnd, SessionFault};
+use lsp_session::{Application, FaultCounts, HandlerApplication, SessionEnd, SessionFault};
 use lsp_threads::{
     PumpFault, StartFault, ThreadOptions, Threaded, UNREAD_BYTES, UNWRITTEN_BYTES, pump_by,
-    run_threads_of_service,
+    run_in_threads,
 };
 use serde_json::{Map, Value};
 use std::alloc::{AllocError, Global};
@@ -199,12 +199,11 @@ fn handled<R>(
 where
     R: Threads + Wait + Copy + Drop + Send + 'static,
 {
-    let mut echo = echo(alloc, run, signals)?;
-    let mut none = Value::Object(Map::new(alloc));
-    let mut service = HandlerService::new(alloc, &mut none, &mut echo);
-    let came = served(rt, alloc, run, reader, writer, signals, &mut service);
-    drop(service);
-    drop(none);
+    let echo = echo(alloc, run, signals)?;
+    let none = Value::Object(Map::new(alloc));
+    let mut application = HandlerApplication::new(alloc, none, echo);
+    let came = served(rt, alloc, run, reader, writer, signals, &mut application);
+    drop(application);
     came
 }
 
@@ -227,23 +226,31 @@ where
     came
 }
 
-/// How a session of a service ends, and what it wrote.
-fn served<R, S>(
+/// How a session of an application ends, and what it wrote.
+fn served<R, A>(
     rt: &R,
     alloc: Global,
     run: Run,
     reader: Source,
     writer: Sink,
     signals: &Arc<Signals>,
-    service: &mut S,
+    application: &mut A,
 ) -> Result<Attempt, AllocError>
 where
     R: Threads + Wait + Copy + Drop + Send + 'static,
-    S: Service,
+    A: Application,
 {
     let mut listening = Listening::new(matches!(run.device, Device::Passes));
     let options = options(run);
-    let ran = run_threads_of_service(rt, alloc, reader, writer, service, &mut listening, options);
+    let ran = run_in_threads(
+        rt,
+        alloc,
+        reader,
+        writer,
+        application,
+        &mut listening,
+        options,
+    );
     let came = threads_answer(alloc, ran, run, signals);
     with_passed(run, came, &listening)
 }

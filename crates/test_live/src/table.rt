@@ -117,14 +117,13 @@ pub enum Call {
     Frames,
     /// A `FrameOutbox` to which all messages are sent.
     Outbox,
-    /// `session` of the handler, with no capabilities; with a limit `session_within`. In threads `run_threads_of_service`.
+    /// `session` of the handler, with no capabilities; with a limit `session_within`. In threads `run_in_threads`.
     Session,
-    /// `session_of_service` of the server that speaks, with `EndSession`; with a limit or a bound `session_with`. In threads as above.
+    /// `StreamTransport::serve` of the server that speaks, with `EndSession`. In threads as above.
     Speaks,
-    /// `serve_transport` of that server over a `StreamTransport`.
+    /// The same over a transport that stands beside the devices.
     Line,
-    /// `session_of_service` of the same, woken and with `FaultCounts`; with a limit or a bound `session_with` and `Ignore`, which wakes no
-    /// server.
+    /// `StreamTransport::serve` of the same, which tells its wakes, with `FaultCounts`; with a limit or a bound it tells none, with `Ignore`.
     Tolerant,
     /// `run_jobs`, with that server.
     Jobs,

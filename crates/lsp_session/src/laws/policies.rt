@@ -1,16 +1,14 @@
 //! What a session says of its client's requests if it asks a policy at content parts that are no messages, and of its handler.
 ghost use Rattle.serde_json.specs.View.{view};
-ghost use Rattle.std.specs.Prelude.{true, false, ℕ, List, Option, Result};
+ghost use Rattle.std.specs.Prelude.{ℕ, List, Option, Result};
 ghost use Rattle.lsp_message.specs.Message.{Message};
 ghost use Rattle.lsp_message.specs.declared.frame.limits.Limits.{Limits};
 ghost use Rattle.lsp_session.specs.ActBytes.{SkipsNothing};
-ghost use Rattle.lsp_session.specs.Answered.{AnswersRequests};
 ghost use Rattle.lsp_session.specs.HandlerService.{lent_handler};
 ghost use Rattle.lsp_session.specs.HandlerSession.{of_handler};
 ghost use Rattle.lsp_session.specs.PassingBytes.{GivesAndTells, PassesNothingOver};
 ghost use Rattle.lsp_session.specs.Session.{Exchange, SessionAnswer, Stop, SessionOut};
 ghost use Rattle.lsp_session.specs.SessionBytes.{Gives};
-ghost use Rattle.lsp_session.specs.SessionLaws.{Both, KeepsOrder};
 ghost use Rattle.lsp_session.specs.StreamTransports.{Serves};
 ghost use Rattle.lsp_session.specs.Transcripts.{notes_of};
 ghost use Rattle.lsp_session.specs.declared.loops.handler.SessionEnd.{SessionEnd as EndOfSession};
@@ -18,18 +16,17 @@ ghost use Rattle.lsp_session.specs.declared.loops.handler_service.HandlerService
 ghost use Rattle.lsp_session.specs.declared.loops.stream_session.SessionFault.{SessionFault as FaultOfSession};
 ghost use Rattle.lsp_session.specs.declared.loops.stream_transport.StreamTransport.{StreamTransport as TransportOf};
 
-use crate::loops::{Application, BadContentPolicy, Handler, Service};
+use crate::loops::{Application, BadContentPolicy, Handler};
 use std::io::{BufRead, Write};
 
-/// With a policy that passes over nothing, such as `EndSession`, a session of `session_of_service` is one in which each frame is a
-/// message: what `session` says of its session is so of this one.
-pub fn nothing_is_passed_over<S: Service, L: BadContentPolicy>()
-    ensures { (limit : Limits) (old new : S) (text : List ℕ) (left : Option (List ℕ)) (first last : L)
+/// With a policy that passes over nothing, such as `EndSession`, a session from known bytes to bytes is one in which each frame is a message: what
+/// `session` says of its session is so of this one.
+pub fn nothing_is_passed_over<L: BadContentPolicy, A: Application>()
+    ensures { (old new : A) (limit : Limits) (text : List ℕ) (left : Option (List ℕ)) (first last : L)
         (before after : Option (List ℕ)) (answer : Result EndOfSession FaultOfSession)
         → PassesNothingOver L.passes
-        → GivesAndTells L.passes limit (SessionOut S.behavior old new) text left first last before
-        after answer
-        → Gives limit (SessionOut S.behavior old new) text left before after answer }
+        → GivesAndTells L.passes limit (A.session old new) text left first last before after answer
+        → Gives limit (A.session old new) text left before after answer }
 {}
 
 /// With a policy that allows nothing to be skipped, such as `EndSession`, no content part is skipped in a session over a transport, of whatever
@@ -40,33 +37,13 @@ pub fn nothing_is_skipped<R: BufRead, W: Write, L: BadContentPolicy, A: Applicat
         → SkipsNothing (notes_of after.transcript.now) }
 {}
 
-/// `sessions::session_keeps_order` of a session with a policy: a fact of each session that was run by `session_of_service`.
-pub fn session_that_asks_keeps_order<S: Service, L: BadContentPolicy>()
-    ensures { (limit : Limits) (old new : S) (text : List ℕ) (left : Option (List ℕ)) (first last : L)
-        (before after : Option (List ℕ)) (answer : Result EndOfSession FaultOfSession)
-        → GivesAndTells L.passes limit (SessionOut S.behavior old new) text left first last before
-        after answer
-        → GivesAndTells L.passes limit
-        (Both (SessionOut S.behavior old new) (KeepsOrder S.behavior.passes_late true)) text left
-        first last before after answer }
-{}
-
-/// A session of a handler as a service (`HandlerService`) is one of the handler, which answers `initialize` with the capabilities that the
-/// service was lent: what `session` says is so of each session that is run over such a service, and each request gets exactly one reply
-/// (`sessions::session_answers_requests`). So a handler's session can read on too.
-pub fn handler_service_runs_its_handler<H: Handler, L: BadContentPolicy>()
-    ensures exchanges { (old new : ServiceOf H) (exchanges : List Exchange) (stop : Stop)
+/// A session of a handler that is lent to a service (`HandlerService`) is one of the handler, which answers `initialize` with the capabilities that
+/// the service was lent: what `session` says is so of each session that is run over such a service, and each request gets exactly one reply
+/// (`sessions::session_answers_requests`).
+pub fn handler_service_runs_its_handler<H: Handler>()
+    ensures { (old new : ServiceOf H) (exchanges : List Exchange) (stop : Stop)
         (shutdown_reply : Option Message) (answer : SessionAnswer)
         → SessionOut (lent_handler H.answers H.notes) old new exchanges stop shutdown_reply answer
         → SessionOut (of_handler H.answers H.notes (view old.capabilities.now)) old.handler.now
         new.handler.now exchanges stop shutdown_reply answer }
-    ensures bytes { (limit : Limits) (old new : ServiceOf H) (text : List ℕ) (left : Option (List ℕ))
-        (first last : L) (before after : Option (List ℕ))
-        (answer : Result EndOfSession FaultOfSession)
-        → GivesAndTells L.passes limit (SessionOut (lent_handler H.answers H.notes) old new) text
-        left first last before after answer
-        → GivesAndTells L.passes limit
-        (Both (SessionOut (of_handler H.answers H.notes (view old.capabilities.now)) old.handler.now
-        new.handler.now) (Both AnswersRequests (KeepsOrder false false)))
-        text left first last before after answer }
 {}

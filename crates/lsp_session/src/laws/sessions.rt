@@ -1,64 +1,27 @@
 //! What a session does with the requests of its client.
 ghost use Rattle.serde_json.specs.Data.{Data};
-ghost use Rattle.std.specs.Prelude.{◌≡◌, Bool, true, false, ℕ, List, ◌∷◌, ◌++◌, Option, None, Result, Err};
+ghost use Rattle.std.specs.Prelude.{◌≡◌, Bool, true, false, List, ◌∷◌, ◌++◌, Option, None, Err};
 ghost use Rattle.lsp_message.specs.Message.{Message};
-ghost use Rattle.lsp_message.specs.declared.frame.limits.Limits.{Limits};
 ghost use Rattle.lsp_session.specs.Answered.{AllReplied, AnswersRequests};
 ghost use Rattle.lsp_session.specs.HandlerSession.{of_handler};
 ghost use Rattle.lsp_session.specs.ProtocolError.{ProtocolFault, is_disconnected};
-ghost use Rattle.lsp_session.specs.Prompt.{Talks};
-ghost use Rattle.lsp_session.specs.Session.{starting, Exchange, SessionAnswer, Stop, sends_of, refused, SessionOut};
-ghost use Rattle.lsp_session.specs.SessionOutcome.{StopsFor};
-ghost use Rattle.lsp_session.specs.SessionBytes.{Gives};
+ghost use Rattle.lsp_session.specs.Session.{Exchange, SessionAnswer, Stop, sends_of, refused, SessionOut};
 ghost use Rattle.lsp_session.specs.SessionLaws.{Both, KeepsOrder, is_reply, OpenedBy};
-ghost use Rattle.lsp_session.specs.SessionRun.{Runs};
 ghost use Rattle.lsp_session.specs.declared.lifecycle.SendFault.{SendFault as RefusedSend};
-ghost use Rattle.lsp_session.specs.declared.loops.handler.SessionEnd.{SessionEnd as EndOfSession};
-ghost use Rattle.lsp_session.specs.declared.loops.session_outcome.StopReason.{StopReason as Reason};
-ghost use Rattle.lsp_session.specs.declared.loops.stream_session.SessionFault.{SessionFault as FaultOfSession};
 
-use crate::lifecycle::{Inbox, Outbox, WakingInbox};
 use crate::loops::{Handler, Service};
 
 /// Each request of a handler's session gets exactly one reply, under its id and in order, and no reply goes to anything else
 /// (JSON-RPC 2.0, section 5): those that came too early, `initialize`, those that the handler answered, and `shutdown`. Only a
 /// last request that the lifecycle does not allow has none; which these are the order of the lifecycle says, which the session keeps as
-/// well (`session_keeps_order`). A fact of each session that was run, over its exchanges, over boxes, and from bytes to bytes with a
-/// limit or without one.
-pub fn session_answers_requests<I: Inbox, O: Outbox, H: Handler>()
-    ensures exchanges { (capabilities : Data) (old new : H) (exchanges : List Exchange)
+/// well (`session_keeps_order`). A fact of the exchanges of each session that was run, and so of the session in each form: by the lemmas of
+/// `proofs/Forms`.
+pub fn session_answers_requests<H: Handler>()
+    ensures { (capabilities : Data) (old new : H) (exchanges : List Exchange)
         (stop : Stop) (shutdown_reply : Option Message) (answer : SessionAnswer)
         → SessionOut (of_handler H.answers H.notes capabilities) old new exchanges stop
         shutdown_reply answer
         → Both AnswersRequests (KeepsOrder false false) exchanges stop shutdown_reply answer }
-    ensures boxes { (capabilities : Data) (old new : H) (before after : I
-        × O) (answer : SessionAnswer)
-        → Runs I.receives O.sends (SessionOut (of_handler H.answers H.notes capabilities) old new)
-        before answer after
-        → Runs I.receives O.sends
-        (Both (SessionOut (of_handler H.answers H.notes capabilities) old new)
-        (Both AnswersRequests (KeepsOrder false false))) before answer after }
-    ensures bytes { (limit : Limits) (capabilities : Data) (old new : H) (text : List ℕ)
-        (left before after : Option (List ℕ)) (answer : Result EndOfSession FaultOfSession)
-        → Gives limit (SessionOut (of_handler H.answers H.notes capabilities) old new) text left
-        before after answer
-        → Gives limit
-        (Both (SessionOut (of_handler H.answers H.notes capabilities) old new)
-        (Both AnswersRequests (KeepsOrder false false))) text left before after answer }
-{}
-
-/// The reason why a session stopped may be left out, so the laws of sessions hold of each that `serve_service` or
-/// `serve_transport` ran.
-pub fn session_without_its_reason<I: Inbox, O: Outbox, L: WakingInbox + Outbox, S: Service>()
-    ensures boxes { (old new : S) (reason : Reason) (before after : I × O) (answer : SessionAnswer)
-        → Runs I.receives O.sends (Both (SessionOut S.behavior old new) (StopsFor reason)) before
-        answer after
-        → Runs I.receives O.sends (SessionOut S.behavior old new) before answer after }
-    ensures transport { (old new : S) (reason : Reason) (before after : L) (answer : SessionAnswer)
-        → Talks L.receives L.listens L.sends starting
-        (Both (SessionOut S.behavior old new) (StopsFor reason)) before answer after
-        → Talks L.receives L.listens L.sends starting (SessionOut S.behavior old new) before answer
-        after }
 {}
 
 /// If the answer is that the client is gone, each request that the session read has its reply: a request is left without
@@ -96,21 +59,11 @@ pub fn only_replies_come_first()
 /// then the first `shutdown` gets null, which is the last message that is sent, after what the service gives for it. If no `initialize` gets a result, nothing but
 /// errors is sent. No message comes after an `exit`, nor after a response that comes before `initialize`. The answer is that of the
 /// phase in which the session stopped: it is shut down only by an `exit` after the reply to `shutdown`. It stopped at a message that the
-/// outbox refused only if it offered one for what came last. A fact of each session that was run, over its exchanges, over boxes, and
-/// from bytes to bytes with a limit or without one.
-pub fn session_keeps_order<I: Inbox, O: Outbox, S: Service>()
-    ensures exchanges { (old new : S) (exchanges : List Exchange) (stop : Stop)
+/// outbox refused only if it offered one for what came last. A fact of the exchanges of each session that was run, and so of the session in each form: by
+/// the lemmas of `proofs/Forms`.
+pub fn session_keeps_order<S: Service>()
+    ensures { (old new : S) (exchanges : List Exchange) (stop : Stop)
         (shutdown_reply : Option Message) (answer : SessionAnswer)
         → SessionOut S.behavior old new exchanges stop shutdown_reply answer
         → KeepsOrder S.behavior.passes_late true exchanges stop shutdown_reply answer }
-    ensures boxes { (old new : S) (before after : I × O) (answer : SessionAnswer)
-        → Runs I.receives O.sends (SessionOut S.behavior old new) before answer after
-        → Runs I.receives O.sends
-        (Both (SessionOut S.behavior old new) (KeepsOrder S.behavior.passes_late true)) before
-        answer after }
-    ensures bytes { (limit : Limits) (old new : S) (text : List ℕ) (left before after : Option (List ℕ))
-        (answer : Result EndOfSession FaultOfSession)
-        → Gives limit (SessionOut S.behavior old new) text left before after answer
-        → Gives limit (Both (SessionOut S.behavior old new) (KeepsOrder S.behavior.passes_late true))
-        text left before after answer }
 {}

@@ -1,20 +1,17 @@
 // A session over a reader and a writer.
 ghost use Rattle.serde_json.specs.View.{view};
-ghost use Rattle.std.specs.Prelude.{◌≡◌, [], IfSome};
+ghost use Rattle.std.specs.Prelude.{◌≡◌, IfSome};
 ghost use Rattle.lsp_message.specs.Frame.{no_limit, of_content};
 ghost use Rattle.lsp_session.specs.HandlerSession.{of_handler};
 ghost use Rattle.lsp_session.specs.Session.{SessionOut};
-ghost use Rattle.lsp_session.specs.PassingBytes.{GivesAndTells};
-ghost use Rattle.lsp_session.specs.ActBytes.{Passes, ToldSession};
 ghost use Rattle.lsp_session.specs.SessionBytes.{Gives};
-ghost use Rattle.lsp_session.specs.Transcripts.{notes_of};
 ghost use Rattle.lsp_session.specs.SessionFault.{session_answer as session_answer_spec};
 
 use crate::error::ProtocolError;
 use crate::loops::handler_service::HandlerService;
 use crate::loops::{
-    BadContentPolicy, EndSession, Handler, ReadEnd, Service, SessionEnd, SessionOutcome,
-    StopReason, StreamTransport, Transcript, serve_transport,
+    EndSession, Handler, ReadEnd, ServiceApplication, SessionEnd, SessionOutcome, StopReason,
+    StreamTransport, Transcript,
 };
 use lsp_message::{Limits, ReadFault, WriteFault};
 use serde_json::Value;
@@ -81,7 +78,7 @@ pub fn session<R: BufRead, W: Write, H: Handler>(
 }
 
 /// Runs a session of a server, as `session` does, over messages whose content part has at most `limit` bytes. A longer one
-/// is `SessionFault::Read` of `ReadFault::TooLong`, and is unread. A header part is not bounded; `session_of_service` bounds it too.
+/// is `SessionFault::Read` of `ReadFault::TooLong`, and is unread. A header part is not bounded; the limits of a `StreamTransport` bound it too.
 pub fn session_within<R: BufRead, W: Write, H: Handler>(
     alloc: Global,
     reader: &mut R,
@@ -96,77 +93,23 @@ pub fn session_within<R: BufRead, W: Write, H: Handler>(
         text (R.remaining reader.new) (W.contents writer.old) (W.contents writer.new) result) }
 {
     let mut capabilities = capabilities;
-    let mut service = HandlerService::new(alloc, &mut capabilities, handler);
+    let service = HandlerService::new(alloc, &mut capabilities, handler);
+    let mut application = ServiceApplication { service };
     let limits = Limits {
         header: None,
         content: limit,
     };
-    session_of_service(alloc, reader, writer, &mut service, &mut EndSession, limits)
-}
-
-/// `serve_service` from bytes to bytes (LSP 3.17, "Base Protocol" and "Server lifecycle"), as `session` is `serve`, over messages within
-/// limits. A longer header part is `SessionFault::Read` of `ReadFault::HeaderTooLong`. A longer content part is that of `TooLong`, and is
-/// unread.
-///
-/// At a content part that is no message (see `is_of_content`) `policy` is asked. If it reads on, nothing is answered,
-/// the service is woken, and the next frame follows. That is so from `initialized` up to `shutdown`, if a service can be woken. Where
-/// the policy ends the session, and before and after in any case, such a part is `SessionFault::Read`, and so is each other fault at any
-/// time. With `EndSession` nothing is ever passed over (`laws::policies::nothing_is_passed_over`).
-///
-/// This contract speaks of readers whose bytes are known, as a slice's. `session_transcribed` is the same session with a contract for every
-/// reader and writer.
-///
-/// A handler's session reads on as the service `HandlerService` (`laws::policies::handler_service_runs_its_handler`).
-pub fn session_of_service<R: BufRead, W: Write, S: Service, L: BadContentPolicy>(
-    alloc: Global,
-    reader: &mut R,
-    writer: &mut W,
-    service: &mut S,
-    policy: &mut L,
-    limits: Limits,
-) -> Result<SessionEnd, SessionFault>
-    ensures { IfSome (R.remaining reader.old) (λ text.
-        GivesAndTells L.passes limits (SessionOut S.behavior service.old service.new) text
-        (R.remaining reader.new)
-        policy.old policy.new (W.contents writer.old) (W.contents writer.new) result) }
-{
+    let mut policy = EndSession;
     let mut transcript = Transcript::new();
-    session_transcribed(
+    let mut transport = StreamTransport::within(
         alloc,
         reader,
         writer,
-        service,
-        policy,
+        &mut policy,
         limits,
         &mut transcript,
-    )
-}
-
-/// `session_of_service` with a transcript, which clauses alone see. The contract is of whatever reader and writer, also of such as do not say
-/// which bytes they have, as standard input and output, a file or a socket: the transcript tells which bytes were taken for each message and
-/// which were given for each, and that all that is sent for a message is given before the next byte is taken.
-///
-/// One assumption is left: the system's calls to read and to write move the bytes that they say.
-pub fn session_transcribed<R: BufRead, W: Write, S: Service, L: BadContentPolicy>(
-    alloc: Global,
-    reader: &mut R,
-    writer: &mut W,
-    service: &mut S,
-    policy: &mut L,
-    limits: Limits,
-    transcript: &mut Transcript,
-) -> Result<SessionEnd, SessionFault>
-    requires { notes_of transcript.old ≡ [] }
-    ensures told { ToldSession limits (SessionOut S.behavior service.old service.new) (notes_of transcript.new) result }
-    ensures passed { Passes (notes_of transcript.new) (R.remaining reader.old) (R.remaining reader.new) (W.contents writer.old) (W.contents writer.new) }
-    ensures known { IfSome (R.remaining reader.old) (λ text.
-        GivesAndTells L.passes limits (SessionOut S.behavior service.old service.new) text
-        (R.remaining reader.new)
-        policy.old policy.new (W.contents writer.old) (W.contents writer.new) result) }
-{
-    let mut transport = StreamTransport::within(alloc, reader, writer, policy, limits, transcript);
-    let served = serve_transport(alloc, &mut transport, service);
-    transport.answer(served)
+    );
+    transport.serve(&mut application)
 }
 
 /// The answer of a session that was served so, whose messages ended so, and whose output failed so: of several

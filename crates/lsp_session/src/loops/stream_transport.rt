@@ -1,21 +1,17 @@
 // A transport over a reader and a writer.
-ghost use Rattle.serde_json.specs.View.{view};
 ghost use Rattle.std.specs.Prelude.{◌≡◌, None};
 ghost use Rattle.lsp_session.specs.Event.{arrival_view, event_view};
-ghost use Rattle.lsp_session.specs.Session.{SessionOut};
 ghost use Rattle.lsp_session.specs.SessionFault.{session_answer as session_answer_spec};
-ghost use Rattle.lsp_session.specs.HandlerSession.{of_handler};
 ghost use Rattle.lsp_session.specs.Transcripts.{notes_of};
-ghost use Rattle.lsp_session.specs.StreamTransports.{IsUnused, PassesBetween, Serves, StreamTransportGives, StreamTransportListens};
+ghost use Rattle.lsp_session.specs.StreamTransports.{GivesBetween, IsUnused, PassesBetween, Serves, StreamTransportGives, StreamTransportListens};
 
 use crate::lifecycle::{Arrival, Event, Inbox, Outbox, SendFault, TextOutbox, WakingInbox};
 use crate::loops::transcript::{Noted, Transcript};
 use crate::loops::{
-    BadContentPolicy, FrameOutbox, Handler, HandlerService, ReadEnd, Service, SessionEnd,
-    SessionFault, SessionOutcome, TolerantInbox, serve_transport, session_answer,
+    Application, BadContentPolicy, FrameOutbox, ReadEnd, SessionEnd, SessionFault, SessionOutcome,
+    TolerantInbox, session_answer,
 };
 use lsp_message::{Limits, Message, Passed, RequestId, ResultText, WriteFault};
-use serde_json::Value;
 use std::alloc::Global;
 use std::io::{BufRead, Write};
 use std::snapshot::Snapshot;
@@ -95,32 +91,26 @@ impl<'a, R: BufRead, W: Write, L: BadContentPolicy> StreamTransport<'a, R, W, L>
         session_answer(served, self.end, self.fault)
     }
 
-    /// Runs a session of a server over a transport that was not used yet, as `serve_transport` does, and gives its answer.
+    /// Runs a session of an application over this transport, which was not used yet, on the caller's thread, and gives its answer (LSP 3.17, "Base
+    /// Protocol" and "Server lifecycle"). Call this for a server over standard input and output, or over a socket. `run_in_threads` of
+    /// `lsp_threads` does the same with threads that read and write.
     ///
-    /// The contract is of whatever reader and writer, also of such as do not say which bytes they have, as standard input and output: the
-    /// transcript tells which bytes were taken for each message, which were given for each, and in which order.
-    pub fn serve<S: Service>(&mut self, service: &mut S) -> Result<SessionEnd, SessionFault>
+    /// A content part that is no message ends the session with `SessionFault::Read`, unless the policy says to read on: it is asked from `initialized`
+    /// up to `shutdown`. If it reads on, nothing is answered, and the next message is taken. Each other fault of reading ends the session at any
+    /// time. What follows the last message that the session used is left in the reader.
+    ///
+    /// `serves` and `passed` hold for every reader and writer, also for those that do not say which bytes they have, such as standard input and
+    /// output. The transcript tells which bytes were taken for each message, which were given for each, and in which order. It tells which content
+    /// parts were skipped, and the policy allowed each: with `EndSession` none is skipped (`laws::policies::nothing_is_skipped`). `known` says
+    /// more where the reader's bytes are known, as a slice's are.
+    pub fn serve<A: Application>(&mut self, application: &mut A) -> Result<SessionEnd, SessionFault>
         requires { IsUnused self.old }
-        ensures serves { Serves L.passes (SessionOut S.behavior service.old service.new) self.old result self.new }
+        ensures serves { Serves L.passes (A.session application.old application.new) self.old result self.new }
         ensures passed { PassesBetween R.remaining W.contents (notes_of self.new.transcript.now) self.old self.new }
+        ensures known { GivesBetween R.remaining L.passes W.contents (A.session application.old application.new) self.old result self.new }
     {
-        let served = serve_transport(self.alloc, self, service);
-        self.answer(served)
-    }
-
-    /// `serve` of a handler, as `session` runs it: `initialize` is answered with the capabilities.
-    pub fn serve_handler<H: Handler>(
-        &mut self,
-        capabilities: Value,
-        handler: &mut H,
-    ) -> Result<SessionEnd, SessionFault>
-        requires { IsUnused self.old }
-        ensures serves { Serves L.passes (SessionOut (of_handler H.answers H.notes (view capabilities)) handler.old handler.new) self.old result self.new }
-        ensures passed { PassesBetween R.remaining W.contents (notes_of self.new.transcript.now) self.old self.new }
-    {
-        let mut capabilities = capabilities;
-        let mut service = HandlerService::new(self.alloc, &mut capabilities, handler);
-        self.serve(&mut service)
+        let outcome = application.run(self.alloc, self);
+        self.answer(outcome)
     }
 
     /// What one wait gives that gives no wakes.

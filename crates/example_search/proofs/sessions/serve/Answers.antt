@@ -3,4 +3,5 @@ use Rattle.example_search.proofs.Known.{answers_once}
 use Rattle.example_search.proofs.sessions.serve.Goals as goal
 
 pub returns : goal.returns
-returns g c = serves_as _ _ _ (answers_once _ _ _ c.server_keeps_laws.ensures.exchanges) _ _ _ c.session_with_over.ensures
+returns g c = serves_as _ _ _ (answers_once _ _ _ c.server_keeps_laws.ensures.exchanges) _ _ _
+    (rw (c.new-application.ensures.server) at c.serve-answer.ensures.serves)

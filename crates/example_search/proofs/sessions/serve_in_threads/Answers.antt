@@ -10,4 +10,4 @@ returns-clause-told g c =
     taken_told_as false _ c.args.client.limits _ _ _ _ (answers_once _ _ _ c.server_keeps_laws.ensures.exchanges)
     (λ (done : Threaded _). done.taken.parts) (λ (done : Threaded _). noted done.given)
     (λ (done : Threaded _). done.answer) _
-    c.run_threads_with.ensures.told
+    (rw (c.new-application.ensures.server) at c.run_in_threads-done.ensures.told)

@@ -11,17 +11,18 @@ use Rattle.lsp_threads.proofs.run.run_threads_within.Goals as goal
 use Rattle.lsp_message.specs.Limits.{of_content}
 
 pub returns-clause-unstarted : goal.returns-clause-unstarted
-returns-clause-unstarted g c = unstarted_handler c.new-service.result c.run_threads_of_service.new.service
+returns-clause-unstarted g c = unstarted_handler
+    (record { service = c.new-service.result }) c.run_in_threads.new.application
     c.args.handler.now _
     (λ names. c.handler-1.given.1 (sym c.new-service.ensures.same_handler ∙ sym names)) c.new-service.ensures.unchanged
-    _ _ c.run_threads_of_service.ensures.unstarted
+    _ _ c.run_in_threads.ensures.unstarted
 
 pub returns-clause-session : goal.returns-clause-session
 returns-clause-session g c =
     let answers = g.H.Handler.answers in
     let notes = g.H.Handler.notes in
     let old = c.new-service.result in
-    let new = c.run_threads_of_service.new.service in
+    let new = c.run_in_threads.new.application.service in
     started_as (SessionOut (lent_handler answers notes) old new) (SessionOut (of_handler answers notes
     (view c.args.capabilities)) c.args.handler.now _)
     (session_as answers notes (view c.args.capabilities) old new _ (λ names. c.handler-1.given.1
@@ -31,14 +32,14 @@ returns-clause-session g c =
     (λ (done : Threaded _). g.W.Write.contents done.writer) (λ (done : Threaded _). done.answer) _ _ _
     (started_untold false _ (of_content c.args.limit) _ _ (λ first fault last told. told) _
     (λ (done : Threaded _). g.W.Write.contents done.writer) (λ (done : Threaded _). done.answer) _ _ _
-    c.run_threads_of_service.ensures.session)
+    c.run_in_threads.ensures.session)
 
 pub returns-clause-told : goal.returns-clause-told
 returns-clause-told g c =
     let answers = g.H.Handler.answers in
     let notes = g.H.Handler.notes in
     let old = c.new-service.result in
-    let new = c.run_threads_of_service.new.service in
+    let new = c.run_in_threads.new.application.service in
     started_told false _ (of_content c.args.limit) _ _ (λ first fault last told. told) (SessionOut (lent_handler answers
     notes) old new)
     (SessionOut (of_handler answers notes (view c.args.capabilities)) c.args.handler.now _)
@@ -46,4 +47,4 @@ returns-clause-told g c =
     (sym c.new-service.ensures.same_handler ∙ sym names))
     c.args.handler.now c.new-service.ensures.unchanged (ap view c.new-service.ensures.capabilities))
     (λ (done : Threaded _). done.taken.parts) (λ (done : Threaded _). noted done.given)
-    (λ (done : Threaded _). done.answer) _ c.run_threads_of_service.ensures.told
+    (λ (done : Threaded _). done.answer) _ c.run_in_threads.ensures.told

@@ -1,8 +1,6 @@
-use Rattle.std.proofs.Common.{◌++◌, ◌∙◌, ap, refl, sym, Some}
+use Rattle.std.proofs.Common.{◌++◌, ◌∙◌, ap, sym, Some}
 use Rattle.std.specs.List.{concat}
-use Rattle.lsp_session.proofs.Ran.{session_facts}
-use Rattle.lsp_session.specs.SessionOutcome.{StopsFor}
-use Rattle.lsp_session.specs.Session.{starting, SessionOut}
+use Rattle.lsp_session.specs.SessionOutcome.{StopsBy}
 use Rattle.lsp_session.specs.SessionLaws.{Both}
 use Rattle.lsp_session.specs.SessionFault.{session_answer}
 use Rattle.lsp_relay.specs.Relay.{has_end}
@@ -50,8 +48,8 @@ returns-clause-given g c = c.join-replies_rx.ensures.2
 pub returns-clause-told : goal.returns-clause-told
 returns-clause-told g c = λ rest ends.
     let passes = g.L.BadContentPolicy.passes in
-    let old = c.args.service.now in
-    let new = c.serve_ends-served.new.service in
+    let old = c.args.application.now in
+    let new = c.serve_ends-served.new.application in
     let served = c.serve_ends-served.result in
     let run = c.serve_ends-served.ensures in
     let kept = c.parts-2-1.given.1 (sym c.new-ends.ensures.same_parts ∙ sym run.lent.0) in
@@ -67,14 +65,9 @@ returns-clause-told g c = λ rest ends.
     let answer = c.session_answer-answer.ensures ∙ (λ i. session_answer served.stop served.answer (ended i)
     (fault i)) in
     rw (answer, told, sym c.new-ends.ensures.untold) (threads_tell passes c.args.workers.reading.promise.limits
-    (Both (SessionOut g.S.Service.behavior old new) (StopsFor served.stop))
-    (SessionOut g.S.Service.behavior old new) served.stop
-    (λ xs stop shutdown_reply answer both. (
-      both.0,
-      both.1,
-      session_facts g.S.Service.behavior starting old new refl xs
-          stop shutdown_reply answer both.0,
-    ))
+    (Both (g.A.Application.session old new) (StopsBy served.stop))
+    (g.A.Application.session old new) served.stop
+    (λ xs stop shutdown_reply answer both. (both.0, both.1.0, both.1.1))
     _ _ (seen_of c.new-ends.result) (seen_of c.serve_ends-served.new.ends) c.new-ends.result.outbox.now.replies
     c.serve_ends-served.new.ends.outbox.now.replies served.answer run.runs
     (ap (λ (t : Taking). t.taken) first ∙ c.requires.reading.0) (ap (λ (t : Taking). t.waiting) first)

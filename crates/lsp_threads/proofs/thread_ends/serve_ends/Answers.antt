@@ -5,8 +5,8 @@ use Rattle.lsp_threads.proofs.thread_ends.serve_ends.Goals as goal
 
 pub returns-clause-runs : goal.returns-clause-runs
 returns-clause-runs g c = (ends_run g.L.BadContentPolicy.passes (EndsListen g.L.BadContentPolicy.ends) starting _ _ _ _
-    c.serve_transport.ensures).0
+    c.run.ensures).0
 
 pub returns-clause-lent : goal.returns-clause-lent
 returns-clause-lent g c = (ends_run g.L.BadContentPolicy.passes (EndsListen g.L.BadContentPolicy.ends) starting _ _ _ _
-    c.serve_transport.ensures).1
+    c.run.ensures).1

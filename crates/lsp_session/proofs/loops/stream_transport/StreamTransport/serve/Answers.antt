@@ -1,16 +1,23 @@
+use Rattle.std.proofs.Common.{refl}
 use Rattle.lsp_session.specs.StreamTransports.{StreamTransportListens}
-use Rattle.lsp_session.proofs.Knowing.{knows_service}
+use Rattle.lsp_session.proofs.Knowing.{knows_itself}
+use Rattle.lsp_session.proofs.TransportInOrder.{lent_gives}
 use Rattle.lsp_session.proofs.TellsBytes.{serves, all_passed}
 use Rattle.lsp_session.proofs.loops.stream_transport.StreamTransport.serve.Goals as goal
 
 pub returns-clause-serves : goal.returns-clause-serves
 returns-clause-serves g c =
     rw (c.answer.ensures) (serves g.R.Read.remaining g.L.BadContentPolicy.passes g.W.Write.contents
-    (StreamTransportListens g.L.BadContentPolicy.ends) _ _ _ (knows_service g.S.Service.behavior _ _ _) _ _ c.requires _
-    c.serve_transport-served.ensures)
+    (StreamTransportListens g.L.BadContentPolicy.ends) _ _ _ (knows_itself _ _) _ _ c.requires _
+    c.run-outcome.ensures)
 
 pub returns-clause-passed : goal.returns-clause-passed
 returns-clause-passed g c =
     all_passed g.R.Read.remaining g.L.BadContentPolicy.passes g.W.Write.contents
-    (StreamTransportListens g.L.BadContentPolicy.ends) _ _ _ (knows_service g.S.Service.behavior _ _ _) _ _ c.requires _
-    c.serve_transport-served.ensures
+    (StreamTransportListens g.L.BadContentPolicy.ends) _ _ _ (knows_itself _ _) _ _ c.requires _ c.run-outcome.ensures
+
+pub returns-clause-known : goal.returns-clause-known
+returns-clause-known g c =
+    rw (c.answer.ensures) (lent_gives g.R.Read.remaining g.L.BadContentPolicy.passes g.W.Write.contents
+    (StreamTransportListens g.L.BadContentPolicy.ends) _ _ _ (knows_itself _ _) _ _ c.requires _ c.run-outcome.ensures _
+    refl _ _ _ _ _ _ refl refl refl (λ names. refl) (λ names. refl) (λ names. refl))

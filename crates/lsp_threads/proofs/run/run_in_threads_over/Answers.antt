@@ -1,5 +1,5 @@
 use Rattle.lsp_threads.proofs.Taken.{told_known}
-use Rattle.lsp_threads.proofs.run.run_threads_of_service_over.Goals as goal
+use Rattle.lsp_threads.proofs.run.run_in_threads_over.Goals as goal
 
 pub returns-in-Ok-clause-told : goal.returns-in-Ok-clause-told
 returns-in-Ok-clause-told g c = rw (c.in-Ok.ensures.reading.4, c.in-Ok.ensures.reading.5) at
