@@ -44,12 +44,13 @@ module _ {S J F P : Type 0} (plain : Plain S P) (may : StatedJobs S J F P)
   gives job method params result gave_up is_for comes same = absurd (cc (same))
 
   -- the reply is the params of the last request
-  echoed : (first : S) (earlier : List Exchange) (id : Id) (result : Data)
-      → AnswersRequest plain may first earlier id (Ok result) ⊎ RepliesItself may id (Ok result)
+  echoed : (first : S) (earlier : List Exchange) (output : List Message) (id : Id) (result : Data)
+      → AnswersRequest plain may first earlier id (Ok result)
+      ⊎ RepliesItself plain may first earlier output id (Ok result)
       → (method : List ℕ) × LastRequest earlier id method result
-  echoed first earlier id result (inr itself) =
+  echoed first earlier output id result (inr itself) =
       some_act itself.before itself.after _ (silent itself.old itself.name itself.end _ itself.new itself.saw)
-  echoed first earlier id result (inl by) =
+  echoed first earlier output id result (inl by) =
       let g = by.given in
       let params = gives by.job g.method g.params result by.came g.is_for by.comes by.reply in
       (g.method, subst (λ (p : Data). LastRequest earlier id g.method p) (sym params) g.last)
@@ -57,6 +58,7 @@ module _ {S J F P : Type 0} (plain : Plain S P) (may : StatedJobs S J F P)
   pub echo_at_wakes : (first : S) (exchanges : List Exchange)
       → ((earlier later : List Exchange) (x : Exchange) (before after : List Message) (id : Id) (outcome : Outcome)
       → exchanges ≡ earlier ++ x ∷ later → x.came ≡ None → x.sent ≡ before ++ response id outcome ∷ after
-      → AnswersRequest plain may first earlier id outcome ⊎ RepliesItself may id outcome) → EchoesAtWakes exchanges
+      → AnswersRequest plain may first earlier id outcome ⊎ RepliesItself plain may first earlier x.sent id outcome)
+      → EchoesAtWakes exchanges
   echo_at_wakes first exchanges law earlier later x before after id result cut woken sent =
-      echoed first earlier id result (law earlier later x before after id (Ok result) cut woken sent)
+      echoed first earlier x.sent id result (law earlier later x before after id (Ok result) cut woken sent)

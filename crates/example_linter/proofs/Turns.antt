@@ -131,18 +131,18 @@ module _ {P : Type 0} (written : Diagnostic → Data) (plain : Plain Linter P)
     same_at_end old name (found it) acts new saw = (states.heard old name it acts new saw).1
     same_at_end old name (ended end) acts new saw = (states.finished old name end acts new saw).1
 
-    called_follow : (old : Linter) (came : Option Message) (acts : List (Act P)) (now : Linter) → old.changes.items ≡ []
-        → IsCalled plain may old came acts now
+    called_follow : (old : Linter) (came : Option Message) (at : Option JobName) (acts : List (Act P)) (now : Linter)
+        → old.changes.items ≡ [] → IsCalled plain may old came at acts now
         → Follow (documents_of old.documents) now.changes.items (documents_of now.documents)
-    called_follow old (Some (request id method params)) acts now none itself =
+    called_follow old (Some (request id method params)) at acts now none itself =
         stay old now none (states.requested old id method params acts now itself.1)
-    called_follow old (Some (notification method params)) acts now none heard = elim heard [
+    called_follow old (Some (notification method params)) at acts now none heard = elim heard.0 [
       | inl does ↦ states.notified old method params acts now does none
       | inr began ↦ stay old now none (states.began old acts now began.1)
     ]
-    called_follow old (Some (response id outcome)) acts now none replied =
+    called_follow old (Some (response id outcome)) at acts now none replied =
         stay old now none (states.replied old replied.0 outcome acts now replied.1)
-    called_follow old None acts now none e =
+    called_follow old None at acts now none e =
         stay old now none (same_at_end old e.0 (end_of e.1) e.2 now e.3)
 
     sees : (made : Linter) (left : List (Left may)) (new : Linter) → SeesLeft plain may made left new → new ≡ made
@@ -165,7 +165,7 @@ module _ {P : Type 0} (written : Diagnostic → Data) (plain : Plain Linter P)
     good_on earlier t good (inl did) =
         let gave = states.changed t.asked t.changes t.made did.2 in
         let same = sees t.made t.left t.new did.3 in
-        let follow = called_follow t.old t.call.came did.0 t.asked good.none did.1 in
+        let follow = called_follow t.old t.call.came t.heard did.0 t.asked good.none did.1 in
         let are : documents_of t.new.documents ≡ documents_of t.asked.documents =
         ap (λ (s : Linter). documents_of s.documents) same ∙ ap documents_of gave.2 in
         record {
@@ -252,7 +252,7 @@ module _ {P : Type 0} (written : Diagnostic → Data) (plain : Plain Linter P)
       says (Slot slot) job (gave reply (Some it)) first new stands comes saw all =
           let told_of = (states.heard t.old (Slot slot) it first new saw).0 in
           published slot job it (shows (string_bytes it.source.uri) it.source.version
-          (map_list written it.marks.items)) stands (states.finds job reply (Some it) comes) refl
+          (map_list written it.marks.items)) stands.last (states.finds job reply (Some it) comes) refl
           (all ∙ ap (λ (acts : List (Act P)). map_list by_server (acts ++ [])) told_of)
       says (Slot slot) job (gave reply None) first new stands comes saw all =
           silent (none_told first (states.finished t.old (Slot slot) Done first new saw).0 all)
@@ -264,7 +264,7 @@ module _ {P : Type 0} (written : Diagnostic → Data) (plain : Plain Linter P)
           absurd (states.for_none job stands.method stands.params stands.is_given.2)
 
       shows_held : WakeDoes plain may earlier t → Held
-      shows_held (inl nothing) = silent nothing
+      shows_held (inl nothing) = silent nothing.0
       shows_held (inr (inl w)) = elim w.3 [
         | inl r ↦ absurd (states.reported w.1 r.0 r.1 r.2)
         | inr more ↦ elim more [
@@ -275,9 +275,9 @@ module _ {P : Type 0} (written : Diagnostic → Data) (plain : Plain Linter P)
               ∙ ap (map_list by_server) (append-nil (o.1 ++ reply_at w.0 o.0)))
         ]
       ]
-      shows_held (inr (inr (number, is))) =
-          let one : tells method params ≡ cancels (of_job number) = only before after (tells method params)
-          (cancels (of_job number)) (sym is ∙ at) in
+      shows_held (inr (inr c)) =
+          let one : tells method params ≡ cancels (of_job c.0) = only before after (tells method params)
+          (cancels (of_job c.0)) (sym c.1 ∙ at) in
           absurd (cc (one))
 
     pub all_shown : (start : Linter) (opening : Exchange) (begun : List (Act (RequestOrigin P)))

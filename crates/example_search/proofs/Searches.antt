@@ -92,19 +92,19 @@ module _ {F P : Type 0} (plain : Plain Sums P) (may : StatedJobs Sums Search F P
         sees l.new ls new all.1 ∙ (at_end l.old (Slot l.slot) l.end l.acts l.new l.saw).1 ∙ all.0
 
     -- what a turn makes of the documents
-    called : (old : Sums) (came : Option Message) (acts : List (Act P)) (now : Sums)
-        → IsCalled plain may old came acts now → Hears old.documents came now.documents
-    called old (Some (request id method params)) acts now itself =
+    called : (old : Sums) (came : Option Message) (at : Option JobName) (acts : List (Act P)) (now : Sums)
+        → IsCalled plain may old came at acts now → Hears old.documents came now.documents
+    called old (Some (request id method params)) at acts now itself =
         states.requested old id method params acts now itself.1
-    called old (Some (notification method params)) acts now heard = elim heard [
+    called old (Some (notification method params)) at acts now heard = elim heard.0 [
       | inl does ↦ states.notified old method params acts now does
       | inr began ↦ stays old.documents now.documents (Some (notification method params))
           (no_document old.documents now.documents method params began.0 (states.began old acts now began.1))
     ]
-    called old (Some (response id outcome)) acts now replied =
+    called old (Some (response id outcome)) at acts now replied =
         stays old.documents now.documents (Some (response id outcome))
         (states.replied old replied.0 outcome acts now replied.1)
-    called old None acts now e =
+    called old None at acts now e =
         stays old.documents now.documents None
         (ap (λ (s : Sums). s.documents) (at_end old e.0 (end_of e.1) e.2 now e.3).1)
 
@@ -123,7 +123,7 @@ module _ {F P : Type 0} (plain : Plain Sums P) (may : StatedJobs Sums Search F P
         let same : t.new ≡ t.asked =
         sees t.made t.left t.new did.3 ∙ states.changed t.asked t.changes t.made did.2 in
         subst (λ (s : Sums). Hears t.old.documents t.call.came s.documents) (sym same)
-        (called t.old t.call.came did.0 t.asked did.1)
+        (called t.old t.call.came t.heard did.0 t.asked did.1)
     turned t (inr pass) = passed t.old t.call.came t.call.acts t.new pass.0 pass.3
 
     taken : (payloads : List P) (old new : Sums) → TakesBack plain.takes_back old payloads new
@@ -208,7 +208,7 @@ module _ {F P : Type 0} (plain : Plain Sums P) (may : StatedJobs Sums Search F P
     pub searches : (first : Sums) (exchanges : List Exchange) → HasNone first.documents
         → ((earlier later : List Exchange) (x : Exchange) (before after : List Message) (id : Id) (outcome : Outcome)
         → exchanges ≡ earlier ++ x ∷ later → x.came ≡ None → x.sent ≡ before ++ response id outcome ∷ after
-        → AnswersRequest plain may first earlier id outcome ⊎ RepliesItself may id outcome)
+        → AnswersRequest plain may first earlier id outcome ⊎ RepliesItself plain may first earlier x.sent id outcome)
         → SearchesOpenTexts exchanges
     searches first exchanges none law earlier later x before after id outcome cut woken sent =
         elim (law earlier later x before after id outcome cut woken sent) [

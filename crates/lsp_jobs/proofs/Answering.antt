@@ -23,6 +23,7 @@ use Rattle.lsp_jobs.specs.PoolView.{pending_jobs}
 use Rattle.lsp_jobs.specs.Pooled.{unanswered, without_cancelled, ChangesSlots, Does, Finishes, TakesLong}
 use Rattle.lsp_jobs.specs.Seen.{seen}
 use Rattle.lsp_jobs.specs.SlotLaw.{concerns, is_that, IsGiven, Left, Spares, at_ends}
+use Rattle.lsp_jobs.specs.SlotLaw.{lefts_of}
 use Rattle.lsp_jobs.specs.Stated.{StatedJobs}
 use Rattle.lsp_jobs.specs.declared.asking.RequestOrigin.{RequestOrigin}
 use Rattle.lsp_jobs.specs.declared.asking.RequestOrigin.TheVariants.{ByJob, ByServer}
@@ -116,17 +117,18 @@ module _ {S J F P : Type 0} (plain : Plain S P) (may : StatedJobs S J F P) where
   changes_slots : (from : Id → J → Type 0) (before : List (Act P)) (old new : S × PendingJobs J)
       (acts all : List (Act P)) → ChangesSlots may old acts all new → AllCome from before old.1 → AllCome from all new.1
       × ((left : List (Left may)) × (all ≡ acts ++ at_ends may left))
-  changes_slots from before old new acts all c come = (after, (went.left, went.acts))
+  changes_slots from before old new acts all c come = (after, (lefts_of may went.events, went.acts))
     where
       went : Went plain may (c.mid, unanswered acts old.1, acts) (new.0, new.1, all)
-      went = went_all plain may c.changes (c.mid, unanswered acts old.1, acts) (new.0, new.1, all) c.made
+      went = (went_all plain may c.changes (c.mid, unanswered acts old.1, acts) (new.0, new.1, all) c.made).0
 
       after : AllCome from all new.1
       after id e has =
           let later = went.requests id e has in
           let own = unanswered_has acts old.1 id e later.0 in (
             (come id e own.0).0,
-            subst (Spares id) (sym went.acts) (spares-append id acts (at_ends may went.left) own.1 later.1),
+            subst (Spares id) (sym went.acts) (spares-append id acts (at_ends may
+                (lefts_of may went.events)) own.1 later.1),
           )
 
   pub does_jobs : (from : Id → J → Type 0) (did : List (Act P) → S → Type 0)

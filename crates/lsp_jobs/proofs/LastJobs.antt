@@ -10,7 +10,6 @@ use Rattle.lsp_acts.specs.Law.{how_many, is_reply_under}
 use Rattle.lsp_acts.specs.SentByActs.{acts_done_at, all_sends}
 use Rattle.lsp_acts.specs.declared.server.Server.{Ghosts as Plain}
 use Rattle.lsp_jobs.proofs.Answering.{mute, settled_spares}
-use Rattle.lsp_jobs.proofs.Owed.{fewer}
 use Rattle.lsp_jobs.specs.JobLaw.{AreTakenAt, IsQuiet, IsTakenAt, JobOfLast, Leads}
 use Rattle.lsp_jobs.specs.SlotLaw.{AllQuiet, AreTurns, LastGiven, Spares, Turn, concerns}
 use Rattle.lsp_jobs.specs.Stated.{StatedJobs}
@@ -21,9 +20,8 @@ module _ {S J F P : Type 0} (plain : Plain S P) (may : StatedJobs S J F P) where
       → (concerns id x.came ≡ false) ⊎ ((method : List ℕ) × (params : Data)
       × (x.came ≡ Some (request id method params))) → how_many (is_reply_under id) x.sent ≡ 0
   silent_at id x t taken spares calm =
-      fewer (is_reply_under id) x.sent taken.1.1 (all_sends taken.1.0 (acts_done_at x.came t.call.acts))
-      (sym taken.1.2)
-      (mute id (acts_done_at x.came t.call.acts) taken.1.0 (settled_spares x.came t.call.acts id spares calm))
+      ap (how_many (is_reply_under id)) (sym taken.1.1)
+      ∙ mute id (acts_done_at x.came t.call.acts) taken.1.0 (settled_spares x.came t.call.acts id spares calm)
 
   quiet_at : (id : Id) (xs : List Exchange) (turns : List (Turn plain may)) → AreTakenAt plain may xs turns
       → AllQuiet plain may id turns → IsQuiet id xs

@@ -11,5 +11,6 @@ mod SlotChanges
 mod SlotTurns
 pub mod QueuedJobSend
 pub mod Refused
+mod RefusedSlots
 pub mod MessageSend
 pub mod PendingLemmas

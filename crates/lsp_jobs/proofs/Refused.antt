@@ -182,24 +182,17 @@ latest xs x id method params l =
     ]
 
 module _ {S J F P : Type 0} (plain : Plain S P) (may : StatedJobs S J F P) where
-  abbrev Whose : S → List Exchange → Id → Outcome → Type 0
-  Whose first earlier id outcome = AnswersRequest plain may first earlier id outcome ⊎ RepliesItself may id outcome
+  abbrev Whose : S → List Exchange → List Message → Id → Outcome → Type 0
+  Whose first earlier output id outcome =
+      AnswersRequest plain may first earlier id outcome ⊎ RepliesItself plain may first earlier output id outcome
 
   by_left : (left : List (Left may)) (id : Id) (outcome : Outcome) → Has (replies id outcome) (at_ends may left)
-      → RepliesItself may id outcome
+      → (l : Left may) × Has l left × Has (replies id outcome) l.acts
   by_left [] id outcome has = not_empty has.0 has.1 (replies id outcome) has.2
   by_left (l ∷ left) id outcome has =
       elim (has_either (replies id outcome) l.acts (at_ends may left) has.0 has.1 has.2) [
-        | inl own ↦ record {
-          name = Slot l.slot;
-          end = l.end;
-          old = l.old;
-          before = own.0;
-          after = own.1;
-          new = l.new;
-          saw = subst (λ (acts : List (Act P)). SeesEnd may l.old (Slot l.slot) l.end acts l.new) own.2 l.saw;
-        }
-        | inr later ↦ by_left left id outcome later
+        | inl own ↦ (l, ([], left, refl), own)
+        | inr later ↦ (let r = by_left left id outcome later in (r.0, has_later r.0 l left r.1, r.2))
       ]
 
   -- a reply among acts of which there is one
@@ -230,23 +223,38 @@ module _ {S J F P : Type 0} (plain : Plain S P) (may : StatedJobs S J F P) where
         reply = sym it;
       }) has
 
-  by_job : (first : S) (earlier : List Exchange) (turns : List (Turn plain may)) (t : Turn plain may) (name : JobName)
-      (job : J) (id : Id) (outcome : Outcome) → Leads plain may first earlier turns t.old
-      → Stands plain may turns name job → JobSays plain may t name job → Has (replies id outcome) t.call.acts
-      → Whose first earlier id outcome
-  by_job first earlier turns t name job id outcome led stands (inl r) has =
+  by_job : (first : S) (earlier : List Exchange) (output : List Message) (w : WakeSends plain may first earlier output)
+      (name : JobName) (job : J) (id : Id) (outcome : Outcome) → Stands plain may w.turns name job
+      → JobSays plain may w.turn name job → Has (replies id outcome) w.turn.call.acts
+      → Whose first earlier output id outcome
+  by_job first earlier output w name job id outcome stands (inl r) has =
       only_reply (tells r.0 r.1) id outcome (λ wrong. absurd (cc (wrong)))
       (subst (Has (replies id outcome)) r.3 has)
-  by_job first earlier turns t name job id outcome led stands (inr (inl a)) has =
+  by_job first earlier output w name job id outcome stands (inr (inl a)) has =
       only_reply (asks a.0 a.1 (ByJob a.2)) id outcome (λ wrong. absurd (cc (wrong)))
       (subst (Has (replies id outcome)) a.4 has)
-  by_job first earlier turns t name job id outcome led stands (inr (inr o)) has =
+  by_job first earlier output w name job id outcome stands (inr (inr o)) has =
+      let t = w.turn in
       let own = by_own ((o.1 ++ reply_at name o.0) ++ at_ends may t.left) id outcome
       (subst (Has (replies id outcome)) o.4 has) in
       elim (has_either (replies id outcome) (o.1 ++ reply_at name o.0) (at_ends may t.left) own.0 own.1 own.2) [
-        | inr later ↦ inr (by_left t.left id outcome later)
+        | inr later ↦
+            let r = by_left t.left id outcome later in
+            let l = r.0 in
+            inr (record {
+              wake = w;
+              name = Slot l.slot;
+              end = l.end;
+              old = l.old;
+              before = r.2.0;
+              after = r.2.1;
+              new = l.new;
+              saw = subst (λ (acts : List (Act P)). SeesEnd may l.old (Slot l.slot) l.end acts l.new) r.2.2 l.saw;
+              at = inr (l, r.1.0, r.1.1, r.1.2, refl, refl, refl, sym r.2.2, refl);
+            })
         | inl now ↦ elim (has_either (replies id outcome) o.1 (reply_at name o.0) now.0 now.1 now.2) [
           | inl itself ↦ inr (record {
+            wake = w;
             name = name;
             end = end_of o.0;
             old = t.old;
@@ -254,25 +262,26 @@ module _ {S J F P : Type 0} (plain : Plain S P) (may : StatedJobs S J F P) where
             after = itself.1;
             new = t.asked;
             saw = subst (λ (acts : List (Act P)). SeesEnd may t.old name (end_of o.0) acts t.asked) itself.2 o.3;
+            at = inl (o.5, refl, refl);
           })
-          | inr reply ↦ inl (by_name first earlier turns t.old name job o.0 id outcome led stands o.2 reply)
+          | inr reply ↦ inl (by_name first earlier w.turns t.old name job o.0 id outcome w.led stands o.2 reply)
         ]
       ]
 
   -- whose reply it is
   pub whose : (first : S) (earlier : List Exchange) (output before after : List Message) (id : Id) (outcome : Outcome)
       → WakeSends plain may first earlier output → output ≡ before ++ response id outcome ∷ after
-      → Whose first earlier id outcome
+      → Whose first earlier output id outcome
   whose first earlier output before after id outcome w cut = at w.does
     where
       has : Has (replies id outcome) w.turn.call.acts
-      has = by_an_act w.turn.call.acts w.sent.0 id outcome before (after ++ w.sent.1)
-          (w.sent.2 ∙ ap (λ (l : List Message). l ++ w.sent.1) cut
-          ∙ append_assoc before (response id outcome ∷ after) w.sent.1)
+      has = by_an_act w.turn.call.acts w.sent.0 id outcome before (after ++ w.lost)
+          (w.sent.1 ∙ ap (λ (l : List Message). l ++ w.lost) cut
+          ∙ append_assoc before (response id outcome ∷ after) w.lost)
 
-      at : WakeDoes plain may w.turns w.turn → Whose first earlier id outcome
-      at (inl nothing) = not_empty has.0 has.1 (replies id outcome) (sym nothing ∙ has.2)
-      at (inr (inl s)) = by_job first earlier w.turns w.turn s.0 s.1 id outcome w.led s.2 s.3 has
+      at : WakeDoes plain may w.turns w.turn → Whose first earlier output id outcome
+      at (inl nothing) = not_empty has.0 has.1 (replies id outcome) (sym nothing.0 ∙ has.2)
+      at (inr (inl s)) = by_job first earlier output w s.0 s.1 id outcome s.2 s.3 has
       at (inr (inr c)) = only_reply (cancels (of_job c.0)) id outcome (λ wrong. absurd (cc (wrong)))
           (subst (Has (replies id outcome)) c.1 has)
 
@@ -280,7 +289,8 @@ module _ {S J F P : Type 0} (plain : Plain S P) (may : StatedJobs S J F P) where
   abbrev Gives : S → List Exchange → Id → Outcome → Type 0
   Gives first earlier id outcome = WakeSends plain may first earlier (response id outcome ∷ [])
 
-  its_own : (first : S) (earlier : List Exchange) (id : Id) (outcome : Outcome) → (RepliesItself may id outcome → ⊥)
+  its_own : (first : S) (earlier : List Exchange) (id : Id) (outcome : Outcome)
+      → (RepliesItself plain may first earlier (response id outcome ∷ []) id outcome → ⊥)
       → Gives first earlier id outcome → AnswersRequest plain may first earlier id outcome
   its_own first earlier id outcome silent gives =
       elim (whose first earlier (response id outcome ∷ []) [] [] id outcome gives refl) [
@@ -288,7 +298,8 @@ module _ {S J F P : Type 0} (plain : Plain S P) (may : StatedJobs S J F P) where
         | inr itself ↦ absurd (silent itself)
       ]
 
-  module _ (first : S) (silent : (id : Id) (outcome : Outcome) → RepliesItself may id outcome → ⊥) where
+  module _ (first : S) (silent : (earlier : List Exchange) (output : List Message) (id : Id) (outcome : Outcome)
+      → RepliesItself plain may first earlier output id outcome → ⊥) where
     -- a reply to which no job may come that the server may give for the last request under the id, be it that of an
     -- earlier or another one, or of a job that is for the request and was not given
     forbidden : (xs : List Exchange) (id : Id) (method : List ℕ) (params : Data) (output : List Message)
@@ -297,7 +308,7 @@ module _ {S J F P : Type 0} (plain : Plain S P) (may : StatedJobs S J F P) where
         → may.is_for job method params → ComesTo may.comes_to job came → outcome ≡ reply_of came → ⊥)
         → Gives first (xs ++ record { came = Some (request id method params); sent = output } ∷ []) id outcome → ⊥
     forbidden xs id method params output outcome never gives =
-        let r = its_own first all id outcome (silent id outcome) gives in
+        let r = its_own first all id outcome (silent all (response id outcome ∷ []) id outcome) gives in
         at r (latest xs asks id r.given.method r.given.params r.given.last).0
       where
         asks : Exchange
@@ -323,8 +334,8 @@ module _ {S J F P : Type 0} (plain : Plain S P) (may : StatedJobs S J F P) where
         (outcome : Outcome) → cancelled_by method params ≡ Some id
         → Gives first (xs ++ record { came = Some (notification method params); sent = output } ∷ []) id outcome → ⊥
     after_cancellation xs id method params output outcome is gives =
-        let r = its_own first (xs ++ record { came = Some (notification method params); sent = output } ∷ []) id outcome
-        (silent id outcome) gives in
+        let all = xs ++ record { came = Some (notification method params); sent = output } ∷ [] in
+        let r = its_own first all id outcome (silent all (response id outcome ∷ []) id outcome) gives in
         elim (latest xs (record { came = Some (notification method params); sent = output }) id r.given.method
         r.given.params r.given.last).0 [
           | inl wrong ↦ absurd (cc (wrong))
@@ -335,8 +346,8 @@ module _ {S J F P : Type 0} (plain : Plain S P) (may : StatedJobs S J F P) where
     second_reply : (xs : List Exchange) (id : Id) (came : Option Message) (one outcome : Outcome)
         → Gives first (xs ++ record { came = came; sent = response id one ∷ [] } ∷ []) id outcome → ⊥
     second_reply xs id came one outcome gives =
-        let r = its_own first (xs ++ record { came = came; sent = response id one ∷ [] } ∷ []) id outcome
-        (silent id outcome) gives in
+        let all = xs ++ record { came = came; sent = response id one ∷ [] } ∷ [] in
+        let r = its_own first all id outcome (silent all (response id outcome ∷ []) id outcome) gives in
         let none : one_if (eq_by_cmp id_cmp id id) + 0 ≡ 0 = (latest xs (record {
           came = came;
           sent = response id one
@@ -357,7 +368,7 @@ module _ {S J F P : Type 0} (plain : Plain S P) (may : StatedJobs S J F P) where
     no_request : (earlier : List Exchange) (id : Id) (outcome : Outcome) → how_many (is_request_under id)
         (messages_of earlier) ≡ 0 → Gives first earlier id outcome → ⊥
     no_request earlier id outcome none gives =
-        let r = its_own first earlier id outcome (silent id outcome) gives in
+        let r = its_own first earlier id outcome (silent earlier (response id outcome ∷ []) id outcome) gives in
         let l = r.given.last in
         let x : Exchange = record { came = Some (request id r.given.method r.given.params); sent = l.sent } in
         let all : messages_of earlier
@@ -398,7 +409,7 @@ module _ {S J F P : Type 0} (plain : Plain S P) (may : StatedJobs S J F P) where
       → (may.sorts t.old method params false → ⊥) → (IsAtOnce may t.old id method params outcome → ⊥)
       → IsTurn plain may t → ⊥
   unknown_reply t id method params outcome came said short unknown (inl called) =
-      short (subst (λ (l : Option Message). IsCalled plain may t.old l called.0 t.asked) came called.1).0
+      short (subst (λ (l : Option Message). IsCalled plain may t.old l t.heard called.0 t.asked) came called.1).0
   unknown_reply t id method params outcome came said short unknown (inr passed) =
       let long = subst (λ (l : Option Message). MayPass plain may t.old l t.call.acts) came passed.0 in
       elim long [
@@ -415,7 +426,7 @@ module _ {S J F P : Type 0} (plain : Plain S P) (may : StatedJobs S J F P) where
       → t.call.came ≡ Some (request id method params) → (may.sorts t.old method params false → ⊥)
       → (t.new ≡ t.old → ⊥) → IsTurn plain may t → ⊥
   changed_when_long t id method params came short changed (inl called) =
-      short (subst (λ (l : Option Message). IsCalled plain may t.old l called.0 t.asked) came called.1).0
+      short (subst (λ (l : Option Message). IsCalled plain may t.old l t.heard called.0 t.asked) came called.1).0
   changed_when_long t id method params came short changed (inr passed) = changed passed.3
 
   quiet_at : (id : Id) (before after : List (Turn plain may)) (t : Turn plain may)
@@ -508,7 +519,7 @@ module _ {S J F P : Type 0} (plain : Plain S P) (may : StatedJobs S J F P) where
     reply_unasked : (earlier : List (Turn plain may)) (t : Turn plain may) (id : Id) (outcome : Outcome)
         → Unasked earlier id → t.call.acts ≡ replies id outcome ∷ [] → WakeDoes plain may earlier t → ⊥
     reply_unasked earlier t id outcome unasked said (inl nothing) =
-        let no : replies id outcome ∷ [] ≡ [] = sym said ∙ nothing in absurd (cc (no))
+        let no : replies id outcome ∷ [] ≡ [] = sym said ∙ nothing.0 in absurd (cc (no))
     reply_unasked earlier t id outcome unasked said (inr (inr c)) =
         let no : replies id outcome ∷ [] ≡ cancels (of_job c.0) ∷ [] = sym said ∙ c.1 in absurd (cc (no))
     reply_unasked earlier t id outcome unasked said (inr (inl w)) = elim w.3 [

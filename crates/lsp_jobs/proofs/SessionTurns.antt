@@ -1,6 +1,7 @@
 -- The turns of a server with jobs through its session, one at each exchange since the result of `initialize`.
 use Rattle.serde_json.specs.Data.{Data}
-use Rattle.std.proofs.Common.{◌≡◌, refl, sym, ◌∙◌, ap, subst, ℕ, Bool, true, false, List, [], ◌∷◌, ◌++◌, append_assoc}
+use Rattle.std.proofs.Common.{◌≡◌, ◌⊎◌, refl, sym, ◌∙◌, ap, subst, inl, inr, ℕ, Bool, true, false, List, [], ◌∷◌, ◌++◌}
+use Rattle.std.proofs.Common.{append_assoc}
 use Rattle.std.proofs.Common.{append-nil, Option, Some, None, codes}
 use Rattle.std.proofs.lemmas.Slice.Eq.{bytes_eq-Decides}
 use Rattle.std.specs.Bool.{MatchBool}
@@ -11,10 +12,10 @@ use Rattle.lsp_message.specs.Methods.{is_initialize, is_initialized}
 use Rattle.lsp_queue.specs.Queue.{count_of}
 use Rattle.lsp_session.proofs.Ran.{Ran, reaches_ran, Idle, early_request, early_note, unasked, uninvited, leaves, exits}
 use Rattle.lsp_session.proofs.Ran.{late, stays, StepCase, at_initialize, at_initialized, at_served, at_woken}
-use Rattle.lsp_session.proofs.Ran.{at_shutdown, idle, row, part_one}
+use Rattle.lsp_session.proofs.Ran.{at_shutdown, idle, row, part_one, IsWhole}
 use Rattle.lsp_session.specs.Replies.{IsEarlyReply}
 use Rattle.lsp_session.specs.Session.{Exchange, SessionAnswer, Stop, Phase, starting, replied as in_reply, serving}
-use Rattle.lsp_session.specs.Session.{phase_after, Step}
+use Rattle.lsp_session.specs.Session.{decided, exhausted, no_more, phase_after, refused, timed_out, Step}
 use Rattle.lsp_session.specs.SessionLaws.{EndsWithResult}
 use Rattle.lsp_acts.proofs.Acting.{acts_at}
 use Rattle.lsp_acts.proofs.Counting.{Fresh}
@@ -29,7 +30,7 @@ use Rattle.lsp_jobs.proofs.Answering.{back_pending, requests_then, sent_all}
 use Rattle.lsp_jobs.proofs.Owed.{replies_at_wake, waits_called, waits_opened, HeldWaits}
 use Rattle.lsp_jobs.proofs.SlotTurns.{AllStand, TurnOf, handed_turn, opened as opening_turn, stands_after}
 use Rattle.lsp_jobs.proofs.SlotTurns.{stands_opened, took_back}
-use Rattle.lsp_jobs.specs.JobLaw.{AnswersByJobs, AreTakenAt, IsTakenAt, Leads, RepliesToLast, SendsSo, WakeSends}
+use Rattle.lsp_jobs.specs.JobLaw.{AnswersByJobs, AreTakenAt, IsTakenAt, Leads, MayLose, RepliesToLast, WakeSends}
 use Rattle.lsp_jobs.specs.JobSession.{JobSession, seen_with_jobs}
 use Rattle.lsp_jobs.specs.PendingJobs.{PendingJobs, no_jobs}
 use Rattle.lsp_jobs.specs.PoolView.{pending_jobs}
@@ -88,6 +89,21 @@ module _ {S J F P : Type 0} (plain : Plain S P) (may : StatedJobs S J F P) where
     linked = turns_more led.start now turns t led.linked is back;
   }
 
+-- what is lost
+lost_so : (stop : Stop) (later : List Exchange) (more : List Message) → (more ≡ []) ⊎ ((later ≡ [])
+    × (IsWhole stop → ⊥)) → MayLose stop later more
+lost_so (refused fault) [] more any = tt
+lost_so (refused fault) (x ∷ later) more (inl none) = none
+lost_so (refused fault) (x ∷ later) more (inr last) = absurd (let no = last.0 in cc (no))
+lost_so decided later more (inl none) = none
+lost_so decided later more (inr last) = absurd (last.1 tt)
+lost_so no_more later more (inl none) = none
+lost_so no_more later more (inr last) = absurd (last.1 tt)
+lost_so timed_out later more (inl none) = none
+lost_so timed_out later more (inr last) = absurd (last.1 tt)
+lost_so exhausted later more (inl none) = none
+lost_so exhausted later more (inr last) = absurd (last.1 tt)
+
 module _ (T : Type 0) {S J F P : Type 0} (plain : Plain S P) (may : StatedJobs S J F P) (first : S) where
   abbrev W : Plain (PooledServer T S J F) (RequestOrigin P)
   W = seen_with_jobs T plain may
@@ -117,11 +133,14 @@ module _ (T : Type 0) {S J F P : Type 0} (plain : Plain S P) (may : StatedJobs S
   Ready earlier serving w = ((queues_in w).sent ≡ []) × Stood earlier w × ((id : Id) → HeldWaits W id earlier w)
   Ready earlier phase w = Unit {0}
 
-  abbrev Wake : List Exchange → Exchange → Type 0
-  Wake earlier x = x.came ≡ None → WakeSends plain may first earlier x.sent × RepliesToLast earlier x.sent
+  -- a wake at which this was to be sent and is lost
+  abbrev Wake : List Exchange → Exchange → List Message → Type 0
+  Wake earlier x more = x.came ≡ None → (wake : WakeSends plain may first earlier x.sent) × (wake.lost ≡ more)
+      × RepliesToLast earlier x.sent
 
-  abbrev Steps_on : List Exchange → Exchange → Phase → Working → Type 0
-  Steps_on earlier x q w = Wake earlier x × Ready (earlier ++ x ∷ []) q w
+  -- The session goes on only if nothing is lost.
+  abbrev Steps_on : List Exchange → Exchange → List Message → Phase → Working → Type 0
+  Steps_on earlier x more q w = Wake earlier x more × (more ≡ [] → Ready (earlier ++ x ∷ []) q w)
 
   -- the turn of the server's at an exchange
   stood_on : (earlier : List Exchange) (x : Exchange) (old did : PooledServer T S J F) (w' : Working)
@@ -143,7 +162,7 @@ module _ (T : Type 0) {S J F P : Type 0} (plain : Plain S P) (may : StatedJobs S
   -- the server is called
   called : (earlier : List Exchange) (w w' : Working) (x : Exchange) (full more : List Message) → x.sent ++ more ≡ full
       → Ready earlier serving w
-      → WorksSending W (queues.seen w) x.came full (queues.seen w') → Steps_on earlier x serving w'
+      → WorksSending W (queues.seen w) x.came full (queues.seen w') → Steps_on earlier x more serving w'
   called earlier w w' x full more part ready gives = (
     λ none. (
       record {
@@ -151,16 +170,23 @@ module _ (T : Type 0) {S J F P : Type 0} (plain : Plain S P) (may : StatedJobs S
         turn = t.turn;
         led = subst (Leads plain may first earlier s.turns) (sym t.from) s.led;
         is_turn = t.is_turn;
-        woken = taken.0 ∙ none;
+        woken = came ∙ none;
         does = t.wake s.turns s.stand none;
-        sent = subst (λ (o : Option Message). SendsSo (acts_done_at o t.turn.call.acts) x.sent) none taken.1;
+        lost = more;
+        sent = (
+          asked,
+          subst (λ (o : Option Message). all_sends asked (acts_done_at o t.turn.call.acts)
+              ≡ x.sent ++ more) none sends,
+        );
       },
+      refl,
       λ id. replies_at_wake W id earlier w w' x full more part ready.0 (ready.2 id)
           (subst (λ (l : Option Message). WorksSending W (queues.seen w) l full (queues.seen w')) none gives),
     ),
-    (
+    λ whole. (
       ap (λ (y : PooledServer T S J F × Queues (RequestOrigin P)). y.1.sent) gives.3,
-      stood_on earlier x w.server a.did w' call s.turns (count_of (queues_in w).asked) t s.led taken a.back
+      stood_on earlier x w.server a.did w' call s.turns (count_of (queues_in w).asked) t s.led
+          (came, (asked, sends ∙ ap (λ (l : List Message). x.sent ++ l) whole ∙ append-nil x.sent)) a.back
           (stands_after T plain may w.server a.did s.turns call t s.stand
           (requests_then T plain may w.server a.did x.came a.payload a.acts a.handed)),
       λ id. waits_called W id earlier w w' x full more part ready.0 (ready.2 id) gives,
@@ -182,27 +208,23 @@ module _ (T : Type 0) {S J F P : Type 0} (plain : Plain S P) (may : StatedJobs S
       asked : Queues (RequestOrigin P)
       asked = queues_at (queues_in w) x.came a.payload
 
-      taken : IsTakenAt plain may x t.turn
-      taken = (
-        ap (λ (c : Call (RequestOrigin P)). c.came) t.of_call,
-        (
-          asked,
-          more,
-          ap (λ (c : Call (RequestOrigin P)). all_sends asked (acts_done_at x.came c.acts)) t.of_call
-              ∙ sym (a.sent ∙ ap (λ (l : List Message). l ++ all_sends asked (acts_done_at x.came a.acts)) ready.0)
-              ∙ sym part,
-        ),
-      )
+      came : t.turn.call.came ≡ x.came
+      came = ap (λ (c : Call (RequestOrigin P)). c.came) t.of_call
+
+      sends : all_sends asked (acts_done_at x.came t.turn.call.acts) ≡ x.sent ++ more
+      sends = ap (λ (c : Call (RequestOrigin P)). all_sends asked (acts_done_at x.came c.acts)) t.of_call
+          ∙ sym (a.sent ∙ ap (λ (l : List Message). l ++ all_sends asked (acts_done_at x.came a.acts)) ready.0)
+          ∙ sym part
 
   -- `initialized` came
   opened : (earlier : List Exchange) (w w' : Working) (x : Exchange) (m : Message) (full more : List Message) → x.came
       ≡ Some m → is_initialized m ≡ true → x.sent ++ more ≡ full → Early earlier w → EndsWithResult earlier
-      → OpensSending W (queues.seen w) full (queues.seen w') → Steps_on earlier x serving w'
+      → OpensSending W (queues.seen w) full (queues.seen w') → Steps_on earlier x more serving w'
   opened earlier w w' x m full more there begins part early ends o = (
     (λ none. absurd (cc (there, none))),
-    (
+    λ whole. (
       ap (λ (y : PooledServer T S J F × Queues (RequestOrigin P)). y.1.sent) o.3,
-      stood_on earlier x w.server o.1.1 w' call [] (count_of (queues_in w).asked) t led taken
+      stood_on earlier x w.server o.1.1 w' call [] (count_of (queues_in w).asked) t led (taken whole)
           (subst (λ (p : PooledServer T S J F). TakesBack W.takes_back o.1.1
           (unsent (count_of (queues_in w).asked) o.1.0) p)
           (sym (ap (λ (y : PooledServer T S J F × Queues (RequestOrigin P)). y.0) o.3)) o.1.3)
@@ -233,15 +255,15 @@ module _ (T : Type 0) {S J F P : Type 0} (plain : Plain S P) (may : StatedJobs S
       sent = o.2 ∙ ap (λ (d : Queues (RequestOrigin P)). d.sent) o.1.4 ∙ sent_all (queues_in w) o.1.0
           ∙ ap (λ (d : Queues (RequestOrigin P)). d.sent ++ all_sends (queues_in w) o.1.0) early.0
 
-      taken : IsTakenAt plain may x t.turn
-      taken = (
+      taken : more ≡ [] → IsTakenAt plain may x t.turn
+      taken whole = (
         ap (λ (c : Call (RequestOrigin P)). c.came) t.of_call ∙ sym there,
         (
           queues_in w,
-          more,
           ap (λ (c : Call (RequestOrigin P)). all_sends (queues_in w) (acts_done_at x.came c.acts)) t.of_call
               ∙ ap (λ (l : Option Message). all_sends (queues_in w) (acts_done_at l o.1.0)) there
-              ∙ ap (all_sends (queues_in w)) (no_cancel m o.1.0 begins) ∙ sym sent ∙ sym part,
+              ∙ ap (all_sends (queues_in w)) (no_cancel m o.1.0 begins) ∙ sym sent ∙ sym part
+              ∙ ap (λ (l : List Message). x.sent ++ l) whole ∙ append-nil x.sent,
         ),
       )
 
@@ -301,7 +323,7 @@ module _ (T : Type 0) {S J F P : Type 0} (plain : Plain S P) (may : StatedJobs S
 
   one_step : (earlier : List Exchange) (p q : Phase) (w w' : Working) (x : Exchange) (full more : List Message) → x.sent
       ++ more ≡ full → (x.sent ≡ [] → full ≡ []) → Ready earlier p w
-      → Step (with_queues W) p w x.came full q w' → Steps_on earlier x q w'
+      → Step (with_queues W) p w x.came full q w' → Steps_on earlier x more q w'
   one_step earlier p q w w' x full more part some ready step = by (row (with_queues W) p q w w' x.came full step)
     where
       one : (r : Message) → full ≡ r ∷ [] → x.sent ≡ r ∷ []
@@ -331,11 +353,11 @@ module _ (T : Type 0) {S J F P : Type 0} (plain : Plain S P) (may : StatedJobs S
         },
       )
 
-      by : StepCase (with_queues W) p w x.came full q w' → Steps_on earlier x q w'
+      by : StepCase (with_queues W) p w x.came full q w' → Steps_on earlier x more q w'
       by (at_initialize i method params outcome begun is e init sent next) =
           let before : Early earlier w = (rw begun at ready) in (
             (λ none. absurd (cc (is, none))),
-            rw next (after i method params outcome is e sent
+            λ whole. rw next (after i method params outcome is e sent
                 (init.1 ∙ before.0, init.0.1 ∙ before.1, early begun)),
           )
       by (at_initialized m begun there e gives next) =
@@ -349,44 +371,55 @@ module _ (T : Type 0) {S J F P : Type 0} (plain : Plain S P) (may : StatedJobs S
           W (queues.seen w) l full (queues.seen w')) (sym none) gives))
       by (at_shutdown i method params parting begun there e gives sent next) = (
         (λ none. absurd (cc (there, none))),
-        rw next tt,
+        λ whole. rw next tt,
       )
       by (idle m there same any is) = (
         (λ none. absurd (cc (there, none))),
-        idly earlier p q w w' x m full same early ready is,
+        λ whole. idly earlier p q w w' x m full same early ready is,
       )
 
-  abbrev AllWakes : List Exchange → List Exchange → Type 0
-  AllWakes earlier [] = Unit {0}
-  AllWakes earlier (x ∷ xs) = Wake earlier x × AllWakes (earlier ++ x ∷ []) xs
+  -- what is sent at an exchange that is a wake, and what is lost
+  abbrev At : Stop → List Exchange → Exchange → List Exchange → Type 0
+  At stop earlier x later = x.came ≡ None → (wake : WakeSends plain may first earlier x.sent)
+      × MayLose stop later wake.lost × RepliesToLast earlier x.sent
+
+  abbrev AllWakes : Stop → List Exchange → List Exchange → Type 0
+  AllWakes stop earlier [] = Unit {0}
+  AllWakes stop earlier (x ∷ xs) = At stop earlier x xs × AllWakes stop (earlier ++ x ∷ []) xs
 
   run_wakes : (stop : Stop) (earlier xs : List Exchange) (p q : Phase) (w w' : Working) → Ran (with_queues W) stop p w
-      xs q w' → Ready earlier p w → AllWakes earlier xs
+      xs q w' → Ready earlier p w → AllWakes stop earlier xs
   run_wakes stop earlier [] p q w w' run ready = tt
   run_wakes stop earlier (x ∷ xs) p q w w' run ready =
-      let one = one_step earlier p run.4 w run.5 x run.0 run.1 run.2 run.3 ready run.6 in
-      (one.0, run_wakes stop (earlier ++ x ∷ []) xs run.4 q run.5 w' run.8 one.1)
+      let one = one_step earlier p run.4 w run.5 x run.0 run.1 run.2 run.3 ready run.6 in (
+        λ none.
+            let wake = one.0 none in
+            (wake.0, subst (MayLose stop xs) (sym wake.1) (lost_so stop xs run.1 run.7), wake.2),
+        elim run.7 [
+          | inl whole ↦ run_wakes stop (earlier ++ x ∷ []) xs run.4 q run.5 w' run.8 (one.1 whole)
+          | inr last ↦ subst (AllWakes stop (earlier ++ x ∷ [])) (sym last.0) tt
+        ],
+      )
 
-  abbrev At : List Exchange → List Message → Type 0
-  At earlier output = WakeSends plain may first earlier output × RepliesToLast earlier output
-
-  at_each : (earlier xs : List Exchange) → AllWakes earlier xs → (before later : List Exchange) (x : Exchange) → xs
-      ≡ before ++ x ∷ later → x.came ≡ None → At (earlier ++ before) x.sent
-  at_each earlier [] all [] later x e none = absurd (cc (e))
-  at_each earlier [] all (b ∷ before) later x e none = absurd (cc (e))
-  at_each earlier (y ∷ xs) all [] later x e none =
+  at_each : (stop : Stop) (earlier xs : List Exchange) → AllWakes stop earlier xs → (before later : List Exchange)
+      (x : Exchange) → xs ≡ before ++ x ∷ later → At stop (earlier ++ before) x later
+  at_each stop earlier [] all [] later x e = absurd (cc (e))
+  at_each stop earlier [] all (b ∷ before) later x e = absurd (cc (e))
+  at_each stop earlier (y ∷ xs) all [] later x e =
       let same : y ≡ x = cc (e) in
-      subst (λ (es : List Exchange). At es x.sent) (sym (append-nil earlier)) (subst (Wake earlier) same all.0 none)
-  at_each earlier (y ∷ xs) all (b ∷ before) later x e none =
+      let rest : xs ≡ later = cc (e) in
+      subst (λ (es : List Exchange). At stop es x later) (sym (append-nil earlier))
+      (subst (λ (z : Exchange × List Exchange). At stop earlier z.0 z.1) (λ k. (same k, rest k)) all.0)
+  at_each stop earlier (y ∷ xs) all (b ∷ before) later x e =
       let same : y ≡ b = cc (e) in
       let rest : xs ≡ before ++ x ∷ later = cc (e) in
-      subst (λ (es : List Exchange). At es x.sent)
+      subst (λ (es : List Exchange). At stop es x later)
       (append_assoc earlier (y ∷ []) before ∙ ap (λ (z : Exchange). earlier ++ z ∷ before) same)
-      (at_each (earlier ++ y ∷ []) xs all.1 before later x rest none)
+      (at_each stop (earlier ++ y ∷ []) xs all.1 before later x rest)
 
 pub answers_by_jobs : (T : Type 0) {S J F P : Type 0} (plain : Plain S P) (may : StatedJobs S J F P) (first last : S)
     (xs : List Exchange) (stop : Stop) (shutdown_reply : Option Message) (answer : SessionAnswer)
-    → JobSession T plain may first last xs stop shutdown_reply answer → AnswersByJobs plain may first xs
+    → JobSession T plain may first last xs stop shutdown_reply answer → AnswersByJobs plain may first stop xs
 answers_by_jobs T {S} {J} {F} {P} plain may first last xs stop shutdown_reply answer session =
     let s = session.session in
     let began = ap (λ (y : PooledServer T S J F × Queues (RequestOrigin P)). y.0) s.from_first in
@@ -395,6 +428,7 @@ answers_by_jobs T {S} {J} {F} {P} plain may first last xs stop shutdown_reply an
     ∙ ap (λ (y : S × PendingJobs J). y.1) session.from_first in
     let same : s.old.server.server ≡ first =
     ap (λ (p : PooledServer T S J F). p.server) began ∙ ap (λ (y : S × PendingJobs J). y.0) session.from_first in
-    at_each T plain may first [] xs (run_wakes T plain may first stop [] xs starting s.out.last s.old s.out.after
+    λ earlier later x cut. at_each T plain may first stop [] xs (run_wakes T plain may first stop [] xs starting
+    s.out.last s.old s.out.after
     (reaches_ran (with_queues (seen_with_jobs T plain may)) stop starting s.out.last s.old s.out.after xs s.out.reached)
-    (ap (λ (y : PooledServer T S J F × Queues (RequestOrigin P)). y.1) s.from_first, none, same))
+    (ap (λ (y : PooledServer T S J F × Queues (RequestOrigin P)). y.1) s.from_first, none, same)) earlier later x cut

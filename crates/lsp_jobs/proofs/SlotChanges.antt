@@ -4,16 +4,20 @@ use Rattle.std.proofs.Common.{◌≡◌, ◌⊎◌, refl, sym, ◌∙◌, ap, su
 use Rattle.std.proofs.Common.{◌++◌, append_assoc, append-nil, Option, Some, None}
 use Rattle.std.specs.List.{FoldsTo}
 use Rattle.std.specs.Ordering.{eq_by_cmp}
-use Rattle.std.specs.Prelude.{MatchOption}
+use Rattle.std.specs.Prelude.{is_some, IsSome, MatchOption}
 use Rattle.lsp_message.specs.Id.{Id, id_cmp, same_id}
 use Rattle.lsp_message.specs.IdLaws.{id_decides}
 use Rattle.lsp_acts.specs.Acts.{Act, tells, asks, replies, cancels}
 use Rattle.lsp_acts.specs.declared.server.Server.{Ghosts as Plain}
 use Rattle.lsp_jobs.specs.Ends.{End, ended}
-use Rattle.lsp_jobs.specs.PendingJobs.{PendingJobs, without}
+use Rattle.lsp_jobs.proofs.PendingLemmas.{without_with}
+use Rattle.lsp_jobs.specs.PendingJobs.{PendingJobs, with_job, without}
 use Rattle.lsp_jobs.specs.Pooled.{unanswered, Changes, EndsThen, Frees, StartsOne}
 use Rattle.lsp_jobs.specs.SlotLaw.{IsLeft, LeavesAlone, Left, SeesLeft, Spares, StartsLast, at_ends}
+use Rattle.lsp_jobs.specs.SlotLaw.{SlotEvent, starts, ends_heard, ends_left, lefts_of, after_event, after_events, Fits}
+use Rattle.lsp_jobs.specs.SlotLaw.{TakeTurns, MayLeave, Becomes}
 use Rattle.lsp_jobs.specs.Stated.{StatedJobs}
+use Rattle.lsp_jobs.specs.declared.job_server.JobEnd.{JobEnd}
 use Rattle.lsp_jobs.specs.declared.job_server.JobEnd.TheVariants.{Refused, Replaced, Stopped}
 use Rattle.lsp_jobs.specs.declared.job_server.SlotChange.{SlotChange}
 use Rattle.lsp_jobs.specs.declared.job_server.SlotChange.TheVariants.{Start, Stop}
@@ -53,6 +57,10 @@ module _ {A : Type 0} where
   fewer_slots (Request i) pending s e has = has
   fewer_slots (Slot t) pending s e has = (without_slot t pending s e has).0
 
+  -- the job that is in each slot
+  abbrev pub in_slots : PendingJobs A → Id → Option A
+  in_slots pending = λ slot. pending (Slot slot)
+
 module _ {A P : Type 0} where
   pub unanswered_has : (acts : List (Act P)) (pending : PendingJobs A) (id : Id) (e : A) → unanswered acts pending
       (Request id) ≡ Some e → (pending (Request id) ≡ Some e) × Spares id acts
@@ -74,6 +82,10 @@ module _ {A P : Type 0} where
   unanswered_slot (asks method params payload ∷ acts) pending slot = unanswered_slot acts pending slot
   unanswered_slot (cancels z ∷ acts) pending slot = unanswered_slot acts pending slot
 
+  pub unanswered_slots : (acts : List (Act P)) (pending : PendingJobs A) → in_slots (unanswered acts pending)
+      ≡ in_slots pending
+  unanswered_slots acts pending = λ k slot. unanswered_slot acts pending slot k
+
   -- the requests of the first act, and then those of the others
   pub unanswered_first : (act : Act P) (acts : List (Act P)) (pending : PendingJobs A) → unanswered (act ∷ acts) pending
       ≡ unanswered acts (unanswered (act ∷ []) pending)
@@ -82,17 +94,69 @@ module _ {A P : Type 0} where
   unanswered_first (asks method params payload) acts pending = refl
   unanswered_first (cancels z) acts pending = refl
 
+-- events one after another
+module _ {S J F P : Type 0} (may : StatedJobs S J F P) where
+  lefts_of-append : (xs ys : List (SlotEvent may)) → lefts_of may (xs ++ ys) ≡ lefts_of may xs ++ lefts_of may ys
+  lefts_of-append [] ys = refl
+  lefts_of-append (starts slot job ∷ xs) ys = lefts_of-append xs ys
+  lefts_of-append (ends_heard slot ∷ xs) ys = lefts_of-append xs ys
+  lefts_of-append (ends_left l ∷ xs) ys = ap (λ (ls : List (Left may)). l ∷ ls) (lefts_of-append xs ys)
+
+  pub after-append : (slots : Id → Option J) (xs ys : List (SlotEvent may)) → after_events may slots (xs ++ ys)
+      ≡ after_events may (after_events may slots xs) ys
+  after-append slots [] ys = refl
+  after-append slots (x ∷ xs) ys = after-append (after_event may slots x) xs ys
+
+  pub turns-append : (slots : Id → Option J) (xs ys : List (SlotEvent may)) → TakeTurns may slots xs
+      → TakeTurns may (after_events may slots xs) ys → TakeTurns may slots (xs ++ ys)
+  turns-append slots [] ys first second = second
+  turns-append slots (x ∷ xs) ys first second = (first.0, turns-append (after_event may slots x) xs ys first.1 second)
+
+  -- what becomes of one slot leaves another as it is
+  left_other : (slot other : Id) (end : JobEnd) (events : List (SlotEvent may)) → same_id slot other ≡ false
+      → MayLeave may other end events → (slots : Id → Option J) → after_events may slots events slot ≡ slots slot
+  left_other slot other end [] apart leave slots = refl
+  left_other slot other end (ends_left l ∷ []) apart leave slots =
+      ap (λ (b : Bool). cond b None (slots slot)) (ap (same_id slot) leave.0 ∙ apart)
+  left_other slot other end (ends_left l ∷ e ∷ events) apart leave slots = absurd leave
+  left_other slot other end (starts s job ∷ events) apart leave slots = absurd leave
+  left_other slot other end (ends_heard s ∷ events) apart leave slots = absurd leave
+
+  -- changes of others leave a slot as it is
+  pub others_keep : (slot : Id) (changes : List (SlotChange J)) (events : List (SlotEvent may))
+      → LeavesAlone slot changes → Becomes may changes events → (slots : Id → Option J)
+      → after_events may slots events slot ≡ slots slot
+  others_keep slot [] events alone is slots =
+      ap (λ (l : List (SlotEvent may)). after_events may slots l slot) is
+  others_keep slot (Start s job ∷ changes) events alone b slots =
+      let first = after_events may slots b.0 in
+      let second = after_event may first (starts s job) in
+      ap (λ (l : List (SlotEvent may)). after_events may slots l slot) b.5
+      ∙ ap (λ (f : Id → Option J). f slot) (after-append slots b.0 (starts s job ∷ (b.1 ++ b.2)))
+      ∙ ap (λ (f : Id → Option J). f slot) (after-append second b.1 b.2)
+      ∙ others_keep slot changes b.2 alone.1 b.6 (after_events may second b.1)
+      ∙ left_other slot s Refused b.1 alone.0 b.4 second
+      ∙ ap (λ (same : Bool). cond same (Some job) (first slot)) alone.0
+      ∙ left_other slot s Replaced b.0 alone.0 b.3 slots
+  others_keep slot (Stop s ∷ changes) events alone b slots =
+      ap (λ (l : List (SlotEvent may)). after_events may slots l slot) b.3
+      ∙ ap (λ (f : Id → Option J). f slot) (after-append slots b.0 b.1)
+      ∙ others_keep slot changes b.1 alone.1 b.4 (after_events may slots b.0)
+      ∙ left_other slot s Stopped b.0 alone.0 b.2 slots
+
 module _ {S J F P : Type 0} (plain : Plain S P) (may : StatedJobs S J F P) where
   abbrev State : Type 0
   State = S × PendingJobs J × List (Act P)
 
-  -- what the server saw and did, and which jobs are pending
+  -- what became of slots, what the server saw and did, and which jobs are pending
   pub record Went (old new : State) : Type 0 where
-    pub left : List (Left may)
-    pub linked : SeesLeft plain may old.0 left new.0
-    pub acts : new.2 ≡ old.2 ++ at_ends may left
+    pub events : List (SlotEvent may)
+    pub linked : SeesLeft plain may old.0 (lefts_of may events) new.0
+    pub acts : new.2 ≡ old.2 ++ at_ends may (lefts_of may events)
     pub requests : (id : Id) (e : J) → new.1 (Request id) ≡ Some e → (old.1 (Request id) ≡ Some e)
-        × Spares id (at_ends may left)
+        × Spares id (at_ends may (lefts_of may events))
+    pub slots : in_slots new.1 ≡ after_events may (in_slots old.1) events
+    pub turns : TakeTurns may (in_slots old.1) events
 
   -- what becomes of the jobs in slots, by these changes
   abbrev pub Moves : List (SlotChange J) → State → State → Type 0
@@ -109,52 +173,76 @@ module _ {S J F P : Type 0} (plain : Plain S P) (may : StatedJobs S J F P) where
   linked-append [] ys old mid new first second = subst (λ (s : S). SeesLeft plain may s ys new) first second
   linked-append (l ∷ xs) ys old mid new first second = (first.0, linked-append xs ys l.new mid new first.1 second)
 
-  went_nowhere : (old new : State) → new ≡ old → Went old new
+  abbrev went_nowhere : (old new : State) → new ≡ old → Went old new
   went_nowhere old new is = record {
-    left = [];
+    events = [];
     linked = ap (λ (x : State). x.0) is;
     acts = ap (λ (x : State). x.2) is ∙ sym (append-nil old.2);
     requests = λ id e has. (ap (λ (x : State). x.1 (Request id)) (sym is) ∙ has, tt);
+    slots = ap (λ (x : State). in_slots x.1) is;
+    turns = tt;
   }
 
-  went_on : (old mid new : State) → Went old mid → Went mid new → Went old new
+  ends-append : (xs ys : List (SlotEvent may)) → at_ends may (lefts_of may (xs ++ ys))
+      ≡ at_ends may (lefts_of may xs) ++ at_ends may (lefts_of may ys)
+  ends-append xs ys = ap (at_ends may) (lefts_of-append may xs ys)
+      ∙ at_ends-append (lefts_of may xs) (lefts_of may ys)
+
+  abbrev went_on : (old mid new : State) → Went old mid → Went mid new → Went old new
   went_on old mid new first second = record {
-    left = first.left ++ second.left;
-    linked = linked-append first.left second.left old.0 mid.0 new.0 first.linked second.linked;
-    acts = second.acts ∙ ap (λ (acts : List (Act P)). acts ++ at_ends may second.left) first.acts
-        ∙ append_assoc old.2 (at_ends may first.left) (at_ends may second.left)
-        ∙ ap (λ (acts : List (Act P)). old.2 ++ acts) (sym (at_ends-append first.left second.left));
+    events = first.events ++ second.events;
+    linked = subst (λ (ls : List (Left may)). SeesLeft plain may old.0 ls new.0)
+        (sym (lefts_of-append may first.events second.events))
+        (linked-append (lefts_of may first.events) (lefts_of may second.events) old.0 mid.0 new.0 first.linked
+        second.linked);
+    acts = second.acts ∙ ap (λ (acts : List (Act P)). acts ++ at_ends may (lefts_of may second.events)) first.acts
+        ∙ append_assoc old.2 (at_ends may (lefts_of may first.events)) (at_ends may (lefts_of may second.events))
+        ∙ ap (λ (acts : List (Act P)). old.2 ++ acts) (sym (ends-append first.events second.events));
     requests = λ id e has.
         let later = second.requests id e has in
         let own = first.requests id e later.0 in (
           own.0,
-          subst (Spares id) (sym (at_ends-append first.left second.left)) (spares-append id (at_ends may first.left)
-              (at_ends may second.left) own.1 later.1),
+          subst (Spares id) (sym (ends-append first.events second.events)) (spares-append id (at_ends may
+              (lefts_of may first.events))
+              (at_ends may (lefts_of may second.events)) own.1 later.1),
         );
+    slots = second.slots ∙ ap (λ (s : Id → Option J). after_events may s second.events) first.slots
+        ∙ sym (after-append may (in_slots old.1) first.events second.events);
+    turns = turns-append may (in_slots old.1) first.events second.events first.turns
+        (subst (λ (s : Id → Option J). TakeTurns may s second.events) first.slots second.turns);
   }
 
+  -- what became of slots, where the job of this one may have ended so
+  abbrev Freed : Id → JobEnd → State → State → Type 0
+  Freed slot end old new = (w : Went old new) × MayLeave may slot end w.events
+
   -- a job in a slot ended
-  went_end : (slot : Id) (end : End F) → IsLeft end → (old new : State)
-      → EndsThen may (Slot slot) end (old.0, without (Slot slot) old.1, old.2) new → Went old new
-  went_end slot end is old new ends =
+  went_end : (slot : Id) (end : JobEnd) → IsLeft {F = F} (ended end) → (old new : State) → IsSome (old.1 (Slot slot))
+      → EndsThen may (Slot slot) (ended end) (old.0, without (Slot slot) old.1, old.2) new → Freed slot end old new
+  went_end slot end is old new there ends =
       let e = ends.1 in
       let l : Left may = record {
         slot = slot;
-        end = end;
+        end = ended end;
         is_left = is;
         old = old.0;
         acts = e.0;
         new = new.0;
         saw = e.1;
-      } in record {
-        left = l ∷ [];
-        linked = (refl, refl);
-        acts = ends.2 ∙ ap (λ (acts : List (Act P)). old.2 ++ acts) e.2;
-        requests = λ id x has.
-            let own = unanswered_has ends.0 (without (Slot slot) old.1) id x
-            (ap (λ (p : PendingJobs J). p (Request id)) (sym e.3) ∙ has) in
-            (own.0, subst (Spares id) e.2 own.1);
-      }
+      } in (
+        record {
+          events = ends_left l ∷ [];
+          linked = (refl, refl);
+          acts = ends.2 ∙ ap (λ (acts : List (Act P)). old.2 ++ acts) e.2;
+          requests = λ id x has.
+              let own = unanswered_has ends.0 (without (Slot slot) old.1) id x
+              (ap (λ (p : PendingJobs J). p (Request id)) (sym e.3) ∙ has) in
+              (own.0, subst (Spares id) e.2 own.1);
+          slots = ap (λ (p : PendingJobs J). in_slots p) e.3 ∙ unanswered_slots ends.0 (without (Slot slot) old.1);
+          turns = (there, tt);
+        },
+        (refl, refl),
+      )
 
   end_slots : (slot : Id) (end : End F) (old new : State)
       → EndsThen may (Slot slot) end (old.0, without (Slot slot) old.1, old.2) new → (s : Id) (e : J)
@@ -164,14 +252,15 @@ module _ {S J F P : Type 0} (plain : Plain S P) (may : StatedJobs S J F P) where
       ∙ ap (λ (p : PendingJobs J). p (Slot s)) (sym ends.1.3) ∙ has)
 
   -- a slot is freed
-  went_free : (slot : Id) (end : End F) → IsLeft end → (old new : State) → Frees may (Slot slot) end old new
-      → Went old new
-  went_free slot end is old new frees = at (old.1 (Slot slot)) frees
+  went_free : (slot : Id) (end : JobEnd) → IsLeft {F = F} (ended end) → (old new : State)
+      → Frees may (Slot slot) (ended end) old new → Freed slot end old new
+  went_free slot end is old new frees = at (old.1 (Slot slot)) refl frees
     where
-      at : (o : Option J) → MatchOption o (new ≡ old)
-          (λ (e : J). EndsThen may (Slot slot) end (old.0, without (Slot slot) old.1, old.2) new) → Went old new
-      at None same = went_nowhere old new same
-      at (Some e) ends = went_end slot end is old new ends
+      at : (o : Option J) → old.1 (Slot slot) ≡ o → MatchOption o (new ≡ old)
+          (λ (e : J). EndsThen may (Slot slot) (ended end) (old.0, without (Slot slot) old.1, old.2) new)
+          → Freed slot end old new
+      at None none same = (went_nowhere old new same, tt)
+      at (Some e) some ends = went_end slot end is old new (ap (λ (o : Option J). is_some o) some) ends
 
   free_slots : (slot : Id) (end : End F) (old new : State) → Frees may (Slot slot) end old new → (s : Id) (e : J)
       → new.1 (Slot s) ≡ Some e → (old.1 (Slot s) ≡ Some e) × (same_id s slot ≡ false)
@@ -193,16 +282,66 @@ module _ {S J F P : Type 0} (plain : Plain S P) (may : StatedJobs S J F P) where
               absurd (cc (no))
       at (Some x) some ends = end_slots slot end old new ends s e has
 
+  -- it is free then
+  now_free : (slot : Id) (end : JobEnd) (old new : State) → Frees may (Slot slot) (ended end) old new
+      → new.1 (Slot slot) ≡ None
+  now_free slot end old new frees = at (new.1 (Slot slot)) refl
+    where
+      at : (o : Option J) → new.1 (Slot slot) ≡ o → o ≡ None
+      at None none = refl
+      at (Some e) some =
+          let other = (free_slots slot (ended end) old new frees slot e some).1 in
+          let no : true ≡ false = sym ((id_decides slot slot).1 refl) ∙ other in
+          absurd (cc (no))
+
+  -- what became of slots, where this job was started in this one, and may have been refused
+  abbrev Started : Id → J → State → State → Type 0
+  Started slot job old new = (w : Went old new) × (after : List (SlotEvent may)) × MayLeave may slot Refused after
+      × (w.events ≡ starts slot job ∷ after)
+
   -- a job is started in it
-  went_start : (slot : Id) (job : J) (old new : State) → StartsOne may (Slot slot) job old new
-      → Went old new
-  went_start slot job old new (inl is) = record {
-    left = [];
-    linked = ap (λ (x : State). x.0) is;
-    acts = ap (λ (x : State). x.2) is ∙ sym (append-nil old.2);
-    requests = λ id e has. (ap (λ (x : State). x.1 (Request id)) (sym is) ∙ has, tt);
+  abbrev began : (slot : Id) (job : J) (old : State) → old.1 (Slot slot) ≡ None
+      → Went old (old.0, with_job (Slot slot) job old.1, old.2)
+  began slot job old free = record {
+    events = starts slot job ∷ [];
+    linked = refl;
+    acts = sym (append-nil old.2);
+    requests = λ id e has. (has, tt);
+    slots = refl;
+    turns = (free, tt);
   }
-  went_start slot job old new (inr ends) = went_end slot (ended Refused) tt old new ends
+
+  went_start : (slot : Id) (job : J) (old new : State) → old.1 (Slot slot) ≡ None
+      → StartsOne may (Slot slot) job old new → Started slot job old new
+  went_start slot job old new free (inl is) = (
+    record {
+      events = starts slot job ∷ [];
+      linked = ap (λ (x : State). x.0) is;
+      acts = ap (λ (x : State). x.2) is ∙ sym (append-nil old.2);
+      requests = λ id e has. (ap (λ (x : State). x.1 (Request id)) (sym is) ∙ has, tt);
+      slots = ap (λ (x : State). in_slots x.1) is;
+      turns = (free, tt);
+    },
+    [],
+    tt,
+    refl,
+  )
+  went_start slot job old new free (inr ends) = (
+    went_on old mid new (began slot job old free) last.0,
+    last.0.events,
+    last.1,
+    refl,
+  )
+    where
+      mid : State
+      mid = (old.0, with_job (Slot slot) job old.1, old.2)
+
+      there : IsSome (mid.1 (Slot slot))
+      there = ap (λ (b : Bool). is_some (cond b (Some job) (old.1 (Slot slot)))) ((id_decides slot slot).1 refl)
+
+      last : Freed slot Refused mid new
+      last = went_end slot Refused tt mid new there (subst (λ (p : PendingJobs J). EndsThen may (Slot slot)
+          (ended Refused) (old.0, p, old.2) new) (sym (without_with old.1 (Slot slot) job)) ends)
 
   start_slots : (slot : Id) (job : J) (old new : State) → StartsOne may (Slot slot) job old new → (s : Id)
       (e : J) → new.1 (Slot s) ≡ Some e → ((old.1 (Slot s) ≡ Some e) × (same_id s slot ≡ false))
@@ -216,10 +355,29 @@ module _ {S J F P : Type 0} (plain : Plain S P) (may : StatedJobs S J F P) where
       at false is has = inl (has, is)
   start_slots slot job old new (inr ends) s e has = inl (end_slots slot (ended Refused) old new ends s e has)
 
-  went_change : (change : SlotChange J) (old new : State) → Changes may old change new → Went old new
-  went_change (Start slot job) old new c =
-      went_on old c.0 new (went_free slot (ended Replaced) tt old c.0 c.1) (went_start slot job c.0 new c.2)
-  went_change (Stop slot) old new frees = went_free slot (ended Stopped) tt old new frees
+  -- what became of slots at these changes
+  abbrev pub Changed : List (SlotChange J) → State → State → Type 0
+  Changed changes old new = (w : Went old new) × Becomes may changes w.events
+
+  went_change : (change : SlotChange J) (changes : List (SlotChange J)) (old mid new : State)
+      → Changes may old change mid → Changed changes mid new → Changed (change ∷ changes) old new
+  went_change (Start slot job) changes old mid new c rest =
+      let freed = went_free slot Replaced tt old c.0 c.1 in
+      let start = went_start slot job c.0 mid (now_free slot Replaced old c.0 c.1) c.2 in (
+        went_on old c.0 new freed.0 (went_on c.0 mid new start.0 rest.0),
+        (
+          freed.0.events,
+          start.1,
+          rest.0.events,
+          freed.1,
+          start.2,
+          ap (λ (events : List (SlotEvent may)). freed.0.events ++ (events ++ rest.0.events)) start.3,
+          rest.1,
+        ),
+      )
+  went_change (Stop slot) changes old mid new frees rest =
+      let freed = went_free slot Stopped tt old mid frees in
+      (went_on old mid new freed.0 rest.0, (freed.0.events, rest.0.events, freed.1, refl, rest.1))
 
   moves_change : (change : SlotChange J) (old new : State) → Changes may old change new → Moves (change ∷ []) old new
   moves_change (Start slot job) old new c s e has =
@@ -243,10 +401,10 @@ module _ {S J F P : Type 0} (plain : Plain S P) (may : StatedJobs S J F P) where
 
   -- all of them, in order
   pub went_all : (changes : List (SlotChange J)) (old new : State) → FoldsTo (Changes may) old changes new
-      → Went old new
-  went_all [] old new run = went_nowhere old new (sym run)
-  went_all (change ∷ changes) old new run =
-      went_on old run.0 new (went_change change old run.0 run.1) (went_all changes run.0 new run.2)
+      → Changed changes old new
+  went_all [] old new run = (went_nowhere old new (sym run), refl)
+  went_all (change ∷ changes) old new run = went_change change changes old run.0 new run.1
+      (went_all changes run.0 new run.2)
 
   pub moves_all : (changes : List (SlotChange J)) (old new : State) → FoldsTo (Changes may) old changes new
       → Moves changes old new

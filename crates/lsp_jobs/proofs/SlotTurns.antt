@@ -3,7 +3,7 @@ use Rattle.serde_json.specs.Data.{Data}
 use Rattle.std.proofs.Common.{◌≡◌, ◌⊎◌, refl, sym, ◌∙◌, ap, subst, inl, inr, ℕ, Bool, true, false, List, [], ◌∷◌}
 use Rattle.std.proofs.Common.{◌++◌, append_assoc, append-nil, Option, Some, None}
 use Rattle.std.specs.Bool.{MatchBool}
-use Rattle.std.specs.Prelude.{map as map_list, IsSomeAnd}
+use Rattle.std.specs.Prelude.{map as map_list, is_some, IsSome, IsSomeAnd}
 use Rattle.lsp_message.specs.Id.{Id}
 use Rattle.lsp_message.specs.Message.{Message, request, notification, response}
 use Rattle.lsp_message.specs.Methods.{is_initialize, is_initialized}
@@ -12,7 +12,8 @@ use Rattle.lsp_acts.specs.Acts.{Act, TakesBack, cancelled_by, unsent}
 use Rattle.lsp_acts.specs.Law.{AnswersInitialize, Call, Handed, Initializes, TakesCalls, TakesPart, ids_after_all}
 use Rattle.lsp_acts.specs.declared.server.Server.{Ghosts as Plain}
 use Rattle.lsp_jobs.proofs.Answering.{back_pending, does_jobs, requests_then, FromCall}
-use Rattle.lsp_jobs.proofs.SlotChanges.{fewer_slots, moves_all, unanswered_slot, went_all, Went}
+use Rattle.lsp_jobs.proofs.SlotChanges.{after-append, fewer_slots, in_slots, moves_all, turns-append, unanswered_slot}
+use Rattle.lsp_jobs.proofs.SlotChanges.{unanswered_slots, went_all, Changed}
 use Rattle.lsp_jobs.specs.Asking.{by_server, ByServers}
 use Rattle.lsp_jobs.specs.Ends.{end_of}
 use Rattle.lsp_jobs.specs.JobSession.{seen_with_jobs}
@@ -20,7 +21,10 @@ use Rattle.lsp_jobs.specs.PendingJobs.{PendingJobs, no_jobs, without}
 use Rattle.lsp_jobs.specs.PoolView.{pending_jobs}
 use Rattle.lsp_jobs.specs.Pooled.{reply_at, unanswered, without_cancelled, ChangesSlots, Does, Finishes, TakesLong}
 use Rattle.lsp_jobs.specs.Seen.{seen}
-use Rattle.lsp_jobs.specs.SlotLaw.{AllLeaveAlone, AllQuiet, AreTurns, IsCalled, IsGiven, IsTurn, LeavesAlone, Left}
+use Rattle.lsp_jobs.specs.SlotLaw.{AllLeaveAlone, AllQuiet, AreTurns, Becomes, IsCalled, IsGiven, IsTurn, LeavesAlone}
+use Rattle.lsp_jobs.specs.SlotLaw.{IsIn, LastStart, Left, SlotEvent, TakeTurns, after_events, events_of, heard_in}
+use Rattle.lsp_jobs.specs.SlotLaw.{lefts_of}
+use Rattle.lsp_jobs.specs.SlotLaw.{slots_after}
 use Rattle.lsp_jobs.specs.SlotLaw.{MayPass, SeesLeft, SlotHistory, Spares, Stands, StartsLast, Turn, WakeDoes, at_ends}
 use Rattle.lsp_jobs.specs.SlotLaw.{concerns}
 use Rattle.lsp_jobs.specs.declared.asking.RequestOrigin.{RequestOrigin}
@@ -43,10 +47,13 @@ module _ {S J F P : Type 0} (plain : Plain S P) (may : StatedJobs S J F P) where
     changes : List (SlotChange J)
     mid : S
     gives : may.changes asked changes mid
-    left : List (Left may)
-    linked : SeesLeft plain may mid left new.0
-    done : all ≡ acts ++ at_ends may left
+    became : List (SlotEvent may)
+    becomes : Becomes may changes became
+    linked : SeesLeft plain may mid (lefts_of may became) new.0
+    done : all ≡ acts ++ at_ends may (lefts_of may became)
     moves : MovesTo changes old new.1
+    slots : in_slots new.1 ≡ after_events may (in_slots old) became
+    turns : TakeTurns may (in_slots old) became
 
   made : (asked : S) (old : PendingJobs J) (acts all : List (Act P)) (new : S × PendingJobs J)
       → ChangesSlots may (asked, old) acts all new → Made asked old acts all new
@@ -54,18 +61,24 @@ module _ {S J F P : Type 0} (plain : Plain S P) (may : StatedJobs S J F P) where
     changes = c.changes;
     mid = c.mid;
     gives = c.gives;
-    left = went.left;
-    linked = went.linked;
-    done = went.acts;
+    became = went.0.events;
+    becomes = went.1;
+    linked = went.0.linked;
+    done = went.0.acts;
     moves = λ slot e has. elim (moves_all plain may c.changes (c.mid, unanswered acts old, acts) (new.0, new.1, all)
         c.made slot e has) [
           | inl was ↦ inl (sym (unanswered_slot acts old slot) ∙ was.0, was.1)
           | inr last ↦ inr last
         ];
+    slots = went.0.slots ∙ ap (λ (s : Id → Option J). after_events may s went.0.events) same;
+    turns = subst (λ (s : Id → Option J). TakeTurns may s went.0.events) same went.0.turns;
   }
     where
-      went : Went plain may (c.mid, unanswered acts old, acts) (new.0, new.1, all)
+      went : Changed plain may c.changes (c.mid, unanswered acts old, acts) (new.0, new.1, all)
       went = went_all plain may c.changes (c.mid, unanswered acts old, acts) (new.0, new.1, all) c.made
+
+      same : in_slots (unanswered acts old) ≡ in_slots old
+      same = unanswered_slots acts old
 
   -- the job that is pending for a request that came
   abbrev given_at : Option Message → PendingJobs J → Option J
@@ -77,9 +90,29 @@ module _ {S J F P : Type 0} (plain : Plain S P) (may : StatedJobs S J F P) where
   Comes t old new = (id : Id) (e : J) → new (Request id) ≡ Some e
       → FromCall (IsGiven plain may t.old t.call.acts) old t.call.came id e × Spares id t.call.acts
 
-  -- each job that is pending in a slot is the last that was started there, and each other the one given for its request
+  -- what becomes of slots in a turn
+  abbrev pub events_at : Turn plain may → List (SlotEvent may)
+  events_at t = heard_in plain may t.heard ++ t.became
+
+  -- each job that is pending in a slot is the last that was started there and in it, and each other the one given for
+  -- its request
   abbrev pub AllStand : List (Turn plain may) → PendingJobs J → Type 0
-  AllStand earlier pending = (name : JobName) (e : J) → pending name ≡ Some e → Stands plain may earlier name e
+  AllStand earlier pending = ((name : JobName) (e : J) → pending name ≡ Some e → Stands plain may earlier name e)
+      × (in_slots pending ≡ slots_after plain may earlier)
+
+  events-append : (xs ys : List (Turn plain may)) → events_of plain may (xs ++ ys)
+      ≡ events_of plain may xs ++ events_of plain may ys
+  events-append [] ys = refl
+  events-append (t ∷ xs) ys = ap (λ (l : List (SlotEvent may)). events_at t ++ l) (events-append xs ys)
+      ∙ sym (append_assoc (events_at t) (events_of plain may xs) (events_of plain may ys))
+
+  -- the jobs in slots after one turn more
+  pub slots_more : (earlier : List (Turn plain may)) (t : Turn plain may) → slots_after plain may (earlier ++ t ∷ [])
+      ≡ after_events may (slots_after plain may earlier) (events_at t)
+  slots_more earlier t =
+      ap (after_events may (λ slot. None)) (events-append earlier (t ∷ [])
+      ∙ ap (λ (l : List (SlotEvent may)). events_of plain may earlier ++ l) (append-nil (events_at t)))
+      ∙ after-append may (λ slot. None) (events_of plain may earlier) (events_at t)
 
   alone_more : (slot : Id) (turns : List (Turn plain may)) (t : Turn plain may) → AllLeaveAlone plain may slot turns
       → LeavesAlone slot t.changes → AllLeaveAlone plain may slot (turns ++ t ∷ [])
@@ -93,11 +126,18 @@ module _ {S J F P : Type 0} (plain : Plain S P) (may : StatedJobs S J F P) where
 
   stand_on : (earlier : List (Turn plain may)) (t : Turn plain may) (old new : PendingJobs J)
       → AllStand earlier old → MovesTo t.changes old new → t.given ≡ given_at t.call.came new → Comes t old new
-      → AllStand (earlier ++ t ∷ []) new
-  stand_on earlier t old new before moves given comes (Slot slot) e has =
-      elim (moves slot e has) [
+      → in_slots new ≡ after_events may (in_slots old) (events_at t) → AllStand (earlier ++ t ∷ []) new
+  stand_on earlier t old new before moves given comes slots = (stands_so, slots_now)
+    where
+      slots_now : in_slots new ≡ slots_after plain may (earlier ++ t ∷ [])
+      slots_now = slots ∙ ap (λ (s : Id → Option J). after_events may s (events_at t)) before.1 ∙ sym
+          (slots_more earlier t)
+
+      starts_at : (slot : Id) (e : J) → new (Slot slot) ≡ Some e → LastStart plain may (earlier ++ t ∷ []) slot e
+      starts_at slot e has = elim (moves slot e has) [
         | inl was ↦
-            let l = before (Slot slot) e was.0 in record {
+            let stood : IsIn plain may earlier slot e = before.0 (Slot slot) e was.0 in
+            let l = stood.last in record {
               before = l.before;
               turn = l.turn;
               since = l.since ++ t ∷ [];
@@ -106,45 +146,51 @@ module _ {S J F P : Type 0} (plain : Plain S P) (may : StatedJobs S J F P) where
               started = l.started;
               alone = alone_more slot l.since t l.alone was.1;
             }
-        | inr last ↦ record {
+        | inr started ↦ record {
           before = earlier;
           turn = t;
           since = [];
           cut = refl;
-          started = last;
+          started = started;
           alone = tt;
         }
       ]
-  stand_on earlier t old new before moves given comes (Request id) e has =
-      let own = comes id e has in
-      elim own.0 [
-        | inl was ↦
-            let l = before (Request id) e was.0 in record {
-              before = l.before;
-              turn = l.turn;
-              since = l.since ++ t ∷ [];
-              cut = ap (λ (ts : List (Turn plain may)). ts ++ t ∷ []) l.cut
-                  ∙ append_assoc l.before (l.turn ∷ l.since) (t ∷ []);
-              method = l.method;
-              params = l.params;
-              came = l.came;
-              given = l.given;
-              is_given = l.is_given;
-              quiet = quiet_more id l.since t l.quiet was.1 own.1;
+
+      stands_so : (name : JobName) (e : J) → new name ≡ Some e → Stands plain may (earlier ++ t ∷ []) name e
+      stands_so (Slot slot) e has = record {
+        last = starts_at slot e has;
+        there = ap (λ (s : Id → Option J). s slot) (sym slots_now) ∙ has;
+      }
+      stands_so (Request id) e has =
+          let own = comes id e has in
+          elim own.0 [
+            | inl was ↦
+                let l = before.0 (Request id) e was.0 in record {
+                  before = l.before;
+                  turn = l.turn;
+                  since = l.since ++ t ∷ [];
+                  cut = ap (λ (ts : List (Turn plain may)). ts ++ t ∷ []) l.cut
+                      ∙ append_assoc l.before (l.turn ∷ l.since) (t ∷ []);
+                  method = l.method;
+                  params = l.params;
+                  came = l.came;
+                  given = l.given;
+                  is_given = l.is_given;
+                  quiet = quiet_more id l.since t l.quiet was.1 own.1;
+                }
+            | inr now ↦ record {
+              before = earlier;
+              turn = t;
+              since = [];
+              cut = refl;
+              method = now.0;
+              params = now.1;
+              came = now.2;
+              given = given ∙ ap (λ (c : Option Message). given_at c new) now.2 ∙ has;
+              is_given = now.3;
+              quiet = tt;
             }
-        | inr now ↦ record {
-          before = earlier;
-          turn = t;
-          since = [];
-          cut = refl;
-          method = now.0;
-          params = now.1;
-          came = now.2;
-          given = given ∙ ap (λ (c : Option Message). given_at c new) now.2 ∙ has;
-          is_given = now.3;
-          quiet = tt;
-        }
-      ]
+          ]
 
 module _ (T : Type 0) {S J F P : Type 0} (plain : Plain S P) (may : StatedJobs S J F P) where
   abbrev W : Plain (PooledServer T S J F) (RequestOrigin P)
@@ -162,6 +208,8 @@ module _ (T : Type 0) {S J F P : Type 0} (plain : Plain S P) (may : StatedJobs S
     pub gave : turn.given ≡ given_at plain may call.came (pended did)
     pub is_turn : IsTurn plain may turn
     pub moves : MovesTo plain may turn.changes (pended old) (pended did)
+    pub slots : in_slots (pended did) ≡ after_events may (in_slots (pended old)) (events_at plain may turn)
+    pub turns : TakeTurns may (in_slots (pended old)) (events_at plain may turn)
     pub wake : (earlier : List (Turn plain may)) → AllStand plain may earlier (pended old) → call.came ≡ None
         → WakeDoes plain may earlier turn
 
@@ -169,7 +217,7 @@ module _ (T : Type 0) {S J F P : Type 0} (plain : Plain S P) (may : StatedJobs S
   passes : (old did : PooledServer T S J F) (call : Call (RequestOrigin P))
       → MayPass plain may old.server call.came call.acts → did.server ≡ old.server
       → ((slot : Id) → pended did (Slot slot) ≡ pended old (Slot slot))
-      → ((turn : Turn plain may) → turn.call ≡ call → (earlier : List (Turn plain may))
+      → ((turn : Turn plain may) → turn.call ≡ call → turn.heard ≡ None → (earlier : List (Turn plain may))
       → AllStand plain may earlier (pended old) → call.came ≡ None → WakeDoes plain may earlier turn)
       → TurnOf old did call
   passes old did call may_pass same slots does =
@@ -177,9 +225,11 @@ module _ (T : Type 0) {S J F P : Type 0} (plain : Plain S P) (may : StatedJobs S
         call = call;
         old = old.server;
         given = given_at plain may call.came (pended did);
+        heard = None;
         asked = old.server;
         changes = [];
         made = old.server;
+        became = [];
         left = [];
         new = did.server;
       } in record {
@@ -188,15 +238,17 @@ module _ (T : Type 0) {S J F P : Type 0} (plain : Plain S P) (may : StatedJobs S
         from = refl;
         to = refl;
         gave = refl;
-        is_turn = inr (may_pass, refl, refl, same);
+        is_turn = inr (may_pass, refl, refl, same, refl, refl);
         moves = λ slot e has. inl (sym (slots slot) ∙ has, tt);
-        wake = does turn refl;
+        slots = λ k slot. slots slot k;
+        turns = tt;
+        wake = does turn refl refl;
       }
 
   -- at a wake, or at a reply, nothing changed
   stays : (old did : PooledServer T S J F) (call : Call (RequestOrigin P))
       → MayPass plain may old.server call.came call.acts → seen did ≡ seen old
-      → ((turn : Turn plain may) → turn.call ≡ call → (earlier : List (Turn plain may))
+      → ((turn : Turn plain may) → turn.call ≡ call → turn.heard ≡ None → (earlier : List (Turn plain may))
       → AllStand plain may earlier (pended old) → call.came ≡ None → WakeDoes plain may earlier turn)
       → TurnOf old did call
   stays old did call may_pass same =
@@ -204,23 +256,28 @@ module _ (T : Type 0) {S J F P : Type 0} (plain : Plain S P) (may : StatedJobs S
       (λ slot. ap (λ (x : S × PendingJobs J). x.1 (Slot slot)) same)
 
   -- the server was called, and then asked for changes
-  called : (old did : PooledServer T S J F) (call : Call (RequestOrigin P)) (asked : S) (mid : PendingJobs J)
-      (acts own : List (Act P)) → call.acts ≡ map_list by_server own
-      → IsCalled plain may old.server call.came acts asked
+  called : (old did : PooledServer T S J F) (call : Call (RequestOrigin P)) (heard : Option JobName) (asked : S)
+      (mid : PendingJobs J) (acts own : List (Act P)) → call.acts ≡ map_list by_server own
+      → IsCalled plain may old.server call.came heard acts asked
       → ((slot : Id) (e : J) → mid (Slot slot) ≡ Some e → pended old (Slot slot) ≡ Some e)
+      → in_slots mid ≡ after_events may (in_slots (pended old)) (heard_in plain may heard)
+      → TakeTurns may (in_slots (pended old)) (heard_in plain may heard)
       → (m : Made plain may asked mid acts own (seen did))
-      → ((turn : Turn plain may) → turn.call ≡ call → turn.old ≡ old.server → turn.asked ≡ asked → turn.left ≡ m.left
+      → ((turn : Turn plain may) → turn.call ≡ call → turn.old ≡ old.server → turn.heard ≡ heard → turn.asked ≡ asked
+      → turn.left ≡ lefts_of may m.became
       → (earlier : List (Turn plain may)) → AllStand plain may earlier (pended old) → call.came ≡ None
       → WakeDoes plain may earlier turn) → TurnOf old did call
-  called old did call asked mid acts own by_own is_called same m does =
+  called old did call heard asked mid acts own by_own is_called same gone fits m does =
       let turn : Turn plain may = record {
         call = call;
         old = old.server;
         given = given_at plain may call.came (pended did);
+        heard = heard;
         asked = asked;
         changes = m.changes;
         made = m.mid;
-        left = m.left;
+        became = m.became;
+        left = lefts_of may m.became;
         new = did.server;
       } in record {
         turn = turn;
@@ -228,29 +285,53 @@ module _ (T : Type 0) {S J F P : Type 0} (plain : Plain S P) (may : StatedJobs S
         from = refl;
         to = refl;
         gave = refl;
-        is_turn = inl (acts, is_called, m.gives, m.linked, by_own ∙ ap (map_list by_server) m.done);
+        is_turn = inl (
+          acts,
+          is_called,
+          m.gives,
+          m.linked,
+          by_own ∙ ap (map_list by_server) m.done,
+          m.becomes,
+          refl,
+        );
         moves = λ slot e has. elim (m.moves slot e has) [
           | inl was ↦ inl (same slot e was.0, was.1)
           | inr last ↦ inr last
         ];
-        wake = does turn refl refl refl refl;
+        slots = m.slots ∙ ap (λ (s : Id → Option J). after_events may s m.became) gone
+            ∙ sym (after-append may (in_slots (pended old)) (heard_in plain may heard) m.became);
+        turns = turns-append may (in_slots (pended old)) (heard_in plain may heard) m.became fits
+            (subst (λ (s : Id → Option J). TakeTurns may s m.became) gone m.turns);
+        wake = does turn refl refl refl refl refl;
       }
 
   -- a call of the server, in which it did what it stated
   does_turn : (old did : PooledServer T S J F) (call : Call (RequestOrigin P)) (pending : PendingJobs J)
       (stated : List (Act P) → S → Type 0) → ByServers (λ own. Does may stated pending own (seen did)) call.acts
-      → ((acts : List (Act P)) (mid : S) → stated acts mid → IsCalled plain may old.server call.came acts mid)
-      → ((slot : Id) (e : J) → pending (Slot slot) ≡ Some e → pended old (Slot slot) ≡ Some e)
+      → ((acts : List (Act P)) (mid : S) → stated acts mid → IsCalled plain may old.server call.came None acts mid)
+      → in_slots pending ≡ in_slots (pended old)
       → (call.came ≡ None → ⊥) → TurnOf old did call
   does_turn old did call pending stated b is_called same message =
       let d = b.2 in
-      called old did call d.1 pending d.0 b.0 b.1 (is_called d.0 d.1 d.2) same (made plain may d.1 pending d.0 b.0
-      (seen did) d.3) (λ turn a b c d earlier stand none. absurd (message none))
+      called old did call None d.1 pending d.0 b.0 b.1 (is_called d.0 d.1 d.2)
+      (λ slot e has. ap (λ (s : Id → Option J). s slot) (sym same) ∙ has) same tt
+      (made plain may d.1 pending d.0 b.0 (seen did) d.3) (λ turn a b c d e earlier stand none. absurd (message none))
 
-  slots_cancelled : (cancelled : Option Id) (pending : PendingJobs J) (slot : Id) (e : J)
-      → without_cancelled cancelled pending (Slot slot) ≡ Some e → pending (Slot slot) ≡ Some e
-  slots_cancelled None pending slot e has = has
-  slots_cancelled (Some id) pending slot e has = has
+  slots_cancelled : (cancelled : Option Id) (pending : PendingJobs J)
+      → in_slots (without_cancelled cancelled pending) ≡ in_slots pending
+  slots_cancelled None pending = refl
+  slots_cancelled (Some id) pending = refl
+
+  -- the slot of a job that came to something is free
+  slots_heard : (name : JobName) (pending : PendingJobs J) → in_slots (without name pending)
+      ≡ after_events may (in_slots pending) (heard_in plain may (Some name))
+  slots_heard (Request id) pending = refl
+  slots_heard (Slot slot) pending = refl
+
+  fits_heard : (name : JobName) (pending : PendingJobs J) (job : J) → pending name ≡ Some job
+      → TakeTurns may (in_slots pending) (heard_in plain may (Some name))
+  fits_heard (Request id) pending job waits = tt
+  fits_heard (Slot slot) pending job waits = (ap (λ (o : Option J). is_some o) waits, tt)
 
   -- a long request came
   long_turn : (old did : PooledServer T S J F) (id : Id) (method : List ℕ) (params : Data)
@@ -262,12 +343,12 @@ module _ (T : Type 0) {S J F P : Type 0} (plain : Plain S P) (may : StatedJobs S
       passes old did (record { came = Some (request id method params); payload = payload; acts = acts })
       (inl (j.job, (long, j.gives, j.is_for, j.acts))) (ap (λ (x : S × PendingJobs J). x.0) j.started)
       (λ slot. ap (λ (x : S × PendingJobs J). x.1 (Slot slot)) j.started)
-      (λ turn is earlier stand none. absurd (cc (none)))
+      (λ turn is silent earlier stand none. absurd (cc (none)))
   long_turn old did id method params payload acts long (inr a) =
       passes old did (record { came = Some (request id method params); payload = payload; acts = acts })
       (inr (long, a.outcome, a.is, a.acts)) (ap (λ (x : S × PendingJobs J). x.0) a.left)
       (λ slot. ap (λ (x : S × PendingJobs J). x.1 (Slot slot)) a.left)
-      (λ turn is earlier stand none. absurd (cc (none)))
+      (λ turn is silent earlier stand none. absurd (cc (none)))
 
   -- a job came to something
   finishes_turn : (old did : PooledServer T S J F) (payload : Option (RequestOrigin P))
@@ -275,8 +356,9 @@ module _ (T : Type 0) {S J F P : Type 0} (plain : Plain S P) (may : StatedJobs S
       → Finishes may (seen old) own (seen did)
       → TurnOf old did (record { came = None; payload = payload; acts = acts })
   finishes_turn old did payload acts own by_own f =
-      called old did (record { came = None; payload = payload; acts = acts }) f.did.0 f.did.1 f.acts own by_own
-      (f.name, f.came, f.ended.0, f.ended.1, f.ended.2) same m does
+      called old did (record { came = None; payload = payload; acts = acts }) (Some f.name) f.did.0 f.did.1 f.acts own
+      by_own (f.name, f.came, f.ended.0, f.ended.1, f.ended.2, refl) same gone (fits_heard f.name (pended old) f.job
+      f.waits) m does
     where
       m : Made plain may f.did.0 f.did.1 f.acts own (seen did)
       m = made plain may f.did.0 f.did.1 f.acts own (seen did) f.others
@@ -286,17 +368,22 @@ module _ (T : Type 0) {S J F P : Type 0} (plain : Plain S P) (may : StatedJobs S
           fewer_slots f.name (pended old) slot e (sym (unanswered_slot f.acts (without f.name (pended old)) slot)
           ∙ ap (λ (p : PendingJobs J). p (Slot slot)) (sym f.ended.3) ∙ has)
 
-      all : own ≡ (f.ended.0 ++ reply_at f.name f.came) ++ at_ends may m.left
-      all = m.done ∙ ap (λ (l : List (Act P)). l ++ at_ends may m.left) f.ended.2
+      gone : in_slots f.did.1 ≡ after_events may (in_slots (pended old)) (heard_in plain may (Some f.name))
+      gone = ap (λ (p : PendingJobs J). in_slots p) f.ended.3 ∙ unanswered_slots f.acts (without f.name (pended old))
+          ∙ slots_heard f.name (pended old)
+
+      all : own ≡ (f.ended.0 ++ reply_at f.name f.came) ++ at_ends may (lefts_of may m.became)
+      all = m.done ∙ ap (λ (l : List (Act P)). l ++ at_ends may (lefts_of may m.became)) f.ended.2
 
       does : (turn : Turn plain may) → turn.call ≡ record { came = None; payload = payload; acts = acts }
-          → turn.old ≡ old.server → turn.asked ≡ f.did.0 → turn.left ≡ m.left → (earlier : List (Turn plain may))
+          → turn.old ≡ old.server → turn.heard ≡ Some f.name → turn.asked ≡ f.did.0
+          → turn.left ≡ lefts_of may m.became → (earlier : List (Turn plain may))
           → AllStand plain may earlier (pended old) → ◌≡◌ {A = Option Message} None None
           → WakeDoes plain may earlier turn
-      does turn is from asked left earlier stand none = inr (inl (
+      does turn is from heard asked left earlier stand none = inr (inl (
         f.name,
         f.job,
-        stand f.name f.job f.waits,
+        stand.0 f.name f.job f.waits,
         inr (inr (
           f.came,
           f.ended.0,
@@ -306,6 +393,7 @@ module _ (T : Type 0) {S J F P : Type 0} (plain : Plain S P) (may : StatedJobs S
           ap (λ (c : Call (RequestOrigin P)). c.acts) is ∙ by_own ∙ ap (map_list by_server) all
               ∙ ap (λ (ls : List (Left may)). map_list by_server ((f.ended.0 ++ reply_at f.name f.came)
               ++ at_ends may ls)) (sym left),
+          heard,
         )),
       ))
 
@@ -316,49 +404,56 @@ module _ (T : Type 0) {S J F P : Type 0} (plain : Plain S P) (may : StatedJobs S
     | inl long ↦ long_turn old did id method params payload acts long.0 long.1
     | inr own ↦ does_turn old did (record { came = Some (request id method params); payload = payload; acts = acts })
         (without (Request id) (pended old)) (plain.requested old.server id method params) own.1
-        (λ did mid does. (own.0, does)) (λ slot e has. has) (λ none. absurd (cc (none)))
+        (λ did mid does. (own.0, does, refl)) refl (λ none. absurd (cc (none)))
   ]
   handed_turn old did (Some (notification method params)) payload acts h =
       does_turn old did (record { came = Some (notification method params); payload = payload; acts = acts })
       (without_cancelled (cancelled_by method params) (pended old)) (plain.notified old.server method params) h.0
-      (λ did mid does. inl does) (slots_cancelled (cancelled_by method params) (pended old))
+      (λ did mid does. (inl does, refl)) (slots_cancelled (cancelled_by method params) (pended old))
       (λ none. absurd (cc (none)))
   handed_turn old did (Some (response id outcome)) (Some (ByServer payload)) acts h =
       does_turn old did (record {
         came = Some (response id outcome);
         payload = Some (ByServer payload);
         acts = acts;
-      }) (pended old) (plain.replied old.server payload outcome) h (λ did mid does. (payload, does))
-      (λ slot e has. has) (λ none. absurd (cc (none)))
+      }) (pended old) (plain.replied old.server payload outcome) h (λ did mid does. (payload, does, refl))
+      refl (λ none. absurd (cc (none)))
   handed_turn old did (Some (response id outcome)) (Some (ByJob n)) acts h =
       stays old did (record { came = Some (response id outcome); payload = Some (ByJob n); acts = acts }) h.0 h.1
-      (λ turn is earlier stand none. absurd (cc (none)))
+      (λ turn is silent earlier stand none. absurd (cc (none)))
   handed_turn old did (Some (response id outcome)) None acts h =
       stays old did (record { came = Some (response id outcome); payload = None; acts = acts }) h.1 (ap seen h.0)
-      (λ turn is earlier stand none. absurd (cc (none)))
+      (λ turn is silent earlier stand none. absurd (cc (none)))
   handed_turn old did None payload acts h = woken h.0
     where
       now : Call (RequestOrigin P)
       now = record { came = None; payload = payload; acts = acts }
 
       woken : W.wakes old acts did → TurnOf old did now
-      woken (inl nothing) = stays old did now tt nothing.1 (λ turn is earlier stand none.
-          inl (ap (λ (c : Call (RequestOrigin P)). c.acts) is ∙ nothing.0))
-      woken (inr (inl r)) = stays old did now tt r.same (λ turn is earlier stand none. inr (inl (
+      woken (inl nothing) = stays old did now tt nothing.1 (λ turn is silent earlier stand none.
+          inl (ap (λ (c : Call (RequestOrigin P)). c.acts) is ∙ nothing.0, silent))
+      woken (inr (inl r)) = stays old did now tt r.same (λ turn is silent earlier stand none. inr (inl (
         r.name,
         r.job,
-        stand r.name r.job r.waits,
-        inl (r.method, r.params, r.reports, ap (λ (c : Call (RequestOrigin P)). c.acts) is ∙ r.acts),
+        stand.0 r.name r.job r.waits,
+        inl (r.method, r.params, r.reports, ap (λ (c : Call (RequestOrigin P)). c.acts) is ∙ r.acts, silent),
       )))
-      woken (inr (inr (inl a))) = stays old did now tt a.same (λ turn is earlier stand none. inr (inl (
+      woken (inr (inr (inl a))) = stays old did now tt a.same (λ turn is silent earlier stand none. inr (inl (
         a.name,
         a.job,
-        stand a.name a.job a.waits,
-        inr (inl (a.method, a.params, a.number, a.may_ask, ap (λ (c : Call (RequestOrigin P)). c.acts) is ∙ a.acts)),
+        stand.0 a.name a.job a.waits,
+        inr (inl (
+          a.method,
+          a.params,
+          a.number,
+          a.may_ask,
+          ap (λ (c : Call (RequestOrigin P)). c.acts) is ∙ a.acts,
+          silent,
+        )),
       )))
       woken (inr (inr (inr (inl b)))) = finishes_turn old did payload acts b.0 b.1 b.2
-      woken (inr (inr (inr (inr w)))) = stays old did now tt w.same (λ turn is earlier stand none.
-          inr (inr (w.number, ap (λ (c : Call (RequestOrigin P)). c.acts) is ∙ w.acts)))
+      woken (inr (inr (inr (inr w)))) = stays old did now tt w.same (λ turn is silent earlier stand none.
+          inr (inr (w.number, ap (λ (c : Call (RequestOrigin P)). c.acts) is ∙ w.acts, silent)))
 
   -- what the server took back
   pub took_back : (payloads : List (RequestOrigin P)) (old new : PooledServer T S J F)
@@ -392,7 +487,7 @@ module _ (T : Type 0) {S J F P : Type 0} (plain : Plain S P) (may : StatedJobs S
   stands_after old did earlier call t stand comes =
       stand_on plain may earlier t.turn (pended old) (pended did) stand t.moves
       (t.gave ∙ ap (λ (c : Call (RequestOrigin P)). given_at plain may c.came (pended did)) (sym t.of_call))
-      (comes_at old did call t.turn t.of_call t.from comes)
+      (comes_at old did call t.turn t.of_call t.from comes) t.slots
 
   record Turns (start : S) (earlier : List (Turn plain may)) (calls : List (Call (RequestOrigin P))) : Type 0 where
     turns : List (Turn plain may)
@@ -401,6 +496,7 @@ module _ (T : Type 0) {S J F P : Type 0} (plain : Plain S P) (may : StatedJobs S
     linked : AreTurns plain may start turns last
     wakes : (before later : List (Turn plain may)) (t : Turn plain may) → turns ≡ before ++ t ∷ later
         → t.call.came ≡ None → WakeDoes plain may (earlier ++ before) t
+    once : TakeTurns may (slots_after plain may earlier) (events_of plain may turns)
 
   no_turns : (start now : S) (earlier : List (Turn plain may))
       → ((own : List P) × TakesBack plain.takes_back start own now) → Turns start earlier []
@@ -410,6 +506,7 @@ module _ (T : Type 0) {S J F P : Type 0} (plain : Plain S P) (may : StatedJobs S
     last = now;
     linked = between;
     wakes = never;
+    once = tt;
   }
     where
       never : (before later : List (Turn plain may)) (t : Turn plain may) → [] ≡ before ++ t ∷ later
@@ -432,6 +529,11 @@ module _ (T : Type 0) {S J F P : Type 0} (plain : Plain S P) (may : StatedJobs S
       subst (λ (s : S). AreTurns plain may s rest.turns rest.last) (sym t.to) rest.linked,
     );
     wakes = at;
+    once = turns-append may (slots_after plain may earlier) (events_at plain may t.turn)
+        (events_of plain may rest.turns)
+        (subst (λ (s : Id → Option J). TakeTurns may s (events_at plain may t.turn)) stand.1 t.turns)
+        (subst (λ (s : Id → Option J). TakeTurns may s (events_of plain may rest.turns))
+        (slots_more plain may earlier t.turn) rest.once);
   }
     where
       at : (before later : List (Turn plain may)) (x : Turn plain may) → t.turn ∷ rest.turns ≡ before ++ x ∷ later
@@ -470,17 +572,23 @@ module _ (T : Type 0) {S J F P : Type 0} (plain : Plain S P) (may : StatedJobs S
       → pended start name ≡ Some e → ⊥
   no_job start none name e has = let no = ap (λ (p : PendingJobs J). p name) (sym none) ∙ has in absurd (cc (no))
 
+  none_stands : (start : PooledServer T S J F) → pended start ≡ no_jobs → AllStand plain may [] (pended start)
+  none_stands start none = (
+    λ name e has. absurd (no_job start none name e has),
+    ap (λ (p : PendingJobs J). in_slots p) none,
+  )
+
   -- `initialized` came
   pub opened : (start did : PooledServer T S J F) (m : Message) (acts : List (Act (RequestOrigin P)))
       → is_initialized m ≡ true → W.at_initialized start acts did
       → TurnOf start did (record { came = Some m; payload = None; acts = acts })
   opened start did m acts begins began = does_turn start did (record { came = Some m; payload = None; acts = acts })
-      (pended start) (plain.at_initialized start.server) began (is_called m begins) (λ slot e has. has)
+      (pended start) (plain.at_initialized start.server) began (is_called m begins) refl
       (λ none. absurd (cc (none)))
     where
       is_called : (m : Message) → is_initialized m ≡ true → (acts : List (Act P)) (mid : S)
-          → plain.at_initialized start.server acts mid → IsCalled plain may start.server (Some m) acts mid
-      is_called (notification method params) begins acts mid does = inr (begins, does)
+          → plain.at_initialized start.server acts mid → IsCalled plain may start.server (Some m) None acts mid
+      is_called (notification method params) begins acts mid does = (inr (begins, does), refl)
       is_called (request id method params) begins acts mid does = absurd (cc (begins))
       is_called (response id outcome) begins acts mid does = absurd (cc (begins))
 
@@ -488,7 +596,7 @@ module _ (T : Type 0) {S J F P : Type 0} (plain : Plain S P) (may : StatedJobs S
       → W.at_initialized start call.acts did → (t : TurnOf start did call)
       → AllStand plain may (t.turn ∷ []) (pended did)
   stands_opened start did call none began t =
-      stands_after start did [] call t (λ name e has. absurd (no_job start none name e has))
+      stands_after start did [] call t (none_stands start none)
       (λ id e has. absurd (none_given id e has))
     where
       none_given : (id : Id) (e : J) → pended did (Request id) ≡ Some e → ⊥
@@ -506,15 +614,21 @@ module _ (T : Type 0) {S J F P : Type 0} (plain : Plain S P) (may : StatedJobs S
         payload = None;
         acts = part.begun;
       })) (sym came) (opened start part.did m part.begun begins part.began) in
-      let all = one_turn start.server start part.did [] now part.calls ([], refl) t
-      (λ name e has. absurd (no_job start none name e has))
+      let all = one_turn start.server start part.did [] now part.calls ([], refl) t (none_stands start none)
       (all_turns (ids_after_all 0 part.begun) part.calls part.did.server part.first part.called (t.turn ∷ [])
       (took_back (unsent 0 part.begun) part.did part.first part.took_back)
       (subst (AllStand plain may (t.turn ∷ []))
       (sym (back_pending T plain may (unsent 0 part.begun) part.did part.first part.took_back))
       (stands_opened start part.did now none part.began t))
       part.took_calls) in
-      record { turns = all.turns; are = all.are; last = all.last; linked = all.linked; wakes = all.wakes }
+      record {
+        turns = all.turns;
+        are = all.are;
+        last = all.last;
+        linked = all.linked;
+        wakes = all.wakes;
+        once = all.once;
+      }
     where
       now : Call (RequestOrigin P)
       now = record { came = opening.came; payload = None; acts = part.begun }

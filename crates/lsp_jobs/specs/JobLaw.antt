@@ -3,7 +3,7 @@ use Rattle.serde_json.specs.Data.{Data}
 use Rattle.std.specs.Prelude.{◌≡◌, ◌⊎◌, ℕ, true, false, List, [], ◌∷◌, ◌++◌, Option, Some, None}
 use Rattle.lsp_message.specs.Id.{Id}
 use Rattle.lsp_message.specs.Message.{Message, request}
-use Rattle.lsp_session.specs.Session.{Exchange, SessionAnswer, Stop}
+use Rattle.lsp_session.specs.Session.{Exchange, SessionAnswer, Stop, refused}
 use Rattle.lsp_session.specs.SessionLaws.{EndsWithResult}
 use Rattle.lsp_acts.specs.Acts.{Act, Queues, replies}
 use Rattle.lsp_acts.specs.Law.{AnswersInitialize, KeepsLaws, how_many, is_reply_under}
@@ -12,9 +12,10 @@ use Rattle.lsp_acts.specs.SentByActs.{acts_done_at, all_sends}
 use Rattle.lsp_acts.specs.declared.server.Server.{Ghosts as Plain}
 use Rattle.lsp_jobs.specs.Ends.{Came, ComesTo, End, Outcome, reply_of}
 use Rattle.lsp_jobs.specs.JobSession.{JobSession, seen_with_jobs}
-use Rattle.lsp_jobs.specs.SlotLaw.{AreTurns, IsTurn, Turn, WakeDoes, concerns}
+use Rattle.lsp_jobs.specs.SlotLaw.{AreTurns, IsTurn, Left, Turn, WakeDoes, concerns}
 use Rattle.lsp_jobs.specs.Stated.{SeesEnd, StatedJobs}
 use Rattle.lsp_jobs.specs.declared.names.JobName.{JobName}
+use Rattle.lsp_jobs.specs.declared.names.JobName.TheVariants.{Slot}
 
 -- in none of these exchanges a request under this id came, or its cancellation, or was a reply under it sent
 abbrev pub IsQuiet : Id → List Exchange → Type 0
@@ -41,13 +42,17 @@ RepliesToLast earlier output =
     (id : Id) → (how_many (is_reply_under id) output ≡ 0)
     ⊎ ((method : List ℕ) × (params : Data) × LastRequest earlier id method params)
 
--- These acts send this, or this and more, in some state of the queues.
+-- these acts send this, in some state of the queues
 abbrev pub SendsSo : {P : Type 0} → List (Act P) → List Message → Type 0
-SendsSo {P} acts output = (queues : Queues P) × (not_sent : List Message)
-    × (all_sends queues acts ≡ output ++ not_sent)
+SendsSo {P} acts output = (queues : Queues P) × (all_sends queues acts ≡ output)
+
+-- Nothing is lost. Or no exchange follows, since the outbox refused a message, and this was to be sent after it.
+abbrev pub MayLose : Stop → List Exchange → List Message → Type 0
+MayLose (refused fault) [] lost = Unit {0}
+MayLose stop later lost = lost ≡ []
 
 module _ {S J F P : Type 0} (plain : Plain S P) (may : StatedJobs S J F P) where
-  -- This turn was taken at this exchange: what is done in it is sent. If the outbox refused a message, no more is.
+  -- This turn was taken at this exchange: what is done in it is sent.
   abbrev pub IsTakenAt : Exchange → Turn plain may → Type 0
   IsTakenAt x t = (t.call.came ≡ x.came) × SendsSo (acts_done_at x.came t.call.acts) x.sent
 
@@ -69,8 +74,8 @@ module _ {S J F P : Type 0} (plain : Plain S P) (may : StatedJobs S J F P) where
     pub taken : AreTakenAt later turns
     pub linked : AreTurns plain may start turns now
 
-  -- A wake after these exchanges is the turn that follows theirs, and this is sent. In it nothing is done, or a job
-  -- that stands there says something, or what a job asked is cancelled.
+  -- A wake after these exchanges is the turn that follows theirs. What is done in it is sent, but for what is lost. In it
+  -- nothing is done, or a job that stands there says something, or what a job asked is cancelled.
   pub record WakeSends (first : S) (earlier : List Exchange) (output : List Message) : Type 0 where
     pub turns : List (Turn plain may)
     pub turn : Turn plain may
@@ -78,14 +83,15 @@ module _ {S J F P : Type 0} (plain : Plain S P) (may : StatedJobs S J F P) where
     pub is_turn : IsTurn plain may turn
     pub woken : turn.call.came ≡ None
     pub does : WakeDoes plain may turns turn
-    pub sent : SendsSo turn.call.acts output
+    pub lost : List Message
+    pub sent : SendsSo turn.call.acts (output ++ lost)
 
   -- at each wake this is sent, and replies go to no other requests
-  abbrev pub AnswersByJobs : S → List Exchange → Type 0
-  AnswersByJobs first exchanges =
+  abbrev pub AnswersByJobs : S → Stop → List Exchange → Type 0
+  AnswersByJobs first stop exchanges =
       (earlier later : List Exchange) (x : Exchange) → exchanges ≡ earlier ++ x ∷ later
       → x.came ≡ None
-      → WakeSends first earlier x.sent × RepliesToLast earlier x.sent
+      → (wake : WakeSends first earlier x.sent) × MayLose stop later wake.lost × RepliesToLast earlier x.sent
 
   -- The last request under the id came after these exchanges, which had taken the server to this state. It called the
   -- request long and gave this job, which is for it.
@@ -109,9 +115,19 @@ module _ {S J F P : Type 0} (plain : Plain S P) (may : StatedJobs S J F P) where
     pub comes : ComesTo may.comes_to job came
     pub reply : outcome ≡ reply_of came
 
-module _ {S J F P : Type 0} (may : StatedJobs S J F P) where
-  -- The server sees how a job ended, and then answers this request by itself.
-  pub record RepliesItself (id : Id) (outcome : Outcome) : Type 0 where
+  -- In this turn the server came from `old` to `new` and did this, as it heard how the job with this name ended, or saw it
+  -- of one whose slot it changed.
+  abbrev pub SawInTurn : Turn plain may → JobName → End F → S → List (Act P) → S → Type 0
+  SawInTurn t name end old acts new =
+      ((t.heard ≡ Some name) × (old ≡ t.old) × (new ≡ t.asked))
+      ⊎ ((l : Left may) × (sooner : List (Left may)) × (later : List (Left may)) × (t.left ≡ sooner ++ l ∷ later)
+      × (name ≡ Slot l.slot) × (end ≡ l.end) × (old ≡ l.old) × (acts ≡ l.acts) × (new ≡ l.new))
+
+  -- At the wake after these exchanges, which sends this, the server sees how a job ended, and then answers this request by
+  -- itself.
+  pub record RepliesItself (first : S) (earlier : List Exchange) (output : List Message) (id : Id) (outcome : Outcome)
+      : Type 0 where
+    pub wake : WakeSends first earlier output
     pub name : JobName
     pub end : End F
     pub old : S
@@ -119,6 +135,7 @@ module _ {S J F P : Type 0} (may : StatedJobs S J F P) where
     pub after : List (Act P)
     pub new : S
     pub saw : SeesEnd may old name end (before ++ replies id outcome ∷ after) new
+    pub at : SawInTurn wake.turn name end old (before ++ replies id outcome ∷ after) new
 
 module _ (T : Type 0) {S J F P : Type 0} (plain : Plain S P) (may : StatedJobs S J F P) where
   -- a session of a server with jobs, which keeps the laws of a session of a server, and in which each job answers its
@@ -130,4 +147,4 @@ module _ (T : Type 0) {S J F P : Type 0} (plain : Plain S P) (may : StatedJobs S
     pub laws : KeepsLaws (seen_with_jobs T plain may) session.old session.new
         (held_by (seen_with_jobs T plain may) session.session) exchanges stop shutdown_reply
         answer
-    pub jobs : AnswersByJobs plain may first exchanges
+    pub jobs : AnswersByJobs plain may first stop exchanges

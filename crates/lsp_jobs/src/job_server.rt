@@ -55,6 +55,7 @@ impl<J: Drop> AnsweredBy<J> {
 /// A server whose long requests are jobs, and that may start jobs of its own: it goes on while they run. `run_jobs` runs it.
 ///
 /// A server with long requests alone writes `is_long` and `job`, and says `type Slots = NoSlots`. The ghost members say what it promises.
+/// In such a session jobs alone wake the server, and `Slots` reports their ends to it, so `Server::woken` is not called.
 pub trait JobServer<J: Job>: Server {
     ghost use Rattle.serde_json.specs.Data.{Data};
     ghost use Rattle.std.specs.Prelude.{ℕ, Bool, List, ⊤};

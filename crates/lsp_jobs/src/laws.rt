@@ -75,24 +75,27 @@ pub fn session_with_jobs_that_asks_keeps_laws<
 /// Of each reply that is sent at a wake, in a session that began in the state `first`. The last request under its id came before, and since
 /// then no reply under the id was sent and no cancellation of it came. The exchanges before the request had taken the server to a state in
 /// which it called the request long and gave a job for it (`gives`). The outcome is one that this job may come to; or one of three errors: it
-/// gave no reply, an allocation failed, or it ended by `Interrupted::Cancelled`, for whatever reason. Or the server saw how a job ended, and
-/// then answered the request by itself: a server that does nothing then, as by `NoSlots`, never does.
+/// gave no reply, an allocation failed, or it ended by `Interrupted::Cancelled`, for whatever reason. Or the server saw at this wake how a job
+/// ended, and then answered the request by itself. That is a job which stands there (see `slots_hear_their_last_jobs`), or one in a slot that the
+/// server changes at this wake. A server that does nothing at the end of a job, as by `NoSlots`, never answers so.
 pub fn requests_are_answered_by_their_jobs<S: JobServer<J>, J: Job>()
-    ensures { (first : S) (exchanges : List Exchange)
-        → AnswersByJobs S.Server (stated_jobs S.JobServer.own ⟦<S::Slots as Slots<S, J>>⟧ J.Job) first exchanges
+    ensures { (first : S) (stop : Stop) (exchanges : List Exchange)
+        → AnswersByJobs S.Server (stated_jobs S.JobServer.own ⟦<S::Slots as Slots<S, J>>⟧ J.Job) first stop exchanges
         → (earlier later : List Exchange) (x : Exchange) (before after : List Message) (id : Id)
         (outcome : Outcome) → exchanges ≡ earlier ++ x ∷ later → x.came ≡ None
         → x.sent ≡ before ++ response id outcome ∷ after
         → AnswersRequest S.Server (stated_jobs S.JobServer.own ⟦<S::Slots as Slots<S, J>>⟧ J.Job) first earlier id outcome
-        ⊎ RepliesItself (stated_jobs S.JobServer.own ⟦<S::Slots as Slots<S, J>>⟧ J.Job) id outcome }
+        ⊎ RepliesItself S.Server (stated_jobs S.JobServer.own ⟦<S::Slots as Slots<S, J>>⟧ J.Job) first earlier x.sent id outcome }
 {}
 
 /// Of the jobs that a server starts, from the state at the result of `initialize` on (`GoesOn` in `lsp_acts::laws`). Its turns are what
 /// it did at `initialized` and at its calls, each from the state that the one before left. At a request that it calls long, the server
 /// stays as it is. Nothing is sent, since it gave a job for the request; or one reply: what it knows (`knows`), or the error -32803,
-/// `too many requests are waiting`, or -32603, `out of memory`. At each wake nothing is done, or what a job asked is cancelled, or one
-/// pending job reports, asks or came to what it may find. If that is a job in a slot, it is the last that was started there: in an earlier
-/// turn, and since then the slot was not changed. So what is found of an earlier text never comes behind the start for a later one.
+/// `too many requests are waiting`, or -32603, `out of memory`. At each wake the server stays as it is and nothing is done, or what a job
+/// asked is cancelled, or one pending job reports, asks or came to what it may find. The server changes at a wake only by what it hears of that
+/// job. If that is a job in a slot, it is the last that was started there: in an earlier turn, and since then the slot was not changed, and the
+/// job did not end. So what is found of an earlier text never comes after the start for a later one. In each slot starts and ends take turns
+/// (`once`): the server hears or sees one end at most of each job, and none of a job that was not started.
 /// A job for a request is one that the server may give for the last request under the id, which is long, was not cancelled and has no reply.
 /// Up to the result of `initialize` no job is pending (`first`).
 pub fn slots_hear_their_last_jobs<T: Wait + Drop, S: JobServer<J>, J: Job>()

@@ -10,7 +10,7 @@ returns g c =
     started_as _ _ (λ exchanges stop shutdown_reply answer session.
     echo_at_wakes _ _ (λ old name it acts new h. h.0) (λ old name end acts new h. h.0)
     (λ job method params reply found for comes. comes ∙ ap (λ d. Some (Ok d)) for) _ exchanges
-    (c.requests_are_answered_by_their_jobs.ensures _ exchanges
+    (c.requests_are_answered_by_their_jobs.ensures _ stop exchanges
     (c.session_with_jobs_keeps_laws.ensures.exchanges _ _ exchanges stop shutdown_reply answer session).jobs))
     true no_limit (λ (done : Threaded _). g.W.Write.contents done.writer) (λ (done : Threaded _).
     done.answer) _ _ _

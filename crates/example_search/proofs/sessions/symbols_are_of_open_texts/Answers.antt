@@ -17,4 +17,4 @@ returns g c = λ first last exchanges stop shutdown_reply answer none lawful. se
   gives = λ old id method params job h. h;
   is_for = λ job method params h. h;
   finds = λ job reply it h. h;
-}) first exchanges none (c.requests_are_answered_by_their_jobs.ensures first exchanges lawful.jobs)
+}) first exchanges none (c.requests_are_answered_by_their_jobs.ensures first stop exchanges lawful.jobs)
