@@ -9,9 +9,10 @@ use crate::speaking::Speaking;
 use crate::threads::ended;
 use lsp_jobs::laws::{requests_are_answered_by_their_jobs, session_with_jobs_keeps_laws};
 use lsp_jobs::{
-    AnsweredBy, Interrupted, Job, JobContext, JobResult, JobServer, NoSlots, PoolSize, run_jobs,
+    AnsweredBy, Interrupted, Job, JobContext, JobOptions, JobResult, JobServer, NoSlots, PoolSize,
+    run_jobs,
 };
-use lsp_server::{EndSession, Request, StandardOutput, StartFault, ThreadOptions, Threaded};
+use lsp_server::{EndSession, Request, StandardOutput, StartFault, Threaded};
 use serde_json::Value;
 use std::alloc::{AllocError, Global};
 use std::io::{BufRead, Write};
@@ -100,18 +101,8 @@ where
         alloc,
         is_null: false,
     };
-    let size = PoolSize::from(workers);
-    let options = ThreadOptions::new();
-    let (_, done) = run_jobs(
-        rt,
-        alloc,
-        reader,
-        writer,
-        size,
-        jobs,
-        &mut EndSession,
-        options,
-    );
+    let options = JobOptions::new(PoolSize::from(workers));
+    let (_, done) = run_jobs(rt, alloc, reader, writer, jobs, &mut EndSession, options);
     done
 }
 

@@ -25,14 +25,14 @@ use anyhow::{Result as Answer, bail};
 use lsp_documents::{Agreed, OpenText, TextDocuments};
 use lsp_jobs::laws::session_with_jobs_keeps_laws;
 use lsp_jobs::{
-    AnsweredBy, Interrupted, Job, JobContext, JobEnd, JobName, JobResult, JobServer, PoolSize,
-    Slot, SlotChange, Slots, run_jobs,
+    AnsweredBy, Interrupted, Job, JobContext, JobEnd, JobName, JobOptions, JobResult, JobServer,
+    PoolSize, Slot, SlotChange, Slots, run_jobs,
 };
 use lsp_methods::publish;
 use lsp_server::clients::{ClientOptions, serve_clients};
 use lsp_server::{
     Act, BadContentPolicy, ClientStreams, EndSession, Notification, Request, ResponseError, Server,
-    SessionEnd, StartFault, ThreadOptions, Threaded,
+    SessionEnd, StartFault, Threaded,
 };
 use lsp_text::Text;
 use lsp_types::{Diagnostic, DiagnosticSeverity, Position, Range, ToJson};
@@ -359,12 +359,11 @@ where
         × GivenTo (W.contents client.writer) done.given.parts (W.contents done.writer)) }
 {
     session_with_jobs_keeps_laws::<T, Linter, Analysis>();
-    let mut options = ThreadOptions::new();
-    options.limits = client.limits;
-    let (reader, writer) = (client.reader, client.writer);
     // Two analyses run at a time, and as many as there are documents may wait.
-    let size = PoolSize::from(2);
-    run_jobs(rt, alloc, reader, writer, size, linter, policy, options)
+    let mut options = JobOptions::new(PoolSize::from(2));
+    options.threads.limits = client.limits;
+    let (reader, writer) = (client.reader, client.writer);
+    run_jobs(rt, alloc, reader, writer, linter, policy, options)
 }
 
 /// What is published at a wake are all the marks of the text that the server holds at that moment for the document, under its URI and with

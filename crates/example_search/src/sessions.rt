@@ -12,7 +12,7 @@ ghost use Rattle.example_search.specs.Promise.{AnswersOnce, SearchSession};
 use crate::search::Search;
 use crate::server::Sums;
 use lsp_jobs::laws::{requests_are_answered_by_their_jobs, session_with_jobs_keeps_laws};
-use lsp_jobs::{Job, JobServer, NoSlots, PoolSize, Slots, run_jobs};
+use lsp_jobs::{Job, JobOptions, JobServer, NoSlots, PoolSize, Slots, run_jobs};
 use lsp_server::laws::server_keeps_laws;
 use lsp_server::{
     BadContentPolicy, ClientStreams, PassedOver, QueuedServer, Server, SessionEnd, SessionFault,
@@ -123,10 +123,10 @@ where
 {
     session_with_jobs_keeps_laws::<T, Sums, Search>();
     symbols_are_of_open_texts::<T>();
-    let mut options = ThreadOptions::new();
-    options.limits = client.limits;
+    let mut options = JobOptions::new(SIZE);
+    options.threads.limits = client.limits;
     let (reader, writer) = (client.reader, client.writer);
-    run_jobs(rt, alloc, reader, writer, SIZE, sums, passed_over, options)
+    run_jobs(rt, alloc, reader, writer, sums, passed_over, options)
 }
 
 /// Of a session with jobs, from a server that holds no documents: each reply at a wake is to the last request under its id,

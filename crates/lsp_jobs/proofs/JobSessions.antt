@@ -1,37 +1,28 @@
 -- A session of a server with its pool, put beside its queues and taken out again.
-use Rattle.std.proofs.Common.{◌≡◌, refl, List, Option}
+use Rattle.std.proofs.Common.{◌≡◌, List, Option}
 use Rattle.lsp_message.specs.Message.{Message}
-use Rattle.lsp_session.specs.Session.{Exchange, SessionAnswer, SessionOut, Stop}
-use Rattle.lsp_acts.proofs.Taking.{keeps_laws, session_of}
-use Rattle.lsp_acts.specs.Acts.{empty_queues}
-use Rattle.lsp_acts.specs.QueuedServer.{with_queues}
-use Rattle.lsp_acts.specs.View as queues
-use Rattle.lsp_acts.specs.declared.queued_server.QueuedServer.{QueuedServer}
+use Rattle.lsp_session.specs.Session.{Exchange, SessionAnswer, Stop}
+use Rattle.lsp_session.specs.SessionLaws.{Implies}
+use Rattle.lsp_acts.proofs.Taking.{keeps_laws}
+use Rattle.lsp_acts.specs.QueuedServer.{ServerSession}
 use Rattle.lsp_acts.specs.declared.server.Server.{Ghosts as Plain}
 use Rattle.lsp_jobs.proofs.SessionTurns.{answers_by_jobs}
 use Rattle.lsp_jobs.specs.JobLaw.{LawfulJobSession}
 use Rattle.lsp_jobs.specs.JobSession.{JobSession, seen_with_jobs}
 use Rattle.lsp_jobs.specs.Seen.{seen}
 use Rattle.lsp_jobs.specs.PendingJobs.{no_jobs}
-use Rattle.lsp_jobs.specs.declared.asking.RequestOrigin.{RequestOrigin}
 use Rattle.lsp_jobs.specs.Stated.{StatedJobs}
 use Rattle.lsp_jobs.specs.declared.pooled_server.PooledServer.{PooledServer}
 
 module _ (T : Type 0) {S J F P : Type 0} (plain : Plain S P) (may : StatedJobs S J F P) where
-  pub job_session : (old new : QueuedServer (PooledServer T S J F) (RequestOrigin P))
-      (pooled : PooledServer T S J F) (first last : S)
-      → queues.seen old ≡ (pooled, empty_queues) → seen pooled ≡ (first, no_jobs) → last
-      ≡ new.server.server
-      → (xs : List Exchange) (stop : Stop) (shutdown_reply : Option Message) (answer : SessionAnswer)
-      → SessionOut (with_queues (seen_with_jobs T plain may)) old new xs stop shutdown_reply answer
-      → JobSession T plain may first last xs stop shutdown_reply answer
-  job_session old new pooled first last put began left xs stop shutdown_reply answer out = record {
-    old = pooled;
-    new = new.server;
+  pub job_session : (old new : PooledServer T S J F) (first last : S) → seen old ≡ (first, no_jobs) → last ≡ new.server
+      → Implies (ServerSession (seen_with_jobs T plain may) old new) (JobSession T plain may first last)
+  job_session old new first last began left xs stop shutdown_reply answer session = record {
+    old = old;
+    new = new;
     from_first = began;
     to_last = left;
-    session = session_of (seen_with_jobs T plain may) old new pooled new.server put refl xs stop
-        shutdown_reply answer out;
+    session = session;
   }
 
   pub lawful_jobs : (first last : S) (xs : List Exchange) (stop : Stop) (shutdown_reply : Option Message)

@@ -42,6 +42,10 @@ on_err_as (Err e) (Err f) same q gives = gives q
 on_err_as (Err e) (Ok y) same q gives = absurd (cc (same))
 on_err_as (Ok x) s same q gives = tt
 
+pub on_err_then : {T E Q P : Type 0} (r : Result T E) → OnErr r Q → (Q → P) → OnErr r P
+on_err_then (Ok x) q gives = tt
+on_err_then (Err e) q gives = gives q
+
 pub if_none : {A P : Type 0} (o : Option A) → P → IfNone o P
 if_none None p = p
 if_none (Some x) p = tt

@@ -26,4 +26,4 @@ pub use names::{JobName, Slot};
 pub use pool::{JobMessage, JobPool, PoolSize, SubmitFault};
 pub use pooled_server::PooledServer;
 pub use progress::{PartialResults, WorkDone};
-pub use run::run_jobs;
+pub use run::{JobOptions, run_jobs};

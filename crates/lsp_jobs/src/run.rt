@@ -1,5 +1,6 @@
 // A session of a server whose long requests are jobs, in threads.
-ghost use Rattle.std.specs.Prelude.{true, [], Some, IfOk, IfSome};
+ghost use Rattle.std.specs.Prelude.{◌≡◌, true, [], Some, IfOk, IfSome, OnErr};
+ghost use Rattle.lsp_message.specs.Frame.{no_limit};
 ghost use Rattle.lsp_threads.specs.Passing.{GivenTo, OfTaken, TakenFrom, noted};
 ghost use Rattle.lsp_threads.specs.Threads.{ThreadsTellOver};
 ghost use Rattle.lsp_jobs.specs.JobSession.{JobSession};
@@ -13,7 +14,7 @@ use lsp_acts::QueuedServer;
 use lsp_relay::relay;
 use lsp_session::BadContentPolicy;
 use lsp_threads::{
-    Contents, ContentsPlan, StartFault, ThreadOptions, Threaded, run_threads_of_service_over,
+    Contents, ContentsPlan, StartFault, ThreadOptions, Threaded, run_in_threads_over,
 };
 use std::alloc::Global;
 use std::io::{BufRead, Write};
@@ -23,11 +24,36 @@ use std::thread::Threads;
 /// How many parcels of messages that were read, and wakes, may wait for the session. It changes speed and memory only, and no answer.
 const ROOM: usize = 256;
 
+/// How a session with jobs runs. But for `threads.limits`, and for the requests and jobs that find no room, it changes speed and memory
+/// only, and no answer.
+#[derive(Drop)]
+pub struct JobOptions {
+    /// How many threads run jobs, and how many jobs may wait for one.
+    pub pool: PoolSize,
+    /// The threads that read and write, how far they go ahead, and how long a message may be.
+    pub threads: ThreadOptions,
+}
+
+impl JobOptions {
+    /// This pool. The threads that read and write are those of `ThreadOptions::new`, with no limit on the length of a message.
+    pub fn new(pool: PoolSize) -> JobOptions
+        ensures pool { result.pool ≡ «pool» }
+        ensures limits { result.threads.limits ≡ no_limit }
+        ensures unread { result.threads.unread ≡ 1048576 }
+        ensures unwritten { result.threads.unwritten ≡ 1048576 }
+    {
+        JobOptions {
+            pool,
+            threads: ThreadOptions::new(),
+        }
+    }
+}
+
 /// Runs a session of a server whose long requests are jobs, and gives the server back: threads of a pool run jobs, one thread reads, one
 /// writes, and the server is on the caller's thread, which goes on while jobs run.
 ///
-/// Starts, faults and the end are those of `run_threads_of_service`: the outer fault means that a thread was not started, or that an
-/// allocation failed, and nothing was read or written then.
+/// Starts, faults and the end are those of `run_in_threads`: the outer fault means that a thread was not started, or that an
+/// allocation failed. Nothing was read or written then, and the server and the policy are as they were.
 ///
 /// - A `$/cancelRequest` for a request that waits for its job is answered at once, with what the server does at it or else with the
 ///   error -32800. The job is to end, and what it comes to is dropped (LSP 3.17, "Cancellation Support").
@@ -50,10 +76,9 @@ pub fn run_jobs<T, R, W, S, J, L>(
     alloc: Global,
     reader: R,
     writer: W,
-    size: PoolSize,
     server: S,
     policy: &mut L,
-    options: ThreadOptions,
+    options: JobOptions,
 ) -> (S, Result<Threaded<W>, StartFault>)
 where
     T: Threads + Wait + Copy + Drop + Send + 'static,
@@ -63,14 +88,15 @@ where
     J: Job + Send + 'static,
     J::Found: Send + 'static,
     L: BadContentPolicy,
+    ensures unstarted { OnErr result.1 ((result.0 ≡ server) × (policy.new ≡ policy.old)) }
     ensures told { IfOk result.1 (λ done. OfTaken done.taken.parts (λ text.
-        ThreadsTellOver true L.passes options.limits
+        ThreadsTellOver true L.passes options.threads.limits
         (JobSession T S.Server (stated_jobs S.JobServer.own ⟦<S::Slots as Slots<S, J>>⟧ J.Job) server result.0) text
         policy.old policy.new (Some []) (noted done.given) done.answer)) }
     ensures passed { IfOk result.1 (λ done. TakenFrom (R.remaining reader) done.taken.parts
         × GivenTo (W.contents writer) done.given.parts (W.contents done.writer)) }
     ensures session { IfSome (R.remaining reader) (λ text. IfOk result.1 (λ done.
-        ThreadsTellOver true L.passes options.limits
+        ThreadsTellOver true L.passes options.threads.limits
         (JobSession T S.Server (stated_jobs S.JobServer.own ⟦<S::Slots as Slots<S, J>>⟧ J.Job) server result.0) text
         policy.old policy.new (W.contents writer) (W.contents done.writer) done.answer)) }
 {
@@ -80,14 +106,14 @@ where
     let Ok(waker) = tx.waker() else {
         return (server, Err(StartFault::Memory));
     };
-    let pool = match start_pool(rt, alloc, size, waker) {
+    let pool = match start_pool(rt, alloc, options.pool, waker) {
         Ok(pool) => pool,
         Err(fault) => return (server, Err(fault)),
     };
     let pooled = PooledServer::new(alloc, server, pool);
     let mut queued = QueuedServer::new(alloc, pooled);
     let ends = (tx, rx);
-    let done = run_threads_of_service_over(
+    let done = run_in_threads_over(
         rt,
         alloc,
         ends,
@@ -95,7 +121,7 @@ where
         writer,
         &mut queued,
         policy,
-        options,
+        options.threads,
     );
     let (server, pool) = queued.into_server().into_parts();
     pool.end();

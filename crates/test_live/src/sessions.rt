@@ -9,7 +9,7 @@ use crate::servers::{Echo, Talker};
 use crate::signals::{Signal, Signals, is_alone};
 use crate::table::{Call, Device, Given};
 use lsp_acts::QueuedServer;
-use lsp_jobs::{PoolSize, run_jobs};
+use lsp_jobs::{JobOptions, PoolSize, run_jobs};
 use lsp_server::{Connection, Limits, UNREAD_WEIGHT};
 use lsp_session::{Application, FaultCounts, HandlerApplication, SessionEnd, SessionFault};
 use lsp_threads::{
@@ -342,10 +342,11 @@ where
     S: BufRead + Drop + Send + 'static,
     W: Write + Drop + Send + 'static,
 {
-    let options = options(run);
-    run_jobs(
-        rt, alloc, reader, writer, run.pool, talker, listening, options,
-    )
+    let options = JobOptions {
+        pool: run.pool,
+        threads: options(run),
+    };
+    run_jobs(rt, alloc, reader, writer, talker, listening, options)
 }
 
 /// How threads run. No thread gets a stack of `usize::MAX` bytes.

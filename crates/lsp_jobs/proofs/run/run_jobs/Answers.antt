@@ -1,10 +1,12 @@
 use Rattle.std.proofs.Common.{ap, ◌∙◌, true}
-use Rattle.lsp_session.specs.Session.{SessionOut}
-use Rattle.lsp_acts.specs.QueuedServer.{with_queues}
+use Rattle.lsp_acts.specs.QueuedServer.{ServerSession}
+use Rattle.lsp_jobs.specs.Seen.{seen}
 use Rattle.lsp_threads.proofs.Sessions.{started_told_as, taken_told_as}
 use Rattle.lsp_threads.specs.Passing.{noted}
 use Rattle.lsp_threads.specs.declared.run.Threaded.{Threaded}
 use Rattle.lsp_jobs.proofs.JobSessions.{job_session}
+use Rattle.lsp_jobs.proofs.PendingLemmas.{on_err_then}
+use Rattle.lsp_acts.specs.declared.queued_server.QueuedServer.{QueuedServer}
 use Rattle.lsp_jobs.specs.JobSession.{JobSession, seen_with_jobs}
 use Rattle.lsp_jobs.specs.declared.pooled_server.PooledServer.{PooledServer}
 use Rattle.lsp_jobs.specs.Stated.{stated_jobs}
@@ -14,31 +16,42 @@ pub returns-clause-session : goal.returns-clause-session
 returns-clause-session g c =
     let jobs = stated_jobs g.S.JobServer g.S.Slots.Slots g.J.Job in
     let may = seen_with_jobs g.row.T.Denot g.S.Server jobs in
-    let old = c.new-queued.result in
-    let new = c.run_threads_of_service_over-done.new.service in
-    started_told_as true g.L.BadContentPolicy.passes c.args.options.limits c.args.policy.now _
-    (SessionOut (with_queues may) old new) (JobSession g.row.T.Denot g.S.Server jobs
+    let old = c.new-queued.result.server in
+    let new = c.run_in_threads_over-done.new.application.server in
+    started_told_as true g.L.BadContentPolicy.passes c.args.options.threads.limits c.args.policy.now _
+    (ServerSession may old new) (JobSession g.row.T.Denot g.S.Server jobs
     c.args.server _)
-    (job_session g.row.T.Denot g.S.Server jobs old new c.new-pooled.result c.args.server _
-    c.new-queued.ensures
-    (c.new-pooled.ensures ∙ ap (λ t. (c.args.server, t)) c.in-Ok-start_pool.ensures)
+    (job_session g.row.T.Denot g.S.Server jobs old new c.args.server _
+    (ap seen c.new-queued.ensures.server ∙ c.new-pooled.ensures
+    ∙ ap (λ t. (c.args.server, t)) c.in-Ok-start_pool.ensures)
     (c.into_parts-server.ensures ∙ ap (λ (p : PooledServer _ _ _ _). p.server) c.into_server.ensures))
     (λ (done : Threaded _). g.W.Write.contents done.writer) (λ (done : Threaded _). done.answer) _ _ _
-    (rw c.in-Ok-waker.ensures.made at c.run_threads_of_service_over-done.ensures.session)
+    (rw c.in-Ok-waker.ensures.made at c.run_in_threads_over-done.ensures.session)
 
 pub returns-clause-told : goal.returns-clause-told
 returns-clause-told g c =
     let jobs = stated_jobs g.S.JobServer g.S.Slots.Slots g.J.Job in
     let may = seen_with_jobs g.row.T.Denot g.S.Server jobs in
-    let old = c.new-queued.result in
-    let new = c.run_threads_of_service_over-done.new.service in
-    taken_told_as true g.L.BadContentPolicy.passes c.args.options.limits c.args.policy.now _
-    (SessionOut (with_queues may) old new) (JobSession g.row.T.Denot g.S.Server jobs
+    let old = c.new-queued.result.server in
+    let new = c.run_in_threads_over-done.new.application.server in
+    taken_told_as true g.L.BadContentPolicy.passes c.args.options.threads.limits c.args.policy.now _
+    (ServerSession may old new) (JobSession g.row.T.Denot g.S.Server jobs
     c.args.server _)
-    (job_session g.row.T.Denot g.S.Server jobs old new c.new-pooled.result c.args.server _
-    c.new-queued.ensures
-    (c.new-pooled.ensures ∙ ap (λ t. (c.args.server, t)) c.in-Ok-start_pool.ensures)
+    (job_session g.row.T.Denot g.S.Server jobs old new c.args.server _
+    (ap seen c.new-queued.ensures.server ∙ c.new-pooled.ensures
+    ∙ ap (λ t. (c.args.server, t)) c.in-Ok-start_pool.ensures)
     (c.into_parts-server.ensures ∙ ap (λ (p : PooledServer _ _ _ _). p.server) c.into_server.ensures))
     (λ (done : Threaded _). done.taken.parts) (λ (done : Threaded _). noted done.given)
     (λ (done : Threaded _). done.answer) _ (rw c.in-Ok-waker.ensures.made at
-    c.run_threads_of_service_over-done.ensures.told)
+    c.run_in_threads_over-done.ensures.told)
+
+pub returns-clause-unstarted : goal.returns-clause-unstarted
+returns-clause-unstarted g c =
+    on_err_then c.run_in_threads_over-done.result c.run_in_threads_over-done.ensures.unstarted
+    (λ same. (
+      c.into_parts-server.ensures ∙ ap (λ (p : PooledServer _ _ _ _). p.server) c.into_server.ensures
+          ∙ ap (λ (q : QueuedServer _ _). q.server.server) same.0
+          ∙ ap (λ (p : PooledServer _ _ _ _). p.server) c.new-queued.ensures.server
+          ∙ ap (λ x. x.0) c.new-pooled.ensures,
+      same.1,
+    ))
