@@ -6,7 +6,7 @@ ghost use Rattle.std.specs.declared.io.ErrorKind.TheVariants.{InvalidInput, OutO
 ghost use Rattle.std.specs.Io.Buffered.{reader_inner};
 ghost use Rattle.lsp_message.specs.Limits.{most_content};
 ghost use Rattle.lsp_server.specs.Words.{channel_of, standard, refused as asks_in_vain};
-ghost use Rattle.lsp_server.specs.Clients.{medium_of, reader_medium, writer_medium, streams, socket as by_socket, file as by_file};
+ghost use Rattle.lsp_server.specs.Clients.{medium_of, reader_medium, writer_medium, client_remaining, client_contents, streams, socket as by_socket, file as by_file};
 
 use crate::connection::READ_AHEAD;
 use crate::pipe::PipeStream;
@@ -18,6 +18,7 @@ use lsp_session::{ClientStreams, SessionEnd};
 use std::fmt::Display;
 use std::io::{BufReader, ErrorKind, Read, Write};
 use std::net::{Ipv4Addr, Net, OpenListener, OpenStream, Shutdown, TcpListener, TcpStream};
+use std::os::unix::net::UnixStream;
 use std::sync::Wait;
 use std::time::{Clock, Duration};
 use std::{io, thread};
@@ -62,18 +63,20 @@ impl ClientOptions {
     }
 }
 
-/// What a client sends.
+/// What a client sends. `I`, `S` and `P` read standard input, a socket and a socket file.
 #[derive(Drop)]
-pub enum ClientReader<I, S> {
+pub enum ClientReader<I, S, P> {
     /// Over standard input.
     Standard(I),
     /// Over a socket.
-    Socket(ReadHalf<S>),
+    Socket(S),
     /// Over a socket file.
-    Pipe(ReadHalf<PipeStream>),
+    Pipe(P),
 }
 
-impl<I: Read, S: OpenStream + Read> Read for ClientReader<I, S> {
+impl<I: Read, S: Read, P: Read> Read for ClientReader<I, S, P> {
+    ghost remaining = { client_remaining I.remaining S.remaining P.remaining };
+
     fn read(&mut self, buf: &mut [u8]) -> io::Result<usize> {
         match self {
             ClientReader::Standard(input) => input.read(buf),
@@ -83,18 +86,20 @@ impl<I: Read, S: OpenStream + Read> Read for ClientReader<I, S> {
     }
 }
 
-/// What a client reads.
+/// What a client reads. `O`, `S` and `P` write to standard output, a socket and a socket file.
 #[derive(Drop)]
-pub enum ClientWriter<R, S: OpenStream + Drop> {
+pub enum ClientWriter<O, S, P> {
     /// Over standard output.
-    Standard(StandardOutput<R>),
+    Standard(O),
     /// Over a socket.
-    Socket(WriteHalf<S>),
+    Socket(S),
     /// Over a socket file.
-    Pipe(WriteHalf<PipeStream>),
+    Pipe(P),
 }
 
-impl<R: Print, S: OpenStream + Drop + Write> Write for ClientWriter<R, S> {
+impl<O: Write, S: Write, P: Write> Write for ClientWriter<O, S, P> {
+    ghost contents = { client_contents O.contents S.contents P.contents };
+
     fn write(&mut self, buf: &[u8]) -> io::Result<usize> {
         match self {
             ClientWriter::Standard(output) => output.write(buf),
@@ -112,17 +117,25 @@ impl<R: Print, S: OpenStream + Drop + Write> Write for ClientWriter<R, S> {
     }
 }
 
-/// What a client sends and reads, over the medium that the words name.
-type Ends<R> = (
-    BufReader<ClientReader<<R as Input>::Reader, <R as Net>::Stream>>,
-    ClientWriter<R, <R as Net>::Stream>,
-);
+/// What a client of a program sends, over the medium that the words name.
+type Sent<R> = ClientReader<
+    <R as Input>::Reader,
+    ReadHalf<<R as Net>::Stream>,
+    ReadHalf<PipeStream<UnixStream>>,
+>;
+
+/// What it reads.
+type Given<R> = ClientWriter<
+    StandardOutput<R>,
+    WriteHalf<<R as Net>::Stream>,
+    WriteHalf<PipeStream<UnixStream>>,
+>;
+
+/// Both.
+type Ends<R> = (BufReader<Sent<R>>, Given<R>);
 
 /// The streams of a client, which `serve_clients` hands to its closure.
-pub type Streams<R> = ClientStreams<
-    BufReader<ClientReader<<R as Input>::Reader, <R as Net>::Stream>>,
-    ClientWriter<R, <R as Net>::Stream>,
->;
+pub type Streams<R> = ClientStreams<BufReader<Sent<R>>, Given<R>>;
 
 /// Serves the client that the words of the command line name. `words` are those behind the program's name, or behind your own first
 /// words. The first word that asks for a channel decides (LSP 3.17, "Implementation Considerations"):

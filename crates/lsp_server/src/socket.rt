@@ -156,11 +156,13 @@ pub struct ReadHalf<S> {
 }
 
 impl<S: OpenStream + Read> Read for ReadHalf<S> {
+    ghost remaining = { λ half. S.remaining half.stream };
+
     fn read(&mut self, buf: &mut [u8]) -> io::Result<usize> {
         let count = self.stream.read(buf)?;
         if self.has_time {
-            self.stream.set_read_timeout(None)?;
-            self.has_time = false;
+            // The bytes that came are not lost if the system refuses this. Then the next read tries again.
+            self.has_time = self.stream.set_read_timeout(None).is_err();
         }
         Ok(count)
     }
