@@ -48,9 +48,10 @@ class Text:
         if method == "textDocument/didOpen":
             self.text, self.version = document["text"], document["version"]
         elif method == "textDocument/didChange":
-            if self.is_lost_by_versions and document["version"] < self.version:
-                self.text = None
-            self.version = max(self.version, document["version"])
+            has_whole = any("range" not in change for change in params["contentChanges"])
+            if self.is_lost_by_versions and document["version"] < self.version and not has_whole:
+                self.text, document = None, {"version": self.version}
+            self.version = document["version"]
             for change in params["contentChanges"]:
                 self.change(change)
         elif method == "textDocument/didSave" and self.text is None and self.takes_saves:

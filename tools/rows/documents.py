@@ -120,6 +120,15 @@ def span_of(change):
     return None if given is None else (position_member(given, "start"), position_member(given, "end"))
 
 
+def is_whole_text(change):
+    return isinstance(change, dict) and isinstance(change.get("text"), str) and change.get("range") is None
+
+
+def deciding(changes):
+    """The changes from the last whole text on: it takes the place of what stands before it, whether that can be read or not."""
+    return changes[max((at for at, change in enumerate(changes) if is_whole_text(change)), default=0) :]
+
+
 def agreed(params):
     """The encoding for what a client offers in `initialize`: the first that is known, or the one that each client has to know."""
     value = params
@@ -303,13 +312,13 @@ class Documents:
     def hears_change(self, uri, params):
         version, changes = version_member(params["textDocument"]), params.get("contentChanges")
         shape(isinstance(changes, list))
-        changes = [(text_member(change, "text"), span_of(change)) for change in changes]
+        changes = [(text_member(change, "text"), span_of(change)) for change in deciding(changes)]
         is_open, is_whole = uri in self.open, any(span is None for _, span in changes)
         if not is_open and not is_whole:
             return f"{uri}: the document is not open"
         before, language, text = self.open.get(uri, (None, "", None))
-        if is_open and not self.applies_late and None not in (version, before) and version < before:
-            # Changes of a lower version come behind others that were made without them.
+        if is_open and not is_whole and not self.applies_late and None not in (version, before) and version < before:
+            # Ranges of a lower version come behind others that were made without them. A whole text needs no other.
             self.open[uri] = (before, language, None)
             return f"{uri}: changes came out of order"
         if text is None and not is_whole:

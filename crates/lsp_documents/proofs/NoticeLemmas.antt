@@ -17,9 +17,10 @@ use Rattle.lsp_documents.specs.declared.fault.DocumentFault.{DocumentFault}
 use Rattle.lsp_documents.specs.declared.fault.DocumentFault.TheVariants.{NotOpen, OutOfOrder, Memory}
 use Rattle.lsp_documents.specs.declared.kept.Open.{Open}
 use Rattle.lsp_documents.specs.declared.kept.Open.TheVariants.{Known, Lost}
+use Rattle.serde_json.specs.Data.{Data, Items, no_items, item}
 use Rattle.serde_json.specs.View.{view, items_view}
 use Rattle.serde_json.specs.declared.value.Value.{Value}
-use Rattle.lsp_documents.specs.Params.{change_in, changes_in}
+use Rattle.lsp_documents.specs.Params.{change_in, changes_in, is_whole, whole_among, values_since_whole}
 use Rattle.lsp_documents.specs.Remains.{Remains}
 use Rattle.lsp_documents.specs.Notices.{saved_in, Item, text_item, text_by, edited_text, kept_by, begun_by, changed_in}
 use Rattle.lsp_documents.specs.Notices.{doubted, left_by, shown, version_of, is_late, step_fault, goes_on}
@@ -27,7 +28,8 @@ use Rattle.lsp_documents.specs.Notices.{version_after, NoticeKind, NoticeKind.op
 use Rattle.lsp_documents.specs.Notices.{NoticeKind.saved, NoticeKind.closed, Notice, Sent, Sent.made, Sent.unmade}
 use Rattle.lsp_documents.specs.Notices.{Sent.unread, Documents, Keeps, Puts, Makes, Takes, TakesAll, Agrees, IsVersion}
 use Rattle.lsp_documents.specs.Notices.{SavesOwn, SavesItsText, after, missed, kept_after, kept_after_all, told}
-use Rattle.lsp_documents.specs.Notices.{told_all, kinds_in, kinds_of, notices_of, is_current, has_whole, has_changes}
+use Rattle.lsp_documents.specs.Notices.{told_all, kinds_in, kinds_of, notices_of, is_current, has_whole, since_whole}
+use Rattle.lsp_documents.specs.Notices.{has_changes}
 use Rattle.lsp_documents.specs.Notices.{fault_of, change_fault, document, opens, edits, Failed}
 
 never : {P : Type 0} → false ≡ true → P
@@ -52,9 +54,30 @@ whole_ends : (e : PositionEncoding) (cs : List Change) (s t : LinedText) → s.e
 whole_ends e [] s t same h = never h
 whole_ends e (c ∷ cs) s t same h = whole_first e s t c.range c.text cs same (λ a b i w. whole_ends e cs a b i w) h
 
+ends_kept : (e : PositionEncoding) (t : LinedText) (r : Option Range) (new : List ℕ) → t.ends ≡ (edited e t r new).ends
+ends_kept e t None new = refl
+ends_kept e t (Some range) new = refl
+
 whole_text : (a : Agreed) (cs : List Change) (s : List ℕ) → has_whole cs ≡ true → edited_by a.encoding (text_by a []) cs
     ≡ edited_by a.encoding (text_by a s) cs
 whole_text a cs s h = whole_ends a.encoding cs (text_by a []) (text_by a s) refl h
+
+-- so with those that decide alone
+since_first : (e : PositionEncoding) (t : LinedText) (c : Change) (cs : List Change) (w : Bool) → has_whole cs ≡ w
+    → ((t : LinedText) → edited_by e t (since_whole cs) ≡ edited_by e t cs) →
+    edited_by e t (if w then since_whole cs else c ∷ cs) ≡ edited_by e (edited e t c.range c.text) cs
+since_first e t c cs true h ih = ih t ∙ whole_ends e cs t (edited e t c.range c.text) (ends_kept e t c.range c.text) h
+since_first e t c cs false h ih = refl
+
+pub since_edited : (e : PositionEncoding) (t : LinedText) (cs : List Change) → edited_by e t (since_whole cs)
+    ≡ edited_by e t cs
+since_edited e t [] = refl
+since_edited e t (c ∷ cs) = since_first e t c cs (has_whole cs) refl (λ u. since_edited e u cs)
+
+-- if there is none that decides there is none
+pub since_none : (cs : List Change) → has_changes cs ≡ false → length (since_whole cs) ≡ 0
+since_none [] h = refl
+since_none (c ∷ cs) h = never (sym h)
 
 -- changes leave the ends of lines as they are
 ends_first : (e : PositionEncoding) (ends : LineEnds) (s : List ℕ) (r : Option Range) (new : List ℕ) (cs : List Change)
@@ -129,16 +152,17 @@ made_step a (Some c) None (changed version list) s h = some_opened a c version l
 made_step a None (Some (Known k)) (changed version list) s h = absurd h
 made_step a (Some c) (Some (Known k)) (changed version list) s h =
     or_late a (told a (Some c) (changed version list)) (Known k) (changed_in a (Known k) version list)
-    (is_late a version k.version) (
+    (is_late a version (has_whole list) k.version) (
       ap (λ t. edited_by a.encoding t list) h.0 ∙ edited_is a list c.text,
       same_version version,
     )
 made_step a None (Some (Lost r)) (changed version list) s h =
     or_late a (told a None (changed version list)) (Lost r) (changed_in a (Lost r) version list) (is_late a version
-    r.version) (none_changed a r.language_id r version list (has_whole list))
+    (has_whole list) r.version) (none_changed a r.language_id r version list (has_whole list))
 made_step a (Some c) (Some (Lost r)) (changed version list) s h =
     or_late a (told a (Some c) (changed version list)) (Lost r) (changed_in a (Lost r) version list) (is_late a version
-    r.version) (some_changed a c r.language_id r version list (has_whole list) (whole_text a list c.text))
+    (has_whole list) r.version) (some_changed a c r.language_id r version list (has_whole list)
+    (whole_text a list c.text))
 made_step a client kept (saved None) s h = h
 made_step a client kept (saved (Some text)) s h = saved_step a a.include_text client kept text s h
 made_step a client kept closed s h = tt
@@ -249,7 +273,7 @@ not_late a c version list false h = (
 own_current : (a : Agreed) (c : Item) (kind : NoticeKind) → goes_on a c.version kind ≡ true
     → IsCurrent a (version_after c.version kind) (told a (Some c) kind) (after a (Some (Known (kept_by a c))) kind)
 own_current a c (opened o) h = (o, refl, refl, refl)
-own_current a c (changed version list) h = not_late a c version list (is_late a version c.version) h
+own_current a c (changed version list) h = not_late a c version list (is_late a version (has_whole list) c.version) h
 own_current a c (saved None) h = (c, refl, refl, refl)
 own_current a c (saved (Some text)) h = saved_current a a.include_text c text
 own_current a c closed h = never h
@@ -328,12 +352,59 @@ late_is false o next h = never h
 
 -- late changes leave no text to look at
 pub late_unshown : (before : Documents) (uri : List ℕ) (version : Option ℤ) (list : List Change) (o : Open)
-    (now : Documents) → before.held uri ≡ Some o → is_late before.agreed version (version_of o) ≡ true
+    (now : Documents) → before.held uri ≡ Some o → is_late before.agreed version (has_whole list) (version_of o) ≡ true
     → Makes before (edits uri version list) now →
     option_and_then shown (now.held uri) ≡ None
 late_unshown before uri version list o now b late h =
     ap (option_and_then shown) (h.own ∙ ap (λ k. after before.agreed k (changed version list)) b)
-    ∙ late_is (is_late before.agreed version (version_of o)) o (changed_in before.agreed o version list) late
+    ∙ late_is (is_late before.agreed version (has_whole list) (version_of o)) o
+    (changed_in before.agreed o version list) late
+
+not_late_whole : (a : Agreed) (o : Open) (version : Option ℤ) (list : List Change) (w : Bool) → w ≡ true
+    → has_whole list
+    ≡ w → (if is_late a version w (version_of o) then Some OutOfOrder else step_fault o w) ≡ None
+not_late_whole a (Known d) version list true h e = refl
+not_late_whole a (Lost r) version list true h e = refl
+not_late_whole a o version list false h e = never h
+
+none_wrong : (w : Bool) → w ≡ true → (if w then None else Some NotOpen) ≡ None
+none_wrong true h = refl
+none_wrong false h = never h
+
+-- changes with a whole text among them are made, and leave a text of their version
+whole_right : (a : Agreed) (k : Option Open) (version : Option ℤ) (list : List Change) → has_whole list ≡ true
+    → fault_of a k (changed version list) ≡ None
+whole_right a None version list h = none_wrong (has_whole list) h
+whole_right a (Some o) version list h = not_late_whole a o version list (has_whole list) h refl
+
+some_shown : (a : Agreed) (o : Open) (version : Option ℤ) (list : List Change) (w : Bool) → w ≡ true
+    → has_whole list ≡ w
+    → IsSomeAnd (option_and_then shown (Some (if is_late a version w (version_of o) then doubted o else changed_in a o
+    version list))) (λ d. d.version ≡ version)
+some_shown a (Known d) version list true h e = refl
+some_shown a (Lost r) version list true h e = rw e refl
+some_shown a o version list false h e = never h
+
+none_shown : (a : Agreed) (version : Option ℤ) (list : List Change) (w : Bool) → w ≡ true
+    → IsSomeAnd (option_and_then shown (if w then Some (Known (begun_by a [] version list)) else None)) (λ d. d.version
+    ≡ version)
+none_shown a version list true h = refl
+none_shown a version list false h = never h
+
+whole_shown : (a : Agreed) (k : Option Open) (version : Option ℤ) (list : List Change) → has_whole list ≡ true
+    → IsSomeAnd (option_and_then shown (after a k (changed version list))) (λ d. d.version ≡ version)
+whole_shown a None version list h = none_shown a version list (has_whole list) h
+whole_shown a (Some o) version list h = some_shown a o version list (has_whole list) h refl
+
+pub whole_made : (before : Documents) (uri : List ℕ) (version : Option ℤ) (list : List Change) (now : Documents)
+    → has_whole list ≡ true → (fault_of before.agreed (before.held uri) (edits uri version list).kind ≡ None)
+    × (Makes before (edits uri version list) now
+    → IsSomeAnd (option_and_then shown (now.held uri)) (λ d. d.version ≡ version))
+whole_made before uri version list now h = (
+  whole_right before.agreed (before.held uri) version list h,
+  λ m. subst (λ k. IsSomeAnd (option_and_then shown k) (λ d. d.version ≡ version)) (sym m.own)
+      (whole_shown before.agreed (before.held uri) version list h),
+)
 
 -- ---- faults
 
@@ -371,6 +442,7 @@ wrong_same : (a : Agreed) (k : Option Open) (kind : NoticeKind) (fault : Documen
 wrong_same a k (opened c) fault h other = none_is h
 wrong_same a None (changed version list) fault h other = none_same a version list (has_whole list) fault h
 wrong_same a (Some o) (changed version list) fault h other = late_same a o version list (is_late a version
+    (has_whole list)
     (version_of o)) fault h other
 wrong_same a k (saved None) fault h other = refl
 wrong_same a None (saved (Some text)) fault h other = saved_same a a.include_text text
@@ -400,7 +472,8 @@ left_some a o version list false fault h = left_step a o version list (has_whole
 pub left_is : (a : Agreed) (k : Option Open) (version : Option ℤ) (list : List Change) (fault : DocumentFault)
     → change_fault a k version (has_whole list) ≡ Some fault → left_by fault k ≡ after a k (changed version list)
 left_is a None version list fault h = left_none a version list (has_whole list) fault h
-left_is a (Some o) version list fault h = left_some a o version list (is_late a version (version_of o)) fault h
+left_is a (Some o) version list fault h = left_some a o version list (is_late a version (has_whole list)
+    (version_of o)) fault h
 
 keeps_at : (uri : List ℕ) (f g : List ℕ → Option Open) → f uri ≡ g uri → ((q : List ℕ) → bytes_eq q uri ≡ false → f q
     ≡ g q) → (q : List ℕ) → f q ≡ g q
@@ -518,3 +591,44 @@ change_first done (Some cs) h = rw h refl
 pub at_error : {T E Q : Type 0} (r : Result T E) → Q → OnErr r Q
 at_error (Ok x) q = tt
 at_error (Err e) q = q
+
+-- ---- what decides of a list
+
+pick_more : {A : Type 0} (w r : Bool) (since own before : A) → (if w || r then (if r then since else own) else before)
+    ≡ (if r then since else (if w then own else before))
+pick_more true true since own before = refl
+pick_more true false since own before = refl
+pick_more false true since own before = refl
+pick_more false false since own before = refl
+
+pick_all : {A : Type 0} (w r : Bool) (since own : A) → (if r then since else own)
+    ≡ (if w || r then (if r then since else
+    own) else own)
+pick_all true true since own = refl
+pick_all true false since own = refl
+pick_all false true since own = refl
+pick_all false false since own = refl
+
+-- what decides if these are left, and that did before
+abbrev pub deciding : List Change → List Change → List Change
+deciding left before = if has_whole left then since_whole left else before
+
+pub deciding_all : (cs : List Change) → since_whole cs ≡ deciding cs cs
+deciding_all [] = refl
+deciding_all (c ∷ cs) = pick_all (is_none c.range) (has_whole cs) (since_whole cs) (c ∷ cs)
+
+pub deciding_more : (c : Change) (cs before : List Change) → deciding (c ∷ cs) before ≡ deciding cs (if is_none c.range
+    then c ∷ cs else before)
+deciding_more c cs before = pick_more (is_none c.range) (has_whole cs) (since_whole cs) (c ∷ cs) before
+
+-- the same of values
+abbrev pub values_deciding : Items → Items → Items
+values_deciding left before = if whole_among left then values_since_whole left else before
+
+pub values_all : (vs : Items) → values_since_whole vs ≡ values_deciding vs vs
+values_all no_items = refl
+values_all (item d ds) = pick_all (is_whole (change_in d)) (whole_among ds) (values_since_whole ds) (item d ds)
+
+pub values_more : (d : Data) (ds before : Items) → values_deciding (item d ds) before ≡ values_deciding ds
+    (if is_whole (change_in d) then item d ds else before)
+values_more d ds before = pick_more (is_whole (change_in d)) (whole_among ds) (values_since_whole ds) (item d ds) before

@@ -1,10 +1,15 @@
 -- Wrong runs that the definitions of the law refuse: each supposes one, and leads to a contradiction.
 use Rattle.std.proofs.Common.{◌≡◌, ℕ, ℤ, Bool, true, false, List, [], Option, Some, None, refl, sym, ap, ◌∙◌, arith}
+use Rattle.std.proofs.Common.{◌∷◌}
 use Rattle.std.proofs.Common.{inl, inr, option_and_then, option_map}
 use Rattle.std.specs.Prelude.{is_some, if◌then◌else◌}
 use Rattle.std.specs.Str.{bytes_eq}
 use Rattle.lsp_text.specs.Documents.{Document, Change}
 use Rattle.lsp_text.specs.Edits.{past_by}
+use Rattle.lsp_text.specs.Lines.{LinedText}
+use Rattle.lsp_text.specs.declared.position.PositionEncoding.{PositionEncoding}
+use Rattle.serde_json.specs.Data.{Data, no_items, item}
+use Rattle.lsp_documents.specs.Params.{change_in, changes_in, values_since_whole}
 use Rattle.lsp_documents.specs.declared.fault.Remark.TheVariants.{SavedTextDiffers}
 use Rattle.lsp_documents.specs.declared.kept.Open.{Open}
 use Rattle.lsp_documents.specs.declared.kept.Open.TheVariants.{Known, Lost}
@@ -15,8 +20,10 @@ use Rattle.lsp_documents.specs.Remains.{Remains}
 use Rattle.lsp_documents.specs.Notices.{text_item, begun_by, doubted, version_of, is_late, step_fault, NoticeKind}
 use Rattle.lsp_documents.specs.Notices.{NoticeKind.opened, NoticeKind.changed, NoticeKind.saved, NoticeKind.closed}
 use Rattle.lsp_documents.specs.Notices.{Notice, Sent.made, Sent.unmade, Sent.unread, Documents, Takes, Took, Refused}
-use Rattle.lsp_documents.specs.Notices.{after, missed, changed_in, saved_in, fault_of, needs_memory, remark_of}
-use Rattle.lsp_documents.specs.Notices.{change_remark, is_not_higher, has_whole, shown, opens, edits, saves, closes}
+use Rattle.lsp_documents.specs.Notices.{change_fault, after, missed, changed_in, saved_in, fault_of, needs_memory}
+use Rattle.lsp_documents.specs.Notices.{remark_of}
+use Rattle.lsp_documents.specs.Notices.{change_remark, is_not_higher, has_whole, since_whole, shown, opens, edits}
+use Rattle.lsp_documents.specs.Notices.{saves, closes}
 
 never : {P : Type 0} → false ≡ true → P
 never h = grind (arith, h)
@@ -52,7 +59,8 @@ edited_older : (before now : Documents) (uri : List ℕ) (r : Remains) (version 
     (d : Document) → before.held uri ≡ Some (Lost r) → has_whole list ≡ false
     → Takes before (made (edits uri version list)) now → now.held uri ≡ Some (Known d) → ⊥
 edited_older before now uri r version list d b w h k =
-    never (sym (in_lost before.agreed r version list (is_late before.agreed version r.version) (has_whole list) refl w)
+    never (sym (in_lost before.agreed r version list (is_late before.agreed version (has_whole list) r.version)
+    (has_whole list) refl w)
     ∙ ap shows (ap (λ o. after before.agreed o (changed version list)) (sym b) ∙ sym h.own ∙ k))
 
 late_shows : (late : Bool) (o next : Open) → late ≡ true → shows (Some (if late then doubted o else next)) ≡ false
@@ -60,14 +68,15 @@ late_shows true (Known d) next h = refl
 late_shows true (Lost r) next h = refl
 late_shows false o next h = never h
 
--- an older version taken over a newer one, by edits or as a whole text, where the author did not choose it; also over
--- one that was lost for that
+-- an older version taken over a newer one, by edits of the text that it had, where the author did not choose it; also
+-- over one that was lost for that
 older_taken : (before now : Documents) (uri : List ℕ) (version : Option ℤ) (list : List Change) (o : Open)
-    (d : Document) → before.held uri ≡ Some o → is_late before.agreed version (version_of o) ≡ true
+    (d : Document) → before.held uri ≡ Some o → is_late before.agreed version (has_whole list) (version_of o)
+    ≡ true
     → Takes before (made (edits uri version list)) now → now.held uri ≡ Some (Known d) → ⊥
 older_taken before now uri version list o d b late h k =
-    never (sym (late_shows (is_late before.agreed version (version_of o)) o (changed_in before.agreed o version list)
-    late) ∙ ap shows (ap (λ o. after before.agreed o (changed version list)) (sym b) ∙ sym h.own ∙ k))
+    never (sym (late_shows (is_late before.agreed version (has_whole list) (version_of o)) o (changed_in before.agreed o
+    version list) late) ∙ ap shows (ap (λ o. after before.agreed o (changed version list)) (sym b) ∙ sym h.own ∙ k))
 
 -- a whole text of a URI that is not open, of which nothing is kept
 whole_unopened : (before now : Documents) (uri : List ℕ) (version : Option ℤ) (list : List Change) → before.held uri
@@ -82,20 +91,30 @@ opened_other : (before now : Documents) (uri q l text : List ℕ) (version : Opt
     ≡ Some (Known d) → ⊥
 opened_other before now uri q l text version d b apart h k = never (ap shows (sym b ∙ sym (h.others q apart) ∙ k))
 
-in_whole : (a : Agreed) (o : Open) (version : Option ℤ) (list : List Change) (late : Bool) → late ≡ false
-    → has_whole list ≡ true → shows (Some (if late then doubted o else changed_in a o version list)) ≡ true
-in_whole a o version list true l w = never (sym l)
-in_whole a (Known d) version list false l w = refl
-in_whole a (Lost r) version list false l w = rw w refl
+in_whole : (a : Agreed) (o : Open) (version : Option ℤ) (list : List Change) (w : Bool) → w ≡ true → has_whole list ≡ w
+    → shows (Some (if is_late a version w (version_of o) then doubted o else changed_in a o version list)) ≡ true
+in_whole a (Known d) version list true h e = refl
+in_whole a (Lost r) version list true h e = rw e refl
+in_whole a o version list false h e = never h
 
--- a document that stays out of step after a whole text that does not come late
+never_late : (a : Agreed) (o : Open) (version : Option ℤ) (w : Bool) → w ≡ true → change_fault a (Some o) version w
+    ≡ Some OutOfOrder → ⊥
+never_late a (Known d) version true h e = grind (arith, e)
+never_late a (Lost r) version true h e = grind (arith, e)
+never_late a o version false h e = never h
+
+-- a document that stays out of step after a whole text, whatever its version is
 whole_lost : (before now : Documents) (uri : List ℕ) (r : Remains) (o : Open) (version : Option ℤ) (list : List Change)
-    → before.held uri ≡ Some o → is_late before.agreed version (version_of o) ≡ false → has_whole list ≡ true
-    → Takes before (made (edits uri version list)) now →
-    now.held uri ≡ Some (Lost r) → ⊥
-whole_lost before now uri r o version list b l w h k =
+    → before.held uri ≡ Some o → has_whole list ≡ true → Takes before (made (edits uri version list)) now → now.held uri
+    ≡ Some (Lost r) → ⊥
+whole_lost before now uri r o version list b w h k =
     never (ap shows (sym k ∙ h.own ∙ ap (λ o. after before.agreed o (changed version list)) b) ∙ in_whole before.agreed
-    o version list (is_late before.agreed version (version_of o)) l w)
+    o version list (has_whole list) w refl)
+
+-- a whole text that is refused for its version
+whole_late : (a : Agreed) (o : Open) (version : Option ℤ) (list : List Change) → has_whole list ≡ true
+    → change_fault a (Some o) version (has_whole list) ≡ Some OutOfOrder → ⊥
+whole_late a o version list w h = never_late a o version (has_whole list) w h
 
 abbrev text_of : Option Open → List ℕ
 text_of None = []
@@ -148,7 +167,7 @@ opened_unsaid before now uri l text version o b h = never (ap is_some (h.remarks
 
 -- a change past an end of the text that is known, of which nothing is said
 past_unsaid : (before now : Documents) (uri : List ℕ) (version : Option ℤ) (list : List Change) (d : Document)
-    → before.held uri ≡ Some (Known d) → past_by before.agreed.encoding d.text list ≡ true
+    → before.held uri ≡ Some (Known d) → past_by before.agreed.encoding d.text (since_whole list) ≡ true
     → Took before (edits uri version list) None now → ⊥
 past_unsaid before now uri version list d b p h =
     never (ap is_some (h.remarks ∙ ap (λ k. remark_of before.agreed k (changed version list)) b
@@ -181,7 +200,8 @@ no_memory_open false h = grind (arith, h)
 no_memory : (a : Agreed) (before : Option Open) (kind : NoticeKind) → fault_of a before kind ≡ Some Memory → ⊥
 no_memory a before (opened c) h = grind (arith, h)
 no_memory a None (changed version list) h = no_memory_open (has_whole list) h
-no_memory a (Some o) (changed version list) h = no_memory_late (is_late a version (version_of o)) o (has_whole list) h
+no_memory a (Some o) (changed version list) h = no_memory_late (is_late a version (has_whole list)
+    (version_of o)) o (has_whole list) h
 no_memory a None (saved text) h = grind (arith, h)
 no_memory a (Some o) (saved text) h = grind (arith, h)
 no_memory a None closed h = grind (arith, h)
@@ -215,3 +235,13 @@ memory_shown : (before now : Documents) (n : Notice) (d : Document) → Refused 
     ≡ Some (Known d) → ⊥
 memory_shown before now n d (inl f) k = no_memory before.agreed (before.held n.uri) n.kind f.0
 memory_shown before now n d (inr s) k = never (sym (missed_shows (before.held n.uri)) ∙ ap shows (sym s.misses.own ∙ k))
+
+-- what stands before a whole text counts: a change past an end, or one that can't be read
+before_past : (e : PositionEncoding) (t : LinedText) (c : Change) (text : List ℕ) → past_by e t (since_whole (c
+    ∷ record { range = None; text = text } ∷ [])) ≡ true → ⊥
+before_past e t c text h = never h
+
+before_unread : (d : Data) (text : List ℕ) (whole : Data) → change_in whole
+    ≡ Some (record { range = None; text = text })
+    → changes_in (values_since_whole (item d (item whole no_items))) ≡ None → ⊥
+before_unread d text whole w h = never (ap is_some (sym h) ∙ rw w (rw w refl))

@@ -61,6 +61,11 @@ closes uri = record { uri = uri; kind = closed }
 abbrev pub has_whole : List Change → Bool
 has_whole list = list_any (λ c. is_none c.range) list
 
+-- the changes that decide: those from the last whole text on, or all if there is none
+abbrev pub since_whole : List Change → List Change
+since_whole [] = []
+since_whole (c ∷ cs) = if has_whole cs then since_whole cs else c ∷ cs
+
 -- a text whose lines end as was agreed on
 abbrev pub text_by : Agreed → List ℕ → LinedText
 text_by a text = lined a.options.line_ends text
@@ -166,25 +171,26 @@ is_lower None before = false
 is_lower (Some version) None = false
 is_lower (Some version) (Some before) = int_lt version before
 
--- whether changes come late: behind a higher version, unless the author chose to make them all the same
-abbrev pub is_late : Agreed → Option ℤ → Option ℤ → Bool
-is_late a version before = not a.options.applies_late && is_lower version before
+-- whether changes come late, where a whole text is among them or not: they have a lower version than the document, and
+-- need the text that it had. The author may choose to make them all the same
+abbrev pub is_late : Agreed → Option ℤ → Bool → Option ℤ → Bool
+is_late a version whole before = not whole && (not a.options.applies_late && is_lower version before)
 
 -- the same, and what late changes make of it: its text is lost, since it lacked them as those behind them were applied
 abbrev pub changed_or_late : Agreed → Open → Option ℤ → List Change → Open
 changed_or_late a o version list =
-    if is_late a version (version_of o) then doubted o else changed_in a o version list
+    if is_late a version (has_whole list) (version_of o) then doubted o else changed_in a o version list
 
 -- why changes cannot be made in a document, where a whole text is among them or not
 abbrev pub step_fault : Open → Bool → Option DocumentFault
 step_fault (Known d) whole = None
 step_fault (Lost r) whole = if whole then None else Some OutOfStep
 
--- the same, if there is one, and it does not have a higher version already
+-- the same, if there is one, and they do not come late
 abbrev pub change_fault : Agreed → Option Open → Option ℤ → Bool → Option DocumentFault
 change_fault a None version whole = if whole then None else Some NotOpen
 change_fault a (Some o) version whole =
-    if is_late a version (version_of o) then Some OutOfOrder else step_fault o whole
+    if is_late a version whole (version_of o) then Some OutOfOrder else step_fault o whole
 
 -- what a refusal of changes leaves: late ones leave the text lost
 abbrev pub left_by : DocumentFault → Option Open → Option Open
@@ -203,10 +209,10 @@ fault_of a (Some o) (saved text) = None
 fault_of a None closed = Some NotOpen
 fault_of a (Some o) closed = None
 
--- whether a position of the changes lies past its line's end, or past the place behind the last line, in the text that
--- is known
+-- whether a position of the changes that decide lies past its line's end, or past the place behind the last line, in
+-- the text that is known
 abbrev pub is_past : PositionEncoding → Open → List Change → Bool
-is_past e (Known d) list = past_by e d.text list
+is_past e (Known d) list = past_by e d.text (since_whole list)
 is_past e (Lost r) list = false
 
 -- what is said of changes that were applied: first that the client's text has to be another one
@@ -298,7 +304,7 @@ kinds_of uri (s ∷ ss) = kinds_in uri (notices_of s) ++ kinds_of uri ss
 -- whether a document of this version stays open and in order
 abbrev pub goes_on : Agreed → Option ℤ → NoticeKind → Bool
 goes_on a before (opened c) = true
-goes_on a before (changed version list) = not (is_late a version before)
+goes_on a before (changed version list) = not (is_late a version (has_whole list) before)
 goes_on a before (saved text) = true
 goes_on a before closed = false
 

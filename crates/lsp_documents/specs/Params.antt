@@ -1,7 +1,7 @@
 -- What the params of a notification say (LSP 3.17, "DidOpenTextDocumentParams" and the ones after it), and the encoding
 -- that a client offers ("GeneralClientCapabilities").
 use Rattle.std.specs.Prelude.{ℕ, ℤ, pos, nat_lt, int_lt, Bool, false, if◌then◌else◌, List, [], ◌∷◌, Option, Some, None}
-use Rattle.std.specs.Prelude.{option_map, option_and_then, unwrap_or, codes, is_some}
+use Rattle.std.specs.Prelude.{option_map, option_and_then, unwrap_or, codes, is_some, is_none, ◌||◌}
 use Rattle.std.specs.Str.{bytes_eq}
 use Rattle.serde_json.specs.Data.{Data, null, Items, no_items, item}
 use Rattle.serde_json.specs.Find.{get, as_str, as_number, as_u64, as_i64, as_array}
@@ -72,6 +72,21 @@ changes_in no_items = Some []
 changes_in (item d ds) =
     option_and_then (λ c. option_map (λ cs. c ∷ cs) (changes_in ds)) (change_in d)
 
+-- whether a change that was read, if one was, is of the whole text
+abbrev pub is_whole : Option Change → Bool
+is_whole None = false
+is_whole (Some c) = is_none c.range
+
+abbrev pub whole_among : Items → Bool
+whole_among no_items = false
+whole_among (item d ds) = is_whole (change_in d) || whole_among ds
+
+-- the values that decide: those from the last whole text on, or all if there is none. What stands before it is
+-- replaced, whether it can be read or not
+abbrev pub values_since_whole : Items → Items
+values_since_whole no_items = no_items
+values_since_whole (item d ds) = if whole_among ds then values_since_whole ds else item d ds
+
 -- ---- params
 
 abbrev pub document_in : Data → Option Data
@@ -95,9 +110,13 @@ did_open_in params =
     option_map (λ d. opens uri d.language_id d.version d.text) (opened_in params))
     (uri_in params)
 
+-- the values that are listed as changes, and of these the ones that decide
+abbrev pub values_given : Data → Option Items
+values_given params =
+    option_map values_since_whole (option_and_then as_array (get (codes "contentChanges") params))
+
 abbrev pub changes_given : Data → Option (List Change)
-changes_given params =
-    option_and_then changes_in (option_and_then as_array (get (codes "contentChanges") params))
+changes_given params = option_and_then changes_in (values_given params)
 
 abbrev pub did_change_in : Data → Option Notice
 did_change_in params =

@@ -1,7 +1,7 @@
 -- What is left of a document whose text is lost.
 use Rattle.std.specs.Prelude.{ℕ, ℤ, List, Option}
 
--- its language, and if changes came out of order its version: what is below that does not bring the text back
+-- its language, and if changes came out of order its version before them
 pub record Remains : Type 0 where
   pub language_id : List ℕ
   pub version : Option ℤ

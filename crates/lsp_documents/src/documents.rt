@@ -9,7 +9,7 @@ ghost use Rattle.lsp_documents.specs.Heard.{Answers};
 ghost use Rattle.lsp_documents.specs.Held.{documents_of, known_of, texts_of, has_known, loses};
 ghost use Rattle.lsp_documents.specs.Known.{copied, copied_whole, NoneNames, IsFirstOf};
 ghost use Rattle.lsp_documents.specs.Methods.{method_named};
-ghost use Rattle.lsp_documents.specs.Notices.{document, text_item, text_by, begun_by, opens, edits, closes, saves, shown, lost, lost_at, missed, left_by, is_not_higher as is_below, is_late as late, is_past, change_remark as remark_of_change, save_remark as remark_of_save, version_of as kept_version, changed_or_late, saved_in, step_fault as fault_in, change_fault, has_whole as has_whole_text, has_changes, is_known, MissesAll, Took, Refused, Failed, FailedSave};
+ghost use Rattle.lsp_documents.specs.Notices.{document, text_item, text_by, begun_by, opens, edits, closes, saves, shown, lost, lost_at, missed, left_by, is_not_higher as is_below, is_late as late, is_past, change_remark as remark_of_change, save_remark as remark_of_save, version_of as kept_version, changed_or_late, saved_in, step_fault as fault_in, change_fault, has_whole as has_whole_text, since_whole as since_whole_text, has_changes, is_known, MissesAll, Took, Refused, Failed, FailedSave};
 ghost use Rattle.lsp_documents.specs.declared.kept.Open.TheVariants.{Known};
 ghost use Rattle.lsp_documents.specs.declared.fault.DocumentFault.TheVariants.{Params};
 ghost use Rattle.lsp_documents.specs.Params.{uri_in, did_open_in, did_change_in, did_save_in, did_close_in};
@@ -280,7 +280,7 @@ impl TextDocuments {
             ≡ change_fault self.now.agreed ((documents_of self.now).held uri.now) version whole }
     {
         match self.documents.get(uri) {
-            Some(open) if is_late(self.agreed, version, open.version()) => {
+            Some(open) if is_late(self.agreed, version, whole, open.version()) => {
                 Some(DocumentFault::OutOfOrder)
             }
             Some(open) => step_fault(open, whole),
@@ -305,13 +305,15 @@ impl TextDocuments {
         }
     }
 
-    /// Makes the changes of one notification in a document, each in the text that the one before it left. If a position of a change
-    /// lies past its line's end, or past the place behind the last line, the remark is `PastEnd`; else, if the version is the
-    /// document's or a lower one, it is `VersionNotHigher`. Without a document of the URI a change of the whole text opens one, with
-    /// the remark `WasNotOpen`. If no change is of the whole text, the fault is `NotOpen` without a document, and `OutOfStep` if its
-    /// text is lost: nothing is changed then. If the version is lower than the document's the fault is `OutOfOrder`, and the text is
-    /// lost, unless the author chose to make late changes (`DocumentOptions`). If memory runs out, the text is lost. Without a
-    /// change no memory is needed.
+    /// Makes the changes of one notification in a document, each in the text that the one before it left. A whole text takes the place
+    /// of all that stands before it. If a position of a change behind it lies past its line's end, or past the place behind the last
+    /// line, the remark is `PastEnd`; else, if the version is the document's or a lower one, it is `VersionNotHigher`. Without a
+    /// document of the URI a change of the whole text opens one, with the remark `WasNotOpen`.
+    ///
+    /// If no change is of the whole text, the fault is `NotOpen` without a document, and `OutOfStep` if its text is lost: nothing is
+    /// changed then. If also the version is lower than the document's, the fault is `OutOfOrder`, and the text is lost, unless the
+    /// author chose to make late changes (`DocumentOptions`). If memory runs out, the text is lost. Without a change no memory is
+    /// needed.
     pub fn change(
         &mut self,
         uri: &str,
@@ -688,7 +690,8 @@ fn begun(
 }
 
 /// Makes changes in what is kept of a document. If memory runs out, its text is lost. It gives whether a
-/// position of the changes lies past an end of the text that was known.
+/// position of the changes that decide lies past an end of the text that was known.
+#[tactic(auto, using(crate::proofs::NoticeLemmas::since_edited, crate::proofs::NoticeLemmas::since_none))]
 fn change_open(
     alloc: Global,
     kept: &mut Open,
@@ -705,7 +708,8 @@ fn change_open(
     match kept {
         Open::Known(document) => {
             let encoding = agreed.encoding();
-            let changed = document.change_in_place(alloc, version, encoding, changes);
+            let deciding = since_whole(changes);
+            let changed = document.change_in_place(alloc, version, encoding, deciding);
             if changed.is_err() {
                 lose_text(alloc, kept, None);
             }
@@ -743,12 +747,14 @@ fn is_not_higher(version: Option<i32>, before: Option<i32>) -> bool
     }
 }
 
-/// Whether changes to a version come late, behind this one.
-fn is_late(agreed: Agreed, version: Option<i32>, before: Option<i32>) -> bool
-    ensures { result ≡ late agreed version before }
+/// Whether changes to a version come late, behind this one, where a whole text is among them or not.
+fn is_late(agreed: Agreed, version: Option<i32>, whole: bool, before: Option<i32>) -> bool
+    ensures { result ≡ late agreed version whole before }
 {
     match (version, before) {
-        (Some(version), Some(before)) => !agreed.options().applies_late && version < before,
+        (Some(version), Some(before)) => {
+            !whole && !agreed.options().applies_late && version < before
+        }
         _ => false,
     }
 }
@@ -793,6 +799,19 @@ fn has_whole(changes: &[ContentChange]) -> bool
     ensures { result ≡ has_whole_text changes.now }
 {
     changes.iter().any(|change| change.range.is_none())
+}
+
+/// The changes that decide: those from the last whole text on, or all if there is none.
+fn since_whole(changes: &[ContentChange]) -> &[ContentChange]
+    ensures { result.now ≡ since_whole_text changes.now }
+{
+    let mut from = 0;
+    for (index, change) in changes.iter().enumerate() {
+        if change.range.is_none() {
+            from = index;
+        }
+    }
+    &changes[from..]
 }
 
 /// A notification that was not applied.

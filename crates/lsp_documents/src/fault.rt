@@ -16,12 +16,12 @@ pub enum DocumentFault {
     /// The document's text is lost, since something that the client told of it was missed, and none of the changes is of the whole
     /// text.
     OutOfStep,
-    /// The changes come behind a higher version, so the text is lost: it lacked them when those behind them were applied.
+    /// The changes are ranges, and come behind a higher version, so the text is lost: it lacked them when those behind them were applied.
     /// `DocumentOptions::applies_late` has them applied.
     ///
     /// Helix 25 sends changes of a burst so, and goes on with ranges: its text comes back once it is saved, if the text is asked for
-    /// (`Agreed`), or opened anew. An editor that sends whole texts brings it back with the next one that is no older. Neovim 0.10,
-    /// Emacs 30 and the library of VS Code keep the order.
+    /// (`Agreed`), or opened anew. Neovim 0.10, Emacs 30 and the library of VS Code keep the order. Changes with a whole text among them
+    /// never come late.
     OutOfOrder,
     /// An allocation failed.
     Memory,
@@ -67,7 +67,7 @@ pub enum Remark {
     OpenAlready,
     /// The document was not open, and a change of the whole text opened it. Nobody said its language, which is the empty text.
     WasNotOpen,
-    /// The version is the document's, or a lower one if the author chose to apply late changes.
+    /// The version is the document's, or a lower one, of changes with a whole text among them or if the author chose to apply late changes.
     VersionNotHigher,
     /// A position of a change lies past its line's end, or past the place behind the last line, in the text that is kept. LSP 3.17
     /// takes it for that end (`Position`), but a client has no such place in a text that is the same and that it counts in the same

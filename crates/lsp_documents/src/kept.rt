@@ -36,7 +36,7 @@ impl Open {
         }
     }
 
-    /// The version of its text, or if that is lost the one below which nothing brings it back.
+    /// The version of its text. If that is lost, it is the version before changes came out of order, or none.
     pub fn version(&self) -> Option<i32>
         ensures { result ≡ version_of self.now }
     {

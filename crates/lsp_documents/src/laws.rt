@@ -1,20 +1,20 @@
 //! Laws of the documents that a client has opened. Each is the contract of a function, so the proofs of callers can use it.
-ghost use Rattle.std.specs.Prelude.{◌≡◌, ℕ, ℤ, List, ◌∷◌, Option, Some, None, option_and_then, true};
+ghost use Rattle.std.specs.Prelude.{◌≡◌, ℕ, ℤ, List, ◌∷◌, Option, Some, None, option_and_then, true, IsSomeAnd};
 ghost use Rattle.lsp_text.specs.Documents.{Change};
 ghost use Rattle.lsp_documents.specs.declared.fault.DocumentFault.{DocumentFault};
 ghost use Rattle.lsp_documents.specs.declared.fault.DocumentFault.TheVariants.{OutOfOrder};
 ghost use Rattle.lsp_documents.specs.declared.kept.Open.{Open};
 ghost use Rattle.lsp_documents.specs.declared.kept.Open.TheVariants.{Known};
-ghost use Rattle.lsp_documents.specs.Notices.{Documents, Notice, Item, text_item, Sent, made, opens, edits, kept_by, shown, version_of, is_late, fault_of, Keeps, Makes, TakesAll, Agrees, SavesItsText, kept_after_all, kinds_of, told_all, is_current};
+ghost use Rattle.lsp_documents.specs.Notices.{Documents, Notice, Item, text_item, Sent, made, opens, edits, kept_by, shown, version_of, has_whole, is_late, fault_of, Keeps, Makes, TakesAll, Agrees, SavesItsText, kept_after_all, kinds_of, told_all, is_current};
 
 /// A document that may be looked at is the client's: after any list of notifications, of which some were made, of some the URI
 /// alone was known, and of some nothing at all, each URI whose text is known has the text of the client's own document, and its
 /// version or none. A text that was asked for and comes with a save is taken for the client's. One that was not asked for may be any.
 ///
 /// What is kept is no more and no less than the notifications make of it, one after another (`kept`). A document that was opened,
-/// of which all was made since, and none of it late, is known, and is the client's in each part (`current`). Changes that come
-/// behind a higher version leave no text to look at, unless the author chose to make them (`late`). What is refused by name changes
-/// nothing else (`refused`).
+/// of which all was made since, and none of it late, is known, and is the client's in each part (`current`). Changes with a whole text
+/// among them are made whatever their version is, and leave a text of that version (`whole`). Others that come behind a higher version
+/// leave no text to look at, unless the author chose to make them (`late`). What is refused by name changes nothing else (`refused`).
 pub fn documents_are_the_clients()
     ensures each { (before : Documents) (client : List ℕ
         → Option Item) (sent : List Sent) (now : Documents) → TakesAll before sent now
@@ -31,9 +31,14 @@ pub fn documents_are_the_clients()
         → is_current before.agreed uri version sent ≡ true → (c : Item)
         × (told_all before.agreed (Some (text_item language_id version text)) (kinds_of uri sent)
         ≡ Some c) × (now.held uri ≡ Some (Known (kept_by before.agreed c))) }
+    ensures whole { (before : Documents) (uri : List ℕ) (version : Option ℤ)
+        (list : List Change) (now : Documents) → has_whole list ≡ true
+        → (fault_of before.agreed (before.held uri) (edits uri version list).kind ≡ None)
+        × (Makes before (edits uri version list) now
+        → IsSomeAnd (option_and_then shown (now.held uri)) (λ d. d.version ≡ version)) }
     ensures late { (before : Documents) (uri : List ℕ) (version : Option ℤ)
         (list : List Change) (o : Open) (now : Documents) → before.held uri ≡ Some o
-        → is_late before.agreed version (version_of o) ≡ true
+        → is_late before.agreed version (has_whole list) (version_of o) ≡ true
         → Makes before (edits uri version list) now
         → option_and_then shown (now.held uri) ≡ None }
     ensures refused { (before : Documents) (n : Notice) (now : Documents) (fault : DocumentFault)

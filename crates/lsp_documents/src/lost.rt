@@ -6,7 +6,7 @@ ghost use Rattle.lsp_documents.specs.Remains.{Remains, remains};
 use std::marker::Model;
 
 /// A document whose text is not known, since something that the client told of it was missed or came out of order. Contracts see its
-/// language, and below which version nothing brings the text back.
+/// language, and its version if changes came out of order.
 #[derive(Drop)]
 pub struct LostDocument {
     pub(crate) language_id: String,
@@ -27,7 +27,8 @@ impl LostDocument {
         self.language_id.as_str()
     }
 
-    /// Its version, if changes came out of order. A whole text of a lower one does not bring the text back.
+    /// Its version, if changes came out of order. A whole text of any version brings the text back. Of a lower one it has the remark
+    /// `VersionNotHigher`.
     pub fn version(&self) -> Option<i32>
         ensures { result ≡ self.now.version }
     {

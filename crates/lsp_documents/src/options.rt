@@ -6,8 +6,8 @@ use lsp_text::LineEnds;
 pub struct DocumentOptions {
     /// What ends a line.
     pub line_ends: LineEnds,
-    /// Whether changes are applied that come behind a higher version, with the remark `VersionNotHigher`. If not the text is lost, since it
-    /// lacked them when those behind them were applied.
+    /// Whether ranges are applied that come behind a higher version, with the remark `VersionNotHigher`. If not the text is lost, since it
+    /// lacked them when those behind them were applied. A whole text is always applied.
     pub applies_late: bool,
 }
 

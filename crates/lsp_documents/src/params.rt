@@ -4,7 +4,7 @@ ghost use Rattle.serde_json.specs.Find.{get, as_array};
 ghost use Rattle.serde_json.specs.View.{view, items_view};
 ghost use Rattle.lsp_text.specs.Documents.{Change};
 ghost use Rattle.lsp_documents.specs.Notices.{has_whole, has_changes};
-ghost use Rattle.lsp_documents.specs.Params.{text_in as text_of, count_in as count_of, line_in as line_of, is_negative as is_below, version_in as version_from, position_in as position_of, range_in as range_of, given_range as range_given, change_in as change_of, changes_in as changes_of, document_in as document_of, uri_in as uri_of, opened_in, changes_given, encoding_named as named, first_named as first_of, offered_by as offers, agreed_by, agreed_in};
+ghost use Rattle.lsp_documents.specs.Params.{text_in as text_of, count_in as count_of, line_in as line_of, is_negative as is_below, version_in as version_from, position_in as position_of, range_in as range_of, given_range as range_given, change_in as change_of, changes_in as changes_of, document_in as document_of, uri_in as uri_of, opened_in, is_whole as is_whole_change, values_since_whole, values_given, changes_given, encoding_named as named, first_named as first_of, offered_by as offers, agreed_by, agreed_in};
 
 use lsp_text::{ContentChange, Position, PositionEncoding, Range};
 use serde_json::Value;
@@ -110,6 +110,16 @@ fn is_whole_text(change: &Value) -> Option<bool>
     Some(range.is_none())
 }
 
+/// Whether a value is a change of the whole text.
+fn is_whole(value: &Value) -> bool
+    ensures { result ≡ is_whole_change (change_of (view value.now)) }
+{
+    match is_whole_text(value) {
+        Some(whole) => whole,
+        None => false,
+    }
+}
+
 /// Whether one of the values is a change of the whole text, if each value is a change.
 fn whole_among(values: &[Value]) -> Option<bool>
     ensures { result ≡ option_map has_whole (changes_of (items_view values.now)) }
@@ -130,11 +140,32 @@ fn listed_in(params: &Value) -> Option<&Vec<Value>>
     params.get("contentChanges")?.as_array()
 }
 
-/// Whether one of the changes that a notification tells of is of the whole text, if they can be read.
+/// The values that decide: those from the last whole text on, or all if there is none. A whole text takes the place of what stands
+/// before it, whether that can be read or not.
+fn since_whole(values: &[Value]) -> &[Value]
+    ensures { items_view result.now ≡ values_since_whole (items_view values.now) }
+{
+    let mut from = 0;
+    for (index, value) in values.iter().enumerate() {
+        if is_whole(value) {
+            from = index;
+        }
+    }
+    &values[from..]
+}
+
+/// Of the list of changes that a notification has the ones that decide.
+fn given_in(params: &Value) -> Option<&[Value]>
+    ensures { option_map (λ v. items_view v.now) result ≡ values_given (view params.now) }
+{
+    Some(since_whole(listed_in(params)?.as_slice()))
+}
+
+/// Whether one of the changes that a notification tells of is of the whole text, if those that decide can be read.
 pub fn whole_in(params: &Value) -> Option<bool>
     ensures { result ≡ option_map has_whole (changes_given (view params.now)) }
 {
-    whole_among(listed_in(params)?.as_slice())
+    whole_among(given_in(params)?)
 }
 
 /// The changes of a list, if each value is one. For none no memory is needed.
@@ -154,7 +185,7 @@ fn changes_in(alloc: Global, values: &[Value]) -> Result<Option<Vec<ContentChang
     Ok(Some(changes))
 }
 
-/// The changes that a notification tells of. For none no memory is needed.
+/// The changes that a notification tells of, from the last whole text on. For none no memory is needed.
 pub fn content_changes(
     alloc: Global,
     params: &Value,
@@ -164,8 +195,8 @@ pub fn content_changes(
     ensures needed { OnErr result
         (IfSome (changes_given (view params.now)) (λ cs. has_changes cs ≡ true)) }
 {
-    match listed_in(params) {
-        Some(values) => changes_in(alloc, values.as_slice()),
+    match given_in(params) {
+        Some(values) => changes_in(alloc, values),
         None => Ok(None),
     }
 }

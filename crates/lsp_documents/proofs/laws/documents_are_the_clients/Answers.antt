@@ -1,4 +1,5 @@
-use Rattle.lsp_documents.proofs.NoticeLemmas.{all_agree, all_kept, opened_current, late_unshown, refused_keeps}
+use Rattle.lsp_documents.proofs.NoticeLemmas.{all_agree, all_kept, opened_current, whole_made, late_unshown}
+use Rattle.lsp_documents.proofs.NoticeLemmas.{refused_keeps}
 use Rattle.lsp_documents.proofs.laws.documents_are_the_clients.Goals as goal
 
 pub returns-clause-each : goal.returns-clause-each
@@ -15,3 +16,6 @@ returns-clause-refused c = refused_keeps
 
 pub returns-clause-late : goal.returns-clause-late
 returns-clause-late c = late_unshown
+
+pub returns-clause-whole : goal.returns-clause-whole
+returns-clause-whole c = whole_made
