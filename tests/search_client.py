@@ -6,7 +6,8 @@ A hover is answered while a search runs, the search tells how far it is and is a
 before that has its reply.
 
 Then it opens a document twice, as an editor does whose mode is called again, and has changes refused: the server's text is the client's
-or none, it tells why, and each way back brings the text back. It ends in status 1 at the first difference.
+or none, it tells why, and each way back brings the text back. It saves before it tells its changes. It ends in status 1 at the first
+difference.
 """
 import sys
 
@@ -235,8 +236,10 @@ def is_refused(client, name, params, back):
     way, brings, told, text = back
     brings(client)
     look(client, way, told, text)
+    # A client may save before it tells its last changes.
+    doubt = [log(WARNING, "a save brought the text back")] if way == "a save with its text" else []
     changes(client, 8, edit(0, 0, 0, "𝒙"), edit(0, 2, 2, "ß"))
-    look(client, f"an edit behind {way}", [told[-1]], "𝒙ß" + text)
+    look(client, f"an edit behind {way}", [*doubt, told[-1]], "𝒙ß" + text)
 
 
 def loses_all(client):
@@ -256,6 +259,20 @@ def loses_all(client):
     look(client, "an edit behind it", [log(ERROR, "the document is out of step")], None)
     changes(client, 3, {"text": "b = 1\n"})
     look(client, "a whole text behind it", [marks()], "b = 1\n")
+
+
+def saves_early(client):
+    """Saves before the changes that led to their text, as of Kate: nothing is said, unless the next changes lead elsewhere."""
+    closes(client)
+    opens(client, 1, "a = 1\n")
+    look(client, "an open", [marks(), marks()], "a = 1\n")
+    saves(client, text="a = 12\n")
+    look(client, "an early save", [marks()], "a = 1\n")
+    changes(client, 2, edit(0, 5, 5, "2"))
+    look(client, "its change", [marks()], "a = 12\n")
+    saves(client, text="a = 123\n")
+    changes(client, 3, edit(0, 6, 6, "4"))
+    look(client, "a change that leads elsewhere", [marks(), log(WARNING, "the saved text is another one"), marks()], "a = 124\n")
 
 
 def comes_true(what, tries):
@@ -280,6 +297,8 @@ def check_all(program):
             for back in WAYS_BACK:
                 is_refused(client, name, params, back)
                 print(f"{name} is refused, and {back[0]} brings the text back")
+        saves_early(client)
+        print("a save comes before the change that it saved, and is compared behind that")
         closes(client)
         expect("the marks of a text that is closed", shown(client.message()), marks())
         loses_all(client)

@@ -165,13 +165,18 @@ def path_of(uri):
 
 
 class Documents:
-    """What a server holds, and what it answers. A document whose text is lost has None for its text and its version."""
+    """What a server holds, and what it answers. A document whose text is lost has None for its text and its version.
+
+    `saved` has the text of a save that differed from the document's, until something is told of that. `brought` has the documents whose text
+    a save brought back, and whether a change came since.
+    """
 
     def __init__(self, encoding, include_text=True, standard=False, applies_late=False):
         self.encoding, self.include_text, self.applies_late = encoding, include_text, applies_late
         self.counting = Counting(encoding, standard)
         # Of each document its version, its language and its text. The version of one that is lost for want of order stays.
         self.open = {}
+        self.saved, self.brought = {}, {}
         self.seen = []
         self.copies = ""
 
@@ -198,6 +203,8 @@ class Documents:
             return [self.known()]
         if method == "place":
             return [self.place(params)]
+        if method == "doubtful":
+            return [" ".join(["doubtful", *(it for it in self.seen if it in self.brought)])]
         if method in ("long", "often"):
             return [self.length(method, params)]
         return [self.row(method, params)]
@@ -283,7 +290,13 @@ class Documents:
     def lose(self, uri):
         """What the client told was missed: only the language is known for sure."""
         if uri in self.open:
+            self.settle(uri)
             self.open[uri] = (None, self.open[uri][1], None)
+
+    def settle(self, uri):
+        """Nothing is doubtful of what is held."""
+        self.saved.pop(uri, None)
+        self.brought.pop(uri, None)
 
     def hears(self, method, uri, params):
         """What is answered. Params of another shape raise."""
@@ -294,18 +307,28 @@ class Documents:
         if uri not in self.open:
             return f"{uri}: the document is not open"
         if method == "textDocument/didClose":
+            self.settle(uri)
             del self.open[uri]
         elif isinstance(params.get("text"), str) and self.include_text:
-            if not self.is_known(uri):
-                self.open[uri] = (None, self.open[uri][1], params["text"])
-            elif self.open[uri][2] != params["text"]:
-                return f"made {uri}: the saved text is another one"
+            return f"made {uri}{self.hears_saved(uri, params['text'])}"
         return f"made {uri}"
+
+    def hears_saved(self, uri, text):
+        """What is said of a text that was asked for. One that differs is compared once more is told: Kate saves before it tells its changes."""
+        if not self.is_known(uri):
+            self.open[uri] = (None, self.open[uri][1], text)
+            self.brought[uri] = "unchanged"
+            return ""
+        before = self.saved.pop(uri, None)
+        if self.open[uri][2] != text:
+            self.saved[uri] = text
+        return "" if before in (None, text) else ": the saved text is another one"
 
     def hears_open(self, uri, item):
         language = item["languageId"] if isinstance(item.get("languageId"), str) else ""
         version, text = version_member(item), text_member(item, "text")
         answer = f"made {uri}: the document was open already" if uri in self.open else f"made {uri}"
+        self.settle(uri)
         self.open[uri] = (version, language, text)
         return answer
 
@@ -319,6 +342,7 @@ class Documents:
         before, language, text = self.open.get(uri, (None, "", None))
         if is_open and not is_whole and not self.applies_late and None not in (version, before) and version < before:
             # Ranges of a lower version come behind others that were made without them. A whole text needs no other.
+            self.settle(uri)
             self.open[uri] = (before, language, None)
             return f"{uri}: changes came out of order"
         if text is None and not is_whole:
@@ -330,8 +354,17 @@ class Documents:
         self.open[uri] = (version, language, text)
         if not is_open:
             return f"made {uri}: the document was not open"
+        saved, brought = self.saved.pop(uri, None), self.brought.get(uri)
+        if is_whole:
+            self.settle(uri)
+        elif brought:
+            self.brought[uri] = "changed"
         if past:
             return f"made {uri}: a position is past the end"
+        if brought == "unchanged" and not is_whole:
+            return f"made {uri}: a save brought the text back"
+        if saved not in (None, text) and not is_whole:
+            return f"made {uri}: the saved text is another one"
         is_higher = None in (version, before) or version > before
         return f"made {uri}" if is_higher else f"made {uri}: the version is not higher"
 
@@ -501,6 +534,37 @@ def session(table, source, count):
             table.change(uri, next_version, some_changes(source, text or "", counting))
 
 
+def saves(table, source, count):
+    """Changes and saves of one document by a client that may save before it tells its last changes, and of which something may be missed."""
+    encoding = source.choice(list(UNITS))
+    table.offer(encoding, offered(encoding, standard=source.random() < 0.5, includeText=source.random() < 0.8))
+    counting, text, version = table.documents.counting, some_text(source, 9), 1
+    table.open("file:///a", version, text)
+    for _ in range(count):
+        changes = some_changes(source, text, counting)
+        after = text
+        for change in map(change_of, changes):
+            after = edited(after, span_of(change), change["text"], counting)
+        version += source.choice([1, 1, 1, 1, 0, -1])
+        early, missed = source.random() < 0.4, source.random() < 0.15
+        if missed:
+            table.tell("textDocument/didChange", {"textDocument": {"uri": "file:///a", "version": version}, "contentChanges": [{"text": None}]})
+        for _ in range(source.choice([0, 1, 1, 2]) if early else 0):
+            table.save("file:///a", {"text": source.choice([after, after, after, text + "+"])})
+        if not missed and source.random() < 0.1:
+            # What can't be read stands before a whole text, or behind it.
+            whole, none = {"text": after}, {"text": "x", "range": 1}
+            listed = source.choice([[none, whole], [none, whole, none], [whole, whole]])
+            table.tell("textDocument/didChange", {"textDocument": {"uri": "file:///a", "version": version}, "contentChanges": listed})
+        elif not missed:
+            table.change("file:///a", version, changes)
+        text = after
+        if not early and source.random() < 0.5:
+            table.save("file:///a", source.choice([{"text": text}, {"text": text}, {"text": text + "-"}, {}]))
+        if source.random() < 0.2:
+            table.tell("doubtful")
+
+
 def rows(seed, sessions):
     table, source = Table(), random.Random(seed)
     for where, line in table_of("documents"):
@@ -508,4 +572,6 @@ def rows(seed, sessions):
             table.take(line)
     for _ in range(sessions):
         session(table, source, 24)
+    for _ in range(sessions // 2):
+        saves(table, source, 24)
     return [f"document {it}" for it in table.asked]

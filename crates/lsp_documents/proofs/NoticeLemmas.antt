@@ -6,7 +6,7 @@ use Rattle.std.specs.Prelude.{◌<◌, length}
 use Rattle.std.specs.Str.{bytes_eq}
 use Rattle.std.proofs.lemmas.List.{append-nil}
 use Rattle.std.proofs.lemmas.Slice.Eq.{bytes_eq-Decides}
-use Rattle.lsp_text.specs.Documents.{Change}
+use Rattle.lsp_text.specs.Documents.{Change, Document}
 use Rattle.lsp_text.specs.Edits.{edited, edited_by}
 use Rattle.lsp_text.specs.Lines.{LinedText, lined}
 use Rattle.lsp_text.specs.declared.line_ends.LineEnds.{LineEnds}
@@ -21,8 +21,11 @@ use Rattle.serde_json.specs.Data.{Data, Items, no_items, item}
 use Rattle.serde_json.specs.View.{view, items_view}
 use Rattle.serde_json.specs.declared.value.Value.{Value}
 use Rattle.lsp_documents.specs.Params.{change_in, changes_in, is_whole, whole_among, values_since_whole}
-use Rattle.lsp_documents.specs.Remains.{Remains}
+use Rattle.lsp_documents.specs.Remains.{Remains, Kept}
 use Rattle.lsp_documents.specs.Notices.{saved_in, Item, text_item, text_by, edited_text, kept_by, begun_by, changed_in}
+use Rattle.lsp_documents.specs.declared.kept_document.Origin.{Origin}
+use Rattle.lsp_documents.specs.declared.kept_document.Origin.TheVariants.{Told, BySave, BySaveChanged}
+use Rattle.lsp_documents.specs.Notices.{told_whole, changed_to, IsClients, sure, is_by_save, origin_after}
 use Rattle.lsp_documents.specs.Notices.{doubted, left_by, shown, version_of, is_late, step_fault, goes_on}
 use Rattle.lsp_documents.specs.Notices.{version_after, NoticeKind, NoticeKind.opened, NoticeKind.changed}
 use Rattle.lsp_documents.specs.Notices.{NoticeKind.saved, NoticeKind.closed, Notice, Sent, Sent.made, Sent.unmade}
@@ -38,6 +41,12 @@ never h = grind (arith, h)
 by_test : {P : Type 0} (b : Bool) → (b ≡ true → P) → (b ≡ false → P) → P
 by_test true t f = t refl
 by_test false t f = f refl
+
+none_value : {A P : Type 0} {a : A} → None ≡ Some a → P
+none_value h = never (ap is_some h)
+
+some_value : {A : Type 0} {a b : A} → Some a ≡ Some b → a ≡ b
+some_value {A} {a} {b} h = ap (λ o. unwrap_or o a) h
 
 -- ---- one URI
 
@@ -102,27 +111,27 @@ same_version (Some v) = refl
 
 none_changed : (a : Agreed) (l : List ℕ) (r : Remains) (version : Option ℤ) (list : List Change) (w : Bool) →
     Agrees a (if w then Some (text_item [] version (edited_text a [] list)) else None)
-    (Some (if w then Known (begun_by a l version list) else Lost r))
+    (Some (if w then told_whole (begun_by a l version list) else Lost r))
 none_changed a l r version list true = (edited_is a list [], same_version version)
 none_changed a l r version list false = tt
 
 some_changed : (a : Agreed) (c : Item) (l : List ℕ) (r : Remains) (version : Option ℤ) (list : List Change) (w : Bool)
     → (w ≡ true → edited_by a.encoding (text_by a []) list ≡ edited_by a.encoding (text_by a c.text) list) →
     Agrees a (Some (text_item c.language_id version (edited_text a c.text list)))
-    (Some (if w then Known (begun_by a l version list) else Lost r))
+    (Some (if w then told_whole (begun_by a l version list) else Lost r))
 some_changed a c l r version list true whole = (whole refl ∙ edited_is a list c.text, same_version version)
 some_changed a c l r version list false whole = tt
 
 none_opened : (a : Agreed) (version : Option ℤ) (list : List Change) (w : Bool) →
     Agrees a (if w then Some (text_item [] version (edited_text a [] list)) else None) (if w then Some
-    (Known (begun_by a [] version list)) else None)
+    (told_whole (begun_by a [] version list)) else None)
 none_opened a version list true = (edited_is a list [], same_version version)
 none_opened a version list false = tt
 
 some_opened : (a : Agreed) (c : Item) (version : Option ℤ) (list : List Change) (w : Bool)
     → (w ≡ true → edited_by a.encoding (text_by a []) list ≡ edited_by a.encoding (text_by a c.text) list) →
     Agrees a (Some (text_item c.language_id version (edited_text a c.text list))) (if w then Some
-    (Known (begun_by a [] version list)) else None)
+    (told_whole (begun_by a [] version list)) else None)
 some_opened a c version list true whole = (whole refl ∙ edited_is a list c.text, same_version version)
 some_opened a c version list false whole = tt
 
@@ -152,7 +161,7 @@ made_step a (Some c) None (changed version list) s h = some_opened a c version l
 made_step a None (Some (Known k)) (changed version list) s h = absurd h
 made_step a (Some c) (Some (Known k)) (changed version list) s h =
     or_late a (told a (Some c) (changed version list)) (Known k) (changed_in a (Known k) version list)
-    (is_late a version (has_whole list) k.version) (
+    (is_late a version (has_whole list) k.document.version) (
       ap (λ t. edited_by a.encoding t list) h.0 ∙ edited_is a list c.text,
       same_version version,
     )
@@ -247,36 +256,204 @@ all_agree before client sent now h uri a s =
     subst (λ k. Agrees before.agreed (told_all before.agreed (client uri) (kinds_of uri sent)) k)
     (sym (all_kept before sent now h uri)) (all_steps before.agreed uri (client uri) (before.held uri) sent a s)
 
+-- ---- what is sure, whatever saves say
+
+abbrev HasEnds : Agreed → Option Document → Type 0
+HasEnds a None = Unit {0}
+HasEnds a (Some d) = d.text.ends ≡ a.options.line_ends
+
+-- the lines of what is shown end as was agreed on, and what is not doubtful is the client's
+abbrev IsSure : Agreed → Option Item → Option Open → Type 0
+IsSure a client kept = HasEnds a (option_and_then shown kept) × IsClients a client (option_and_then sure kept)
+
+sure_clients : (a : Agreed) (client : Option Item) (d : Document) (doubtful : Bool) → IsClients a client (Some d)
+    → IsClients a client (if doubtful then None else Some d)
+sure_clients a client d true h = tt
+sure_clients a client d false h = h
+
+agrees_sure : (a : Agreed) (client : Option Item) (kept : Option Open) → Agrees a client kept → IsSure a client kept
+agrees_sure a client None h = (tt, tt)
+agrees_sure a client (Some (Lost r)) h = (tt, tt)
+agrees_sure a None (Some (Known k)) h = absurd h
+agrees_sure a (Some c) (Some (Known k)) h = (
+  ap (λ (t : LinedText). t.ends) h.0,
+  sure_clients a (Some c) k.document (is_by_save k.origin) h,
+)
+
+-- changes leave the ends of lines as they are
+edited_ends : (e : PositionEncoding) (t : LinedText) (cs : List Change) → (edited_by e t cs).ends ≡ t.ends
+edited_ends e t [] = refl
+edited_ends e t (c ∷ cs) = edited_ends e (edited e t c.range c.text) cs ∙ sym (ends_kept e t c.range c.text)
+
+lost_sure : (a : Agreed) (client : Option Item) (o : Open) → IsSure a client (Some (doubted o))
+lost_sure a client (Known k) = (tt, tt)
+lost_sure a client (Lost r) = (tt, tt)
+
+or_late_sure : (a : Agreed) (client : Option Item) (o next : Open) (late : Bool) → IsSure a client (Some next)
+    → IsSure a client (Some (if late then doubted o else next))
+or_late_sure a client o next true h = lost_sure a client o
+or_late_sure a client o next false h = h
+
+-- what a client's document is after changes, where the server may have another text before them
+told_clients : (a : Agreed) (client : Option Item) (t : LinedText) (l : List ℕ) (version : Option ℤ)
+    (list : List Change) → t.ends ≡ a.options.line_ends → has_whole list ≡ true
+    → IsClients a (told a client (changed version list)) (Some (document l version (edited_by a.encoding t list)))
+told_clients a None t l version list ends w =
+    subst (λ (b : Bool). IsClients a (if b then Some (text_item [] version (edited_text a [] list)) else None)
+    (Some (document l version (edited_by a.encoding t list)))) (sym w)
+    (whole_ends a.encoding list t (text_by a []) ends w ∙ edited_is a list [], same_version version)
+told_clients a (Some c) t l version list ends w =
+    (whole_ends a.encoding list t (text_by a c.text) ends w ∙ edited_is a list c.text, same_version version)
+
+-- changes of a text that is sure
+edited_sure : (a : Agreed) (client : Option Item) (d : Document) (version : Option ℤ) (list : List Change)
+    → IsClients a client (Some d) → IsClients a (told a client (changed version list)) (Some (changed_to a.encoding d
+    version list))
+edited_sure a None d version list h = absurd h
+edited_sure a (Some c) d version list h = (
+  ap (λ t. edited_by a.encoding t list) h.0 ∙ edited_is a list c.text,
+  same_version version,
+)
+
+-- changes of one that is doubtful
+doubt_sure : (a : Agreed) (client : Option Item) (d : Document) (version : Option ℤ) (list : List Change) (w : Bool)
+    → has_whole list ≡ w → d.text.ends ≡ a.options.line_ends → IsClients a (told a client (changed version list))
+    (if is_by_save (if w then Told else BySaveChanged) then None else Some (changed_to a.encoding d version list))
+doubt_sure a client d version list true e ends =
+    told_clients a client d.text d.language_id version list ends e
+doubt_sure a client d version list false e ends = tt
+
+origin_sure : (a : Agreed) (client : Option Item) (d : Document) (origin : Origin) (version : Option ℤ)
+    (list : List Change) → d.text.ends ≡ a.options.line_ends → IsClients a client (if is_by_save origin then None else
+    Some d) → IsClients a (told a client (changed version list)) (if is_by_save (origin_after (has_whole list) origin)
+    then None else Some (changed_to a.encoding d version list))
+origin_sure a client d Told version list ends h = edited_sure a client d version list h
+origin_sure a client d BySave version list ends h = doubt_sure a client d version list (has_whole list) refl ends
+origin_sure a client d BySaveChanged version list ends h =
+    doubt_sure a client d version list (has_whole list) refl ends
+
+-- changes that begin a document, where nothing is known of it
+begun_sure : (a : Agreed) (client : Option Item) (l : List ℕ) (version : Option ℤ) (list : List Change) (w : Bool)
+    (other : Option Open) → has_whole list ≡ w → IsSure a (told a client (changed version list)) other
+    → IsSure a (told a client (changed version list)) (if w then Some (told_whole (begun_by a l version list))
+    else other)
+begun_sure a client l version list true other e h = (
+  edited_ends a.encoding (text_by a []) list,
+  told_clients a client (text_by a []) l version list refl e,
+)
+begun_sure a client l version list false other e h = h
+
+lost_begun : (a : Agreed) (client : Option Item) (r : Remains) (version : Option ℤ) (list : List Change) (w : Bool)
+    → IsSure a client (if w then Some (told_whole (begun_by a r.language_id version list)) else Some (Lost r))
+    → IsSure a client (Some (if w then told_whole (begun_by a r.language_id version list) else Lost r))
+lost_begun a client r version list true h = h
+lost_begun a client r version list false h = h
+
+saved_sure : (a : Agreed) (asked : Bool) (client : Option Item) (kept : Option Open) (text : List ℕ)
+    → IsSure a client kept → IsSure a client (if asked then option_map (λ o. saved_in a o text) kept else kept)
+saved_sure a false client kept text h = h
+saved_sure a true client None text h = h
+saved_sure a true client (Some (Known k)) text h = h
+saved_sure a true client (Some (Lost r)) text h = (refl, tt)
+
+made_sure : (a : Agreed) (client : Option Item) (kept : Option Open) (kind : NoticeKind) → IsSure a client kept
+    → IsSure a (told a client kind) (after a kept kind)
+made_sure a client kept (opened c) h = (refl, (refl, same_version c.version))
+made_sure a client None (changed version list) h =
+    begun_sure a client [] version list (has_whole list) None refl (tt, tt)
+made_sure a client (Some (Lost r)) (changed version list) h =
+    or_late_sure a (told a client (changed version list)) (Lost r) (changed_in a (Lost r) version list) (is_late a
+    version (has_whole list) r.version) (lost_begun a (told a client (changed version list)) r version list
+    (has_whole list) (begun_sure a client r.language_id version list (has_whole list) (Some (Lost r)) refl (tt, tt)))
+made_sure a client (Some (Known k)) (changed version list) h =
+    or_late_sure a (told a client (changed version list)) (Known k) (changed_in a (Known k) version list) (is_late a
+    version (has_whole list) k.document.version) (
+      edited_ends a.encoding k.document.text list ∙ h.0,
+      origin_sure a client k.document k.origin version list h.0 h.1,
+    )
+made_sure a client kept (saved None) h = h
+made_sure a client kept (saved (Some text)) h = saved_sure a a.include_text client kept text h
+made_sure a client kept closed h = (tt, tt)
+
+missed_sure : (a : Agreed) (client : Option Item) (kept : Option Open) → IsSure a client (missed kept)
+missed_sure a client None = (tt, tt)
+missed_sure a client (Some (Known k)) = (tt, tt)
+missed_sure a client (Some (Lost r)) = (tt, tt)
+
+own_sure : (a : Agreed) (b : Bool) (c : Option Item) (k : Option Open) (kind : NoticeKind) → IsSure a c k
+    → IsSure a (told_all a c (if b then kind ∷ [] else [])) (if b then after a k kind else k)
+own_sure a true c k kind h = made_sure a c k kind h
+own_sure a false c k kind h = h
+
+unmade_sure : (a : Agreed) (b : Bool) (c : Option Item) (k : Option Open) (kind : NoticeKind) → IsSure a c k
+    → IsSure a (told_all a c (if b then kind ∷ [] else [])) (if b then missed k else k)
+unmade_sure a true c k kind h = missed_sure a (told a c kind) k
+unmade_sure a false c k kind h = h
+
+sent_sure : (a : Agreed) (uri : List ℕ) (c : Option Item) (k : Option Open) (s : Sent) → IsSure a c k
+    → IsSure a (told_all a c (kinds_in uri (notices_of s))) (kept_after a uri k s)
+sent_sure a uri c k (made n) h = own_sure a (bytes_eq uri n.uri) c k n.kind h
+sent_sure a uri c k (unmade n) h = unmade_sure a (bytes_eq uri n.uri) c k n.kind h
+sent_sure a uri c k (unread notices) h = missed_sure a (told_all a c (kinds_in uri notices)) k
+
+steps_sure : (a : Agreed) (uri : List ℕ) (c : Option Item) (k : Option Open) (sent : List Sent) → IsSure a c k
+    → IsSure a (told_all a c (kinds_of uri sent)) (kept_after_all a uri k sent)
+steps_sure a uri c k [] g = g
+steps_sure a uri c k (s ∷ ss) g =
+    subst (λ x. IsSure a x (kept_after_all a uri (kept_after a uri k s) ss))
+    (sym (told_append a c (kinds_in uri (notices_of s)) (kinds_of uri ss)))
+    (steps_sure a uri (told_all a c (kinds_in uri (notices_of s))) (kept_after a uri k s) ss (sent_sure a uri c k s g))
+
+pub all_sure : (before : Documents) (client : List ℕ → Option Item) (sent : List Sent) (now : Documents)
+    → TakesAll before sent now → (uri : List ℕ) → Agrees before.agreed (client uri) (before.held uri)
+    → IsClients before.agreed (told_all before.agreed (client uri) (kinds_of uri sent))
+    (option_and_then sure (now.held uri))
+all_sure before client sent now h uri a =
+    let sure_after = steps_sure before.agreed uri (client uri) (before.held uri) sent (agrees_sure before.agreed
+    (client uri) (before.held uri) a) in
+    subst (λ k. IsClients before.agreed (told_all before.agreed (client uri) (kinds_of uri sent))
+    (option_and_then sure k)) (sym (all_kept before sent now h uri)) sure_after.1
+
 -- ---- a document of which all was made
 
--- the client's document is known, with this version, and is the one that is kept
+-- the client's document is known, with this version, and is the one that is shown
 abbrev pub IsCurrent : Agreed → Option ℤ → Option Item → Option Open → Type 0
-IsCurrent a version client kept = (c : Item) × (client ≡ Some c) × (kept ≡ Some (Known (kept_by a c)))
-    × (c.version ≡ version)
+IsCurrent a version client kept = (c : Item) × (client ≡ Some c)
+    × (option_and_then shown kept ≡ Some (kept_by a c)) × (c.version ≡ version)
 
-saved_current : (a : Agreed) (asked : Bool) (c : Item) (text : List ℕ) → IsCurrent a c.version (Some c) (if asked then
-    option_map (λ o. saved_in a o text) (Some (Known (kept_by a c))) else Some (Known (kept_by a c)))
-saved_current a true c text = (c, refl, refl, refl)
-saved_current a false c text = (c, refl, refl, refl)
+saved_current : (a : Agreed) (asked : Bool) (c : Item) (kept : Option Open) (text : List ℕ) → option_and_then shown kept
+    ≡ Some (kept_by a c) → IsCurrent a c.version (Some c) (if asked then option_map (λ o. saved_in a o text) kept else
+    kept)
+saved_current a false c kept text h = (c, refl, h, refl)
+saved_current a true c None text h = none_value h
+saved_current a true c (Some (Known k)) text h = (c, refl, h, refl)
+saved_current a true c (Some (Lost r)) text h = none_value h
 
-not_late : (a : Agreed) (c : Item) (version : Option ℤ) (list : List Change) (late : Bool) → not late ≡ true →
-    IsCurrent a version (told a (Some c) (changed version list)) (Some (if late then doubted (Known (kept_by a c)) else
-    changed_in a (Known (kept_by a c)) version list))
-not_late a c version list true h = never h
-not_late a c version list false h = (
+not_late : (a : Agreed) (c : Item) (k : Kept) (version : Option ℤ) (list : List Change) (late : Bool) → k.document
+    ≡ kept_by a c → not late ≡ true → IsCurrent a version (told a (Some c) (changed version list)) (Some (if late then
+    doubted (Known k) else changed_in a (Known k) version list))
+not_late a c k version list true e h = never h
+not_late a c k version list false e h = (
   text_item c.language_id version (edited_text a c.text list),
   refl,
-  ap (λ t. Some (Known (document c.language_id version t))) (edited_is a list c.text),
+  ap (λ d. Some (changed_to a.encoding d version list)) e
+      ∙ ap (λ t. Some (document c.language_id version t)) (edited_is a list c.text),
   refl,
 )
 
-own_current : (a : Agreed) (c : Item) (kind : NoticeKind) → goes_on a c.version kind ≡ true
-    → IsCurrent a (version_after c.version kind) (told a (Some c) kind) (after a (Some (Known (kept_by a c))) kind)
-own_current a c (opened o) h = (o, refl, refl, refl)
-own_current a c (changed version list) h = not_late a c version list (is_late a version (has_whole list) c.version) h
-own_current a c (saved None) h = (c, refl, refl, refl)
-own_current a c (saved (Some text)) h = saved_current a a.include_text c text
-own_current a c closed h = never h
+own_current : (a : Agreed) (c : Item) (kept : Option Open) (kind : NoticeKind) → option_and_then shown kept
+    ≡ Some (kept_by a c) → goes_on a c.version kind ≡ true → IsCurrent a (version_after c.version kind) (told a (Some c)
+    kind) (after a kept kind)
+own_current a c kept (opened o) e h = (o, refl, refl, refl)
+own_current a c None (changed version list) e h = none_value e
+own_current a c (Some (Lost r)) (changed version list) e h = none_value e
+own_current a c (Some (Known k)) (changed version list) e h =
+    let same : k.document ≡ kept_by a c = some_value e in
+    not_late a c k version list (is_late a version (has_whole list) k.document.version) same
+    (ap (λ (d : Document). not (is_late a version (has_whole list) d.version)) same ∙ h)
+own_current a c kept (saved None) e h = (c, refl, e, refl)
+own_current a c kept (saved (Some text)) e h = saved_current a a.include_text c kept text e
+own_current a c kept closed e h = never h
 
 both_true : (b c : Bool) → b && c ≡ true → (b ≡ true) × (c ≡ true)
 both_true true c h = (refl, h)
@@ -287,62 +464,66 @@ not_and true c h = never h
 not_and false c h = (refl, h)
 
 abbrev pub IsCurrentAt : Agreed → Option Item → Option Open → Type 0
-IsCurrentAt a client kept = (c : Item) × (client ≡ Some c) × (kept ≡ Some (Known (kept_by a c)))
+IsCurrentAt a client kept = (c : Item) × (client ≡ Some c) × (option_and_then shown kept ≡ Some (kept_by a c))
 
 go_on : (a : Agreed) (uri : List ℕ) (version : Option ℤ) (client : Option Item) (kept : Option Open)
     (kinds : List NoticeKind) (ss : List Sent) → IsCurrent a version client kept →
-    ((c : Item) → c.version ≡ version → IsCurrentAt a (told_all a (Some c) kinds) (kept_after_all a uri
-    (Some (Known (kept_by a c))) ss)) → IsCurrentAt a (told_all a client kinds) (kept_after_all a uri kept ss)
+    ((c : Item) → option_and_then shown kept ≡ Some (kept_by a c) → c.version ≡ version → IsCurrentAt a (told_all a
+    (Some c) kinds) (kept_after_all a uri kept ss)) → IsCurrentAt a (told_all a client kinds) (kept_after_all a uri kept
+    ss)
 go_on a uri version client kept kinds ss i rest =
-    let r = rest i.0 i.3 in
-    (r.0, ap (λ x. told_all a x kinds) i.1 ∙ r.1, ap (λ k. kept_after_all a uri k ss) i.2 ∙ r.2)
+    let r = rest i.0 i.2 i.3 in (r.0, ap (λ x. told_all a x kinds) i.1 ∙ r.1, r.2)
 
 made_current : (a : Agreed) (uri : List ℕ) (own : Bool) (kind : NoticeKind) (ss : List Sent) (c : Item)
+    (kept : Option Open) → option_and_then shown kept ≡ Some (kept_by a c)
     → (if own then goes_on a c.version kind && is_current a uri (version_after c.version kind) ss else is_current a uri
     c.version ss) ≡ true →
-    ((c : Item) (version : Option ℤ) → c.version ≡ version → is_current a uri version ss ≡ true
-    → IsCurrentAt a (told_all a (Some c) (kinds_of uri ss)) (kept_after_all a uri
-    (Some (Known (kept_by a c))) ss)) →
+    ((c : Item) (kept : Option Open) (version : Option ℤ) → option_and_then shown kept ≡ Some (kept_by a c) → c.version
+    ≡ version → is_current a uri version ss ≡ true → IsCurrentAt a (told_all a (Some c) (kinds_of uri ss))
+    (kept_after_all a uri kept ss)) →
     IsCurrentAt a (told_all a (Some c) ((if own then kind ∷ [] else []) ++ kinds_of uri ss)) (kept_after_all a uri
-    (if own then after a (Some (Known (kept_by a c))) kind else Some (Known (kept_by a c))) ss)
-made_current a uri true kind ss c h rest =
+    (if own then after a kept kind else kept) ss)
+made_current a uri true kind ss c kept e h rest =
     let p = both_true (goes_on a c.version kind) (is_current a uri (version_after c.version kind) ss) h in
-    go_on a uri (version_after c.version kind) (told a (Some c) kind) (after a (Some (Known (kept_by a c))) kind)
-    (kinds_of uri ss) ss (own_current a c kind p.0) (λ d v. rest d (version_after c.version kind) v p.1)
-made_current a uri false kind ss c h rest = rest c c.version refl h
+    go_on a uri (version_after c.version kind) (told a (Some c) kind) (after a kept kind) (kinds_of uri ss) ss
+    (own_current a c kept kind e p.0) (λ d s v. rest d (after a kept kind) (version_after c.version kind) s v p.1)
+made_current a uri false kind ss c kept e h rest = rest c kept c.version e refl h
 
-unmade_current : (a : Agreed) (uri : List ℕ) (own : Bool) (kind : NoticeKind) (ss : List Sent) (c : Item) → own ≡ false
-    → IsCurrentAt a (told_all a (Some c) (kinds_of uri ss)) (kept_after_all a uri (Some (Known (kept_by a c))) ss) →
-    IsCurrentAt a (told_all a (Some c) ((if own then kind ∷ [] else []) ++ kinds_of uri ss)) (kept_after_all a uri
-    (if own then missed (Some (Known (kept_by a c))) else Some (Known (kept_by a c))) ss)
-unmade_current a uri true kind ss c h rest = never (sym h)
-unmade_current a uri false kind ss c h rest = rest
+unmade_current : (a : Agreed) (uri : List ℕ) (own : Bool) (kind : NoticeKind) (ss : List Sent) (c : Item)
+    (kept : Option Open) → own ≡ false → IsCurrentAt a (told_all a (Some c) (kinds_of uri ss))
+    (kept_after_all a uri kept
+    ss) → IsCurrentAt a (told_all a (Some c) ((if own then kind ∷ [] else []) ++ kinds_of uri ss)) (kept_after_all a uri
+    (if own then missed kept else kept) ss)
+unmade_current a uri true kind ss c kept h rest = never (sym h)
+unmade_current a uri false kind ss c kept h rest = rest
 
-all_current : (a : Agreed) (uri : List ℕ) (sent : List Sent) (c : Item) (version : Option ℤ) → c.version ≡ version
-    → is_current a uri version sent ≡ true → IsCurrentAt a (told_all a (Some c) (kinds_of uri sent)) (kept_after_all a
-    uri (Some (Known (kept_by a c))) sent)
-all_current a uri [] c version v h = (c, refl, refl)
-all_current a uri (made n ∷ ss) c version v h =
-    made_current a uri (bytes_eq uri n.uri) n.kind ss c (subst (λ x. (if bytes_eq uri n.uri then goes_on a x n.kind
-    && is_current a uri (version_after x n.kind) ss else is_current a uri x ss) ≡ true) (sym v) h)
-    (λ c w g. all_current a uri ss c w g)
-all_current a uri (unmade n ∷ ss) c version v h =
+all_current : (a : Agreed) (uri : List ℕ) (sent : List Sent) (c : Item) (kept : Option Open) (version : Option ℤ)
+    → option_and_then shown kept ≡ Some (kept_by a c) → c.version ≡ version → is_current a uri version sent ≡ true
+    → IsCurrentAt a (told_all a (Some c) (kinds_of uri sent)) (kept_after_all a uri kept sent)
+all_current a uri [] c kept version e v h = (c, refl, e)
+all_current a uri (made n ∷ ss) c kept version e v h =
+    made_current a uri (bytes_eq uri n.uri) n.kind ss c kept e (subst (λ x. (if bytes_eq uri n.uri then goes_on a x
+    n.kind && is_current a uri (version_after x n.kind) ss else is_current a uri x ss) ≡ true) (sym v) h)
+    (λ c k w s v g. all_current a uri ss c k w s v g)
+all_current a uri (unmade n ∷ ss) c kept version e v h =
     let p = not_and (bytes_eq uri n.uri) (is_current a uri version ss) h in
-    unmade_current a uri (bytes_eq uri n.uri) n.kind ss c p.0 (all_current a uri ss c version v p.1)
-all_current a uri (unread notices ∷ ss) c version v h = never h
+    unmade_current a uri (bytes_eq uri n.uri) n.kind ss c kept p.0 (all_current a uri ss c kept version e v p.1)
+all_current a uri (unread notices ∷ ss) c kept version e v h = never h
 
 pub opened_current : (before : Documents) (uri language_id : List ℕ) (version : Option ℤ) (text : List ℕ)
     (sent : List Sent) (now : Documents) → TakesAll before (made (opens uri language_id version text) ∷ sent) now
     → is_current before.agreed uri version sent ≡ true →
     (c : Item) × (told_all before.agreed (Some (text_item language_id version text)) (kinds_of uri sent) ≡ Some c)
-    × (now.held uri ≡ Some (Known (kept_by before.agreed c)))
+    × (option_and_then shown (now.held uri) ≡ Some (kept_by before.agreed c))
 opened_current before uri language_id version text sent now h i =
-    let r = all_current before.agreed uri sent (text_item language_id version text) version refl i in
+    let item = text_item language_id version text in
+    let r = all_current before.agreed uri sent item (Some (told_whole (kept_by before.agreed item))) version refl refl
+    i in
     let k = all_kept h.0 sent now h.2 uri in (
       r.0,
       r.1,
-      k ∙ ap (λ x. kept_after_all x uri (h.0.held uri) sent) h.1.agreed ∙ ap (λ o. kept_after_all before.agreed
-          uri o sent) h.1.own ∙ r.2,
+      ap (option_and_then shown) (k ∙ ap (λ x. kept_after_all x uri (h.0.held uri) sent) h.1.agreed
+          ∙ ap (λ o. kept_after_all before.agreed uri o sent) h.1.own) ∙ r.2,
     )
 
 late_is : (t : Bool) (o next : Open) → t ≡ true → option_and_then shown (Some (if t then doubted o else next)) ≡ None
@@ -386,7 +567,8 @@ some_shown a (Lost r) version list true h e = rw e refl
 some_shown a o version list false h e = never h
 
 none_shown : (a : Agreed) (version : Option ℤ) (list : List Change) (w : Bool) → w ≡ true
-    → IsSomeAnd (option_and_then shown (if w then Some (Known (begun_by a [] version list)) else None)) (λ d. d.version
+    → IsSomeAnd (option_and_then shown (if w then Some (told_whole (begun_by a [] version list))
+    else None)) (λ d. d.version
     ≡ version)
 none_shown a version list true h = refl
 none_shown a version list false h = never h
@@ -411,9 +593,6 @@ whole_made before uri version list now h = (
 none_is : {P : Type 0} {fault : DocumentFault} → None ≡ Some fault → P
 none_is h = grind (arith, h)
 
-some_value : {A : Type 0} {a b : A} → Some a ≡ Some b → a ≡ b
-some_value {A} {a} {b} h = ap (λ o. unwrap_or o a) h
-
 step_same : (a : Agreed) (o : Open) (version : Option ℤ) (list : List Change) (w : Bool) (fault : DocumentFault)
     → step_fault o w ≡ Some fault → has_whole list ≡ w → changed_in a o version list ≡ o
 step_same a (Known d) version list w fault h e = none_is h
@@ -427,7 +606,7 @@ late_same a o version list true fault h other = absurd (other (sym (some_value h
 late_same a o version list false fault h other = ap Some (step_same a o version list (has_whole list) fault h refl)
 
 none_same : (a : Agreed) (version : Option ℤ) (list : List Change) (w : Bool) (fault : DocumentFault)
-    → (if w then None else Some NotOpen) ≡ Some fault → (if w then Some (Known (begun_by a [] version list)) else
+    → (if w then None else Some NotOpen) ≡ Some fault → (if w then Some (told_whole (begun_by a [] version list)) else
     None) ≡ None
 none_same a version list true fault h = none_is h
 none_same a version list false fault h = refl
@@ -453,7 +632,7 @@ wrong_same a (Some o) closed fault h other = none_is h
 -- what a refusal of changes leaves is what they make
 left_none : (a : Agreed) (version : Option ℤ) (list : List Change) (w : Bool) (fault : DocumentFault)
     → (if w then None else Some NotOpen) ≡ Some fault → left_by fault None
-    ≡ (if w then Some (Known (begun_by a [] version list)) else None)
+    ≡ (if w then Some (told_whole (begun_by a [] version list)) else None)
 left_none a version list true fault h = none_is h
 left_none a version list false fault h = ap (λ f. left_by f None) (sym (some_value h))
 
@@ -491,9 +670,6 @@ pub refused_keeps : (before : Documents) (n : Notice) (now : Documents) (fault :
     (before.held n.uri) n.kind ≡ Some fault → (fault ≡ OutOfOrder → ⊥) → Makes before n now → Keeps before now
 refused_keeps before n now fault h other m = keeps before now n.uri m.agreed (m.own ∙ wrong_same before.agreed
     (before.held n.uri) n.kind fault h other) m.others
-
-none_value : {A P : Type 0} {a : A} → None ≡ Some a → P
-none_value h = never (ap is_some h)
 
 -- ---- changes that can be read
 

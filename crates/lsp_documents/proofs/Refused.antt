@@ -2,26 +2,30 @@
 use Rattle.std.proofs.Common.{◌≡◌, ℕ, ℤ, Bool, true, false, List, [], Option, Some, None, refl, sym, ap, ◌∙◌, arith}
 use Rattle.std.proofs.Common.{◌∷◌}
 use Rattle.std.proofs.Common.{inl, inr, option_and_then, option_map}
-use Rattle.std.specs.Prelude.{is_some, if◌then◌else◌}
+use Rattle.std.specs.Prelude.{is_some, is_none, if◌then◌else◌}
 use Rattle.std.specs.Str.{bytes_eq}
 use Rattle.lsp_text.specs.Documents.{Document, Change}
-use Rattle.lsp_text.specs.Edits.{past_by}
+use Rattle.lsp_text.specs.Edits.{edited_by, past_by}
 use Rattle.lsp_text.specs.Lines.{LinedText}
 use Rattle.lsp_text.specs.declared.position.PositionEncoding.{PositionEncoding}
 use Rattle.serde_json.specs.Data.{Data, no_items, item}
 use Rattle.lsp_documents.specs.Params.{change_in, changes_in, values_since_whole}
-use Rattle.lsp_documents.specs.declared.fault.Remark.TheVariants.{SavedTextDiffers}
+use Rattle.lsp_documents.specs.declared.fault.Remark.{Remark}
+use Rattle.lsp_documents.specs.declared.fault.Remark.TheVariants.{OpenAlready, VersionNotHigher, PastEnd}
+use Rattle.lsp_documents.specs.declared.fault.Remark.TheVariants.{SavedTextDiffers, WasNotOpen, BroughtBackBySave}
+use Rattle.lsp_documents.specs.declared.kept_document.Origin.{Origin}
+use Rattle.lsp_documents.specs.declared.kept_document.Origin.TheVariants.{Told, BySave}
 use Rattle.lsp_documents.specs.declared.kept.Open.{Open}
 use Rattle.lsp_documents.specs.declared.kept.Open.TheVariants.{Known, Lost}
 use Rattle.lsp_documents.specs.declared.fault.DocumentFault.{DocumentFault}
 use Rattle.lsp_documents.specs.declared.fault.DocumentFault.TheVariants.{NotOpen, OutOfOrder, Memory}
 use Rattle.lsp_documents.specs.declared.agreed.Agreed.{Agreed}
-use Rattle.lsp_documents.specs.Remains.{Remains}
+use Rattle.lsp_documents.specs.Remains.{Remains, Kept, kept_as}
 use Rattle.lsp_documents.specs.Notices.{text_item, begun_by, doubted, version_of, is_late, step_fault, NoticeKind}
 use Rattle.lsp_documents.specs.Notices.{NoticeKind.opened, NoticeKind.changed, NoticeKind.saved, NoticeKind.closed}
 use Rattle.lsp_documents.specs.Notices.{Notice, Sent.made, Sent.unmade, Sent.unread, Documents, Takes, Took, Refused}
-use Rattle.lsp_documents.specs.Notices.{change_fault, after, missed, changed_in, saved_in, fault_of, needs_memory}
-use Rattle.lsp_documents.specs.Notices.{remark_of}
+use Rattle.lsp_documents.specs.Notices.{told_whole, compared, doubt_after, change_fault, after, missed, changed_in}
+use Rattle.lsp_documents.specs.Notices.{saved_in, fault_of, needs_memory, remark_of}
 use Rattle.lsp_documents.specs.Notices.{change_remark, is_not_higher, has_whole, since_whole, shown, opens, edits}
 use Rattle.lsp_documents.specs.Notices.{saves, closes}
 
@@ -37,18 +41,19 @@ missed_shows (Some (Known d)) = refl
 missed_shows (Some (Lost r)) = refl
 
 -- a stale text that is shown: a notification of the document was missed, and its text is still to be had
-stale_shown : (before now : Documents) (n : Notice) (d : Document) → Takes before (unmade n) now → now.held n.uri
+stale_shown : (before now : Documents) (n : Notice) (d : Kept) → Takes before (unmade n) now → now.held n.uri
     ≡ Some (Known d) → ⊥
 stale_shown before now n d h k = never (sym (missed_shows (before.held n.uri)) ∙ ap shows (sym h.own ∙ k))
 
 -- the same after a message of which nothing was read
-unread_shown : (before now : Documents) (notices : List Notice) (uri : List ℕ) (d : Document)
+unread_shown : (before now : Documents) (notices : List Notice) (uri : List ℕ) (d : Kept)
     → Takes before (unread notices) now → now.held uri ≡ Some (Known d) → ⊥
 unread_shown before now notices uri d h k = never (sym (missed_shows (before.held uri))
     ∙ ap shows (sym (h.held uri) ∙ k))
 
 in_lost : (a : Agreed) (r : Remains) (version : Option ℤ) (list : List Change) (late w : Bool) → has_whole list ≡ w → w
-    ≡ false → shows (Some (if late then doubted (Lost r) else (if w then Known (begun_by a r.language_id version list)
+    ≡ false → shows (Some (if late then doubted (Lost r) else (if w then told_whole
+    (begun_by a r.language_id version list)
     else Lost r))) ≡ false
 in_lost a r version list true w e h = refl
 in_lost a r version list false true e h = never (sym h)
@@ -56,7 +61,7 @@ in_lost a r version list false false e h = refl
 
 -- an edit made in an older text: the text is lost, no change is of the whole text, and yet a text is shown
 edited_older : (before now : Documents) (uri : List ℕ) (r : Remains) (version : Option ℤ) (list : List Change)
-    (d : Document) → before.held uri ≡ Some (Lost r) → has_whole list ≡ false
+    (d : Kept) → before.held uri ≡ Some (Lost r) → has_whole list ≡ false
     → Takes before (made (edits uri version list)) now → now.held uri ≡ Some (Known d) → ⊥
 edited_older before now uri r version list d b w h k =
     never (sym (in_lost before.agreed r version list (is_late before.agreed version (has_whole list) r.version)
@@ -71,7 +76,7 @@ late_shows false o next h = never h
 -- an older version taken over a newer one, by edits of the text that it had, where the author did not choose it; also
 -- over one that was lost for that
 older_taken : (before now : Documents) (uri : List ℕ) (version : Option ℤ) (list : List Change) (o : Open)
-    (d : Document) → before.held uri ≡ Some o → is_late before.agreed version (has_whole list) (version_of o)
+    (d : Kept) → before.held uri ≡ Some o → is_late before.agreed version (has_whole list) (version_of o)
     ≡ true
     → Takes before (made (edits uri version list)) now → now.held uri ≡ Some (Known d) → ⊥
 older_taken before now uri version list o d b late h k =
@@ -83,10 +88,10 @@ whole_unopened : (before now : Documents) (uri : List ℕ) (version : Option ℤ
     ≡ None → has_whole list ≡ true → Takes before (made (edits uri version list)) now → now.held uri ≡ None → ⊥
 whole_unopened before now uri version list b w h k =
     never (ap shows (sym k ∙ h.own ∙ ap (λ o. after before.agreed o (changed version list)) b
-    ∙ ap (λ (t : Bool). if t then Some (Known (begun_by before.agreed [] version list)) else None) w))
+    ∙ ap (λ (t : Bool). if t then Some (told_whole (begun_by before.agreed [] version list)) else None) w))
 
 -- a text of another URI: a document is opened, and the text of another one is another
-opened_other : (before now : Documents) (uri q l text : List ℕ) (version : Option ℤ) (d : Document) → before.held q
+opened_other : (before now : Documents) (uri q l text : List ℕ) (version : Option ℤ) (d : Kept) → before.held q
     ≡ None → bytes_eq q uri ≡ false → Takes before (made (opens uri l version text)) now → now.held q
     ≡ Some (Known d) → ⊥
 opened_other before now uri q l text version d b apart h k = never (ap shows (sym b ∙ sym (h.others q apart) ∙ k))
@@ -118,31 +123,32 @@ whole_late a o version list w h = never_late a o version (has_whole list) w h
 
 abbrev text_of : Option Open → List ℕ
 text_of None = []
-text_of (Some (Known d)) = d.text.bytes
+text_of (Some (Known d)) = d.document.text.bytes
 text_of (Some (Lost l)) = []
 
 -- a second open that keeps the old text
-opened_kept : (before now : Documents) (uri l text : List ℕ) (version : Option ℤ) (d : Document)
-    → Takes before (made (opens uri l version text)) now → now.held uri ≡ Some (Known d) → (d.text.bytes ≡ text → ⊥) → ⊥
+opened_kept : (before now : Documents) (uri l text : List ℕ) (version : Option ℤ) (d : Kept)
+    → Takes before (made (opens uri l version text)) now → now.held uri ≡ Some (Known d)
+    → (d.document.text.bytes ≡ text → ⊥) → ⊥
 opened_kept before now uri l text version d h k other = other (ap text_of (sym k ∙ h.own))
 
 -- a closed document that is shown
-closed_shown : (before now : Documents) (uri : List ℕ) (d : Document) → Takes before (made (closes uri)) now
+closed_shown : (before now : Documents) (uri : List ℕ) (d : Kept) → Takes before (made (closes uri)) now
     → now.held uri ≡ Some (Known d) → ⊥
 closed_shown before now uri d h k = never (ap shows (sym h.own ∙ k))
 
-in_step : (a : Agreed) (asked : Bool) (d : Document) (text : List ℕ) → (if asked then option_map (λ o. saved_in a o
-    text) (Some (Known d)) else Some (Known d)) ≡ Some (Known d)
+in_step : (a : Agreed) (asked : Bool) (d : Kept) (text : List ℕ) → text_of (if asked then option_map (λ o. saved_in a o
+    text) (Some (Known d)) else Some (Known d)) ≡ d.document.text.bytes
 in_step a true d text = refl
 in_step a false d text = refl
 
 -- a text in step that a save changes
-saved_other : (before now : Documents) (uri text : List ℕ) (d o : Document) → before.held uri ≡ Some (Known d)
-    → Takes before (made (saves uri (Some text))) now → now.held uri ≡ Some (Known o) → (o.text.bytes ≡ d.text.bytes
-    → ⊥) → ⊥
+saved_other : (before now : Documents) (uri text : List ℕ) (d o : Kept) → before.held uri ≡ Some (Known d)
+    → Takes before (made (saves uri (Some text))) now → now.held uri ≡ Some (Known o) → (o.document.text.bytes
+    ≡ d.document.text.bytes → ⊥) → ⊥
 saved_other before now uri text d o b h k other =
-    other (ap text_of (sym k ∙ h.own ∙ ap (λ x. after before.agreed x (saved (Some text))) b ∙ in_step before.agreed
-    before.agreed.include_text d text))
+    other (ap text_of (sym k ∙ h.own ∙ ap (λ x. after before.agreed x (saved (Some text))) b) ∙ in_step before.agreed
+    before.agreed.include_text d text)
 
 unasked_lost : (a : Agreed) (asked : Bool) (r : Remains) (text : List ℕ) → asked ≡ false
     → shows (if asked then option_map (λ o. saved_in a o text) (Some (Lost r)) else Some (Lost r)) ≡ false
@@ -150,7 +156,7 @@ unasked_lost a true r text h = never (sym h)
 unasked_lost a false r text h = refl
 
 -- a text that was not asked for, taken from a save
-unasked_taken : (before now : Documents) (uri text : List ℕ) (r : Remains) (d : Document) → before.held uri
+unasked_taken : (before now : Documents) (uri text : List ℕ) (r : Remains) (d : Kept) → before.held uri
     ≡ Some (Lost r) → before.agreed.include_text ≡ false → Takes before (made (saves uri (Some text))) now
     → now.held uri ≡ Some (Known d) → ⊥
 unasked_taken before now uri text r d b asked h k =
@@ -159,6 +165,36 @@ unasked_taken before now uri text r d b asked h k =
 
 -- ---- what calls say
 
+abbrev saved_of : Option Open → Option (List ℕ)
+saved_of None = None
+saved_of (Some (Known k)) = k.saved
+saved_of (Some (Lost r)) = None
+
+abbrev no_remark : Option Remark
+no_remark = None
+
+unsaid : (asked : Bool) → (if asked then no_remark else None) ≡ None
+unsaid true = refl
+unsaid false = refl
+
+abbrev differs : Option Remark → Bool
+differs None = false
+differs (Some OpenAlready) = false
+differs (Some WasNotOpen) = false
+differs (Some VersionNotHigher) = false
+differs (Some PastEnd) = false
+differs (Some SavedTextDiffers) = true
+differs (Some BroughtBackBySave) = false
+
+differs_not : (past whole not_higher : Bool) → differs (change_remark past (if whole then no_remark
+    else None) not_higher)
+    ≡ false
+differs_not true whole not_higher = refl
+differs_not false true true = refl
+differs_not false true false = refl
+differs_not false false true = refl
+differs_not false false false = refl
+
 -- a second open of which nothing is said
 opened_unsaid : (before now : Documents) (uri l text : List ℕ) (version : Option ℤ) (o : Open) → before.held uri
     ≡ Some o → Took before (opens uri l version text) None now → ⊥
@@ -166,22 +202,69 @@ opened_unsaid before now uri l text version o b h = never (ap is_some (h.remarks
     (opened (text_item l version text))) b))
 
 -- a change past an end of the text that is known, of which nothing is said
-past_unsaid : (before now : Documents) (uri : List ℕ) (version : Option ℤ) (list : List Change) (d : Document)
-    → before.held uri ≡ Some (Known d) → past_by before.agreed.encoding d.text (since_whole list) ≡ true
+past_unsaid : (before now : Documents) (uri : List ℕ) (version : Option ℤ) (list : List Change) (d : Kept)
+    → before.held uri ≡ Some (Known d) → past_by before.agreed.encoding d.document.text (since_whole list) ≡ true
     → Took before (edits uri version list) None now → ⊥
 past_unsaid before now uri version list d b p h =
     never (ap is_some (h.remarks ∙ ap (λ k. remark_of before.agreed k (changed version list)) b
-    ∙ ap (λ w. change_remark w (is_not_higher version d.version)) p))
+    ∙ ap (λ w. change_remark w (doubt_after before.agreed (Known d) list)
+    (is_not_higher version d.document.version)) p))
 
--- a saved text that was asked for and differs from the one that is known, of which nothing is said
-saved_unsaid : (before now : Documents) (uri text : List ℕ) (d : Document) → before.held uri ≡ Some (Known d)
-    → before.agreed.include_text ≡ true → bytes_eq d.text.bytes text ≡ false → Took before (saves uri (Some text))
-    None now → ⊥
-saved_unsaid before now uri text d b asked p h =
-    never (ap is_some (h.remarks ∙ ap (λ k. remark_of before.agreed k (saved (Some text))) b
-    ∙ ap (λ (w : Bool). if w then (if bytes_eq d.text.bytes text then None else Some SavedTextDiffers) else
-    None) asked
-    ∙ ap (λ (w : Bool). if w then None else Some SavedTextDiffers) p))
+-- a saved text that was asked for and differs from the one that is known, and is not to be compared later
+saved_forgotten : (before now : Documents) (uri text : List ℕ) (d o : Kept) → before.held uri ≡ Some (Known d)
+    → before.agreed.include_text ≡ true → bytes_eq d.document.text.bytes text ≡ false
+    → Takes before (made (saves uri (Some text))) now → now.held uri ≡ Some (Known o) → o.saved ≡ None → ⊥
+saved_forgotten before now uri text d o b asked p h k none =
+    never (ap is_some (sym none ∙ ap saved_of (sym k ∙ h.own ∙ ap (λ x. after before.agreed x (saved (Some text))) b
+    ∙ ap (λ (w : Bool). if w then option_map (λ o. saved_in before.agreed o text) (Some (Known d)) else Some (Known d))
+    asked) ∙ ap (λ (w : Bool). if w then None else Some text) p))
+
+said : (past : Bool) (doubt : Remark) (not_higher : Bool) → is_some (change_remark past (Some doubt) not_higher) ≡ true
+said true doubt not_higher = refl
+said false doubt not_higher = refl
+
+-- changes that do not lead to the text that was saved before them, of which nothing is said
+saved_unsaid : (before now : Documents) (uri text : List ℕ) (version : Option ℤ) (list : List Change) (d : Document)
+    → before.held uri ≡ Some (Known (kept_as d (Some text) Told)) → has_whole list ≡ false
+    → bytes_eq (edited_by before.agreed.encoding d.text list).bytes text ≡ false
+    → Took before (edits uri version list) None now → ⊥
+saved_unsaid before now uri text version list d b w p h =
+    never (ap is_some (h.remarks ∙ ap (λ k. remark_of before.agreed k (changed version list)) b
+    ∙ ap (λ (w : Bool). change_remark (past_by before.agreed.encoding d.text (since_whole list)) (if w then None else
+    compared (Some text) (edited_by before.agreed.encoding d.text list)) (is_not_higher version d.version)) w
+    ∙ ap (λ (w : Bool). change_remark (past_by before.agreed.encoding d.text (since_whole list)) (if w then None else
+    Some SavedTextDiffers) (is_not_higher version d.version)) p)
+    ∙ said (past_by before.agreed.encoding d.text (since_whole list)) SavedTextDiffers
+    (is_not_higher version d.version))
+
+-- the first changes since a save brought the text back, of which nothing is said
+brought_unsaid : (before now : Documents) (uri : List ℕ) (before_text : Option (List ℕ)) (version : Option ℤ)
+    (list : List Change) (d : Document) → before.held uri ≡ Some (Known (kept_as d before_text BySave)) → has_whole list
+    ≡ false → Took before (edits uri version list) None now → ⊥
+brought_unsaid before now uri before_text version list d b w h =
+    never (ap is_some (h.remarks ∙ ap (λ k. remark_of before.agreed k (changed version list)) b
+    ∙ ap (λ (w : Bool). change_remark (past_by before.agreed.encoding d.text (since_whole list)) (if w then None else
+    Some BroughtBackBySave) (is_not_higher version d.version)) w)
+    ∙ said (past_by before.agreed.encoding d.text (since_whole list)) BroughtBackBySave
+    (is_not_higher version d.version))
+
+-- a saved text that differs, of which something is said at once: the change that leads to it may come next
+saved_early : (before now : Documents) (uri text : List ℕ) (d : Document) (origin : Origin) (remark : Remark)
+    → before.held uri ≡ Some (Known (kept_as d None origin)) → Took before (saves uri (Some text)) (Some remark) now → ⊥
+saved_early before now uri text d origin remark b h =
+    never (ap is_none (h.remarks ∙ ap (λ k. remark_of before.agreed k (saved (Some text))) b
+    ∙ unsaid before.agreed.include_text))
+
+-- changes that lead to the text that was saved before them, of which it is said that it differs
+led_said : (before now : Documents) (uri text : List ℕ) (version : Option ℤ) (list : List Change) (d : Document)
+    → before.held uri ≡ Some (Known (kept_as d (Some text) Told))
+    → bytes_eq (edited_by before.agreed.encoding d.text list).bytes text ≡ true
+    → Took before (edits uri version list) (Some SavedTextDiffers) now → ⊥
+led_said before now uri text version list d b p h =
+    never (sym (differs_not (past_by before.agreed.encoding d.text (since_whole list)) (has_whole list) (is_not_higher
+    version d.version)) ∙ ap differs (sym (h.remarks ∙ ap (λ k. remark_of before.agreed k (changed version list)) b
+    ∙ ap (λ (w : Bool). change_remark (past_by before.agreed.encoding d.text (since_whole list)) (if has_whole list then
+    no_remark else (if w then None else Some SavedTextDiffers)) (is_not_higher version d.version)) p)))
 
 no_memory_in : (o : Open) (w : Bool) → step_fault o w ≡ Some Memory → ⊥
 no_memory_in (Known d) w h = grind (arith, h)
@@ -230,11 +313,27 @@ right_memory : (before now : Documents) (n : Notice) (fault : DocumentFault) →
 right_memory before now n fault w (inl f) = no_memory before.agreed (before.held n.uri) n.kind f.0
 right_memory before now n fault w (inr s) = never (ap is_some (sym s.right ∙ w))
 
--- `Memory`, and a text that is shown
-memory_shown : (before now : Documents) (n : Notice) (d : Document) → Refused before n Memory now → now.held n.uri
-    ≡ Some (Known d) → ⊥
-memory_shown before now n d (inl f) k = no_memory before.agreed (before.held n.uri) n.kind f.0
-memory_shown before now n d (inr s) k = never (sym (missed_shows (before.held n.uri)) ∙ ap shows (sym s.misses.own ∙ k))
+-- `Memory` at a change, and a text that is shown
+memory_shown : (before now : Documents) (uri : List ℕ) (version : Option ℤ) (list : List Change) (d : Kept)
+    → Refused before (edits uri version list) Memory now → now.held uri ≡ Some (Known d) → ⊥
+memory_shown before now uri version list d (inl f) k =
+    no_memory before.agreed (before.held uri) (changed version list) f.0
+memory_shown before now uri version list d (inr s) k =
+    never (sym (missed_shows (before.held uri)) ∙ ap shows (sym s.misses.own ∙ k))
+
+-- the same at an open
+memory_opened : (before now : Documents) (uri l text : List ℕ) (version : Option ℤ) (d : Kept)
+    → Refused before (opens uri l version text) Memory now → now.held uri ≡ Some (Known d) → ⊥
+memory_opened before now uri l text version d (inl f) k =
+    no_memory before.agreed (before.held uri) (opened (text_item l version text)) f.0
+memory_opened before now uri l text version d (inr s) k =
+    never (sym (missed_shows (before.held uri)) ∙ ap shows (sym s.misses.own ∙ k))
+
+-- `Memory` at a save that changes what is kept
+memory_changed : (before now : Documents) (uri : List ℕ) (text : Option (List ℕ)) → Refused before (saves uri text)
+    Memory now → (now.held uri ≡ before.held uri → ⊥) → ⊥
+memory_changed before now uri text (inl f) k = no_memory before.agreed (before.held uri) (saved text) f.0
+memory_changed before now uri text (inr s) k = k s.misses.own
 
 -- what stands before a whole text counts: a change past an end, or one that can't be read
 before_past : (e : PositionEncoding) (t : LinedText) (c : Change) (text : List ℕ) → past_by e t (since_whole (c

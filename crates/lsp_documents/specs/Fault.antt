@@ -6,7 +6,7 @@ use Rattle.lsp_documents.specs.declared.fault.DocumentUpdate.{DocumentUpdate}
 use Rattle.lsp_documents.specs.declared.fault.UpdateFault.{UpdateFault}
 use Rattle.lsp_documents.specs.declared.fault.Remark.{Remark}
 use Rattle.lsp_documents.specs.declared.fault.Remark.TheVariants.{OpenAlready, VersionNotHigher, PastEnd}
-use Rattle.lsp_documents.specs.declared.fault.Remark.TheVariants.{SavedTextDiffers, WasNotOpen}
+use Rattle.lsp_documents.specs.declared.fault.Remark.TheVariants.{SavedTextDiffers, WasNotOpen, BroughtBackBySave}
 
 abbrev pub fault_text : DocumentFault → Option (List ℕ)
 fault_text Params = Some (codes "params of another shape")
@@ -21,6 +21,7 @@ remark_text VersionNotHigher = Some (codes "the version is not higher")
 remark_text WasNotOpen = Some (codes "the document was not open")
 remark_text PastEnd = Some (codes "a position is past the end")
 remark_text SavedTextDiffers = Some (codes "the saved text is another one")
+remark_text BroughtBackBySave = Some (codes "a save brought the text back")
 
 -- a URI and what is said of it
 abbrev pub said_of : List ℕ → List ℕ → List ℕ

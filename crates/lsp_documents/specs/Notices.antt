@@ -13,11 +13,13 @@ use Rattle.lsp_documents.specs.declared.fault.DocumentFault.{DocumentFault}
 use Rattle.lsp_documents.specs.declared.fault.DocumentFault.TheVariants.{Params, NotOpen, OutOfStep, OutOfOrder, Memory}
 use Rattle.lsp_documents.specs.declared.fault.Remark.{Remark}
 use Rattle.lsp_documents.specs.declared.fault.Remark.TheVariants.{OpenAlready, VersionNotHigher, PastEnd}
-use Rattle.lsp_documents.specs.declared.fault.Remark.TheVariants.{SavedTextDiffers, WasNotOpen}
+use Rattle.lsp_documents.specs.declared.fault.Remark.TheVariants.{SavedTextDiffers, WasNotOpen, BroughtBackBySave}
 use Rattle.lsp_documents.specs.declared.agreed.Agreed.{Agreed}
 use Rattle.lsp_documents.specs.declared.kept.Open.{Open}
 use Rattle.lsp_documents.specs.declared.kept.Open.TheVariants.{Known, Lost}
-use Rattle.lsp_documents.specs.Remains.{remains}
+use Rattle.lsp_documents.specs.declared.kept_document.Origin.{Origin}
+use Rattle.lsp_documents.specs.declared.kept_document.Origin.TheVariants.{Told, BySave, BySaveChanged}
+use Rattle.lsp_documents.specs.Remains.{remains, Kept, kept_as}
 
 -- a document as a client has it. The language and the text are the bytes of their UTF-8, and the version is none if the
 -- client gives none
@@ -115,20 +117,45 @@ kept_by a c = document c.language_id c.version (text_by a c.text)
 
 -- the document that a server may look at: none if its text is lost
 abbrev pub shown : Open → Option Document
-shown (Known d) = Some d
+shown (Known k) = Some k.document
 shown (Lost r) = None
 
+-- a document that the client told whole
+abbrev pub told_whole : Document → Open
+told_whole d = Known (kept_as d None Told)
+
+-- whether a text is doubtful: a save brought it back, and no whole text came since. The client may save before it tells
+-- changes that the saved text has already
+abbrev pub is_by_save : Origin → Bool
+is_by_save Told = false
+is_by_save BySave = true
+is_by_save BySaveChanged = true
+
+-- the document that is shown, unless its text is doubtful
+abbrev pub sure : Open → Option Document
+sure (Known k) = if is_by_save k.origin then None else Some k.document
+sure (Lost r) = None
+
+abbrev pub is_doubtful : Open → Bool
+is_doubtful (Known k) = is_by_save k.origin
+is_doubtful (Lost r) = false
+
+-- the same of a URI of which this is kept
+abbrev pub has_doubt : Option Open → Bool
+has_doubt None = false
+has_doubt (Some o) = is_doubtful o
+
 abbrev pub language_of : Open → List ℕ
-language_of (Known d) = d.language_id
+language_of (Known k) = k.document.language_id
 language_of (Lost r) = r.language_id
 
 abbrev pub version_of : Open → Option ℤ
-version_of (Known d) = d.version
+version_of (Known k) = k.document.version
 version_of (Lost r) = r.version
 
 -- its text is lost: the language is left, and this version. One that is lost already stays as it is
 abbrev pub lost_at : Option ℤ → Open → Open
-lost_at version (Known d) = Lost (remains d.language_id version)
+lost_at version (Known k) = Lost (remains k.document.language_id version)
 lost_at version (Lost r) = Lost r
 
 -- the same where anything may have been missed: versions begin anew
@@ -147,17 +174,33 @@ abbrev pub begun_by : Agreed → List ℕ → Option ℤ → List Change → Doc
 begun_by a language_id version list =
     document language_id version (edited_by a.encoding (text_by a []) list)
 
--- what changes make of it. If its text is lost, they need a whole text among them
-abbrev pub changed_in : Agreed → Open → Option ℤ → List Change → Open
-changed_in a (Known d) version list = Known (changed_to a.encoding d version list)
-changed_in a (Lost r) version list =
-    if has_whole list then Known (begun_by a r.language_id version list) else Lost r
+-- where the text is from after changes, where a whole text is among them or not
+abbrev pub origin_after : Bool → Origin → Origin
+origin_after whole Told = Told
+origin_after whole BySave = if whole then Told else BySaveChanged
+origin_after whole BySaveChanged = if whole then Told else BySaveChanged
 
--- what a text makes of it that was asked for and comes with a save: it is taken only if the text is lost. Which version
--- it is nobody says
+-- what changes make of a document whose text is known. No saved text is left that is to be compared
+abbrev pub changed_kept : Agreed → Kept → Option ℤ → List Change → Kept
+changed_kept a k version list =
+    kept_as (changed_to a.encoding k.document version list) None (origin_after (has_whole list) k.origin)
+
+-- the same of one whose text may be lost: then they need a whole text among them
+abbrev pub changed_in : Agreed → Open → Option ℤ → List Change → Open
+changed_in a (Known k) version list = Known (changed_kept a k version list)
+changed_in a (Lost r) version list =
+    if has_whole list then told_whole (begun_by a r.language_id version list) else Lost r
+
+-- a saved text that differs from this one, which is to be compared after the next notification
+abbrev pub to_compare : LinedText → List ℕ → Option (List ℕ)
+to_compare t text = if bytes_eq t.bytes text then None else Some text
+
+-- what a text that was asked for and comes with a save makes of the document. If it differs from the known text, it is
+-- compared after the next notification: some clients save before they tell their last changes. It is taken only if the
+-- document's own text is lost. Which version it is nobody says
 abbrev pub saved_in : Agreed → Open → List ℕ → Open
-saved_in a (Known d) text = Known d
-saved_in a (Lost r) text = Known (document r.language_id None (text_by a text))
+saved_in a (Known k) text = Known (kept_as k.document (to_compare k.document.text text) k.origin)
+saved_in a (Lost r) text = Known (kept_as (document r.language_id None (text_by a text)) None BySave)
 
 -- whether a version is the one before, or below it
 abbrev pub is_not_higher : Option ℤ → Option ℤ → Bool
@@ -183,7 +226,7 @@ changed_or_late a o version list =
 
 -- why changes cannot be made in a document, where a whole text is among them or not
 abbrev pub step_fault : Open → Bool → Option DocumentFault
-step_fault (Known d) whole = None
+step_fault (Known k) whole = None
 step_fault (Lost r) whole = if whole then None else Some OutOfStep
 
 -- the same, if there is one, and they do not come late
@@ -212,18 +255,49 @@ fault_of a (Some o) closed = None
 -- whether a position of the changes that decide lies past its line's end, or past the place behind the last line, in
 -- the text that is known
 abbrev pub is_past : PositionEncoding → Open → List Change → Bool
-is_past e (Known d) list = past_by e d.text (since_whole list)
+is_past e (Known k) list = past_by e k.document.text (since_whole list)
 is_past e (Lost r) list = false
 
--- what is said of changes that were applied: first that the client's text has to be another one
-abbrev pub change_remark : Bool → Bool → Option Remark
-change_remark past not_higher =
-    if past then Some PastEnd else (if not_higher then Some VersionNotHigher else None)
+-- what is said of a saved text that was to be compared, if this is the text now
+abbrev pub compared : Option (List ℕ) → LinedText → Option Remark
+compared None t = None
+compared (Some text) t = if bytes_eq t.bytes text then None else Some SavedTextDiffers
 
--- what is said of a text that was asked for and came with a save
+-- what is said of changes without a whole text: that they are the first since a save brought the text back, or that
+-- they did not lead to the text that was saved before them
+abbrev pub doubt_in : Origin → Option (List ℕ) → LinedText → Option Remark
+doubt_in Told before t = compared before t
+doubt_in BySave before t = Some BroughtBackBySave
+doubt_in BySaveChanged before t = compared before t
+
+-- the same of any changes. After a whole text nothing is doubtful
+abbrev pub doubt_after : Agreed → Open → List Change → Option Remark
+doubt_after a (Known k) list = if has_whole list then None
+    else doubt_in k.origin k.saved (edited_by a.encoding k.document.text list)
+doubt_after a (Lost r) list = None
+
+-- what is said of changes that were applied: first that the client's text has to be another one, or may be
+abbrev pub change_remark : Bool → Option Remark → Bool → Option Remark
+change_remark true doubt not_higher = Some PastEnd
+change_remark false (Some doubt) not_higher = Some doubt
+change_remark false None not_higher = if not_higher then Some VersionNotHigher else None
+
+-- whether a text is to be compared already
+abbrev pub is_compared : Option (List ℕ) → List ℕ → Bool
+is_compared None text = false
+is_compared (Some before) text = bytes_eq before text
+
+-- what is said of a text that was asked for and came with a save: that the one which came before it still differs,
+-- unless this is the same once more
 abbrev pub save_remark : Open → List ℕ → Option Remark
-save_remark (Known d) text = if bytes_eq d.text.bytes text then None else Some SavedTextDiffers
+save_remark (Known k) text = if is_compared k.saved text then None else compared k.saved k.document.text
 save_remark (Lost r) text = None
+
+-- what is said of changes of a document that is open
+abbrev pub changes_remark : Agreed → Open → Option ℤ → List Change → Option Remark
+changes_remark a o version list =
+    change_remark (is_past a.encoding o list) (doubt_after a o list)
+    (is_not_higher version (version_of o))
 
 -- what LSP 3.17 forbids the client, though it can be made, or what shows that its text is another one than the text
 -- that is kept
@@ -233,8 +307,7 @@ remark_of a None (changed version list) = Some WasNotOpen
 remark_of a None (saved text) = None
 remark_of a None closed = None
 remark_of a (Some o) (opened c) = Some OpenAlready
-remark_of a (Some o) (changed version list) =
-    change_remark (is_past a.encoding o list) (is_not_higher version (version_of o))
+remark_of a (Some o) (changed version list) = changes_remark a o version list
 remark_of a (Some o) (saved None) = None
 remark_of a (Some o) (saved (Some text)) = if a.include_text then save_remark o text else None
 remark_of a (Some o) closed = None
@@ -242,9 +315,9 @@ remark_of a (Some o) closed = None
 -- what is kept of the URI after a notice of this kind: as it was where something is wrong, but for late changes, and if
 -- a text came with a save that was not asked for
 abbrev pub after : Agreed → Option Open → NoticeKind → Option Open
-after a before (opened c) = Some (Known (kept_by a c))
+after a before (opened c) = Some (told_whole (kept_by a c))
 after a None (changed version list) =
-    if has_whole list then Some (Known (begun_by a [] version list)) else None
+    if has_whole list then Some (told_whole (begun_by a [] version list)) else None
 after a (Some o) (changed version list) = Some (changed_or_late a o version list)
 after a before (saved None) = before
 after a before (saved (Some text)) =
@@ -255,9 +328,21 @@ after a before closed = None
 abbrev pub missed : Option Open → Option Open
 missed before = option_map lost before
 
+-- the same where memory ran out. A save changes no text of the client's
+abbrev pub after_starving : Option Open → NoticeKind → Option Open
+after_starving before (opened c) = missed before
+after_starving before (changed version list) = missed before
+after_starving before (saved text) = before
+after_starving before closed = missed before
+
 abbrev pub has_changes : List Change → Bool
 has_changes [] = false
 has_changes (c ∷ cs) = true
+
+-- whether memory is needed for a text that was asked for and comes with a save
+abbrev pub is_needed : Open → List ℕ → Bool
+is_needed (Known k) text = is_some (to_compare k.document.text text)
+is_needed (Lost r) text = true
 
 -- whether memory is needed to make a notice in which nothing is wrong
 abbrev pub needs_memory : Agreed → Option Open → NoticeKind → Bool
@@ -265,8 +350,7 @@ needs_memory a before (opened c) = true
 needs_memory a before (changed version list) = has_changes list
 needs_memory a before (saved None) = false
 needs_memory a None (saved (Some text)) = false
-needs_memory a (Some (Known d)) (saved (Some text)) = false
-needs_memory a (Some (Lost r)) (saved (Some text)) = a.include_text
+needs_memory a (Some o) (saved (Some text)) = a.include_text && is_needed o text
 needs_memory a before closed = false
 
 -- ---- notifications, as a server met them
@@ -397,7 +481,7 @@ pub record Starved (before : Documents) (n : Notice) (fault : DocumentFault)
   pub why : fault ≡ Memory
   pub right : fault_of before.agreed (before.held n.uri) n.kind ≡ None
   pub needed : needs_memory before.agreed (before.held n.uri) n.kind ≡ true
-  pub misses : Misses before n.uri now
+  pub misses : Puts before n.uri (after_starving (before.held n.uri) n.kind) now
 
 -- a call refused a notification by name, which changes nothing but for late changes, or missed it for want of memory
 abbrev pub Refused : Documents → Notice → DocumentFault → Documents → Type 0

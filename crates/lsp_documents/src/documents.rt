@@ -9,15 +9,17 @@ ghost use Rattle.lsp_documents.specs.Heard.{Answers};
 ghost use Rattle.lsp_documents.specs.Held.{documents_of, known_of, texts_of, has_known, loses};
 ghost use Rattle.lsp_documents.specs.Known.{copied, copied_whole, NoneNames, IsFirstOf};
 ghost use Rattle.lsp_documents.specs.Methods.{method_named};
-ghost use Rattle.lsp_documents.specs.Notices.{document, text_item, text_by, begun_by, opens, edits, closes, saves, shown, lost, lost_at, missed, left_by, is_not_higher as is_below, is_late as late, is_past, change_remark as remark_of_change, save_remark as remark_of_save, version_of as kept_version, changed_or_late, saved_in, step_fault as fault_in, change_fault, has_whole as has_whole_text, since_whole as since_whole_text, has_changes, is_known, MissesAll, Took, Refused, Failed, FailedSave};
+ghost use Rattle.lsp_documents.specs.Notices.{document, told_whole, text_item, text_by, begun_by, opens, edits, closes, saves, shown, lost, lost_at, missed, left_by, is_late as late, has_doubt, is_needed, changes_remark, save_remark as remark_of_save, changed_or_late, saved_in, step_fault as fault_in, change_fault, has_whole as has_whole_text, has_changes, is_known, MissesAll, Took, Refused, Failed, FailedSave};
 ghost use Rattle.lsp_documents.specs.declared.kept.Open.TheVariants.{Known};
 ghost use Rattle.lsp_documents.specs.declared.fault.DocumentFault.TheVariants.{Params};
 ghost use Rattle.lsp_documents.specs.Params.{uri_in, did_open_in, did_change_in, did_save_in, did_close_in};
 ghost use Rattle.lsp_text.specs.Places.{position_of};
 
 use crate::agreed::Agreed;
+use crate::changes::{change_remark, has_whole, is_not_higher};
 use crate::fault::{DocumentFault, DocumentUpdate, Remark, UpdateFault};
 use crate::kept::Open;
+use crate::kept_document::KeptDocument;
 use crate::known::{KnownDocuments, OpenText};
 use crate::lost::LostDocument;
 use crate::method::DocumentMethod;
@@ -169,6 +171,16 @@ impl TextDocuments {
         text.positions_at(self.alloc, offsets, self.encoding())
     }
 
+    /// Whether the text of a URI is known and doubtful: a save brought it back, and no whole text came since.
+    pub fn is_doubtful(&self, uri: &str) -> bool
+        ensures { result ≡ has_doubt ((documents_of self.now).held uri.now) }
+    {
+        match self.documents.get(uri) {
+            Some(open) => open.is_doubtful(),
+            None => false,
+        }
+    }
+
     /// Whether the text of a URI is known.
     fn knows(&self, uri: &str) -> bool
         ensures { result ≡ is_known (documents_of self.now) uri.now }
@@ -224,7 +236,8 @@ impl TextDocuments {
         text: &str,
     ) -> Result<(), AllocError>
         ensures own { OnOk result ((documents_of self.new).held uri.now
-            ≡ Some (Known (document language_id.now version (text_by self.old.agreed text.now)))) }
+            ≡ Some (told_whole (document language_id.now version
+            (text_by self.old.agreed text.now)))) }
         ensures others { OnOk result ((q : List ℕ) → bytes_eq q uri.now ≡ false
             → (documents_of self.new).held q ≡ (documents_of self.old).held q) }
         ensures err { OnErr result ((q : List ℕ)
@@ -249,7 +262,7 @@ impl TextDocuments {
         changes: &[ContentChange],
     ) -> Result<(), AllocError>
         ensures own { OnOk result ((documents_of self.new).held uri.now
-            ≡ Some (Known (begun_by self.old.agreed [] version changes.now))) }
+            ≡ Some (told_whole (begun_by self.old.agreed [] version changes.now))) }
         ensures others { OnOk result ((q : List ℕ) → bytes_eq q uri.now ≡ false
             → (documents_of self.new).held q ≡ (documents_of self.old).held q) }
         ensures err { OnErr result ((q : List ℕ)
@@ -262,7 +275,7 @@ impl TextDocuments {
 
     /// Puts a document in under a URI. If memory runs out, nothing is changed.
     fn put(&mut self, uri: &str, document: TextDocument) -> Result<(), AllocError>
-        ensures own { OnOk result ((documents_of self.new).held uri.now ≡ Some (Known document)) }
+        ensures own { OnOk result ((documents_of self.new).held uri.now ≡ Some (told_whole document)) }
         ensures others { OnOk result ((q : List ℕ) → bytes_eq q uri.now ≡ false
             → (documents_of self.new).held q ≡ (documents_of self.old).held q) }
         ensures err { OnErr result ((q : List ℕ)
@@ -270,7 +283,8 @@ impl TextDocuments {
         ensures agreed { self.new.agreed ≡ self.old.agreed }
     {
         let uri = String::from_str(self.alloc, uri)?;
-        self.documents.insert(uri, Open::Known(document))?;
+        let kept = KeptDocument::told(document);
+        self.documents.insert(uri, Open::Known(kept))?;
         Ok(())
     }
 
@@ -335,31 +349,21 @@ impl TextDocuments {
             self.insert_changed(uri, version, changes)?;
             return Ok(Some(Remark::WasNotOpen));
         }
-        let not_higher = is_not_higher(version, self.version_of(uri));
-        let past = self.edit(uri, version, changes)?;
-        Ok(change_remark(past, not_higher))
-    }
-
-    /// The version that is kept of a document, if there is one.
-    fn version_of(&self, uri: &str) -> Option<i32>
-        ensures { result
-            ≡ option_and_then kept_version ((documents_of self.now).held uri.now) }
-    {
-        self.documents.get(uri)?.version()
+        Ok(self.edit(uri, version, changes)?)
     }
 
     /// Makes changes in the document of a URI, if there is one: in the text that is known, or from the whole text on that is among
-    /// them. It gives whether a position of them lies past an end of the text that was known.
+    /// them. It gives what is said of them.
     fn edit(
         &mut self,
         uri: &str,
         version: Option<i32>,
         changes: &[ContentChange],
-    ) -> Result<bool, AllocError>
+    ) -> Result<Option<Remark>, AllocError>
         requires { change_fault self.old.agreed ((documents_of self.old).held uri.now) version
             (has_whole_text changes.now) ≡ None }
-        ensures past { IfOk result (λ past. IfSome ((documents_of self.old).held uri.now) (λ o.
-            past ≡ is_past self.old.agreed.encoding o changes.now)) }
+        ensures remark { IfOk result (λ remark. IfSome ((documents_of self.old).held uri.now)
+            (λ o. remark ≡ changes_remark self.old.agreed o version changes.now)) }
         ensures own { OnOk result ((documents_of self.new).held uri.now
             ≡ option_map (λ o. changed_or_late self.old.agreed o version changes.now)
             ((documents_of self.old).held uri.now)) }
@@ -372,7 +376,7 @@ impl TextDocuments {
     {
         match self.documents.get_mut(uri) {
             Some(open) => change_open(self.alloc, open, version, self.agreed, changes),
-            None => Ok(false),
+            None => Ok(None),
         }
     }
 
@@ -406,9 +410,14 @@ impl TextDocuments {
     }
 
     /// Hears that a document was saved. A text that is given is looked at only if the client was asked for it (`Agreed`), since some
-    /// send a part of it unasked. It is taken if the document's own is lost; if it differs from the one that is known the remark is
-    /// `SavedTextDiffers`. Without a document of the URI the fault is `NotOpen`, and nothing is changed. If memory runs out, the
-    /// text stays lost.
+    /// send a part of it unasked. It is taken if the document's own is lost, and stays doubtful (`is_doubtful`).
+    ///
+    /// If it differs from the one that is known, it is compared again after the next notification of the document: some clients save
+    /// before they tell their last changes. If the two still differ then, the remark of that notification is `SavedTextDiffers`. This has
+    /// three exceptions: changes with a whole text among them, a save with the same text again, and a second `didOpen`. At a
+    /// `didClose` the text is forgotten.
+    ///
+    /// Without a document of the URI the fault is `NotOpen`, and nothing is changed. If memory runs out, nothing is changed either.
     pub fn save(&mut self, uri: &str, text: Option<&str>) -> Result<Option<Remark>, DocumentFault>
         ensures ok { IfOk result (λ remark.
             Took (documents_of self.old) (saves uri.now (option_map (λ s. s.now) text.entry)) remark
@@ -431,15 +440,15 @@ impl TextDocuments {
         Ok(remark)
     }
 
-    /// Puts a text into the document of a URI, if there is one whose text is lost.
+    /// Puts a text into the document of a URI, if there is one whose text is lost. One that is known is to be compared with it.
     fn renew(&mut self, uri: &str, text: &str) -> Result<(), AllocError>
         ensures own { OnOk result ((documents_of self.new).held uri.now
             ≡ option_map (λ o. saved_in self.old.agreed o text.now)
             ((documents_of self.old).held uri.now)) }
         ensures err { OnErr result ((documents_of self.new).held uri.now
             ≡ (documents_of self.old).held uri.now) }
-        ensures lost { OnErr result (option_and_then shown ((documents_of self.old).held uri.now)
-            ≡ None) }
+        ensures needed { OnErr result (IfSome ((documents_of self.old).held uri.now)
+            (λ o. is_needed o text.now ≡ true)) }
         ensures others { (q : List ℕ) → bytes_eq q uri.now ≡ false
             → (documents_of self.new).held q ≡ (documents_of self.old).held q }
         ensures agreed { self.new.agreed ≡ self.old.agreed }
@@ -689,61 +698,53 @@ fn begun(
     Ok(document)
 }
 
-/// Makes changes in what is kept of a document. If memory runs out, its text is lost. It gives whether a
-/// position of the changes that decide lies past an end of the text that was known.
-#[tactic(auto, using(crate::proofs::NoticeLemmas::since_edited, crate::proofs::NoticeLemmas::since_none))]
+/// Makes changes in what is kept of a document, and gives what is said of them. If memory runs out, its text is lost.
 fn change_open(
     alloc: Global,
     kept: &mut Open,
     version: Option<i32>,
     agreed: Agreed,
     changes: &[ContentChange],
-) -> Result<bool, AllocError>
+) -> Result<Option<Remark>, AllocError>
     requires { change_fault agreed (Some kept.old) version (has_whole_text changes.now) ≡ None }
-    ensures past { IfOk result (λ past. past ≡ is_past agreed.encoding kept.old changes.now) }
+    ensures remark { IfOk result (λ remark.
+        remark ≡ changes_remark agreed kept.old version changes.now) }
     ensures ok { OnOk result (kept.new ≡ changed_or_late agreed kept.old version changes.now) }
     ensures err { OnErr result (kept.new ≡ lost kept.old) }
     ensures needed { OnErr result (has_changes changes.now ≡ true) }
 {
     match kept {
-        Open::Known(document) => {
-            let encoding = agreed.encoding();
-            let deciding = since_whole(changes);
-            let changed = document.change_in_place(alloc, version, encoding, deciding);
+        Open::Known(known) => {
+            let changed = known.change(alloc, version, agreed, changes);
             if changed.is_err() {
                 lose_text(alloc, kept, None);
             }
             changed
         }
         Open::Lost(document) => {
-            let known = begun(alloc, agreed, document.language_id(), version, changes)?;
-            *kept = Open::Known(known);
-            Ok(false)
+            let not_higher = is_not_higher(version, document.version());
+            let whole = begun(alloc, agreed, document.language_id(), version, changes)?;
+            *kept = Open::Known(KeptDocument::told(whole));
+            Ok(change_remark(false, None, not_higher))
         }
     }
 }
 
-/// Puts a text into what is kept of a document, if its own is lost. If memory runs out, nothing is changed.
+/// Puts a text into what is kept of a document, if its own is lost. One that is known is to be compared with it. If memory runs out,
+/// nothing is changed.
 fn renew_open(alloc: Global, agreed: Agreed, kept: &mut Open, text: &str) -> Result<(), AllocError>
     ensures ok { OnOk result (kept.new ≡ saved_in agreed kept.old text.now) }
     ensures err { OnErr result (kept.new ≡ kept.old) }
-    ensures lost { OnErr result (shown kept.old ≡ None) }
+    ensures needed { OnErr result (is_needed kept.old text.now ≡ true) }
 {
-    if let Open::Lost(document) = kept {
-        let ends = agreed.options().line_ends;
-        let known = TextDocument::new(alloc, document.language_id(), None, text, ends)?;
-        *kept = Open::Known(known);
-    }
-    Ok(())
-}
-
-/// Whether a version is the one before, or below it.
-fn is_not_higher(version: Option<i32>, before: Option<i32>) -> bool
-    ensures { result ≡ is_below version before }
-{
-    match (version, before) {
-        (Some(version), Some(before)) => version <= before,
-        _ => false,
+    match kept {
+        Open::Known(known) => known.save(alloc, text),
+        Open::Lost(document) => {
+            let ends = agreed.options().line_ends;
+            let saved = TextDocument::new(alloc, document.language_id(), None, text, ends)?;
+            *kept = Open::Known(KeptDocument::by_save(saved));
+            Ok(())
+        }
     }
 }
 
@@ -769,49 +770,14 @@ fn step_fault(kept: &Open, whole: bool) -> Option<DocumentFault>
     }
 }
 
-/// What is said of changes that were applied.
-fn change_remark(past: bool, not_higher: bool) -> Option<Remark>
-    ensures { result ≡ remark_of_change past not_higher }
-{
-    if past {
-        Some(Remark::PastEnd)
-    } else if not_higher {
-        Some(Remark::VersionNotHigher)
-    } else {
-        None
-    }
-}
-
 /// What is said of the text that came with a save.
 fn save_remark(kept: &Open, text: &str) -> Option<Remark>
     ensures { result ≡ remark_of_save kept.now text.now }
 {
     match kept {
-        Open::Known(document) if document.text().as_str() != text => {
-            Some(Remark::SavedTextDiffers)
-        }
-        _ => None,
+        Open::Known(known) => known.save_remark(text),
+        Open::Lost(_) => None,
     }
-}
-
-/// Whether one of the changes is of the whole text.
-fn has_whole(changes: &[ContentChange]) -> bool
-    ensures { result ≡ has_whole_text changes.now }
-{
-    changes.iter().any(|change| change.range.is_none())
-}
-
-/// The changes that decide: those from the last whole text on, or all if there is none.
-fn since_whole(changes: &[ContentChange]) -> &[ContentChange]
-    ensures { result.now ≡ since_whole_text changes.now }
-{
-    let mut from = 0;
-    for (index, change) in changes.iter().enumerate() {
-        if change.range.is_none() {
-            from = index;
-        }
-    }
-    &changes[from..]
 }
 
 /// A notification that was not applied.

@@ -57,10 +57,10 @@ impl From<AllocError> for DocumentFault {
 }
 
 /// What is to be said of a notification that was applied: LSP 3.17 forbids it, or it shows that the client's text is another one than
-/// the text that is kept. Where it shows that, `TextDocuments::invalidate` keeps the server from showing it.
+/// the text that is kept, or may be. After `PastEnd` it is another one: `TextDocuments::invalidate` keeps the server from showing it.
 ///
-/// It prints `the document was open already`, `the document was not open`, `the version is not higher`, `a position is past the end` or
-/// `the saved text is another one`.
+/// It prints `the document was open already`, `the document was not open`, `the version is not higher`, `a position is past the end`,
+/// `the saved text is another one` or `a save brought the text back`.
 #[derive(Clone, Copy, Debug, PartialEq, Eq)]
 pub enum Remark {
     /// The document was open already. What was opened took its place.
@@ -73,8 +73,12 @@ pub enum Remark {
     /// takes it for that end (`Position`), but a client has no such place in a text that is the same and that it counts in the same
     /// way. It may end lines elsewhere, or count in another encoding.
     PastEnd,
-    /// The text that came with a `didSave` differs from the one that is kept, which stays.
+    /// The text that came with a `didSave` differs from the one that is kept, which stays, and so it does after the next notification of
+    /// the document. It is compared then, since Kate and CodeLite save before they tell their last changes.
     SavedTextDiffers,
+    /// This is the first change since a `didSave` brought the text back, and not of the whole text. If the client saved before it told its
+    /// last changes, the saved text has the change already, and now it is made twice.
+    BroughtBackBySave,
 }
 
 impl fmt::Display for Remark {
@@ -89,6 +93,7 @@ impl fmt::Display for Remark {
             Remark::VersionNotHigher => write!(f, "the version is not higher"),
             Remark::PastEnd => write!(f, "a position is past the end"),
             Remark::SavedTextDiffers => write!(f, "the saved text is another one"),
+            Remark::BroughtBackBySave => write!(f, "a save brought the text back"),
         }
     }
 }

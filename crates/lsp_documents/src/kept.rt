@@ -1,8 +1,9 @@
 // What a server keeps of a document that is open.
 ghost use Rattle.std.specs.Prelude.{◌≡◌};
 ghost use Rattle.std.specs.Option.{option_copied};
-ghost use Rattle.lsp_documents.specs.Notices.{shown, language_of, version_of, lost_at};
+ghost use Rattle.lsp_documents.specs.Notices.{shown, language_of, version_of, lost_at, is_doubtful as has_doubt};
 
+use crate::kept_document::KeptDocument;
 use crate::lost::LostDocument;
 use lsp_text::TextDocument;
 
@@ -10,7 +11,7 @@ use lsp_text::TextDocument;
 #[derive(Drop)]
 pub enum Open {
     /// The document, with the client's text.
-    Known(TextDocument),
+    Known(KeptDocument),
     /// What is left of one whose text is lost.
     Lost(LostDocument),
 }
@@ -21,7 +22,7 @@ impl Open {
         ensures { option_copied result ≡ shown self.now }
     {
         match self {
-            Open::Known(document) => Some(document),
+            Open::Known(known) => Some(known.document()),
             Open::Lost(_) => None,
         }
     }
@@ -31,7 +32,7 @@ impl Open {
         ensures { result.now ≡ language_of self.now }
     {
         match self {
-            Open::Known(document) => document.language_id(),
+            Open::Known(known) => known.document().language_id(),
             Open::Lost(document) => document.language_id(),
         }
     }
@@ -41,8 +42,19 @@ impl Open {
         ensures { result ≡ version_of self.now }
     {
         match self {
-            Open::Known(document) => document.version(),
+            Open::Known(known) => known.document().version(),
             Open::Lost(document) => document.version(),
+        }
+    }
+
+    /// Whether its text is known and doubtful: a save brought it back, and no whole text came since. Some clients save before they tell
+    /// their last changes, so the next change may be one that the saved text has already.
+    pub fn is_doubtful(&self) -> bool
+        ensures { result ≡ has_doubt self.now }
+    {
+        match self {
+            Open::Known(known) => known.is_doubtful(),
+            Open::Lost(_) => false,
         }
     }
 
@@ -51,8 +63,8 @@ impl Open {
         ensures { result ≡ lost_at version self }
     {
         match self {
-            Open::Known(document) => Open::Lost(LostDocument {
-                language_id: document.into_language_id(),
+            Open::Known(known) => Open::Lost(LostDocument {
+                language_id: known.into_document().into_language_id(),
                 version,
             }),
             Open::Lost(document) => Open::Lost(document),

@@ -4,12 +4,13 @@ ghost use Rattle.lsp_text.specs.Documents.{Change};
 ghost use Rattle.lsp_documents.specs.declared.fault.DocumentFault.{DocumentFault};
 ghost use Rattle.lsp_documents.specs.declared.fault.DocumentFault.TheVariants.{OutOfOrder};
 ghost use Rattle.lsp_documents.specs.declared.kept.Open.{Open};
-ghost use Rattle.lsp_documents.specs.declared.kept.Open.TheVariants.{Known};
-ghost use Rattle.lsp_documents.specs.Notices.{Documents, Notice, Item, text_item, Sent, made, opens, edits, kept_by, shown, version_of, has_whole, is_late, fault_of, Keeps, Makes, TakesAll, Agrees, SavesItsText, kept_after_all, kinds_of, told_all, is_current};
+ghost use Rattle.lsp_documents.specs.Notices.{Documents, Notice, Item, text_item, Sent, made, opens, edits, kept_by, shown, version_of, has_whole, is_late, fault_of, Keeps, Makes, TakesAll, Agrees, IsClients, sure, SavesItsText, kept_after_all, kinds_of, told_all, is_current};
 
 /// A document that may be looked at is the client's: after any list of notifications, of which some were made, of some the URI
 /// alone was known, and of some nothing at all, each URI whose text is known has the text of the client's own document, and its
 /// version or none. A text that was asked for and comes with a save is taken for the client's. One that was not asked for may be any.
+/// A document that is not doubtful has the client's text whatever text comes with a save, as of a client that saves before it tells its
+/// last changes (`sure`).
 ///
 /// What is kept is no more and no less than the notifications make of it, one after another (`kept`). A document that was opened,
 /// of which all was made since, and none of it late, is known, and is the client's in each part (`current`). Changes with a whole text
@@ -22,6 +23,11 @@ pub fn documents_are_the_clients()
         → SavesItsText before.agreed (client uri) (kinds_of uri sent)
         → Agrees before.agreed (told_all before.agreed (client uri) (kinds_of uri sent))
         (now.held uri) }
+    ensures sure { (before : Documents) (client : List ℕ
+        → Option Item) (sent : List Sent) (now : Documents) → TakesAll before sent now
+        → (uri : List ℕ) → Agrees before.agreed (client uri) (before.held uri)
+        → IsClients before.agreed (told_all before.agreed (client uri) (kinds_of uri sent))
+        (option_and_then sure (now.held uri)) }
     ensures kept { (before : Documents) (sent : List Sent) (now : Documents)
         → TakesAll before sent now → (uri : List ℕ)
         → now.held uri ≡ kept_after_all before.agreed uri (before.held uri) sent }
@@ -30,7 +36,7 @@ pub fn documents_are_the_clients()
         → TakesAll before (made (opens uri language_id version text) ∷ sent) now
         → is_current before.agreed uri version sent ≡ true → (c : Item)
         × (told_all before.agreed (Some (text_item language_id version text)) (kinds_of uri sent)
-        ≡ Some c) × (now.held uri ≡ Some (Known (kept_by before.agreed c))) }
+        ≡ Some c) × (option_and_then shown (now.held uri) ≡ Some (kept_by before.agreed c)) }
     ensures whole { (before : Documents) (uri : List ℕ) (version : Option ℤ)
         (list : List Change) (now : Documents) → has_whole list ≡ true
         → (fault_of before.agreed (before.held uri) (edits uri version list).kind ≡ None)

@@ -2,9 +2,11 @@
 #![tactic(auto)]
 
 mod agreed;
+mod changes;
 mod documents;
 mod fault;
 mod kept;
+mod kept_document;
 mod known;
 pub mod laws;
 mod lost;
@@ -16,6 +18,7 @@ pub use agreed::Agreed;
 pub use documents::TextDocuments;
 pub use fault::{DocumentFault, DocumentUpdate, Remark, UpdateFault};
 pub use kept::Open;
+pub use kept_document::KeptDocument;
 pub use known::{KnownDocuments, OpenText};
 pub use lost::LostDocument;
 pub use options::DocumentOptions;

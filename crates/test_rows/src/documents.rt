@@ -6,7 +6,7 @@
 // and the position of each place where a character begins. One that is closed shows `-`, and one whose text is lost `?`. A body that
 // is no message has `unread`: it may have told of any document, so each text is lost. `known` has each URI whose text is known, with
 // its version, and then with a copy of the document. `place` has where a position of a document is, in bytes, the range from there
-// to the text's end, and the position's line. `path` has the URI and the version of the document of a path. `keep` keeps copies of the documents, and
+// to the text's end, and the position's line. `path` has the URI and the version of the document of a path. `doubtful` has the URIs whose text is known and doubtful. `keep` keeps copies of the documents, and
 // `kept` has these. `long` opens a document of a text so many times over, and `often` puts a text before one so many times in one
 // call: what comes is how long it is then, in bytes and in lines.
 use crate::messages::text_in;
@@ -103,6 +103,7 @@ impl Documents {
             "keep" => self.keep(said),
             "kept" => show_copies(said, self.copies.as_slice()),
             "place" => self.show_place(said, params),
+            "doubtful" => self.show_doubtful(said),
             "long" => self.open_long(said, params),
             "often" => self.change_often(said, params),
             _ => self.hear_params(said, method, params),
@@ -122,6 +123,18 @@ impl Documents {
                 said.push(agreed.encoding().name());
             }
             Err(_) => said.is_short = true,
+        }
+    }
+
+    /// The URIs whose text is doubtful, in the order in which they were told.
+    fn show_doubtful(&self, said: &mut Said) {
+        said.push("doubtful");
+        for line in self.seen.lines() {
+            let uri = line.strip_prefix("\t").unwrap_or(line);
+            if self.documents.is_doubtful(uri) {
+                said.push(" ");
+                said.push(uri);
+            }
         }
     }
 

@@ -1,4 +1,4 @@
-use Rattle.lsp_documents.proofs.NoticeLemmas.{all_agree, all_kept, opened_current, whole_made, late_unshown}
+use Rattle.lsp_documents.proofs.NoticeLemmas.{all_agree, all_sure, all_kept, opened_current, whole_made, late_unshown}
 use Rattle.lsp_documents.proofs.NoticeLemmas.{refused_keeps}
 use Rattle.lsp_documents.proofs.laws.documents_are_the_clients.Goals as goal
 
@@ -19,3 +19,6 @@ returns-clause-late c = late_unshown
 
 pub returns-clause-whole : goal.returns-clause-whole
 returns-clause-whole c = whole_made
+
+pub returns-clause-sure : goal.returns-clause-sure
+returns-clause-sure c = all_sure

@@ -1,7 +1,7 @@
 use Rattle.std.proofs.Common.{◌≡◌, ◌≤◌, drop, length}
 use Rattle.lsp_documents.specs.Notices.{since_whole}
 use Rattle.lsp_documents.proofs.NoticeLemmas.{deciding}
-use Rattle.lsp_documents.proofs.documents.since_whole.Given as goal
+use Rattle.lsp_documents.proofs.changes.since_whole.Given as goal
 
 -- what decides: of the changes that are left, or else from this one on
 abbrev pub invariant-loop-index : goal.invariant-loop-index

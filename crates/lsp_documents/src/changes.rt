@@ -1,0 +1,51 @@
+// The changes of one notification, and what is said of them.
+ghost use Rattle.std.specs.Prelude.{◌≡◌};
+ghost use Rattle.lsp_documents.specs.Notices.{has_whole as has_whole_text, since_whole as since_whole_text, is_not_higher as is_below, change_remark as remark_of_change};
+
+use crate::fault::Remark;
+use lsp_text::ContentChange;
+
+/// Whether one of the changes is of the whole text.
+pub fn has_whole(changes: &[ContentChange]) -> bool
+    ensures { result ≡ has_whole_text changes.now }
+{
+    changes.iter().any(|change| change.range.is_none())
+}
+
+/// The changes that decide: those from the last whole text on, or all if there is none.
+pub fn since_whole(changes: &[ContentChange]) -> &[ContentChange]
+    ensures { result.now ≡ since_whole_text changes.now }
+{
+    let mut from = 0;
+    for (index, change) in changes.iter().enumerate() {
+        if change.range.is_none() {
+            from = index;
+        }
+    }
+    &changes[from..]
+}
+
+/// Whether a version is the one before, or below it.
+pub fn is_not_higher(version: Option<i32>, before: Option<i32>) -> bool
+    ensures { result ≡ is_below version before }
+{
+    match (version, before) {
+        (Some(version), Some(before)) => version <= before,
+        _ => false,
+    }
+}
+
+/// What is said of changes that were applied: whether a position is past an end, what is doubtful, and whether the version is not higher.
+pub fn change_remark(past: bool, doubt: Option<Remark>, not_higher: bool) -> Option<Remark>
+    ensures { result ≡ remark_of_change past doubt not_higher }
+{
+    if past {
+        Some(Remark::PastEnd)
+    } else if doubt.is_some() {
+        doubt
+    } else if not_higher {
+        Some(Remark::VersionNotHigher)
+    } else {
+        None
+    }
+}
