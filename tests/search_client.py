@@ -6,8 +6,8 @@ A hover is answered while a search runs, the search tells how far it is and is a
 before that has its reply.
 
 Then it opens a document twice, as an editor does whose mode is called again, and has changes refused: the server's text is the client's
-or none, it tells why, and each way back brings the text back. It saves before it tells its changes. It ends in status 1 at the first
-difference.
+or none, it tells why, and each way back brings the text back. It saves before it tells its changes, and in another session sends its
+settings unasked. It ends in status 1 at the first difference.
 """
 import sys
 
@@ -70,7 +70,7 @@ def is_hovered_meanwhile(client):
     came = read_to_all(client, [search, hover])
     replies = {message["id"]: message for message in came if "id" in message}
     look_at_progress([message["params"] for message in came if message.get("method") == "$/progress"])
-    expect("the hover", replies[hover]["result"]["contents"], "price = 3")
+    expect("the hover", replies[hover]["result"]["contents"], {"kind": "plaintext", "value": "price = 3"})
     found = sorted((it["location"]["uri"], it["location"]["range"]["start"]["line"], it["name"]) for it in replies[search]["result"])
     wanted = sorted((f"file:///{number}.sums", 1 + 2 * line, "heading one") for number in range(DOCUMENTS) for line in range(HEADINGS))
     expect("whether it found what is there", found == wanted, True)
@@ -275,6 +275,28 @@ def saves_early(client):
     look(client, "a change that leads elsewhere", [marks(), log(WARNING, "the saved text is another one"), marks()], "a = 124\n")
 
 
+def is_set(program):
+    """A client that can't be asked for its configuration sends it: what is set holds, and else what held before."""
+    with started([program, "jobs"], listens=True) as client:
+        client.layout, client.last_id = COMPACT, 10
+        read_to_all(client, [client.request("initialize", {"capabilities": {"workspace": {"didChangeConfiguration": {}}}})])
+        client.notify("initialized", {})
+        opens(client, 1, "a = 30\n")
+        look(client, "an open", [marks()], "a = 30\n")
+        for settings, told in [
+            ({"sums": {"largest": 20}}, [marks("`a`: is too large")]),
+            ({}, []),
+            (None, []),
+            ({"other": {"largest": 50}}, []),
+            ({"sums": {"largest": 40}}, [marks()]),
+            ({"sums": {"largest": 29}}, [marks("`a`: is too large")]),
+            ({"sums": {"largest": "x"}}, [marks()]),
+        ]:
+            client.notify("workspace/didChangeConfiguration", {"settings": settings})
+            look(client, f"settings {settings}", told, "a = 30\n")
+        client.leaves()
+
+
 def comes_true(what, tries):
     for number in range(1, ROUNDS + 1):
         if tries():
@@ -304,6 +326,8 @@ def check_all(program):
         loses_all(client)
         print("a body that is no message is passed over, and no text is shown until it is sent whole")
         client.leaves()
+    is_set(program)
+    print("settings are taken from a client that can't be asked")
 
 
 if __name__ == "__main__":

@@ -62,7 +62,7 @@
   (note "two marks" (await (lambda () (= 2 (marks)))))
   (goto-char (point-min))
   (forward-line 1)
-  (note "a hover" (equal (lsp-get (lsp-request "textDocument/hover" (lsp--text-document-position-params)) :contents) "b = 33"))
+  (note "a hover" (equal (lsp-get (lsp-get (lsp-request "textDocument/hover" (lsp--text-document-position-params)) :contents) :value) "b = 33"))
   (dotimes (step 60)
     (undo-boundary)
     (goto-char (1+ (% (* step 37) (point-max))))

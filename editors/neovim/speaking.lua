@@ -70,7 +70,7 @@ end)
 
 vim.api.nvim_win_set_cursor(0, { 3, 9 })
 local hover = ask('textDocument/hover', vim.lsp.util.make_position_params(0, client.offset_encoding))
-wait_for('a hover tells the value', function() return hover.came and hover.result.contents == 'größe = 7' end)
+wait_for('a hover tells the value', function() return hover.came and hover.result.contents.value == 'größe = 7' end)
 
 local solved = ask('sums/solved', text)
 vim.wait(200, function() return solved.came end, 5)

@@ -55,7 +55,7 @@ async function session() {
   note('marks come', await until(() => (server.marks.get(uri) || []).length === 2));
   await connection.sendNotification(rpc.DidChangeWatchedFilesNotification.type, { changes: [{ uri, type: 2 }, { uri: uri + '2', type: 3 }] });
   const hover = await ask(server, rpc.HoverRequest.type, { textDocument, position: { line: 2, character: 1 } });
-  note('a hover is answered', hover.contents === 'größe = 33');
+  note('a hover is answered', hover.contents.value === 'größe = 33');
   await change(server, 2, { text: text.replace('pear', 'apple').replace('30', '4') });
   note('marks go', await until(() => (server.marks.get(uri) || [1]).length === 0));
   await twoCarets(server);

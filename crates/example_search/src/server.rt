@@ -105,8 +105,7 @@ impl Server for Sums {
     ) -> Result<Acts, AllocError> {
         let mut acts = Vec::new(self.alloc);
         if let Ok(values) = &outcome {
-            self.largest = largest_in(values).unwrap_or(i64::MAX);
-            self.mark_all(&mut acts)?;
+            self.set(values.pointer("/0/largest"), &mut acts)?;
         }
         Ok(acts)
     }
@@ -278,6 +277,28 @@ impl Sums {
         Ok(())
     }
 
+    /// Asks for the configuration again, or takes the settings that come from a client which can't be asked (LSP 3.17,
+    /// "DidChangeConfiguration Notification"). Without the section `sums` nothing changes.
+    fn configure(&mut self, params: &Value, acts: &mut Acts) -> Result<(), AllocError>
+        ensures { self.new.documents ≡ self.old.documents }
+    {
+        if self.configures {
+            return self.ask_configuration(acts);
+        }
+        match params.pointer("/settings/sums") {
+            Some(sums) => self.set(sums.get("largest"), acts),
+            None => Ok(()),
+        }
+    }
+
+    /// Takes the greatest value that the user allows: any, if none is set. The marks of each text follow.
+    fn set(&mut self, largest: Option<&Value>, acts: &mut Acts) -> Result<(), AllocError>
+        ensures { self.new.documents ≡ self.old.documents }
+    {
+        self.largest = largest.and_then(|value| value.as_i64()).unwrap_or(i64::MAX);
+        self.mark_all(acts)
+    }
+
     /// What the client is told after a notification.
     fn note(&mut self, notification: &Notification, acts: &mut Acts) -> Result<(), AllocError>
         ensures { Makes self.old.documents (Some (told (string_bytes notification.now.method)
@@ -287,7 +308,7 @@ impl Sums {
             Some(Ok(update)) => self.follow(update, acts),
             Some(Err(missed)) => self.complain(missed.unless_memory()?, acts),
             None => match notification.method.as_str() {
-                "workspace/didChangeConfiguration" => self.ask_configuration(acts),
+                "workspace/didChangeConfiguration" => self.configure(&notification.params, acts),
                 _ => Ok(()),
             },
         }
@@ -424,8 +445,11 @@ impl Sums {
     }
 
     fn shown_as(&self, text: &Text, word: Word<'_>, value: i64) -> Result<Value, AllocError> {
-        let contents = format!(in self.alloc; "{} = {value}", word.text)?;
-        json!(in self.alloc; { "contents": contents, "range": self.range_of(text, word)? })
+        let value = format!(in self.alloc; "{} = {value}", word.text)?;
+        json!(in self.alloc; {
+            "contents": { "kind": "plaintext", "value": value },
+            "range": self.range_of(text, word)?
+        })
     }
 
     /// Where a word stands, as the client counts it.
@@ -477,8 +501,4 @@ fn query_in(params: &Value) -> Option<&str>
     ensures { option_map (λ query. query.now) result ≡ word_in (view params.now) }
 {
     params.get("query")?.as_str()
-}
-
-fn largest_in(values: &Value) -> Option<i64> {
-    values.pointer("/0/largest")?.as_i64()
 }
