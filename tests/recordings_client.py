@@ -2,10 +2,11 @@
 """Plays the clients of recorded sessions, as real editors held them with real servers (`recordings/`), to the servers of this repository.
 
 Each message of the client's is sent as soon as what its editor had seen before it has come. One thing is changed: the client counts positions
-as it did with the server of the recording, and offers no other way. Its answers to that server's own requests are left out, and the server
-that is tried is told its configuration before anything else. What is looked at:
+as it did with the server of the recording, and offers no other way. Its answers to that server's own requests are left out, and a server that
+asks is told its configuration before anything else. What is looked at:
 
-- each request has one reply, each message has the type that LSP gives it (`typed.py`), and the status is that of LSP 3.17, "Exit Notification";
+- each request has one reply, each message has the type that LSP gives it (`typed.py`), and the status is that of LSP 3.17, "Exit Notification":
+  a client that never asks for `shutdown`, or leaves without `exit`, gets 1;
 - the text that `example_search` holds, behind each notification of a document, is that of a model here, and the marks of
   `example_diagnostics` are those of its lines;
 - a change that can't be read, behind the client's last one, loses the text: none is held and nothing is marked, until it comes whole.
@@ -28,8 +29,9 @@ from typed import lines_of
 RECORDINGS = sorted(Path(__file__).resolve().parent.glob("recordings/*.lsp"))
 WAYS = [["example_session"], ["example_diagnostics"], ["example_search"], ["example_search", "threads"], ["example_search", "jobs"]]
 LINE_END = re.compile("\r\n|\n|\r")
-# The configuration: how many characters `example_diagnostics` allows in a line, and what `example_search` allows as a value.
-LONGEST = 20
+# The configuration: how many characters `example_diagnostics` allows in a line, if the client can be asked and if not, and what
+# `example_search` allows as a value.
+LONGEST, LONGEST_UNASKED = 20, 80
 CONFIGURATION = {"example_diagnostics": [LONGEST], "example_search": [{"largest": 20}]}
 UNIT_LENGTHS = {"utf-8": lambda char: len(char.encode()), "utf-16": lambda char: 1 + (char > "\uffff"), "utf-32": lambda char: 1}
 
@@ -78,10 +80,10 @@ class Text:
             at += 1
         return at
 
-    def marks(self):
+    def marks(self, longest):
         """The lines that `example_diagnostics` marks."""
         lines = LINE_END.split(self.text or "")
-        return [number for number, line in enumerate(lines) if len(line) > LONGEST]
+        return [number for number, line in enumerate(lines) if len(line) > longest]
 
 
 class Played(Client):
@@ -97,6 +99,7 @@ class Played(Client):
         self.wanted = {}  # and those that have to
         self.encoding = "utf-16"
         self.takes_saves = False  # whether the server asked for the text of a save
+        self.longest = LONGEST_UNASKED
 
     def look(self, message):
         super().look(message)
@@ -116,7 +119,7 @@ class Played(Client):
         while (message := self.message("workspace/configuration")).get("method") != "workspace/configuration":
             pass
         self.send(id=message["id"], result=CONFIGURATION[self.way[0]])
-        self.answers = {}
+        self.answers, self.longest = {}, LONGEST
 
     def tells(self, method, params):
         """A notification of a document, and what has to come of it."""
@@ -124,7 +127,7 @@ class Played(Client):
         uri = params["textDocument"]["uri"]
         text = self.texts.setdefault(uri, Text(self.encoding, True, self.takes_saves))
         text.hear(method, params)
-        add(self.wanted, uri, text.marks())
+        add(self.wanted, uri, text.marks(self.longest))
         self.asks_for_text(uri, text.text)
 
     def asks_for_text(self, uri, text):
@@ -153,7 +156,7 @@ def add(lists, key, value):
 
 
 def encoding_of(messages):
-    """How a recorded client counts: as the reply to `initialize` says."""
+    """How a recorded client counts: as the reply to `initialize` says. It may speak to several servers, and get one reply."""
     (ask,) = [message for of_client, message in messages if message.get("method") == "initialize"]
     for of_client, message in messages:
         if not of_client and "method" not in message and message["id"] == ask["id"]:
@@ -171,6 +174,7 @@ def play(client, messages):
                 client.awaits(id)
         elif method == "initialize":
             params["capabilities"].setdefault("general", {})["positionEncodings"] = [client.encoding]
+            can_be_asked = params["capabilities"].get("workspace", {}).get("configuration") is True
             client.send(id=id, method=method, params=params)
             client.awaits(id)
             capabilities = client.replied[id][0]["result"]["capabilities"]
@@ -182,19 +186,20 @@ def play(client, messages):
             client.send(**{key: value for key, value in message.items() if key != "jsonrpc"})
         elif method is not None and method.startswith("textDocument/did") and not is_shut:
             client.tells(method, params)
-            if at == changes[-1]:
+            if changes[-1:] == [at]:
                 client.loses(params["textDocument"]["uri"])
         elif method is not None:
             client.notify(method, params)
-            if method == "initialized" and client.way[0] in CONFIGURATION:
+            if method == "initialized" and client.way[0] in CONFIGURATION and can_be_asked:
                 client.is_configured()
     return asked
 
 
 def status_of(messages):
-    """0 if `exit` comes next behind `shutdown`, and else 1 (LSP 3.17, "Exit Notification")."""
-    calls = [message["method"] for of_client, message in messages if of_client and "method" in message]
-    return 0 if calls[calls.index("shutdown") + 1 :][:1] == ["exit"] else 1
+    """0 if `exit` comes next behind the request `shutdown`, and else 1 (LSP 3.17, "Exit Notification")."""
+    calls = [(message["method"], "id" in message) for of_client, message in messages if of_client and "method" in message]
+    behind = calls[calls.index(("shutdown", True)) + 1 :] if ("shutdown", True) in calls else []
+    return 0 if behind[:1] == [("exit", False)] else 1
 
 
 def holds(client):
