@@ -436,7 +436,7 @@ def configuration_answer(text):
     asked = "ask workspace/configuration " + ordered({"items": [{"section": "lines"}]}) + " for " if can else "nothing"
     said = [f"{asked}7" if can else asked]
     reply, settings, value = given.get("reply"), given.get("settings"), 80
-    for found in [reply[-1] if isinstance(reply, list) and reply else None, settings.get("lines") if isinstance(settings, dict) else None]:
+    for found in [reply[0] if isinstance(reply, list) and reply else None, settings.get("lines") if isinstance(settings, dict) else None]:
         taken = is_fit(UNSIGNED, found)
         value = found if taken else value
         said.append(f"{'taken' if taken else 'kept'} {value}")

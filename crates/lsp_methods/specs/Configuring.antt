@@ -1,7 +1,7 @@
 -- Whether a client can be asked for its configuration, and what it is asked (LSP 3.17, "Configuration Request").
 use Rattle.std.specs.Prelude.{Bool, false, List, ℕ, [], ◌∷◌, Option, None, Some, codes, option_and_then}
-use Rattle.serde_json.specs.Data.{Data, array, string}
-use Rattle.serde_json.specs.Find.{as_bool, get, pointer}
+use Rattle.serde_json.specs.Data.{Data, Items, no_items, item, array, string}
+use Rattle.serde_json.specs.Find.{as_array, as_bool, get, pointer}
 use Rattle.serde_json.specs.View.{items_of}
 use Rattle.lsp_acts.specs.Acts.{Act, asks}
 use Rattle.lsp_types.specs.Json.{object_of}
@@ -27,6 +27,14 @@ asks_for section payload = asks (codes "workspace/configuration") (object_of ((
   Some (array (items_of (
       object_of ((codes "scopeUri", None) ∷ (codes "section", Some (string section)) ∷ []) ∷ []))),
 ) ∷ [])) payload
+
+-- the value that a client replies to this: the first of a list, as one section was asked for
+abbrev pub first_item : Items → Option Data
+first_item no_items = None
+first_item (item d ds) = Some d
+
+abbrev pub replied_of : Data → Option Data
+replied_of reply = option_and_then first_item (as_array reply)
 
 -- what the params of a change have of a section, as a client sends them that can't be asked (LSP 3.17,
 -- "DidChangeConfiguration Notification")

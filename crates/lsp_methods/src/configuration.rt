@@ -1,8 +1,9 @@
 // What the user set for a server.
-ghost use Rattle.std.specs.Prelude.{◌≡◌, ◌≢◌, true, false, None, Ok, IfOk, IfSome, OnErr, is_some};
+ghost use Rattle.std.specs.Prelude.{◌≡◌, ◌≢◌, ◌∷◌, [], List, true, false, None, Ok, IfOk, IfSome, MatchOption, OnErr, is_some};
 ghost use Rattle.serde_json.specs.Find.{get};
 ghost use Rattle.serde_json.specs.View.{view};
-ghost use Rattle.lsp_methods.specs.Configuring.{asks_for, settings_of};
+ghost use Rattle.lsp_methods.specs.Configuring.{asks_for, replied_of, settings_of};
+ghost use Rattle.serde_json.specs.declared.value.Value.{Value};
 ghost use Rattle.lsp_acts.specs.View.{act_view};
 
 use crate::sending::{ask, read_result};
@@ -85,8 +86,9 @@ impl<T: DeserializeOwned + Drop> Configuration<T> {
         }
     }
 
-    /// Takes the reply, and says whether it has a value that fits. Else `value` stays: the client may reply with an error, or with null if
-    /// the user set nothing.
+    /// Takes the reply, and says whether its first value fits: the result has a value for each section that was asked for, in their
+    /// order (LSP 3.17, "Configuration Request"), and `ask` asks for one. Else `value` stays: the client may reply with an error, or
+    /// with null if the user set nothing.
     ///
     /// `Err` means that an allocation failed, and `value` stays too.
     pub fn take_reply(
@@ -96,11 +98,11 @@ impl<T: DeserializeOwned + Drop> Configuration<T> {
     ) -> Result<bool, AllocError>
         ensures others { (self.new.section ≡ self.old.section) × (self.new.is_asked ≡ self.old.is_asked) }
         ensures kept { result ≢ Ok true → self.new.«value» ≡ self.old.«value» }
+        ensures missing { IfOk outcome (λ reply. replied_of (view reply) ≡ None → self.new ≡ self.old) }
     {
         match read_result::<ConfigurationRequest>(alloc, outcome)? {
-            Ok(mut values) => {
-                let value = values.pop();
-                drop(values);
+            Ok(values) => {
+                let value = first(values);
                 self.take(alloc, value)
             }
             Err(error) => {
@@ -173,6 +175,7 @@ impl<T: DeserializeOwned + Drop> Configuration<T> {
     fn take(&mut self, alloc: Global, value: Option<Value>) -> Result<bool, AllocError>
         ensures others { (self.new.section ≡ self.old.section) × (self.new.is_asked ≡ self.old.is_asked) }
         ensures kept { result ≢ Ok true → self.new.«value» ≡ self.old.«value» }
+        ensures none { value ≡ None → self.new ≡ self.old }
     {
         let Some(value) = value else {
             return Ok(false);
@@ -188,4 +191,12 @@ impl<T: DeserializeOwned + Drop> Configuration<T> {
             }
         }
     }
+}
+
+/// The first of the values that a client replied.
+fn first(values: Vec<Value>) -> Option<Value>
+    ensures { MatchOption result (values.items ≡ [])
+        (λ value. (rest : List Value) × (values.items ≡ value ∷ rest)) }
+{
+    values.into_iter().next()
 }
