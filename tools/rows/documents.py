@@ -288,8 +288,8 @@ class Documents:
         return uri in self.open and self.open[uri][2] is not None
 
     def lose(self, uri):
-        """What the client told was missed: only the language is known for sure."""
-        if uri in self.open:
+        """What the client told was missed: only the language is known for sure. A text that is lost already stays as it is."""
+        if self.is_known(uri):
             self.settle(uri)
             self.open[uri] = (None, self.open[uri][1], None)
 
