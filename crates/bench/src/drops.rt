@@ -3,9 +3,8 @@
 use crate::Host;
 use crate::session::Echo;
 use anyhow::{Error, Result};
-use lsp_server::{
-    Connection, Handler, IoThreads, Limits, Message, Request, Response, StandardOutput,
-};
+use lsp_server::transports::StandardOutput;
+use lsp_server::{Connection, Handler, IoThreads, Limits, Message, Request, Response};
 use serde_json::{Map, Value, put};
 use std::alloc::{AllocError, Global};
 use std::io::BufRead;

@@ -12,7 +12,9 @@ use lsp_jobs::{
     AnsweredBy, Interrupted, Job, JobContext, JobOptions, JobResult, JobServer, NoSlots, PoolSize,
     run_jobs,
 };
-use lsp_server::{EndSession, Request, StandardOutput, StartFault, Threaded};
+use lsp_server::policies::EndSession;
+use lsp_server::transports::StandardOutput;
+use lsp_server::{Request, StartFault, Threaded};
 use serde_json::Value;
 use std::alloc::{AllocError, Global};
 use std::io::{BufRead, Write};

@@ -26,7 +26,7 @@ mod texts;
 mod threads;
 
 use anyhow::{Error, Result};
-use lsp_server::keep_freed_memory;
+use lsp_server::running::keep_freed_memory;
 use session::Echo;
 use std::alloc::Global;
 use std::io::{BufRead, BufReader, Cursor, Read, Write};

@@ -1,9 +1,10 @@
 //! The same session of a server that speaks, though it says nothing of its own.
 use crate::session::ended;
 use anyhow::Result;
+use lsp_server::policies::EndSession;
+use lsp_server::transports::Transcript;
 use lsp_server::{
-    Act, EndSession, Limits, Notification, QueuedServer, Request, ResponseError, Server,
-    StreamTransport, Transcript,
+    Act, Limits, Notification, QueuedServer, Request, ResponseError, Server, StreamTransport,
 };
 use lsp_session::initialize_result;
 use serde_json::{Map, Value};

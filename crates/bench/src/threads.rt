@@ -3,9 +3,11 @@ use crate::session::Echo;
 use crate::speaking::Speaking;
 use crate::{Host, session};
 use anyhow::{Error, Result};
+use lsp_server::policies::EndSession;
+use lsp_server::transports::StandardOutput;
 use lsp_server::{
-    EndSession, FrameOutbox, ReadEnd, StandardOutput, StartFault, ThreadOptions, Threaded, pump,
-    read_loop, run_in_threads, run_threads,
+    FrameOutbox, ReadEnd, StartFault, ThreadOptions, Threaded, pump, read_loop, run_in_threads,
+    run_threads,
 };
 use serde_json::{Map, Value};
 use std::alloc::Global;

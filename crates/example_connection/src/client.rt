@@ -2,7 +2,8 @@
 //! listens at an address.
 use crate::{send, serve};
 use anyhow::{Error, Result, anyhow, bail};
-use lsp_server::{Connection, Message, Notification, Request, RequestId, Response, spawn};
+use lsp_server::running::spawn;
+use lsp_server::{Connection, Message, Notification, Request, RequestId, Response};
 use serde_json::Value;
 use std::net::Net;
 use std::sync::Wait;

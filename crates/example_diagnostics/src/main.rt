@@ -14,9 +14,10 @@ use anyhow::{Result as Answer, bail};
 use lsp_documents::{Agreed, DocumentUpdate, TextDocuments, UpdateFault};
 use lsp_methods::{Configuration, answer, publish, read, reply};
 use lsp_server::clients::{ClientOptions, serve_clients};
+use lsp_server::policies::{BadContentPolicy, EndSession};
 use lsp_server::{
-    Act, BadContentPolicy, EndSession, Notification, QueuedServer, Request, ResponseError, Server,
-    SessionEnd, SessionFault, StreamTransport,
+    Act, Notification, QueuedServer, Request, ResponseError, Server, SessionEnd, SessionFault,
+    StreamTransport,
 };
 use lsp_text::{Text, TextDocument};
 use lsp_types::methods::{DefinitionRequest, HoverRequest};

@@ -30,9 +30,10 @@ use lsp_jobs::{
 };
 use lsp_methods::publish;
 use lsp_server::clients::{ClientOptions, serve_clients};
+use lsp_server::policies::{BadContentPolicy, EndSession};
+use lsp_server::transports::ClientStreams;
 use lsp_server::{
-    Act, BadContentPolicy, ClientStreams, EndSession, Notification, Request, ResponseError, Server,
-    SessionEnd, StartFault, Threaded,
+    Act, Notification, Request, ResponseError, Server, SessionEnd, StartFault, Threaded,
 };
 use lsp_text::Text;
 use lsp_types::{Diagnostic, DiagnosticSeverity, Position, Range, ToJson};

@@ -2,7 +2,8 @@
 use crate::line::message_of;
 use anyhow::Result;
 use crossbeam_channel::{Receiver, Sender, bounded};
-use lsp_server::{CHANNEL_ROOM, Connection, IoThreads, Message, spawn};
+use lsp_server::running::{CHANNEL_ROOM, spawn};
+use lsp_server::{Connection, IoThreads, Message};
 use lsp_watch::{ContentWatch, Watch, Way};
 use std::alloc::AllocError;
 use std::io::Write;

@@ -26,7 +26,8 @@ mod sums;
 
 use anyhow::{Result, bail};
 use lsp_server::clients::{ClientOptions, serve_clients};
-use lsp_server::{PassedOver, SessionEnd, StartFault, Threaded};
+use lsp_server::policies::PassedOver;
+use lsp_server::{SessionEnd, StartFault, Threaded};
 use server::Sums;
 use sessions::{serve, serve_in_threads, serve_with_jobs};
 use std::alloc::Global;

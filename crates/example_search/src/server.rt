@@ -13,9 +13,8 @@ use crate::search::{Search, Silence};
 use crate::sums::{Problem, Word, sheet_of, value_of, word_at};
 use lsp_documents::{Agreed, DocumentUpdate, TextDocuments, UpdateFault, position_in, uri_in};
 use lsp_jobs::{AnsweredBy, JobServer, NoSlots, WorkDone};
-use lsp_server::{
-    Act, ErrorCode, Notification, PassedOver, Request, RequestId, ResponseError, Server,
-};
+use lsp_server::policies::PassedOver;
+use lsp_server::{Act, ErrorCode, Notification, Request, RequestId, ResponseError, Server};
 use lsp_text::{Text, TextDocument};
 use serde_json::{Value, json, to_value};
 use std::alloc::{AllocError, Global};

@@ -14,9 +14,11 @@ use crate::server::Sums;
 use lsp_jobs::laws::{requests_are_answered_by_their_jobs, session_with_jobs_keeps_laws};
 use lsp_jobs::{Job, JobOptions, JobServer, NoSlots, PoolSize, Slots, run_jobs};
 use lsp_server::laws::server_keeps_laws;
+use lsp_server::policies::{BadContentPolicy, PassedOver};
+use lsp_server::transports::ClientStreams;
 use lsp_server::{
-    BadContentPolicy, ClientStreams, PassedOver, QueuedServer, Server, SessionEnd, SessionFault,
-    StartFault, StreamTransport, ThreadOptions, Threaded, run_in_threads,
+    QueuedServer, Server, SessionEnd, SessionFault, StartFault, StreamTransport, ThreadOptions,
+    Threaded, run_in_threads,
 };
 use std::alloc::Global;
 use std::io::{BufRead, Write};

@@ -10,9 +10,11 @@ ghost use Rattle.lsp_session.specs.StreamTransports.{IsUnused, Serves};
 
 use anyhow::{Result, bail};
 use lsp_server::laws::sessions::session_answers_requests;
+use lsp_server::policies::{BadContentPolicy, EndSession};
+use lsp_server::transports::ClientStreams;
 use lsp_server::{
-    BadContentPolicy, ClientStreams, EndSession, Handler, HandlerApplication, Notification,
-    Request, ResponseError, SessionEnd, SessionFault, StreamTransport,
+    Handler, HandlerApplication, Notification, Request, ResponseError, SessionEnd, SessionFault,
+    StreamTransport,
 };
 use serde_json::{Value, json};
 use std::alloc::{AllocError, Global};

@@ -9,7 +9,7 @@ mod report;
 mod serve;
 mod work;
 
-use lsp_server::keep_freed_memory;
+use lsp_server::running::keep_freed_memory;
 use pump::pump_words;
 use report::{report, report_usage};
 use serve::{serve_stdio, tcp_on};

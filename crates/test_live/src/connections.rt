@@ -2,7 +2,8 @@
 use crate::attempt::{Attempt, Stop};
 use crate::signals::{Signal, Signals};
 use lsp_message::{Message, Notification, Request, RequestId};
-use lsp_server::{Connection, ProtocolError, spawn};
+use lsp_server::running::spawn;
+use lsp_server::{Connection, ProtocolError};
 use serde_json::{Map, Value};
 use std::alloc::{AllocError, Global};
 use std::fmt::Display;

@@ -10,7 +10,8 @@ use crate::signals::{Signal, Signals, is_alone};
 use crate::table::{Call, Device, Given};
 use lsp_acts::QueuedServer;
 use lsp_jobs::{JobOptions, PoolSize, run_jobs};
-use lsp_server::{Connection, Limits, UNREAD_WEIGHT};
+use lsp_server::running::UNREAD_WEIGHT;
+use lsp_server::{Connection, Limits};
 use lsp_session::{Application, FaultCounts, HandlerApplication, SessionEnd, SessionFault};
 use lsp_threads::{
     PumpFault, StartFault, ThreadOptions, Threaded, UNREAD_BYTES, UNWRITTEN_BYTES, pump_by,
