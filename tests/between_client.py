@@ -73,7 +73,7 @@ def check_bytes():
             one.close_input()
             expect("what came after the frame", other.rest(), bytes_of_no_frame)
         told = f"client:{len(ODD)}: the header part of the frame is bad\n"
-        expect("the end of the check", check.end(), (2, b"", told + summary(1, 1, 0)))
+        expect("the end of the check", check.end(), (3, b"", told + summary(1, 1, 0)))
 
 
 def check_long_header():
@@ -138,6 +138,16 @@ def check_clients():
         expect("whether it listens on", check.is_up(), True)
 
 
+def check_no_server():
+    print("a server that can't be reached is named, and is no success")
+    port = free_port()
+    with between(port, "--once") as check, check.connect() as client:
+        expect("what the client reads", client.rest(), b"")
+        status, out, errors = check.end()
+        expect("the end of the check", (status, out), (2, b""))
+        expect("whether the address is named", f"no connection to the server at {HOST}:{port}: " in errors, True)
+
+
 def in_a_minute(check):
     begun = time.monotonic()
     check()
@@ -145,7 +155,7 @@ def in_a_minute(check):
 
 
 def check_all():
-    for check in [check_session, check_bytes, check_long_header, check_told_at_once, check_order, check_clients]:
+    for check in [check_session, check_bytes, check_long_header, check_told_at_once, check_order, check_clients, check_no_server]:
         in_a_minute(check)
 
 

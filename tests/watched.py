@@ -21,7 +21,7 @@ def judged(names, folder=None):
     except (OSError, ValueError) as fault:
         raise Difference(f"lsp_check did not judge {len(names)} sessions, or not in lines of JSON: {fault}") from None
     read = sum(line["kind"] == "summary" for line in told)
-    if not names or read != len(names) or ran.returncode not in (0, 1, 2):
+    if not names or read != len(names) or ran.returncode not in (0, 1, 3):
         raise Difference(f"lsp_check judged {read} of {len(names)} sessions, and ended with status {ran.returncode}: {ran.stderr.strip()}")
     return told
 

@@ -6,8 +6,8 @@ use anyhow::{Error, Result};
 use lsp_server::policies::EndSession;
 use lsp_server::transports::StandardOutput;
 use lsp_server::{
-    FrameOutbox, ReadEnd, StartFault, ThreadOptions, Threaded, pump, read_loop, run_in_threads,
-    run_threads,
+    FrameOutbox, QueuedServer, ReadEnd, StartFault, ThreadOptions, Threaded, pump, read_loop,
+    run_in_threads, run_threads,
 };
 use serde_json::{Map, Value};
 use std::alloc::Global;

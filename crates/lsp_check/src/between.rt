@@ -1,10 +1,11 @@
 // What passes between clients and a server, judged while it passes.
 use crate::frames::Frames;
 use crate::judgement::Judgement;
-use crate::line::Passing;
 use crate::merged::tell_stop;
+use crate::passed::Passing;
 use crate::passing::{Ended, Hears, pass_on};
 use crate::report::{Report, SECOND};
+use crate::verdict::Verdict;
 use anyhow::Result;
 use crossbeam_channel::{Receiver, Sender, bounded};
 use lsp_watch::Way;
@@ -54,14 +55,14 @@ impl<R: Wait + AllocGlobal> Hears for Teller<R> {
     }
 }
 
-/// Passes the bytes of a client and a server on to each other, judges them, and gives the status at their end.
+/// Passes the bytes of a client and a server on to each other, judges them, and gives the verdict at their end.
 pub fn judge_between<R, W: Write>(
     rt: &R,
     client: R::Stream,
     server: R::Stream,
     report: &Report<'_>,
     out: &mut W,
-) -> Result<u8>
+) -> Result<Verdict>
 where
     R: Net + Threads + Wait + AllocGlobal + Copy + Drop + Send + 'static,
     R::Stream: Send + 'static,
@@ -136,24 +137,22 @@ struct Ways {
     judged: Judgement,
     client: Frames,
     server: Frames,
-    status: u8,
     /// Whether the rest only passes.
     is_over: bool,
 }
 
-/// Judges what is heard up to the end of both ways, and gives the status.
+/// Judges what is heard up to the end of both ways, and gives the verdict.
 fn judge_heard<R: Wait, W: Write>(
     rt: &R,
     heard: &Receiver<Heard>,
     report: &Report<'_>,
     out: &mut W,
-) -> Result<u8> {
+) -> Result<Verdict> {
     let alloc = report.alloc;
     let mut ways = Ways {
         judged: Judgement::new(alloc),
         client: Frames::new(alloc),
         server: Frames::new(alloc),
-        status: 0,
         is_over: false,
     };
     let judged = ways.judge(rt, heard, report, out);
@@ -168,7 +167,7 @@ impl Ways {
         heard: &Receiver<Heard>,
         report: &Report<'_>,
         out: &mut W,
-    ) -> Result<u8> {
+    ) -> Result<Verdict> {
         for one in heard.iter(rt) {
             let judged = self.hear(&one, report, out);
             drop(one);
@@ -176,7 +175,11 @@ impl Ways {
         }
         self.judged.end(report, out)?;
         out.flush()?;
-        Ok(self.judged.status().max(self.status))
+        Ok(Verdict {
+            is_broken: self.judged.is_broken(),
+            is_judged: self.judged.is_judged(),
+            is_whole: !self.is_over,
+        })
     }
 
     fn hear<W: Write>(&mut self, heard: &Heard, report: &Report<'_>, out: &mut W) -> Result<()> {
@@ -227,9 +230,7 @@ impl Ways {
 
     /// Tells what is wrong with the frame that comes next, if it is bad. Then nothing more is judged.
     fn stop<W: Write>(&mut self, way: Way, report: &Report<'_>, out: &mut W) -> Result<()> {
-        let status = tell_stop(self.side(way), begin_of(way), report, out)?;
-        if status > 0 {
-            self.status = status;
+        if !tell_stop(self.side(way), begin_of(way), report, out)? {
             self.is_over = true;
         }
         Ok(())

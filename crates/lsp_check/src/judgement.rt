@@ -1,5 +1,5 @@
 // The judgement of what passed between two ends.
-use crate::line::Passing;
+use crate::passed::Passing;
 use crate::report::Report;
 use crate::told::{About, Counts, Slowest, Told};
 use anyhow::Result;
@@ -25,6 +25,7 @@ impl Judgement {
             watch: Watch::new(alloc),
             content: ContentWatch::new(alloc),
             counts: Counts {
+                messages: 0,
                 requests: 0,
                 replies: 0,
                 open: 0,
@@ -52,6 +53,7 @@ impl Judgement {
         out: &mut W,
     ) -> Result<()> {
         let (way, message) = (passing.way, &passing.message);
+        self.counts.messages = self.counts.messages.saturating_add(1);
         match message {
             Message::Request(_) => self.counts.requests = self.counts.requests.saturating_add(1),
             Message::Response(response) => {
@@ -133,9 +135,14 @@ impl Judgement {
         Ok(())
     }
 
-    /// The exit status: 1 where a rule is broken, and else 0.
-    pub fn status(&self) -> u8 {
-        if self.counts.breaches > 0 { 1 } else { 0 }
+    /// Whether a rule is broken.
+    pub fn is_broken(&self) -> bool {
+        self.counts.breaches > 0
+    }
+
+    /// Whether there was a message.
+    pub fn is_judged(&self) -> bool {
+        self.counts.messages > 0
     }
 }
 

@@ -3,32 +3,42 @@
 #![tactic(auto)]
 
 mod between;
+mod bytes;
+mod emacs;
+mod files;
+mod format;
 mod frames;
 mod judgement;
-mod line;
 mod lines;
+mod lisp;
+mod lua;
 mod merged;
+mod message_text;
+mod passed;
 mod passing;
+mod reader;
 mod report;
+mod sessions;
 mod time;
 mod told;
+mod trace;
+mod traced;
+mod verdict;
 mod words;
 
 use anyhow::{Error, Result};
 use between::judge_between;
 use clap::ArgMatches;
-use frames::Frames;
-use lines::{Writer, judge_lines};
-use merged::{Side, judge_frames};
-use report::{Form, Places, Report, SECOND};
-use std::io::{BufReader, BufWriter, Write};
+use files::judge_files;
+use report::{Form, Places, Report};
+use std::io::{BufWriter, Write};
 use std::net::{Net, OpenListener, TcpListener, TcpStream};
 use std::process::ExitCode;
 use std::rt::{Env, Files};
 use std::sync::Wait;
 use std::thread::Threads;
-use std::{env, fs, io};
-use words::command;
+use std::{env, io};
+use words::{command, form_of};
 
 fn main(rt: HostRuntime) -> ExitCode {
     let mut errors = rt.stderr();
@@ -39,9 +49,9 @@ fn main(rt: HostRuntime) -> ExitCode {
 }
 
 /// Says why nothing more is judged, and gives the exit status.
-fn refuse<E: Write>(errors: &mut E, what: &str, error: Error) -> u8 {
+pub fn refuse<E: Write>(errors: &mut E, what: &str, error: Error) -> u8 {
     drop(writeln!(errors, "{what}: {error}"));
-    2
+    3
 }
 
 /// Judges what the words name, and gives the exit status.
@@ -55,6 +65,7 @@ where
         + AllocGlobal
         + Print
         + Eprint
+        + Input
         + Copy
         + Drop
         + Send
@@ -67,7 +78,7 @@ where
             let mut out = BufWriter::new(rt.alloc(), io::writer(rt))?;
             let status = match matches.subcommand_matches("between") {
                 Some(matches) => serve(rt, matches, errors, &mut out)?,
-                None => judge(rt, &matches, errors, &mut out)?,
+                None => judge_files(rt, &matches, errors, &mut out)?.status(),
             };
             out.flush()?;
             Ok(status)
@@ -97,23 +108,20 @@ where
     let listener = TcpListener::bind(rt, listen)?;
     for _ in rt.forever() {
         let (client, _peer) = listener.accept()?;
-        let judged = judge_client(rt, form, client, server, errors, out);
+        let status = judge_client(rt, form, client, server, errors, out)?;
         if matches.get_flag("once") {
-            return judged;
-        }
-        if let Err(error) = judged {
-            refuse(errors, server, error);
+            return Ok(status);
         }
     }
     Ok(0)
 }
 
-/// Judges the session of a client with a server, and gives its status.
+/// Judges the session of a client with a server, and gives its status: 2 if the server can't be reached.
 fn judge_client<R, E: Write, W: Write>(
     rt: &R,
     form: Form,
     client: R::Stream,
-    server: &str,
+    address: &str,
     errors: &mut E,
     out: &mut W,
 ) -> Result<u8>
@@ -121,7 +129,16 @@ where
     R: Net + Threads + Wait + AllocGlobal + Copy + Drop + Send + 'static,
     R::Stream: Send + 'static,
 {
-    let server = TcpStream::connect(rt, server)?;
+    let server = match TcpStream::connect(rt, address) {
+        Ok(server) => server,
+        Err(error) => {
+            writeln!(
+                errors,
+                "lsp_check: no connection to the server at {address}: {error}"
+            )?;
+            return Ok(2);
+        }
+    };
     let places = Places {
         first: "client",
         second: Some("server"),
@@ -130,99 +147,14 @@ where
         alloc: rt.alloc(),
         form,
         places,
+        server: "",
     };
-    match form {
+    let judged = match form {
         Form::Text => judge_between(rt, client, server, &report, errors),
         Form::Json => judge_between(rt, client, server, &report, out),
+    };
+    match judged {
+        Ok(verdict) => Ok(verdict.status()),
+        Err(error) => Ok(refuse(errors, address, error)),
     }
-}
-
-fn form_of(matches: &ArgMatches<'_>) -> Form {
-    if matches.get_flag("json") {
-        Form::Json
-    } else {
-        Form::Text
-    }
-}
-
-/// Judges the files up to the first that can't be read, and gives the greatest status.
-fn judge<R: Files + AllocGlobal, E: Write, W: Write>(
-    rt: &R,
-    matches: &ArgMatches<'_>,
-    errors: &mut E,
-    out: &mut W,
-) -> Result<u8> {
-    let form = form_of(matches);
-    let writer = if matches.get_flag("log") {
-        Writer::Editor
-    } else {
-        Writer::Recorder
-    };
-    if let (Some(first), Some(second)) = (
-        matches.get_str("to-server"),
-        matches.get_str("to-client"),
-    ) {
-        return judge_pair(rt, form, first, second, out);
-    }
-    let mut status = 0;
-    for file in matches.get_strs("FILE").unwrap_or(&[]) {
-        match judge_file(rt, form, writer, file, out) {
-            Ok(judged) => status = judged.max(status),
-            Err(error) => {
-                drop(out.flush());
-                return Ok(refuse(errors, file, error));
-            }
-        }
-    }
-    Ok(status)
-}
-
-fn judge_file<R: Files + AllocGlobal, W: Write>(
-    rt: &R,
-    form: Form,
-    writer: Writer,
-    file: &str,
-    out: &mut W,
-) -> Result<u8> {
-    let places = Places {
-        first: file,
-        second: None,
-    };
-    let report = Report {
-        alloc: rt.alloc(),
-        form,
-        places,
-    };
-    let mut reader = BufReader::new(rt.alloc(), fs::open(rt, file)?)?;
-    judge_lines(&report, writer, &mut reader, out)
-}
-
-fn judge_pair<R: Files + AllocGlobal, W: Write>(
-    rt: &R,
-    form: Form,
-    to_server: &str,
-    to_client: &str,
-    out: &mut W,
-) -> Result<u8> {
-    let alloc = rt.alloc();
-    let places = Places {
-        first: to_server,
-        second: Some(to_client),
-    };
-    let report = Report {
-        alloc,
-        form,
-        places,
-    };
-    let mut client = Side {
-        reader: BufReader::new(alloc, fs::open(rt, to_server)?)?,
-        frames: Frames::new(alloc),
-        begin: 0,
-    };
-    let mut server = Side {
-        reader: BufReader::new(alloc, fs::open(rt, to_client)?)?,
-        frames: Frames::new(alloc),
-        begin: SECOND,
-    };
-    judge_frames(&report, &mut client, &mut server, out)
 }

@@ -1,8 +1,9 @@
 // The judgement of two files of frames, one of each way, which do not say what passed first.
 use crate::frames::{Frames, Next};
 use crate::judgement::Judgement;
-use crate::line::Passing;
-use crate::report::{Report, SECOND};
+use crate::passed::Passing;
+use crate::report::Report;
+use crate::verdict::Verdict;
 use anyhow::Result;
 use lsp_message::Message;
 use lsp_watch::Way;
@@ -27,11 +28,11 @@ pub fn judge_frames<C: BufRead, S: BufRead, W: Write>(
     client: &mut Side<C>,
     server: &mut Side<S>,
     out: &mut W,
-) -> Result<u8> {
+) -> Result<Verdict> {
     let mut judged = Judgement::new(report.alloc);
-    let status = judge_all(&mut judged, report, client, server, out);
+    let verdict = judge_all(&mut judged, report, client, server, out);
     drop(judged);
-    status
+    verdict
 }
 
 fn judge_all<C: BufRead, S: BufRead, W: Write>(
@@ -40,7 +41,7 @@ fn judge_all<C: BufRead, S: BufRead, W: Write>(
     client: &mut Side<C>,
     server: &mut Side<S>,
     out: &mut W,
-) -> Result<u8> {
+) -> Result<Verdict> {
     client.frames.look_on(&mut client.reader)?;
     server.frames.look_on(&mut server.reader)?;
     for _ in 0..u64::MAX {
@@ -50,10 +51,14 @@ fn judge_all<C: BufRead, S: BufRead, W: Write>(
             None => break,
         }
     }
-    let client_status = tell_stop(&client.frames, client.begin, report, out)?;
-    let server_status = tell_stop(&server.frames, server.begin, report, out)?;
+    let is_client_whole = tell_stop(&client.frames, client.begin, report, out)?;
+    let is_server_whole = tell_stop(&server.frames, server.begin, report, out)?;
     judged.end(report, out)?;
-    Ok(judged.status().max(client_status).max(server_status))
+    Ok(Verdict {
+        is_broken: judged.is_broken(),
+        is_judged: judged.is_judged(),
+        is_whole: is_client_whole && is_server_whole,
+    })
 }
 
 /// The way of the next message. None is judged that breaks a rule where the other file ends too early: what is lost may
@@ -112,19 +117,19 @@ fn pass<R: BufRead, W: Write>(
     Ok(side.frames.look_on(&mut side.reader)?)
 }
 
-/// Tells why the frames of a way end too early, and gives the status: 2 if one is bad.
+/// Tells why the frames of a way end too early, and says whether none is bad.
 pub fn tell_stop<W: Write>(
     frames: &Frames,
     begin: u64,
     report: &Report<'_>,
     out: &mut W,
-) -> Result<u8> {
+) -> Result<bool> {
     let place = begin.saturating_add(frames.passed);
-    let (why, status) = match frames.next {
-        Next::Cut => ("the file is cut here", 0),
-        Next::Bad(why) => (why, 2),
-        Next::Message(_) | Next::More | Next::End => return Ok(0),
+    let (why, is_whole) = match frames.next {
+        Next::Cut => ("the file is cut here", true),
+        Next::Bad(why) => (why, false),
+        Next::Message(_) | Next::More | Next::End => return Ok(true),
     };
     report.stop(place, why, out)?;
-    Ok(status)
+    Ok(is_whole)
 }

@@ -1,14 +1,19 @@
 // The words that the program is called with.
-use clap::{Arg, ArgAction, Command};
+use crate::report::Form;
+use clap::{Arg, ArgAction, ArgMatches, Command};
 use std::alloc::{AllocError, Global};
 
 const ABOUT: &str =
     "Judges what passed between an LSP client and a server: ids, the order of the lifecycle, documents and progress";
 
 const MORE: &str = "\
-A line of a recording is `-> ` and a message to the server, or `<- ` and one to the client. In a log of an editor
-other lines may stand between. Its messages are those of VS Code (trace \"verbose\", in JSON), of Helix (hx -v) and of
-Emacs 30 (events in full).
+A FILE is a recording or a log. Which one it is, is seen by its first lines:
+- a recording of example_recorder: `-> ` and a message to the server, or `<- ` and one to the client
+- a trace of VS Code, as text or in JSON (\"trace.server\": \"verbose\"), of coc.nvim, lsp-mode or `gopls -rpc.trace`
+- lsp.log of Neovim (vim.lsp.set_log_level(\"debug\"))
+- the events of eglot in Emacs
+- the log of Helix (hx -v); each of its servers has a judgement of its own
+`-` is standard input.
 
 Each message that breaks a rule has a line, with its place and that of the message that it goes against. A request
 that is open at the end is told, and is no breach. Of a file that is cut, what is whole is judged. Two files of frames
@@ -23,7 +28,11 @@ With --json each line is an object. Its \"kind\" is one of
   known \"slowest\": \"milliseconds\", and the place of the request
 A place is \"file\" and \"line\", from 1 on, or \"byte\" of frames, from 0 on.
 
-The status is 1 where a rule is broken, 2 where a file can't be read or has a bad line, frame or word, and else 0.
+The status is
+- 1 where a rule is broken in what was read
+- else 2 where a file could not be opened or has no message, or a word is wrong
+- else 3 where a file could not be read to its end
+- else 0
 ";
 
 const BETWEEN: &str = "\
@@ -46,14 +55,12 @@ pub fn command<'a>(alloc: Global) -> Result<Command<'a>, AllocError> {
         .conflicts_with("FILE")?;
     let files = Arg::new(alloc, "FILE")
         .num_args(0..)
-        .help("Recordings, as example_recorder writes them")
+        .help("Recordings or logs; - is standard input")
         .required_unless_present("to-server")?;
-    let log = flag(alloc, "log", "Each FILE is a log of an editor");
     let json = flag(alloc, "json", "Tells it in lines of JSON");
     Command::new(alloc, "lsp_check")
         .about(ABOUT)
         .after_help(MORE)
-        .arg(log)?
         .arg(json)?
         .arg(to_server)?
         .arg(to_client)?
@@ -85,4 +92,13 @@ fn flag<'a>(alloc: Global, name: &'a str, help: &'a str) -> Arg<'a> {
         .long(name)
         .help(help)
         .action(ArgAction::SetTrue)
+}
+
+/// The form in which the words ask for it.
+pub fn form_of(matches: &ArgMatches<'_>) -> Form {
+    if matches.get_flag("json") {
+        Form::Json
+    } else {
+        Form::Text
+    }
 }

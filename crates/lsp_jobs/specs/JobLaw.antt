@@ -74,8 +74,8 @@ module _ {S J F P : Type 0} (plain : Plain S P) (may : StatedJobs S J F P) where
     pub taken : AreTakenAt later turns
     pub linked : AreTurns plain may start turns now
 
-  -- A wake after these exchanges is the turn that follows theirs. What is done in it is sent, but for what is lost. In it
-  -- nothing is done, or a job that stands there says something, or what a job asked is cancelled.
+  -- A wake after these exchanges is the turn that follows theirs. What is done in it is sent, but for what is lost. In
+  -- it nothing is done, or a job that stands there says something, or what a job asked is cancelled.
   pub record WakeSends (first : S) (earlier : List Exchange) (output : List Message) : Type 0 where
     pub turns : List (Turn plain may)
     pub turn : Turn plain may
@@ -115,16 +115,16 @@ module _ {S J F P : Type 0} (plain : Plain S P) (may : StatedJobs S J F P) where
     pub comes : ComesTo may.comes_to job came
     pub reply : outcome ≡ reply_of came
 
-  -- In this turn the server came from `old` to `new` and did this, as it heard how the job with this name ended, or saw it
-  -- of one whose slot it changed.
+  -- In this turn the server came from `old` to `new` and did this, as it heard how the job with this name ended, or saw
+  -- it of one whose slot it changed.
   abbrev pub SawInTurn : Turn plain may → JobName → End F → S → List (Act P) → S → Type 0
   SawInTurn t name end old acts new =
       ((t.heard ≡ Some name) × (old ≡ t.old) × (new ≡ t.asked))
       ⊎ ((l : Left may) × (sooner : List (Left may)) × (later : List (Left may)) × (t.left ≡ sooner ++ l ∷ later)
       × (name ≡ Slot l.slot) × (end ≡ l.end) × (old ≡ l.old) × (acts ≡ l.acts) × (new ≡ l.new))
 
-  -- At the wake after these exchanges, which sends this, the server sees how a job ended, and then answers this request by
-  -- itself.
+  -- At the wake after these exchanges, which sends this, the server sees how a job ended, and then answers this request
+  -- by itself.
   pub record RepliesItself (first : S) (earlier : List Exchange) (output : List Message) (id : Id) (outcome : Outcome)
       : Type 0 where
     pub wake : WakeSends first earlier output

@@ -124,8 +124,8 @@ module _ {S J F P : Type 0} (may : StatedJobs S J F P) where
   MayLeave slot end (ends_left l ∷ []) = (l.slot ≡ slot) × (l.end ≡ ended end)
   MayLeave slot end events = ⊥
 
-  -- What becomes of slots at these changes, in order. A job that is started takes the place of the one that is in the slot.
-  -- If too many jobs wait and run, it ends at once.
+  -- What becomes of slots at these changes, in order. A job that is started takes the place of the one that is in the
+  -- slot. If too many jobs wait and run, it ends at once.
   abbrev pub Becomes : List (SlotChange J) → List (SlotEvent may) → Type 0
   Becomes [] events = events ≡ []
   Becomes (Start slot job ∷ changes) events =

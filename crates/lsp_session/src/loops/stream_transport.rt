@@ -19,8 +19,9 @@ use std::snapshot::Snapshot;
 /// Gives a reader's messages, as a `TolerantInbox` does, and writes messages to a writer, as a `FrameOutbox` does (LSP 3.17, "Base
 /// Protocol"). It adds what was read and what was written to a transcript, which clauses alone see.
 ///
-/// `serve` runs a session over it. A transport that a program's function was lent can't get other ends there, and nobody but the transport adds
-/// to its transcript. So a clause of such a function, with the transcript in it, is about the bytes of this reader and this writer.
+/// `serve` runs a session over it. A transport that a program's function was lent can't get other ends there, and code outside of `lsp_session`
+/// can't add to its transcript. A proof by hand could, since it may give ghost data any value: `tools/by_hand` lists the proofs by hand, and fails
+/// at any other. While it passes, a clause with the transcript in it is about the bytes of this reader and this writer.
 #[derive(Drop)]
 pub struct StreamTransport<'a, R, W, L> {
     alloc: Global,
