@@ -1,3 +1,4 @@
 pub mod NoticeLemmas
 pub mod Refused
 pub mod Paths
+pub mod SessionLemmas

@@ -30,7 +30,8 @@ use Rattle.lsp_documents.specs.Notices.{doubted, left_by, shown, version_of, is_
 use Rattle.lsp_documents.specs.Notices.{version_after, NoticeKind, NoticeKind.opened, NoticeKind.changed}
 use Rattle.lsp_documents.specs.Notices.{NoticeKind.saved, NoticeKind.closed, Notice, Sent, Sent.made, Sent.unmade}
 use Rattle.lsp_documents.specs.Notices.{Sent.unread, Documents, Keeps, Puts, Makes, Takes, TakesAll, Agrees, IsVersion}
-use Rattle.lsp_documents.specs.Notices.{SavesOwn, SavesItsText, after, missed, kept_after, kept_after_all, told}
+use Rattle.lsp_documents.specs.Notices.{after_unmade, SavesOwn, SavesItsText, after, missed, kept_after}
+use Rattle.lsp_documents.specs.Notices.{kept_after_all, told}
 use Rattle.lsp_documents.specs.Notices.{told_all, kinds_in, kinds_of, notices_of, is_current, has_whole, since_whole}
 use Rattle.lsp_documents.specs.Notices.{has_changes}
 use Rattle.lsp_documents.specs.Notices.{fault_of, change_fault, document, opens, edits, Failed}
@@ -197,9 +198,16 @@ own_step : (a : Agreed) (b : Bool) (c : Option Item) (k : Option Open) (kind : N
 own_step a true c k kind h s = made_step a c k kind s.0 h
 own_step a false c k kind h s = h
 
+unmade_agrees : (a : Agreed) (c : Option Item) (k : Option Open) (kind : NoticeKind) → Agrees a c k →
+    Agrees a (told a c kind) (after_unmade k kind)
+unmade_agrees a c k (opened d) h = missed_agrees a (told a c (opened d)) k
+unmade_agrees a c k (changed version list) h = missed_agrees a (told a c (changed version list)) k
+unmade_agrees a c k (saved text) h = h
+unmade_agrees a c k closed h = missed_agrees a (told a c closed) k
+
 unmade_step : (a : Agreed) (b : Bool) (c : Option Item) (k : Option Open) (kind : NoticeKind) → Agrees a c k →
-    Agrees a (told_all a c (if b then kind ∷ [] else [])) (if b then missed k else k)
-unmade_step a true c k kind h = missed_agrees a (told a c kind) k
+    Agrees a (told_all a c (if b then kind ∷ [] else [])) (if b then after_unmade k kind else k)
+unmade_step a true c k kind h = unmade_agrees a c k kind h
 unmade_step a false c k kind h = h
 
 sent_step : (a : Agreed) (uri : List ℕ) (c : Option Item) (k : Option Open) (s : Sent) → Agrees a c k → SavesItsText a c
@@ -233,7 +241,7 @@ takes_step : (before : Documents) (s : Sent) (now : Documents) → Takes before 
     ≡ kept_after before.agreed uri (before.held uri) s
 takes_step before (made n) now h uri = put_step before now uri n.uri (λ k. after before.agreed k n.kind) h.own
     (h.others uri)
-takes_step before (unmade n) now h uri = put_step before now uri n.uri missed h.own (h.others uri)
+takes_step before (unmade n) now h uri = put_step before now uri n.uri (λ k. after_unmade k n.kind) h.own (h.others uri)
 takes_step before (unread notices) now h uri = h.held uri
 
 takes_agreed : (before : Documents) (s : Sent) (now : Documents) → Takes before s now → now.agreed ≡ before.agreed
@@ -385,9 +393,16 @@ own_sure : (a : Agreed) (b : Bool) (c : Option Item) (k : Option Open) (kind : N
 own_sure a true c k kind h = made_sure a c k kind h
 own_sure a false c k kind h = h
 
+unmade_is_sure : (a : Agreed) (c : Option Item) (k : Option Open) (kind : NoticeKind) → IsSure a c k
+    → IsSure a (told a c kind) (after_unmade k kind)
+unmade_is_sure a c k (opened d) h = missed_sure a (told a c (opened d)) k
+unmade_is_sure a c k (changed version list) h = missed_sure a (told a c (changed version list)) k
+unmade_is_sure a c k (saved text) h = h
+unmade_is_sure a c k closed h = missed_sure a (told a c closed) k
+
 unmade_sure : (a : Agreed) (b : Bool) (c : Option Item) (k : Option Open) (kind : NoticeKind) → IsSure a c k
-    → IsSure a (told_all a c (if b then kind ∷ [] else [])) (if b then missed k else k)
-unmade_sure a true c k kind h = missed_sure a (told a c kind) k
+    → IsSure a (told_all a c (if b then kind ∷ [] else [])) (if b then after_unmade k kind else k)
+unmade_sure a true c k kind h = unmade_is_sure a c k kind h
 unmade_sure a false c k kind h = h
 
 sent_sure : (a : Agreed) (uri : List ℕ) (c : Option Item) (k : Option Open) (s : Sent) → IsSure a c k
@@ -493,7 +508,7 @@ unmade_current : (a : Agreed) (uri : List ℕ) (own : Bool) (kind : NoticeKind) 
     (kept : Option Open) → own ≡ false → IsCurrentAt a (told_all a (Some c) (kinds_of uri ss))
     (kept_after_all a uri kept
     ss) → IsCurrentAt a (told_all a (Some c) ((if own then kind ∷ [] else []) ++ kinds_of uri ss)) (kept_after_all a uri
-    (if own then missed kept else kept) ss)
+    (if own then after_unmade kept kind else kept) ss)
 unmade_current a uri true kind ss c kept h rest = never (sym h)
 unmade_current a uri false kind ss c kept h rest = rest
 

@@ -28,6 +28,8 @@ use Rattle.lsp_documents.specs.Notices.{told_whole, compared, doubt_after, chang
 use Rattle.lsp_documents.specs.Notices.{saved_in, fault_of, needs_memory, remark_of}
 use Rattle.lsp_documents.specs.Notices.{change_remark, is_not_higher, has_whole, since_whole, shown, opens, edits}
 use Rattle.lsp_documents.specs.Notices.{saves, closes}
+use Rattle.lsp_documents.specs.Sessions.{is_save}
+use Rattle.lsp_documents.proofs.SessionLemmas.{no_save}
 
 never : {P : Type 0} → false ≡ true → P
 never h = grind (arith, h)
@@ -40,10 +42,12 @@ missed_shows None = refl
 missed_shows (Some (Known d)) = refl
 missed_shows (Some (Lost r)) = refl
 
--- a stale text that is shown: a notification of the document was missed, and its text is still to be had
-stale_shown : (before now : Documents) (n : Notice) (d : Kept) → Takes before (unmade n) now → now.held n.uri
-    ≡ Some (Known d) → ⊥
-stale_shown before now n d h k = never (sym (missed_shows (before.held n.uri)) ∙ ap shows (sym h.own ∙ k))
+-- a stale text that is shown: a notification of the document, which was no save, was missed, and its text is still
+-- shown
+stale_shown : (before now : Documents) (n : Notice) (d : Kept) → is_save n.kind ≡ false → Takes before (unmade n) now
+    → now.held n.uri ≡ Some (Known d) → ⊥
+stale_shown before now n d e h k = never (sym (missed_shows (before.held n.uri))
+    ∙ ap shows (no_save (before.held n.uri) n.kind e ∙ sym h.own ∙ k))
 
 -- the same after a message of which nothing was read
 unread_shown : (before now : Documents) (notices : List Notice) (uri : List ℕ) (d : Kept)

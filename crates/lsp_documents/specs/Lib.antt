@@ -7,3 +7,4 @@ pub mod Known
 pub mod Methods
 pub mod Heard
 pub mod Announced
+pub mod Sessions

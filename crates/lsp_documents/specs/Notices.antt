@@ -328,12 +328,12 @@ after a before closed = None
 abbrev pub missed : Option Open → Option Open
 missed before = option_map lost before
 
--- the same where memory ran out. A save changes no text of the client's
-abbrev pub after_starving : Option Open → NoticeKind → Option Open
-after_starving before (opened c) = missed before
-after_starving before (changed version list) = missed before
-after_starving before (saved text) = before
-after_starving before closed = missed before
+-- the same of a notice that was not applied. A save changes no text of the client's
+abbrev pub after_unmade : Option Open → NoticeKind → Option Open
+after_unmade before (opened c) = missed before
+after_unmade before (changed version list) = missed before
+after_unmade before (saved text) = before
+after_unmade before closed = missed before
 
 abbrev pub has_changes : List Change → Bool
 has_changes [] = false
@@ -355,8 +355,7 @@ needs_memory a before closed = false
 
 -- ---- notifications, as a server met them
 
--- one was made; or its document is known and no more of it; or nothing of it is known, and the client may have told
--- anything
+-- one was applied; or one was not; or nothing of a notification is known, and the client may have told anything
 pub data Sent : Type 0 where
   made : Notice → Sent
   unmade : Notice → Sent
@@ -364,7 +363,7 @@ pub data Sent : Type 0 where
 
 abbrev pub kept_after : Agreed → List ℕ → Option Open → Sent → Option Open
 kept_after a uri before (made n) = if bytes_eq uri n.uri then after a before n.kind else before
-kept_after a uri before (unmade n) = if bytes_eq uri n.uri then missed before else before
+kept_after a uri before (unmade n) = if bytes_eq uri n.uri then after_unmade before n.kind else before
 kept_after a uri before (unread notices) = missed before
 
 abbrev pub kept_after_all : Agreed → List ℕ → Option Open → List Sent → Option Open
@@ -444,7 +443,7 @@ pub record MissesAll (before now : Documents) : Type 0 where
 
 abbrev pub Takes : Documents → Sent → Documents → Type 0
 Takes before (made n) now = Makes before n now
-Takes before (unmade n) now = Misses before n.uri now
+Takes before (unmade n) now = Puts before n.uri (after_unmade (before.held n.uri) n.kind) now
 Takes before (unread notices) now = MissesAll before now
 
 -- notifications were taken one after another
@@ -481,7 +480,7 @@ pub record Starved (before : Documents) (n : Notice) (fault : DocumentFault)
   pub why : fault ≡ Memory
   pub right : fault_of before.agreed (before.held n.uri) n.kind ≡ None
   pub needed : needs_memory before.agreed (before.held n.uri) n.kind ≡ true
-  pub misses : Puts before n.uri (after_starving (before.held n.uri) n.kind) now
+  pub misses : Puts before n.uri (after_unmade (before.held n.uri) n.kind) now
 
 -- a call refused a notification by name, which changes nothing but for late changes, or missed it for want of memory
 abbrev pub Refused : Documents → Notice → DocumentFault → Documents → Type 0

@@ -4,10 +4,13 @@ ghost use Rattle.lsp_text.specs.Documents.{Change};
 ghost use Rattle.lsp_documents.specs.declared.fault.DocumentFault.{DocumentFault};
 ghost use Rattle.lsp_documents.specs.declared.fault.DocumentFault.TheVariants.{OutOfOrder};
 ghost use Rattle.lsp_documents.specs.declared.kept.Open.{Open};
-ghost use Rattle.lsp_documents.specs.Notices.{Documents, Notice, Item, text_item, Sent, made, opens, edits, kept_by, shown, version_of, has_whole, is_late, fault_of, Keeps, Makes, TakesAll, Agrees, IsClients, sure, SavesItsText, kept_after_all, kinds_of, told_all, is_current};
+ghost use Rattle.lsp_documents.specs.Held.{documents_of};
+ghost use Rattle.lsp_documents.specs.Sessions.{AppliesAll, Arrived, HasNone, MeansAll};
+ghost use Rattle.lsp_documents.specs.declared.documents.TextDocuments.{TextDocuments as Texts};
+ghost use Rattle.lsp_documents.specs.Notices.{Documents, Notice, kinds_in, Item, text_item, Sent, made, opens, edits, kept_by, shown, version_of, has_whole, is_late, fault_of, Keeps, Makes, TakesAll, Agrees, IsClients, sure, SavesItsText, kept_after_all, kinds_of, told_all, is_current};
 
-/// A document that may be looked at is the client's: after any list of notifications, of which some were made, of some the URI
-/// alone was known, and of some nothing at all, each URI whose text is known has the text of the client's own document, and its
+/// A document that may be looked at is the client's: after any list of notifications, of which some were applied, some were not,
+/// and of some nothing at all was known, each URI whose text is known has the text of the client's own document, and its
 /// version or none. A text that was asked for and comes with a save is taken for the client's. One that was not asked for may be any.
 /// A document that is not doubtful has the client's text whatever text comes with a save, as of a client that saves before it tells its
 /// last changes (`sure`).
@@ -50,4 +53,21 @@ pub fn documents_are_the_clients()
     ensures refused { (before : Documents) (n : Notice) (now : Documents) (fault : DocumentFault)
         → fault_of before.agreed (before.held n.uri) n.kind ≡ Some fault → (fault ≡ OutOfOrder → ⊥)
         → Makes before n now → Keeps before now }
+{}
+
+/// A server that applies each notification of a document holds the client's own texts. At each time of a session, each text that the
+/// server may look at is the text of the client's own document, and its version is the client's or none.
+///
+/// No document is open at first. `arrived` has the messages and wake-ups since the result of `initialize`, and whether the server took each
+/// text for lost before a message. A server does so if its policy skips content parts (`PassedOver`). `AppliesAll` is what your server
+/// promises of each message (`Applies`), one after another. `meant` is what the client told of its documents by these messages. If the
+/// params of a notification have another shape than LSP says, the client may have told anything of the document that they name. If they
+/// name none, or a content part was skipped, it may have told anything. The premise `SavesItsText` says that a text which the server asked
+/// for, and which comes with a save, is the client's own text.
+pub fn texts_are_the_clients()
+    ensures { (before now : Texts) (arrived : List Arrived) (meant : List Notice) → HasNone before
+        → AppliesAll before arrived now → MeansAll arrived meant → (uri : List ℕ)
+        → SavesItsText before.agreed None (kinds_in uri meant)
+        → Agrees before.agreed (told_all before.agreed None (kinds_in uri meant))
+        ((documents_of now).held uri) }
 {}
