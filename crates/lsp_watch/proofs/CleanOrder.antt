@@ -1,21 +1,22 @@
 -- The calls of a clean log keep the order of the lifecycle.
 use Rattle.std.proofs.Common.{◌≡◌, ◌⊎◌, inl, inr, Bool, true, false, cond, ◌&&◌, ◌||◌, [], ◌∷◌, ◌++◌, Option}
-use Rattle.std.proofs.Common.{Some, None, refl, sym, ap, ◌∙◌, is_some, ℕ, true≢false, codes}
+use Rattle.std.proofs.Common.{Some, None, refl, sym, ap, ◌∙◌, is_some, ℕ, true≢false, codes, List, option_map}
 use Rattle.std.proofs.lemmas.Slice.Eq.{bytes_eq-Decides}
 use Rattle.std.specs.Bool.{MatchBool}
-use Rattle.std.specs.List.{list_any}
+use Rattle.std.specs.List.{list_any, find}
 use Rattle.std.specs.Option.{option_or}
 use Rattle.std.specs.Str.{bytes_eq}
 use Rattle.lsp_message.specs.Message.{Message, request, notification, response}
 use Rattle.lsp_watch.specs.CleanLog.{IsClean, HasResult, is_call, ClientKeepsOrder, ServerKeepsOrder, KeepsOrder}
-use Rattle.lsp_watch.specs.Log.{Log, Passed, asks, tells, is_success, from_client, is_initialize, answers_initialize}
-use Rattle.lsp_watch.specs.Rules.{Finding, broken_by, place_of, client_tells, client_asks, initializing}
-use Rattle.lsp_watch.specs.Rules.{initialize_result, lifecycle_of, is_early, server_finding, client_finding}
-use Rattle.lsp_watch.specs.Rules.{opening_finding, opened_finding, lifecycle_finding}
-use Rattle.lsp_watch.specs.declared.breach.Rule.TheVariants.{BeforeResult, BeforeInitialized, SentAgain, AfterShutdown}
-use Rattle.lsp_watch.specs.declared.breach.Rule.TheVariants.{AfterExit}
-use Rattle.lsp_watch.specs.declared.breach.Way.{Way}
-use Rattle.lsp_watch.specs.declared.breach.Way.TheVariants.{ToServer, ToClient}
+use Rattle.lsp_watch.specs.Log.{Log, Passed, Open, Finding, asks, tells, is_success, from_client, is_initialize}
+use Rattle.lsp_watch.specs.Log.{answers_initialize, open_of, open_after, opens_session, without_first, is_for, other}
+use Rattle.lsp_watch.specs.Rules.{broken_by, place_of, client_tells, client_asks, initializing}
+use Rattle.lsp_watch.specs.Rules.{initialize_result, lifecycle_of, is_early, tells_opening, server_finding}
+use Rattle.lsp_watch.specs.Rules.{client_finding, opening_finding, opened_finding, lifecycle_finding}
+use Rattle.lsp_watch.specs.declared.rule.Rule.TheVariants.{BeforeResult, BeforeInitialized, SentAgain, AfterShutdown}
+use Rattle.lsp_watch.specs.declared.rule.Rule.TheVariants.{AfterExit}
+use Rattle.lsp_watch.specs.declared.way.Way.{Way}
+use Rattle.lsp_watch.specs.declared.way.Way.TheVariants.{ToServer, ToClient}
 use Rattle.lsp_watch.specs.declared.lifecycle.Lifecycle.{Lifecycle}
 use Rattle.lsp_watch.proofs.CleanReplies.{first_none, second_none, mapped_none, lifecycle_fits}
 
@@ -41,15 +42,78 @@ one_such such [] e = cc
 one_such such (p ∷ before) e = one_or (such p) p.place (place_of such before) (list_any such before)
     (one_such such before) e
 
-some_left : (a : Bool) (o : Option ℕ) → is_some (cond a None o) ≡ true → is_some o ≡ true
-some_left true o e = cc
-some_left false o e = e
+or_right : (a b : Bool) → b ≡ true → (a || b) ≡ true
+or_right true b e = refl
+or_right false b e = e
+
+or_more : (a b c : Bool) → (b ≡ true → c ≡ true) → (a || b) ≡ true → (a || c) ≡ true
+or_more true b c more e = refl
+or_more false b c more e = more e
+
+or_false_right : (a : Bool) → (a || false) ≡ true → a ≡ true
+or_false_right true e = refl
+or_false_right false e = e
+
+-- an `initialize` that has no reply was sent
+module _ (such : Open → Bool) where
+  without_any : (q : Open → Bool) (xs : List Open) → list_any such (without_first q xs) ≡ true
+      → list_any such xs ≡ true
+  without_any q [] e = e
+  without_any q (x ∷ xs) e = by (q x) (such x) (without_any q xs) e
+    where
+      by : (b s : Bool) → (list_any such (without_first q xs) ≡ true → list_any such xs ≡ true)
+          → list_any such (cond b xs (x ∷ without_first q xs)) ≡ true → (such x || list_any such xs) ≡ true
+      by true s more e = or_right (such x) (list_any such xs) e
+      by false s more e = or_more (such x) (list_any such (without_first q xs)) (list_any such xs) more e
+
+  any_push : (xs : List Open) (y : Open) → list_any such (xs ++ y ∷ []) ≡ true
+      → (list_any such xs || such y) ≡ true
+  any_push [] y e = or_false_right (such y) e
+  any_push (x ∷ xs) y e = by (such x) (any_push xs y) e
+    where
+      by : (b : Bool) → (list_any such (xs ++ y ∷ []) ≡ true → (list_any such xs || such y) ≡ true)
+          → (b || list_any such (xs ++ y ∷ [])) ≡ true → ((b || list_any such xs) || such y) ≡ true
+      by true more e = refl
+      by false more e = more e
+
+  find_any : (xs : List Open) → is_some (option_map (λ (o : Open). o.place) (find such xs)) ≡ true
+      → list_any such xs ≡ true
+  find_any [] e = cc
+  find_any (x ∷ xs) e = by (such x) (find_any xs) e
+    where
+      by : (b : Bool)
+          → (is_some (option_map (λ (o : Open). o.place) (find such xs)) ≡ true → list_any such xs ≡ true)
+          → is_some (option_map (λ (o : Open). o.place) (cond b (Some x) (find such xs))) ≡ true
+          → (b || list_any such xs) ≡ true
+      by true more e = refl
+      by false more e = more e
+
+swap_or : (a b : Bool) → (a || b) ≡ true → (b || a) ≡ true
+swap_or true b e = or_right b true refl
+swap_or false true e = refl
+swap_or false false e = cc
+
+opened_by : (way : Way) (place : ℕ) (m : Message) (before : Log)
+    → (list_any opens_session (open_of before) ≡ true → list_any is_initialize before ≡ true)
+    → list_any opens_session (open_after way place m (open_of before)) ≡ true
+    → (is_initialize (record { way = way; place = place; message = m }) || list_any is_initialize before) ≡ true
+opened_by way place (request i method params) before more e = or_more
+    (from_client way && bytes_eq method (codes "initialize"))
+    (list_any opens_session (open_of before)) (list_any is_initialize before) more
+    (swap_or (list_any opens_session (open_of before)) (from_client way && bytes_eq method (codes "initialize"))
+    (any_push opens_session (open_of before) _ e))
+opened_by way place (notification method params) before more e =
+    or_right (from_client way && false) (list_any is_initialize before) (more e)
+opened_by way place (response i outcome) before more e =
+    or_right (from_client way && false) (list_any is_initialize before)
+    (more (without_any opens_session (is_for (other way) i) (open_of before) e))
+
+open_initialize : (log : Log) → list_any opens_session (open_of log) ≡ true → list_any is_initialize log ≡ true
+open_initialize [] e = e
+open_initialize (p ∷ before) e = opened_by p.way p.place p.message before (open_initialize before) e
 
 one_initialize : (log : Log) → is_some (initializing log) ≡ true → list_any is_initialize log ≡ true
-one_initialize [] e = cc
-one_initialize (p ∷ before) e = one_or (is_initialize p) p.place
-    (cond (answers_initialize before p) None (initializing before)) (list_any is_initialize before)
-    (λ some. one_initialize before (some_left (answers_initialize before p) (initializing before) some)) e
+one_initialize log e = open_initialize log (find_any opens_session (open_of log) e)
 
 both : (a b : Bool) → (a && b) ≡ true → (a ≡ true) × (b ≡ true)
 both true b e = (refl, e)
@@ -142,19 +206,19 @@ has_come : (place : ℕ) (o : Option ℕ) → uninvited place o ≡ None → is_
 has_come place None e = cc
 has_come place (Some x) e = refl
 
-module _ (stands : Lifecycle) (m : Message) where
-  result_came : (r : Option ℕ) → opened_finding stands r m ≡ None → is_some r ≡ true
+module _ (stands : Lifecycle) (waits : Option ℕ) (m : Message) where
+  result_came : (r : Option ℕ) → opened_finding stands waits r m ≡ None → is_some r ≡ true
   result_came None e = cc
   result_came (Some place) e = refl
 
-  invited : (r : Option ℕ) → opened_finding stands r m ≡ None → tells (codes "initialized") m ≡ false
+  invited : (r : Option ℕ) → opened_finding stands waits r m ≡ None → tells (codes "initialized") m ≡ false
       → is_some stands.initialized ≡ true
   invited None e other = cc
   invited (Some place) e other = has_come place stands.initialized (passed_by (tells (codes "initialized") m)
       (broken_by SentAgain stands.initialized) (uninvited place stands.initialized) other e)
 
-  again : (r : Option ℕ) → opened_finding stands r m ≡ None → tells (codes "initialized") m ≡ true → stands.initialized
-      ≡ None
+  again : (r : Option ℕ) → opened_finding stands waits r m ≡ None → tells (codes "initialized") m ≡ true
+      → stands.initialized ≡ None
   again None e is = cc
   again (Some place) e is = mapped_none (λ at. (SentAgain, Some at)) stands.initialized
       (taken (tells (codes "initialized") m) (broken_by SentAgain stands.initialized)
@@ -175,34 +239,34 @@ other_call (notification method params) e = (
   refl,
 )
 
-module _ (stands : Lifecycle) (m : Message) (fits : client_finding stands m ≡ None) where
-  opening_fits : tells (codes "exit") m ≡ false → opening_finding stands m ≡ None
+module _ (stands : Lifecycle) (waits : Option ℕ) (m : Message) (fits : client_finding stands waits m ≡ None) where
+  opening_fits : tells (codes "exit") m ≡ false → opening_finding stands waits m ≡ None
   opening_fits other = otherwise (tells (codes "exit") m) (broken_by AfterExit stands.exit)
-      (option_or (broken_by AfterExit stands.exit) (broken_by AfterShutdown stands.shutdown)) (opening_finding stands m)
-      other fits
+      (option_or (broken_by AfterExit stands.exit) (broken_by AfterShutdown stands.shutdown))
+      (opening_finding stands waits m) other fits
 
   opened_fits : tells (codes "exit") m ≡ false → asks (codes "initialize") m ≡ false
-      → opened_finding stands stands.result m ≡ None
+      → opened_finding stands waits stands.result m ≡ None
   opened_fits other later = passed_by (asks (codes "initialize") m)
-      (option_or (broken_by SentAgain stands.result) (broken_by BeforeResult stands.initialize))
-      (opened_finding stands stands.result m) later (opening_fits other)
+      (option_or (broken_by SentAgain stands.result) (broken_by BeforeResult waits))
+      (opened_finding stands waits stands.result m) later (opening_fits other)
 
   first_fits : asks (codes "initialize") m ≡ true → stands.result ≡ None
   first_fits is = mapped_none (λ at. (SentAgain, Some at)) stands.result
-      (first_none (broken_by SentAgain stands.result) (broken_by BeforeResult stands.initialize)
+      (first_none (broken_by SentAgain stands.result) (broken_by BeforeResult waits)
       (taken (asks (codes "initialize") m)
-      (option_or (broken_by SentAgain stands.result) (broken_by BeforeResult stands.initialize))
-      (opened_finding stands stands.result m) is (opening_fits (not_exit m is))))
+      (option_or (broken_by SentAgain stands.result) (broken_by BeforeResult waits))
+      (opened_finding stands waits stands.result m) is (opening_fits (not_exit m is))))
 
   never_exit : stands.exit ≡ None
   never_exit = never (tells (codes "exit") m) stands.exit (broken_by AfterShutdown stands.shutdown)
-      (opening_finding stands m) fits
+      (opening_finding stands waits m) fits
 
   exit_or_serving : (tells (codes "exit") m ≡ true) ⊎ (stands.shutdown ≡ None)
-  exit_or_serving = unless (tells (codes "exit") m) stands.exit stands.shutdown (opening_finding stands m) fits
+  exit_or_serving = unless (tells (codes "exit") m) stands.exit stands.shutdown (opening_finding stands waits m) fits
 
   opened_later : (tells (codes "exit") m || asks (codes "initialize") m) ≡ false
-      → opened_finding stands stands.result m ≡ None
+      → opened_finding stands waits stands.result m ≡ None
   opened_later e = opened_fits (left_false (tells (codes "exit") m) (asks (codes "initialize") m) e)
       (right_false (tells (codes "exit") m) (asks (codes "initialize") m) e)
 
@@ -212,26 +276,30 @@ serves : (before : Log) (m : Message)
 serves before m (inl is) = inl is
 serves before m (inr none) = inr (none_such (client_asks (codes "shutdown")) before none)
 
-client_order : (before : Log) (m : Message) → client_finding (lifecycle_of before) m ≡ None → ClientKeepsOrder before m
-client_order before m fits = let stands : Lifecycle = lifecycle_of before in record {
-  unended = none_such (client_tells (codes "exit")) before (never_exit stands m fits);
-  serving = serves before m (exit_or_serving stands m fits);
-  opened = λ later. has_result before (result_came stands m stands.result (opened_later stands m fits later));
-  invited = λ later other. one_such (client_tells (codes "initialized")) before (invited stands m stands.result
-      (opened_later stands m fits later) other);
-  once = λ is. none_such (client_tells (codes "initialized")) before (again stands m stands.result
-      (opened_fits stands m fits (other_call m is).0 (other_call m is).1) is);
-  first = λ is. no_result before (first_fits stands m fits is);
+client_order : (before : Log) (m : Message) → client_finding (lifecycle_of before) (initializing before) m ≡ None
+    → ClientKeepsOrder before m
+client_order before m fits = let stands : Lifecycle = lifecycle_of before in let w = initializing before in record {
+  unended = none_such (client_tells (codes "exit")) before (never_exit stands w m fits);
+  serving = serves before m (exit_or_serving stands w m fits);
+  opened = λ later. has_result before (result_came stands w m stands.result (opened_later stands w m fits later));
+  invited = λ later other. one_such (client_tells (codes "initialized")) before (invited stands w m stands.result
+      (opened_later stands w m fits later) other);
+  once = λ is. none_such (client_tells (codes "initialized")) before (again stands w m stands.result
+      (opened_fits stands w m fits (other_call m is).0 (other_call m is).1) is);
+  first = λ is. no_result before (first_fits stands w m fits is);
 }
 
 abbrev too_early : Bool → Option ℕ → Option Finding
 too_early may at = cond may None (Some (BeforeResult, at))
 
-server_order : (before : Log) (m : Message) → server_finding (lifecycle_of before) m ≡ None → ServerKeepsOrder before m
-server_order before m fits = by (is_some (initialize_result before)) (is_some (initializing before)) (is_early m)
-    refl refl refl fits
+server_order : (before : Log) (m : Message)
+    → server_finding (lifecycle_of before) (initializing before) (tells_opening before m) m ≡ None
+    → ServerKeepsOrder before m
+server_order before m fits = by (is_some (initialize_result before)) (is_some (initializing before))
+    (tells_opening before m || is_early m) refl refl refl fits
   where
-    by : (r i e : Bool) → is_some (initialize_result before) ≡ r → is_some (initializing before) ≡ i → is_early m ≡ e
+    by : (r i e : Bool) → is_some (initialize_result before) ≡ r → is_some (initializing before) ≡ i
+        → (tells_opening before m || is_early m) ≡ e
         → too_early (r || (i && e)) (initializing before) ≡ None → ServerKeepsOrder before m
     by true i e at waits early fits = inl (has_result before at)
     by false true true at waits early fits = inr (early, one_initialize before waits)

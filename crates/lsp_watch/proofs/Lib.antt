@@ -1,6 +1,8 @@
 mod CleanOrder
 mod CleanReplies
-mod Keeping
-mod KeptContent
+mod NoFalseAlarm
+pub mod Queues
 mod Refused
 mod RefusedContent
+mod RefusedLawful
+mod Removed

@@ -1,19 +1,19 @@
 -- A log for each rule, and the message that breaks it; and messages that may look wrong and fit.
-use Rattle.std.proofs.Common.{◌≡◌, List, [], ◌∷◌, Option, Some, None, Ok, Err, option_map, codes, pos, refl, ℕ}
-use Rattle.serde_json.specs.Data.{null}
+use Rattle.std.proofs.Common.{◌≡◌, List, [], ◌∷◌, Option, Some, None, Ok, Err, codes, pos, refl, ℕ}
+use Rattle.serde_json.specs.Data as num
+use Rattle.serde_json.specs.Data.{null, object, member, no_members, unsigned}
 use Rattle.lsp_message.specs.Id.{number}
 use Rattle.lsp_message.specs.Message.{Message, request, notification, response}
-use Rattle.lsp_watch.specs.Log.{Log, passed}
-use Rattle.lsp_watch.specs.Rules.{breach_of}
-use Rattle.lsp_watch.specs.declared.breach.Rule.{Rule}
-use Rattle.lsp_watch.specs.declared.breach.Rule.TheVariants.{NobodyAsked, IdStillOpen, BeforeResult, BeforeInitialized}
-use Rattle.lsp_watch.specs.declared.breach.Rule.TheVariants.{SentAgain, AfterShutdown, AfterExit}
-use Rattle.lsp_watch.specs.declared.breach.Way.{Way}
-use Rattle.lsp_watch.specs.declared.breach.Way.TheVariants.{ToServer, ToClient}
+use Rattle.lsp_watch.specs.Log.{Log, Finding, passed}
+use Rattle.lsp_watch.specs.Rules.{session_finding}
+use Rattle.lsp_watch.specs.declared.rule.Rule.TheVariants.{NobodyAsked, IdStillOpen, BeforeResult, BeforeInitialized}
+use Rattle.lsp_watch.specs.declared.rule.Rule.TheVariants.{SentAgain, AfterShutdown, AfterExit}
+use Rattle.lsp_watch.specs.declared.way.Way.{Way}
+use Rattle.lsp_watch.specs.declared.way.Way.TheVariants.{ToServer, ToClient}
 
 -- the rule that a message breaks, and against the message at which place
-abbrev broken : Log → Way → Message → Option (Rule × Option ℕ)
-broken log way m = option_map (λ breach. (breach.rule, breach.against)) (breach_of log way m)
+abbrev broken : Log → Way → Message → Option Finding
+broken = session_finding
 
 abbrev asks : ℕ → List ℕ → Message
 asks id method = request (number (pos id)) method null
@@ -57,6 +57,17 @@ in_use : broken (passed ToClient 4 (asks 7 (codes "a")) ∷ begun) ToClient (ask
     ≡ Some (IdStillOpen, Some 4)
 in_use = refl
 
+-- it is the requester's fault alone: both requests may have their replies, and no more
+abbrev twice : Log
+twice = passed ToServer 5 (asks 7 (codes "b")) ∷ (passed ToServer 4 (asks 7 (codes "a")) ∷ begun)
+
+second_fits : broken (passed ToClient 6 (replies 7) ∷ twice) ToClient (replies 7) ≡ None
+second_fits = refl
+
+third_is_one_too_many : broken (passed ToClient 7 (replies 7) ∷ (passed ToClient 6 (replies 7) ∷ twice)) ToClient
+    (replies 7) ≡ Some (NobodyAsked, None)
+third_is_one_too_many = refl
+
 -- both sides may use one id
 other_side : broken (passed ToServer 4 (asks 7 (codes "a")) ∷ begun) ToClient (asks 7 (codes "b")) ≡ None
 other_side = refl
@@ -75,6 +86,24 @@ server_waits = refl
 server_logs : broken asked ToClient (tells (codes "window/logMessage")) ≡ None
 server_logs = refl
 
+-- progress under the token of `initialize` may go with it, and only under that
+abbrev shows : ℕ → Message
+shows token =
+    notification (codes "$/progress") (object (member (codes "token") (num.number (unsigned token)) no_members))
+
+abbrev asked_with : Log
+asked_with = passed ToServer 1 (request (number (pos 1)) (codes "initialize")
+    (object (member (codes "workDoneToken") (num.number (unsigned 5)) no_members))) ∷ []
+
+server_shows : broken asked_with ToClient (shows 5) ≡ None
+server_shows = refl
+
+other_token : broken asked_with ToClient (shows 6) ≡ Some (BeforeResult, Some 1)
+other_token = refl
+
+no_token : broken asked ToClient (shows 5) ≡ Some (BeforeResult, Some 1)
+no_token = refl
+
 -- an error is no result: the client may try again
 refused : broken (passed ToClient 2 (refuses 1) ∷ asked) ToServer (tells (codes "initialized"))
     ≡ Some (BeforeResult, None)
@@ -82,6 +111,11 @@ refused = refl
 
 retried : broken (passed ToClient 2 (refuses 1) ∷ asked) ToServer (asks 2 (codes "initialize")) ≡ None
 retried = refl
+
+-- of two `initialize` one may be refused: the other waits
+other_waits : broken (passed ToClient 3 (refuses 2) ∷ (passed ToServer 2 (asks 2 (codes "initialize")) ∷ asked))
+    ToServer (tells (codes "initialized")) ≡ Some (BeforeResult, Some 1)
+other_waits = refl
 
 uninvited : broken opened ToServer (tells (codes "textDocument/didOpen")) ≡ Some (BeforeInitialized, Some 2)
 uninvited = refl

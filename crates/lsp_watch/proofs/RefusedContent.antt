@@ -1,20 +1,21 @@
 -- For each rule of documents and of progress a log and the message that breaks it; and messages that may look wrong and
 -- fit.
-use Rattle.std.proofs.Common.{◌≡◌, List, [], ◌∷◌, Option, Some, None, Ok, Err, option_map, codes, pos, refl, ℕ}
+use Rattle.std.proofs.Common.{◌≡◌, List, [], ◌∷◌, Option, Some, None, Ok, Err, codes, pos, refl, ℕ}
+use Rattle.std.specs.Option.{option_or}
 use Rattle.serde_json.specs.Data.{Data, null, number, string, object, no_members, member, unsigned}
 use Rattle.lsp_message.specs.Id as id
 use Rattle.lsp_message.specs.Message.{Message, request, notification, response}
-use Rattle.lsp_watch.specs.Content.{content_breach_of}
-use Rattle.lsp_watch.specs.Log.{Log, passed}
-use Rattle.lsp_watch.specs.declared.breach.Way.{Way}
-use Rattle.lsp_watch.specs.declared.breach.Way.TheVariants.{ToServer, ToClient}
-use Rattle.lsp_watch.specs.declared.content_rule.ContentRule.{ContentRule}
-use Rattle.lsp_watch.specs.declared.content_rule.ContentRule.TheVariants.{AlreadyOpen, NotOpen, VersionNotHigher}
-use Rattle.lsp_watch.specs.declared.content_rule.ContentRule.TheVariants.{NoSuchToken}
+use Rattle.lsp_watch.specs.Documents.{document_finding}
+use Rattle.lsp_watch.specs.Log.{Log, Finding, passed}
+use Rattle.lsp_watch.specs.Progress.{progress_finding}
+use Rattle.lsp_watch.specs.declared.way.Way.{Way}
+use Rattle.lsp_watch.specs.declared.way.Way.TheVariants.{ToServer, ToClient}
+use Rattle.lsp_watch.specs.declared.rule.Rule.TheVariants.{AlreadyOpen, NotOpen, VersionNotHigher}
+use Rattle.lsp_watch.specs.declared.rule.Rule.TheVariants.{NoSuchToken, TokenEnded}
 
 -- the rule that a message breaks, and against the message at which place
-abbrev broken : Log → Way → Message → Option (ContentRule × Option ℕ)
-broken log way m = option_map (λ breach. (breach.rule, breach.against)) (content_breach_of log way m)
+abbrev broken : Log → Way → Message → Option Finding
+broken log way m = option_or (document_finding log way m) (progress_finding log way m)
 
 -- ---- documents
 
@@ -106,8 +107,20 @@ own_token = refl
 replied : broken (passed ToClient 2 replies ∷ working) ToClient (tells null) ≡ Some (NoSuchToken, None)
 replied = refl
 
-ended : broken (passed ToClient 2 ends ∷ working) ToClient (tells null) ≡ Some (NoSuchToken, None)
+-- a token of a request is good up to the reply, also behind the end of its progress
+ended : broken (passed ToClient 2 ends ∷ working) ToClient (tells null) ≡ None
 ended = refl
+
+-- of two requests under one id the first reply answers the first
+abbrev twice : Log
+twice = passed ToClient 3 replies ∷ (passed ToServer 2 (asks (codes "workDoneToken")) ∷ (passed ToServer 1
+    (request (id.number (pos 1)) (codes "b") null) ∷ []))
+
+one_replied : broken twice ToClient (tells null) ≡ None
+one_replied = refl
+
+both_replied : broken (passed ToClient 4 replies ∷ twice) ToClient (tells null) ≡ Some (NoSuchToken, None)
+both_replied = refl
 
 abbrev listing : Log
 listing = passed ToServer 1 (asks (codes "partialResultToken")) ∷ []
@@ -126,8 +139,18 @@ made = passed ToServer 2 replies ∷ (passed ToClient 1 creates ∷ [])
 created : broken made ToClient (tells null) ≡ None
 created = refl
 
-created_ended : broken (passed ToClient 3 ends ∷ made) ToClient ends ≡ Some (NoSuchToken, None)
+created_ended : broken (passed ToClient 3 ends ∷ made) ToClient ends ≡ Some (TokenEnded, Some 3)
 created_ended = refl
+
+-- it may be created again
+created_again : broken (passed ToServer 5 replies ∷ (passed ToClient 4 creates ∷ (passed ToClient 3 ends ∷ made)))
+    ToClient (tells null) ≡ None
+created_again = refl
+
+-- an error under the same id, to another request, does not end it
+other_refused : broken (passed ToServer 4 refuses ∷ (passed ToClient 3 (asks (codes "a")) ∷ made)) ToClient (tells null)
+    ≡ None
+other_refused = refl
 
 refused : broken (passed ToServer 2 refuses ∷ (passed ToClient 1 creates ∷ [])) ToClient (tells null)
     ≡ Some (NoSuchToken, None)

@@ -5,16 +5,16 @@ use Rattle.lsp_message.specs.Id.{Id}
 use Rattle.lsp_message.specs.Message.{Message, request, notification, response}
 use Rattle.lsp_watch.specs.Log.{Log, Passed, asks, tells, is_success, from_client, is_request, is_reply}
 use Rattle.lsp_watch.specs.Log.{is_initialize, answers_initialize}
-use Rattle.lsp_watch.specs.Rules.{breach_of, client_tells, client_asks, is_early}
-use Rattle.lsp_watch.specs.declared.breach.Way.{Way}
+use Rattle.lsp_watch.specs.Rules.{session_finding, client_tells, client_asks, is_early, tells_opening}
+use Rattle.lsp_watch.specs.declared.way.Way.{Way}
 
 -- at each place of a log this holds of what passed before it, and the message
 abbrev pub AtEach : (Log → Passed → Type 0) → Log → Type 0
 AtEach P log = (later before : Log) (p : Passed) → log ≡ later ++ p ∷ before → P before p
 
--- no message breaks a rule
+-- no message breaks a rule of the lifecycle or of ids
 abbrev pub IsClean : Log → Type 0
-IsClean log = AtEach (λ before p. breach_of before p.way p.message ≡ None) log
+IsClean log = AtEach (λ before p. session_finding before p.way p.message ≡ None) log
 
 -- A request of this way and id passed, and since then no reply to the id and no other request under it.
 pub record IsAsked (before : Log) (way : Way) (id : Id) : Type 0 where
@@ -58,10 +58,11 @@ pub record ClientKeepsOrder (before : Log) (m : Message) : Type 0 where
   pub once : tells (codes "initialized") m ≡ true → list_any (client_tells (codes "initialized")) before ≡ false
   pub first : asks (codes "initialize") m ≡ true → HasResult before → ⊥
 
--- A call of the server comes after the result of `initialize`; or it is one that may come before, after `initialize`.
+-- A call of the server comes after the result of `initialize`; or, after `initialize`, it is one that may come before,
+-- or progress under the token of an `initialize` that waits.
 abbrev pub ServerKeepsOrder : Log → Message → Type 0
-ServerKeepsOrder before m =
-    HasResult before ⊎ ((is_early m ≡ true) × (list_any is_initialize before ≡ true))
+ServerKeepsOrder before m = HasResult before
+    ⊎ (((tells_opening before m || is_early m) ≡ true) × (list_any is_initialize before ≡ true))
 
 abbrev pub KeepsOrder : Log → Type 0
 KeepsOrder log = AtEach (λ before p. is_call p.message ≡ true

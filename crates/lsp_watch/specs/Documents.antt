@@ -5,14 +5,12 @@ use Rattle.std.specs.Str.{bytes_eq}
 use Rattle.serde_json.specs.Data.{Data, null}
 use Rattle.serde_json.specs.Find.{get, as_str, as_number, as_i64}
 use Rattle.lsp_message.specs.Message.{Message, request, notification, response}
-use Rattle.lsp_watch.specs.Log.{Log}
-use Rattle.lsp_watch.specs.declared.content_rule.ContentBreach.{ContentBreach}
-use Rattle.lsp_watch.specs.declared.content_rule.ContentRule.TheVariants.{AlreadyOpen, NotOpen, VersionNotHigher}
+use Rattle.lsp_watch.specs.Log.{Log, Finding, from_client}
+use Rattle.lsp_watch.specs.declared.rule.Rule.TheVariants.{AlreadyOpen, NotOpen, VersionNotHigher}
 use Rattle.lsp_watch.specs.declared.documents.Deed.{Deed}
 use Rattle.lsp_watch.specs.declared.documents.Deed.TheVariants.{Opens, Changes, Closes}
 use Rattle.lsp_watch.specs.declared.documents.Document.{Document}
-use Rattle.lsp_watch.specs.declared.breach.Way.{Way}
-use Rattle.lsp_watch.specs.declared.breach.Way.TheVariants.{ToServer}
+use Rattle.lsp_watch.specs.declared.way.Way.{Way}
 
 -- ---- what a message tells
 
@@ -38,8 +36,9 @@ deed_named method = if bytes_eq method (codes "textDocument/didOpen") then Some 
 
 -- what the client does with a document by a message, if it does so with one
 abbrev pub deed_in : Way → Message → Option Deed
-deed_in ToServer (notification method params) = deed_named method
-deed_in way m = None
+deed_in way (notification method params) = if from_client way then deed_named method else None
+deed_in way (request i method params) = None
+deed_in way (response i outcome) = None
 
 abbrev pub params_in : Message → Data
 params_in (request i method params) = params
@@ -58,19 +57,22 @@ changed place None d = d
 changed place (Some v) d = record { opened = d.opened; told = place; version = Some v }
 
 -- the document after the client did this with it
-abbrev pub after_deed : Option Deed → ℕ → Option ℤ → Option Document → Option Document
-after_deed None place version before = before
-after_deed (Some Opens) place version before =
-    Some (record { opened = place; told = place; version = version })
-after_deed (Some Changes) place version before = option_map (changed place version) before
-after_deed (Some Closes) place version before = None
+abbrev pub after_deed : Deed → ℕ → Option ℤ → Option Document → Option Document
+after_deed Opens place version before = Some (record { opened = place; told = place; version = version })
+after_deed Changes place version before = option_map (changed place version) before
+after_deed Closes place version before = None
+
+-- the document of a URI after a message with these params, by which the client does this
+abbrev pub document_after : List ℕ → Option Deed → ℕ → Data → Option Document → Option Document
+document_after uri None place params before = before
+document_after uri (Some deed) place params before = if is_text uri (uri_in params)
+    then after_deed deed place (version_in params) before else before
 
 -- the document of a URI, if it is open: by which `didOpen`, at which version, and which message told that
 abbrev pub document_of : List ℕ → Log → Option Document
 document_of uri [] = None
-document_of uri (p ∷ before) = if is_text uri (uri_in (params_in p.message))
-    then after_deed (deed_in p.way p.message) p.place (version_in (params_in p.message)) (document_of uri before)
-    else document_of uri before
+document_of uri (p ∷ before) =
+    document_after uri (deed_in p.way p.message) p.place (params_in p.message) (document_of uri before)
 
 -- ---- the rules
 
@@ -79,17 +81,17 @@ abbrev pub is_not_higher : Option ℤ → Option ℤ → Bool
 is_not_higher (Some v) (Some before) = not (int_lt before v)
 is_not_higher v before = false
 
-abbrev pub deed_finding : Deed → Option ℤ → Option Document → Option ContentBreach
+abbrev pub deed_finding : Deed → Option ℤ → Option Document → Option Finding
 deed_finding Opens version None = None
-deed_finding Opens version (Some d) = Some (record { rule = AlreadyOpen; against = Some d.opened })
-deed_finding deed version None = Some (record { rule = NotOpen; against = None })
+deed_finding Opens version (Some d) = Some (AlreadyOpen, Some d.opened)
+deed_finding deed version None = Some (NotOpen, None)
 deed_finding Closes version (Some d) = None
 deed_finding Changes version (Some d) = if is_not_higher version d.version
-    then Some (record { rule = VersionNotHigher; against = Some d.told }) else None
+    then Some (VersionNotHigher, Some d.told) else None
 
 -- what a message breaks of the rules of documents
-abbrev pub document_breach_of : Log → Way → Message → Option ContentBreach
-document_breach_of before way m =
+abbrev pub document_finding : Log → Way → Message → Option Finding
+document_finding before way m =
     option_and_then (λ deed.
     option_and_then (λ uri. deed_finding deed (version_in (params_in m)) (document_of uri before))
     (uri_in (params_in m))) (deed_in way m)

@@ -1,7 +1,15 @@
 pub mod CleanLog
-pub mod Content
 pub mod Documents
+pub mod Entries
+pub mod Held
+pub mod KeptId
+pub mod Keys
+pub mod Lawful
 pub mod Log
+pub mod Methods
+pub mod Progress
+pub mod RuleData
 pub mod Rules
 pub mod Saw
-pub mod Tokens
+pub mod Shape
+pub mod Verdicts

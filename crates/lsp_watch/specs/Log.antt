@@ -1,13 +1,15 @@
 -- What passed between a client and a server, and which request is open (JSON-RPC 2.0, sections 4 and 5).
-use Rattle.std.specs.Option.{option_or}
-use Rattle.std.specs.Prelude.{ℕ, Bool, true, false, ◌&&◌, List, [], ◌∷◌, Option, Some, None, Result, Ok, Err}
-use Rattle.std.specs.Prelude.{option_and_then, option_map, if◌then◌else◌, codes}
+use Rattle.std.specs.Prelude.{ℕ, Bool, true, false, ◌&&◌, List, [], ◌∷◌, ◌++◌, Option, Some, None, Ok}
+use Rattle.std.specs.Prelude.{option_and_then, if◌then◌else◌, codes, find}
 use Rattle.std.specs.Str.{bytes_eq}
+use Rattle.serde_json.specs.Data.{Data}
 use Rattle.lsp_message.specs.Id.{Id, same_id}
 use Rattle.lsp_message.specs.Message.{Message, request, notification, response}
 use Rattle.lsp_message.specs.Methods.{request_id}
-use Rattle.lsp_watch.specs.declared.breach.Way.{Way}
-use Rattle.lsp_watch.specs.declared.breach.Way.TheVariants.{ToServer, ToClient}
+use Rattle.lsp_watch.specs.Keys.{key_in}
+use Rattle.lsp_watch.specs.declared.rule.Rule.{Rule}
+use Rattle.lsp_watch.specs.declared.way.Way.{Way}
+use Rattle.lsp_watch.specs.declared.way.Way.TheVariants.{ToServer, ToClient}
 
 -- a message that passed, which way it went, and its place: the number by which a person finds it again
 pub record Passed : Type 0 where
@@ -71,28 +73,90 @@ is_request way id p = same_way way p.way && is_id id (request_id p.message)
 abbrev pub is_reply : Way → Id → Passed → Bool
 is_reply way id p = same_way (other way) p.way && is_id id (reply_id p.message)
 
+-- the token under which a message tells progress
+abbrev pub progress_token : Message → Option Id
+progress_token (notification method params) = if bytes_eq method (codes "$/progress") then key_in (codes "token") params
+    else None
+progress_token (request i method params) = None
+progress_token (response i outcome) = None
+
+-- a rule that a message breaks, and the place of the message that it goes against
+abbrev pub Finding : Type 0
+Finding = Rule × Option ℕ
+
 -- ---- what is open
 
--- the request of this way and id that waits for its reply: the first that passed since the last reply to the id
-abbrev pub waiting : Way → Id → Log → Option Passed
-waiting way id [] = None
-waiting way id (p ∷ before) =
-    if is_reply way id p then None
-    else if is_request way id p then option_or (waiting way id before) (Some p)
-    else waiting way id before
+-- A request that has no reply yet: which way it went, its place, its id and its method; the tokens of its params under
+-- which progress may be told; and the one that it creates.
+pub record Open : Type 0 where
+  pub way : Way
+  pub place : ℕ
+  pub id : Id
+  pub method : List ℕ
+  pub work : Option Id
+  pub part : Option Id
+  pub created : Option Id
+
+-- the token under which a server asks the client to show progress
+abbrev pub created_name : Way → List ℕ → Data → Option Id
+created_name ToServer method params = None
+created_name ToClient method params = if bytes_eq method (codes "window/workDoneProgress/create")
+    then key_in (codes "token") params else None
+
+abbrev pub request_of : Way → ℕ → Id → List ℕ → Data → Open
+request_of way place i method params = record {
+  way = way;
+  place = place;
+  id = i;
+  method = method;
+  work = key_in (codes "workDoneToken") params;
+  part = key_in (codes "partialResultToken") params;
+  created = created_name way method params;
+}
+
+abbrev pub is_for : Way → Id → Open → Bool
+is_for way id o = same_way way o.way && same_id id o.id
+
+-- without the first that is such
+abbrev pub without_first : {A : Type 0} → (A → Bool) → List A → List A
+without_first such [] = []
+without_first such (x ∷ xs) = if such x then xs else x ∷ without_first such xs
+
+-- a reply answers the first request of the other way that has its id and no reply yet
+abbrev pub answered : Way → Id → List Open → List Open
+answered way id asked = without_first (is_for (other way) id) asked
+
+-- the requests that have no reply, after one more message
+abbrev pub open_after : Way → ℕ → Message → List Open → List Open
+open_after way place (request i method params) asked = asked ++ request_of way place i method params ∷ []
+open_after way place (notification method params) asked = asked
+open_after way place (response i outcome) asked = answered way i asked
+
+-- the requests that have no reply, in the order in which they passed
+abbrev pub open_of : Log → List Open
+open_of [] = []
+open_of (p ∷ before) = open_after p.way p.place p.message (open_of before)
+
+-- the request of this way and id that the next reply to it answers
+abbrev pub waiting : Way → Id → Log → Option Open
+waiting way id log = find (is_for way id) (open_of log)
 
 -- the request that a message replies to
-abbrev pub answered_by : Log → Passed → Option Passed
+abbrev pub answered_by : Log → Passed → Option Open
 answered_by before p = option_and_then (λ id. waiting (other p.way) id before) (reply_id p.message)
 
 -- the client sends `initialize`
 abbrev pub is_initialize : Passed → Bool
 is_initialize p = from_client p.way && asks (codes "initialize") p.message
 
-abbrev pub is_some_initialize : Option Passed → Bool
-is_some_initialize None = false
-is_some_initialize (Some p) = is_initialize p
+-- an `initialize` that has no reply
+abbrev pub opens_session : Open → Bool
+opens_session o = from_client o.way && bytes_eq o.method (codes "initialize")
+
+abbrev pub is_some_such : {A : Type 0} → (A → Bool) → Option A → Bool
+is_some_such such None = false
+is_some_such such (Some x) = such x
 
 -- a message replies to `initialize`
 abbrev pub answers_initialize : Log → Passed → Bool
-answers_initialize before p = is_some_initialize (answered_by before p)
+answers_initialize before p = is_some_such opens_session (answered_by before p)

@@ -1,108 +1,101 @@
-// What a message may break.
-use lsp_message::RequestId;
+// What a message breaks.
+ghost use Rattle.std.specs.Prelude.{◌≡◌};
+ghost use Rattle.lsp_watch.specs.Verdicts.{as_breach, shape_breach as breach_of_shape, told_of as told_by, is_over as is_over_for};
+
+use crate::open::Asked;
+use crate::rule::Rule;
+use crate::way::Way;
 use std::fmt;
 
-/// Which way a message goes. It prints as `->` to the server and `<-` to the client.
+/// Whether a rule is broken.
 #[derive(Clone, Copy, Debug, PartialEq, Eq)]
-pub enum Way {
-    /// From the client to the server.
-    ToServer,
-    /// From the server to the client.
-    ToClient,
+pub enum Verdict {
+    /// It is.
+    Breach,
+    /// It is, unless something passed that was not seen.
+    CannotTell,
 }
 
-impl Way {
-    ghost use Rattle.std.specs.Prelude.{◌≡◌};
-    ghost use Rattle.lsp_watch.specs.Log.{other as other_way, from_client};
-
-    /// The way back.
-    pub fn other(self) -> Way
-        ensures { result ≡ other_way self }
-    {
-        match self {
-            Way::ToServer => Way::ToClient,
-            Way::ToClient => Way::ToServer,
-        }
-    }
-
-    /// Whether the client sends what goes this way.
-    pub fn is_from_client(self) -> bool
-        ensures { result ≡ from_client self }
-    {
-        match self {
-            Way::ToServer => true,
-            Way::ToClient => false,
-        }
-    }
-}
-
-impl fmt::Display for Way {
-    fn fmt<W: fmt::Write>(&self, f: &mut fmt::Formatter<W>) -> fmt::Result {
-        f.write_str(match self {
-            Way::ToServer => "->",
-            Way::ToClient => "<-",
-        })
-    }
-}
-
-/// A rule of the protocol. It prints as a sentence.
-#[derive(Clone, Copy, Debug, PartialEq, Eq)]
-pub enum Rule {
-    /// A reply answers a request that has no reply yet (JSON-RPC 2.0, section 5).
-    NobodyAsked,
-    /// An id is not used again before its request has its reply (JSON-RPC 2.0, section 4).
-    IdStillOpen,
-    /// Before the result of `initialize` a client sends `initialize` alone, and a server only what may go with it (LSP 3.17,
-    /// "Initialize Request").
-    BeforeResult,
-    /// `initialized` is the first that a client sends after that result (LSP 3.17, "Initialized Notification").
-    BeforeInitialized,
-    /// `initialize` is not sent again after its result, and `initialized` is sent once (LSP 3.17, "Initialize Request" and
-    /// "Initialized Notification").
-    SentAgain,
-    /// After `shutdown` a client sends replies and `exit` alone (LSP 3.17, "Shutdown Request").
-    AfterShutdown,
-    /// After `exit` a client sends replies alone (LSP 3.17, "Exit Notification").
-    AfterExit,
-}
-
-impl fmt::Display for Rule {
-    fn fmt<W: fmt::Write>(&self, f: &mut fmt::Formatter<W>) -> fmt::Result {
-        f.write_str(match self {
-            Rule::NobodyAsked => {
-                "no request waits for this reply (JSON-RPC 2.0, section 5): none had its id, or it has its reply"
-            }
-            Rule::IdStillOpen => {
-                "the id is in use (JSON-RPC 2.0, section 4): a request with it has no reply yet"
-            }
-            Rule::BeforeResult => {
-                "`initialize` has no result yet (LSP 3.17, \"Initialize Request\")"
-            }
-            Rule::BeforeInitialized => {
-                "`initialized` has to come first (LSP 3.17, \"Initialized Notification\")"
-            }
-            Rule::SentAgain => {
-                "it may be sent only once (LSP 3.17, \"Initialize Request\" and \"Initialized Notification\")"
-            }
-            Rule::AfterShutdown => {
-                "after `shutdown` only `exit` may be sent (LSP 3.17, \"Shutdown Request\")"
-            }
-            Rule::AfterExit => {
-                "nothing may be sent after `exit` (LSP 3.17, \"Exit Notification\")"
-            }
-        })
-    }
-}
-
-/// How a message goes against one that passed before it. It prints the rule, and the place as that of a line.
-#[derive(Debug, Drop)]
+/// A rule that a message breaks. It prints the rule, and the place as that of a line.
+#[derive(Clone, Copy, Debug)]
 pub struct Breach {
-    /// The rule that it breaks.
+    /// The rule.
     pub rule: Rule,
-    /// The id of the message, if it has one.
-    pub id: Option<RequestId>,
+    /// Whether it is surely broken.
+    pub verdict: Verdict,
     /// The place of the message that it goes against, if there is one.
     pub against: Option<u64>,
+}
+
+/// A request that has no reply when the session is over: `Rule::NoReply`.
+#[derive(Clone, Copy, Debug)]
+pub struct Unanswered {
+    /// Which way the request went.
+    pub way: Way,
+    /// The place of the request.
+    pub place: u64,
+    /// A breach if the server was asked. A client may end before its user has answered, so of a client it cannot be told.
+    pub verdict: Verdict,
+}
+
+/// A rule and the place of the message that it is broken against, as a breach. In a log that begins in the middle of a session only what
+/// goes against a message that was seen is surely one.
+pub fn breach_of(finding: (Rule, Option<u64>), is_whole: bool) -> Breach
+    ensures { result ≡ as_breach is_whole finding }
+{
+    let (rule, against) = finding;
+    let verdict = if is_whole || against.is_some() {
+        Verdict::Breach
+    } else {
+        Verdict::CannotTell
+    };
+    Breach {
+        rule,
+        verdict,
+        against,
+    }
+}
+
+/// A rule of its shape that a message breaks, as a breach. What could not be read may be right.
+pub fn shape_breach(rule: Rule) -> Breach
+    ensures { result ≡ breach_of_shape rule }
+{
+    let verdict = match rule {
+        Rule::Unreadable => Verdict::CannotTell,
+        _ => Verdict::Breach,
+    };
+    Breach {
+        rule,
+        verdict,
+        against: None,
+    }
+}
+
+/// A request that has no reply, where the session is over.
+pub fn told_of(asked: &Asked) -> Unanswered
+    ensures { result ≡ told_by asked.now }
+{
+    let verdict = if asked.way.is_from_client() {
+        Verdict::Breach
+    } else {
+        Verdict::CannotTell
+    };
+    Unanswered {
+        way: asked.way,
+        place: asked.place,
+        verdict,
+    }
+}
+
+/// Whether the side has ended that was asked.
+pub fn is_over(server_ended: bool, client_ended: bool, asked: &Asked) -> bool
+    ensures { result ≡ is_over_for server_ended client_ended asked.now }
+{
+    if asked.way.is_from_client() {
+        server_ended
+    } else {
+        client_ended
+    }
 }
 
 impl fmt::Display for Breach {

@@ -4,14 +4,14 @@ ghost use Rattle.std.specs.Option.{option_copied};
 ghost use Rattle.std.specs.Str.{bytes_eq};
 ghost use Rattle.serde_json.specs.Data.{null};
 ghost use Rattle.serde_json.specs.View.{view};
-ghost use Rattle.lsp_message.specs.View.{message_view};
-ghost use Rattle.lsp_watch.specs.Content.{held, Opened};
-ghost use Rattle.lsp_watch.specs.Documents.{uri_in as uri_of, version_in as version_of, deed_named as named, deed_in as deed_of, params_in, changed as changed_at, after_deed, is_not_higher as is_below, deed_finding, document_breach_of};
+ghost use Rattle.lsp_watch.specs.Entries.{entry_view};
+ghost use Rattle.lsp_watch.specs.Held.{held, Opened};
+ghost use Rattle.lsp_watch.specs.Documents.{uri_in as uri_of, version_in as version_of, deed_named as named, deed_in as deed_of, params_in, changed as changed_at, after_deed, is_not_higher as is_below, deed_finding, document_finding};
 ghost use Rattle.lsp_watch.specs.Log.{Log, passed};
 
-use crate::breach::Way;
-use crate::content_rule::{ContentBreach, ContentRule};
-use lsp_message::Message;
+use crate::logged::{Entry, Kind};
+use crate::rule::Rule;
+use crate::way::Way;
 use serde_json::Value;
 use std::alloc::{AllocError, Global};
 use std::collections::BTreeMap;
@@ -60,26 +60,26 @@ impl Documents {
     }
 
     /// What a message breaks.
-    pub fn breach(&self, way: Way, message: &Message) -> Option<ContentBreach>
+    pub fn breaks(&self, way: Way, message: &Entry) -> Option<(Rule, Option<u64>)>
         ensures { (log : Log) → Opened self.now log
-            → result ≡ document_breach_of log way (message_view message.now) }
+            → result ≡ document_finding log way (entry_view message.now) }
     {
         let deed = deed_in(way, message)?;
-        let params = params_of(message)?;
+        let params = message.params()?;
         let uri = uri_in(params)?;
         deed_breaks(deed, version_in(params), self.get(uri))
     }
 
     /// Keeps what a message does. If the allocation fails, nothing is changed.
-    pub fn keep(&mut self, place: u64, way: Way, message: &Message) -> Result<(), AllocError>
+    pub fn keep(&mut self, place: u64, way: Way, message: &Entry) -> Result<(), AllocError>
         ensures ok { (log : Log) → Opened self.old log
-            → OnOk result (Opened self.new (passed way place (message_view message.now) ∷ log)) }
+            → OnOk result (Opened self.new (passed way place (entry_view message.now) ∷ log)) }
         ensures err { OnErr result ((q : List ℕ) → held self.new q ≡ held self.old q) }
     {
         let Some(deed) = deed_in(way, message) else {
             return Ok(());
         };
-        let Some(params) = params_of(message) else {
+        let Some(params) = message.params() else {
             return Ok(());
         };
         let Some(uri) = uri_in(params) else {
@@ -96,7 +96,7 @@ impl Documents {
         uri: &str,
     ) -> Result<(), AllocError>
         ensures own { OnOk result (held self.new uri.now
-            ≡ after_deed (Some deed) place version (held self.old uri.now)) }
+            ≡ after_deed deed place version (held self.old uri.now)) }
         ensures others { OnOk result ((q : List ℕ) → bytes_eq q uri.now ≡ false → held self.new q ≡ held self.old q) }
         ensures err { OnErr result ((q : List ℕ) → held self.new q ≡ held self.old q) }
     {
@@ -166,19 +166,18 @@ fn deed_breaks(
     deed: Deed,
     version: Option<i64>,
     document: Option<Document>,
-) -> Option<ContentBreach>
+) -> Option<(Rule, Option<u64>)>
     ensures { result ≡ deed_finding deed version document }
 {
-    let (rule, against) = match (deed, document) {
-        (Deed::Opens, None) | (Deed::Closes, Some(_)) => return None,
-        (Deed::Opens, Some(document)) => (ContentRule::AlreadyOpen, Some(document.opened)),
-        (Deed::Changes | Deed::Closes, None) => (ContentRule::NotOpen, None),
+    match (deed, document) {
+        (Deed::Opens, None) | (Deed::Closes, Some(_)) => None,
+        (Deed::Opens, Some(document)) => Some((Rule::AlreadyOpen, Some(document.opened))),
+        (Deed::Changes | Deed::Closes, None) => Some((Rule::NotOpen, None)),
         (Deed::Changes, Some(document)) if is_not_higher(version, document.version) => {
-            (ContentRule::VersionNotHigher, Some(document.told))
+            Some((Rule::VersionNotHigher, Some(document.told)))
         }
-        (Deed::Changes, Some(_)) => return None,
-    };
-    Some(ContentBreach { rule, against })
+        (Deed::Changes, Some(_)) => None,
+    }
 }
 
 fn is_not_higher(version: Option<i64>, before: Option<i64>) -> bool
@@ -191,11 +190,11 @@ fn is_not_higher(version: Option<i64>, before: Option<i64>) -> bool
 }
 
 /// What the client does by a message with a document.
-fn deed_in(way: Way, message: &Message) -> Option<Deed>
-    ensures { result ≡ deed_of way (message_view message.now) }
+fn deed_in(way: Way, message: &Entry) -> Option<Deed>
+    ensures { result ≡ deed_of way (entry_view message.now) }
 {
-    match (way, message) {
-        (Way::ToServer, Message::Notification(told)) => deed_named(told.method.as_str()),
+    match (way, message.kind()) {
+        (Way::ToServer, Kind::Notification) => deed_named(message.method()),
         _ => None,
     }
 }
@@ -211,24 +210,12 @@ fn deed_named(method: &str) -> Option<Deed>
     }
 }
 
-/// The params of a request or a notification.
-pub fn params_of(message: &Message) -> Option<&Value>
-    ensures { MatchOption result (params_in (message_view message.now) ≡ null)
-        (λ params. params_in (message_view message.now) ≡ view params.now) }
-{
-    match message {
-        Message::Request(request) => Some(&request.params),
-        Message::Notification(notification) => Some(&notification.params),
-        Message::Response(_) => None,
-    }
-}
-
 /// The URI of the document that a message is about, if it names one: `textDocument.uri` in its params (LSP 3.17,
 /// `TextDocumentIdentifier`).
-pub fn document_uri(message: &Message) -> Option<&str>
-    ensures { option_map (λ s. s.now) result ≡ uri_of (params_in (message_view message.now)) }
+pub fn document_uri(message: &Entry) -> Option<&str>
+    ensures { option_map (λ s. s.now) result ≡ uri_of (params_in (entry_view message.now)) }
 {
-    uri_in(params_of(message)?)
+    uri_in(message.params()?)
 }
 
 fn uri_in(params: &Value) -> Option<&str>

@@ -1,6 +1,8 @@
-//! A law of logs. It is the contract of a function, so the proofs of callers can use it.
+//! Laws of logs. Each is the contract of a function, so the proofs of callers can use it.
 ghost use Rattle.lsp_watch.specs.CleanLog.{IsClean, RepliesOnce, KeepsOrder};
-ghost use Rattle.lsp_watch.specs.Log.{Log};
+ghost use Rattle.lsp_watch.specs.Lawful.{IsLawful, BreaksNone};
+ghost use Rattle.lsp_watch.specs.Log.{Log, Open};
+ghost use Rattle.std.specs.Prelude.{List};
 
 /// In a log in which no message breaks a rule:
 ///
@@ -10,4 +12,11 @@ ghost use Rattle.lsp_watch.specs.Log.{Log};
 pub fn a_clean_log_keeps_order()
     ensures replies { (log : Log) → IsClean log → RepliesOnce log }
     ensures order { (log : Log) → IsClean log → KeepsOrder log }
+{}
+
+/// A log in which each request has an id that is free, each reply its request, and progress the token of a request that is open, breaks
+/// no rule of ids or of progress, whoever the two sides are. `IsLawful` is a grammar of such logs: it knows nothing of how a reply
+/// finds its request.
+pub fn a_lawful_log_breaks_none()
+    ensures { (log : Log) (asked : List Open) → IsLawful log asked → BreaksNone log }
 {}

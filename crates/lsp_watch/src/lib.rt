@@ -1,19 +1,26 @@
-//! A watch over what passes between a client and a server: whether each message fits those before it (JSON-RPC 2.0, sections 4 and 5;
-//! LSP 3.17, "Server lifecycle"). `ContentWatch` looks into the params too: at documents and progress.
+//! A watch over what passes between a client and a server: whether each message fits those before it, and is one by itself (JSON-RPC
+//! 2.0; LSP 3.17).
 #![tactic(auto)]
 
 mod breach;
-mod content;
-mod content_rule;
 mod documents;
 pub mod laws;
 mod lifecycle;
-mod tokens;
+mod logged;
+mod methods;
+mod open;
+mod progress;
+mod rule;
+mod shape;
+mod unread;
 mod watch;
+mod way;
 
-pub use breach::{Breach, Rule, Way};
-pub use content::ContentWatch;
-pub use content_rule::{ContentBreach, ContentRule};
+pub use breach::{Breach, Unanswered, Verdict};
 pub use documents::document_uri;
-pub use tokens::progress_token;
+pub use logged::{Entry, Kind, LoggedId, LoggedMessage};
+pub use open::Asked;
+pub use progress::progress_token;
+pub use rule::{Level, Rule, Side, rules};
 pub use watch::Watch;
+pub use way::Way;

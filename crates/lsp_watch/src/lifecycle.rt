@@ -1,17 +1,16 @@
 // Where the lifecycle stands (LSP 3.17, "Server lifecycle").
 ghost use Rattle.std.specs.Prelude.{◌≡◌, ◌∷◌, [], Some, if◌then◌else◌};
-ghost use Rattle.lsp_message.specs.View.{message_view};
+ghost use Rattle.lsp_watch.specs.Entries.{entry_view};
 ghost use Rattle.lsp_watch.specs.Log.{Log, asks as has_request, tells as has_notification, is_success as has_result, passed, answers_initialize};
 ghost use Rattle.lsp_watch.specs.Rules.{lifecycle_of, is_early as early_spec, broken_by, server_finding, client_finding, opening_finding};
 
-use crate::breach::{Rule, Way};
-use lsp_message::Message;
+use crate::logged::{Entry, Kind};
+use crate::rule::Rule;
+use crate::way::Way;
 
 /// The places of the messages by which the lifecycle goes on.
 #[derive(Clone, Copy, Debug)]
 pub struct Lifecycle {
-    /// The `initialize` that waits for its reply.
-    pub initialize: Option<u64>,
     /// The last result of `initialize`.
     pub result: Option<u64>,
     /// The last `initialized`.
@@ -27,7 +26,6 @@ impl Lifecycle {
         ensures { result ≡ lifecycle_of [] }
     {
         Lifecycle {
-            initialize: None,
             result: None,
             initialized: None,
             shutdown: None,
@@ -36,16 +34,13 @@ impl Lifecycle {
     }
 
     /// After one more message. `answers` says whether it is a reply to `initialize`.
-    pub fn after(self, place: u64, way: Way, message: &Message, answers: bool) -> Lifecycle
+    pub fn after(self, place: u64, way: Way, message: &Entry, answers: bool) -> Lifecycle
         ensures { (log : Log) → self ≡ lifecycle_of log
-            → answers ≡ answers_initialize log (passed way place (message_view message.now))
-            → result ≡ lifecycle_of (passed way place (message_view message.now) ∷ log) }
+            → answers ≡ answers_initialize log (passed way place (entry_view message.now))
+            → result ≡ lifecycle_of (passed way place (entry_view message.now) ∷ log) }
     {
         let by_client = way.is_from_client();
-        let asks_first = by_client && asks(message, "initialize");
-        let waiting = if answers { None } else { self.initialize };
         Lifecycle {
-            initialize: place_or(asks_first, place, waiting),
             result: place_or(answers && is_success(message), place, self.result),
             initialized: place_or(
                 by_client && tells(message, "initialized"),
@@ -58,29 +53,30 @@ impl Lifecycle {
     }
 
     /// What a request or a notification of the client breaks.
-    pub fn client_breaks(&self, message: &Message) -> Option<(Rule, Option<u64>)>
-        ensures { result ≡ client_finding self.now (message_view message.now) }
+    pub fn client_breaks(
+        &self,
+        waiting: Option<u64>,
+        message: &Entry,
+    ) -> Option<(Rule, Option<u64>)>
+        ensures { result ≡ client_finding self.now waiting (entry_view message.now) }
     {
         if tells(message, "exit") {
             return breaks(Rule::AfterExit, self.exit);
         }
         breaks(Rule::AfterExit, self.exit)
             .or(breaks(Rule::AfterShutdown, self.shutdown))
-            .or(self.opening_breaks(message))
+            .or(self.opening_breaks(waiting, message))
     }
 
     /// What one that comes before `shutdown` breaks.
-    fn opening_breaks(&self, message: &Message) -> Option<(Rule, Option<u64>)>
-        ensures { result ≡ opening_finding self.now (message_view message.now) }
+    fn opening_breaks(&self, waiting: Option<u64>, message: &Entry) -> Option<(Rule, Option<u64>)>
+        ensures { result ≡ opening_finding self.now waiting (entry_view message.now) }
     {
         if asks(message, "initialize") {
-            return breaks(Rule::SentAgain, self.result).or(breaks(
-                Rule::BeforeResult,
-                self.initialize,
-            ));
+            return breaks(Rule::SentAgain, self.result).or(breaks(Rule::BeforeResult, waiting));
         }
         let Some(place) = self.result else {
-            return Some((Rule::BeforeResult, self.initialize));
+            return Some((Rule::BeforeResult, waiting));
         };
         if tells(message, "initialized") {
             return breaks(Rule::SentAgain, self.initialized);
@@ -91,14 +87,20 @@ impl Lifecycle {
         }
     }
 
-    /// What a request or a notification of the server breaks.
-    pub fn server_breaks(&self, message: &Message) -> Option<(Rule, Option<u64>)>
-        ensures { result ≡ server_finding self.now (message_view message.now) }
+    /// What a request or a notification of the server breaks. `may_tell` says whether it is progress under the token of an `initialize`
+    /// that waits.
+    pub fn server_breaks(
+        &self,
+        waiting: Option<u64>,
+        may_tell: bool,
+        message: &Entry,
+    ) -> Option<(Rule, Option<u64>)>
+        ensures { result ≡ server_finding self.now waiting may_tell (entry_view message.now) }
     {
-        if self.result.is_some() || (self.initialize.is_some() && is_early(message)) {
+        if self.result.is_some() || (waiting.is_some() && (may_tell || is_early(message))) {
             return None;
         }
-        Some((Rule::BeforeResult, self.initialize))
+        Some((Rule::BeforeResult, waiting))
     }
 }
 
@@ -119,42 +121,41 @@ fn place_or(is_such: bool, place: u64, before: Option<u64>) -> Option<u64>
 }
 
 /// Whether a server may send it while `initialize` waits (LSP 3.17, "Initialize Request").
-fn is_early(message: &Message) -> bool
-    ensures { result ≡ early_spec (message_view message.now) }
+fn is_early(message: &Entry) -> bool
+    ensures { result ≡ early_spec (entry_view message.now) }
 {
     tells(message, "window/showMessage")
         || tells(message, "window/logMessage")
         || tells(message, "telemetry/event")
-        || tells(message, "$/progress")
         || asks(message, "window/showMessageRequest")
 }
 
 /// Whether it is a request of this method.
-pub fn asks(message: &Message, method: &str) -> bool
-    ensures { result ≡ has_request method.now (message_view message.now) }
+pub fn asks(message: &Entry, method: &str) -> bool
+    ensures { result ≡ has_request method.now (entry_view message.now) }
 {
-    match message {
-        Message::Request(request) => request.method.as_str() == method,
-        Message::Notification(_) | Message::Response(_) => false,
+    match message.kind() {
+        Kind::Request(_) => message.method() == method,
+        Kind::Notification | Kind::Reply(_, _) => false,
     }
 }
 
 /// Whether it is a notification of this method.
-fn tells(message: &Message, method: &str) -> bool
-    ensures { result ≡ has_notification method.now (message_view message.now) }
+pub fn tells(message: &Entry, method: &str) -> bool
+    ensures { result ≡ has_notification method.now (entry_view message.now) }
 {
-    match message {
-        Message::Notification(notification) => notification.method.as_str() == method,
-        Message::Request(_) | Message::Response(_) => false,
+    match message.kind() {
+        Kind::Notification => message.method() == method,
+        Kind::Request(_) | Kind::Reply(_, _) => false,
     }
 }
 
 /// Whether it is a reply with a result.
-fn is_success(message: &Message) -> bool
-    ensures { result ≡ has_result (message_view message.now) }
+pub fn is_success(message: &Entry) -> bool
+    ensures { result ≡ has_result (entry_view message.now) }
 {
-    match message {
-        Message::Response(response) => response.response_result.is_ok(),
-        Message::Request(_) | Message::Notification(_) => false,
+    match message.kind() {
+        Kind::Reply(_, succeeds) => *succeeds,
+        Kind::Request(_) | Kind::Notification => false,
     }
 }

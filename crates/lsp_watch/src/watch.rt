@@ -1,243 +1,398 @@
 // What a watch keeps, and what it finds.
-ghost use Rattle.std.specs.Prelude.{◌≡◌, ◌∷◌, [], ℕ, IfOk, OnOk, OnErr, is_some, option_map};
-ghost use Rattle.std.specs.FinMap as map;
+ghost use Rattle.std.specs.Prelude.{◌≡◌, ◌∷◌, [], ◌++◌, ℕ, false, true, IfOk, OnOk, OnErr, option_map, option_to_list, unwrap_or, map, filter};
 ghost use Rattle.std.specs.List.{list_any};
-ghost use Rattle.lsp_message.specs.Id.{Id, same_id};
-ghost use Rattle.lsp_message.specs.Methods.{request_id};
-ghost use Rattle.lsp_message.specs.View.{message_view};
-ghost use Rattle.lsp_watch.specs.Log.{Log, passed, waiting as waiting_in, answers_initialize as replies_to_it, is_id, reply_id};
-ghost use Rattle.lsp_watch.specs.Rules.{breach_of, lifecycle_finding, id_finding, id_of as id_in};
-ghost use Rattle.lsp_watch.specs.Saw.{Saw, open_on, asked_of, opened, closed};
+ghost use Rattle.serde_json.specs.View.{view};
+ghost use Rattle.lsp_message.specs.Message.{Message};
+ghost use Rattle.lsp_watch.specs.Entries.{entry_view, method_in, params_in};
+ghost use Rattle.lsp_watch.specs.Held.{Opened};
+ghost use Rattle.lsp_watch.specs.Log.{Log, passed, waiting, open_of, answered, request_of, is_some_such, progress_token as token_named, answers_initialize as replies_to_it};
+ghost use Rattle.lsp_watch.specs.Progress.{progress_finding, live_before, with_accepted, ended_before, with_ended, ended_by, accepted_in};
+ghost use Rattle.lsp_watch.specs.Rules.{session_finding, lifecycle_finding, id_finding, opens_under};
+ghost use Rattle.lsp_watch.specs.Saw.{Saw, KeepsSame};
+ghost use Rattle.lsp_watch.specs.Verdicts.{breaches_of, findings_of, as_breach, shape_breach as breach_of_shape, entered, unanswered_of, begins_in, told_of as told_by, is_over as is_over_for};
 
-use crate::breach::{Breach, Rule, Way};
+use crate::breach::{Breach, Unanswered, breach_of, is_over, shape_breach, told_of};
+use crate::documents::Documents;
 use crate::lifecycle::{Lifecycle, asks};
-use lsp_message::{Message, RequestId};
-use lsp_queue::{Incoming, ReqQueue};
+use crate::logged::{Entry, Kind, LoggedId, LoggedMessage};
+use crate::open::{Asked, answer, first_for, kept_of, place_of_opening};
+use crate::progress::{Created, may_tell, progress_token};
+use crate::rule::Rule;
+use crate::way::Way;
 use std::alloc::{AllocError, Global};
-use std::marker::Model;
 
-/// What is kept of a request that waits for its reply.
-#[derive(Clone, Copy, Debug)]
-struct Asked {
-    place: u64,
-    is_initialize: bool,
-}
-
-/// Sees each message that passes between a client and a server, and says whether it fits those before it.
+/// Sees each message that passes between a client and a server in one session, and says which rules it breaks.
 ///
-/// It keeps the ids of the requests that wait for their replies, and five places: memory follows what is open, and not what passed.
+/// It keeps the requests that have no reply, the documents that are open, the tokens that the client let the server create, and four places.
+/// So memory follows what is open, and not what passed; but a created token is kept up to the end.
 #[derive(Debug, Drop)]
 pub struct Watch {
-    /// The client's requests.
-    to_server: ReqQueue<Asked, ()>,
-    /// The server's requests.
-    to_client: ReqQueue<Asked, ()>,
-    lifecycle: Lifecycle,
-}
-
-impl Model for Watch {
-    ghost use Rattle.std.specs.Coded.{codes};
-    ghost use Rattle.std.specs.FinMap as map;
-    ghost use Rattle.lsp_message.specs.Id.{id_cmp};
-    ghost use Rattle.lsp_message.specs.IdKeys.{coded_id};
-    ghost use Rattle.lsp_watch.specs.Saw.{Seen};
-    ghost use Rattle.lsp_watch.specs.contracts.watch.Asked as asked;
-
-    ghost Value = { Seen };
-
-    ghost coded = { Prim.hlevel (codes, map.code {R = id_cmp} coded_id asked.the_row.coded) };
-
-    ghost view = { λ w. record { to_server = w.to_server.incoming; to_client = w.to_client.incoming; stands = w.lifecycle } };
+    alloc: Global,
+    is_whole: bool,
+    asked: Vec<Asked>,
+    created: Created,
+    stands: Lifecycle,
+    documents: Documents,
 }
 
 impl Watch {
-    /// Makes a watch that saw nothing. It does not allocate.
+    /// Makes a watch that sees a session from its first message on. It does not allocate.
     pub fn new(alloc: Global) -> Watch
-        ensures { Saw result [] }
+        ensures saw { Saw result [] }
+        ensures whole { result.is_whole ≡ true }
+    {
+        Watch::starting(alloc, true)
+    }
+
+    /// Makes a watch that sees a session from its middle on: what passed before is not known. What would be a breach only if nothing
+    /// had passed before has the verdict `CannotTell`. It does not allocate.
+    pub fn from_the_middle(alloc: Global) -> Watch
+        ensures saw { Saw result [] }
+        ensures part { result.is_whole ≡ false }
+    {
+        Watch::starting(alloc, false)
+    }
+
+    fn starting(alloc: Global, is_whole: bool) -> Watch
+        ensures saw { Saw result [] }
+        ensures whole { result.is_whole ≡ is_whole }
     {
         Watch {
-            to_server: ReqQueue::default(alloc),
-            to_client: ReqQueue::default(alloc),
-            lifecycle: Lifecycle::new(),
+            alloc,
+            is_whole,
+            asked: Vec::new(alloc),
+            created: Created::new(alloc),
+            stands: Lifecycle::new(),
+            documents: Documents::new(alloc),
         }
     }
 
-    /// Sees one more message, and gives the rule that it breaks, if it breaks one. The place is a number by which you find it again,
-    /// such as its line.
+    /// Sees one more message, and gives the rules that it breaks: those of its shape, then one of the lifecycle or of ids, one of
+    /// documents, and one of progress. The place is a number by which you find it again, such as its line.
     ///
-    /// A message that breaks a rule counts all the same: a `shutdown` was sent, also where it came too early. An id that comes again
-    /// while it is open leaves the first request open. The error means that an allocation failed, and nothing has changed.
+    /// A message that breaks a rule counts all the same: a `shutdown` was sent, also where it came too early. The error means that
+    /// an allocation failed, and nothing has changed.
     pub fn pass(
         &mut self,
         place: u64,
         way: Way,
-        message: &Message,
-    ) -> Result<Option<Breach>, AllocError>
+        message: &LoggedMessage,
+    ) -> Result<Vec<Breach>, AllocError>
         ensures ok { (log : Log) → Saw self.old log → IfOk result (λ found.
-            (found ≡ breach_of log way (message_view message.now))
-            × Saw self.new (passed way place (message_view message.now) ∷ log)) }
-        ensures err { OnErr result (self.new ≡ self.old) }
+            (found.items ≡ breaches_of self.old.is_whole log way message.now.faults.items (option_map entry_view message.now.entry))
+            × Saw self.new (entered way place (option_map entry_view message.now.entry) log)) }
+        ensures whole { self.new.is_whole ≡ self.old.is_whole }
+        ensures err { OnErr result (KeepsSame self.old self.new) }
     {
-        let found = self.breach(way, message)?;
-        self.keep(place, way, message)?;
+        let found = self.breaches(way, message)?;
+        let kept = self.enter(place, way, message);
+        match kept {
+            Ok(()) => Ok(found),
+            Err(error) => {
+                drop(found);
+                Err(error)
+            }
+        }
+    }
+
+    /// The rules that a message would break if it passed now. The error means that an allocation failed.
+    pub fn breaches(&self, way: Way, message: &LoggedMessage) -> Result<Vec<Breach>, AllocError>
+        ensures { (log : Log) → Saw self.now log → IfOk result (λ found.
+            found.items ≡ breaches_of self.now.is_whole log way message.now.faults.items (option_map entry_view message.now.entry)) }
+    {
+        let mut found = shape_breaches(self.alloc, &message.faults)?;
+        if let Some(entry) = &message.entry {
+            self.push_breaches(&mut found, way, entry)?;
+        }
         Ok(found)
     }
 
-    /// The ids of the requests of this way that wait for their replies, in ascending order. The error means that an allocation failed.
-    pub fn waiting(&self, way: Way) -> Result<Vec<RequestId>, AllocError>
-        ensures { (log : Log) → Saw self.now log → IfOk result (λ ids. (id : Id)
-            → list_any (same_id id) ids.items ≡ is_some (waiting_in way id log)) }
+    fn push_breaches(
+        &self,
+        found: &mut Vec<Breach>,
+        way: Way,
+        message: &Entry,
+    ) -> Result<(), AllocError>
+        ensures { (log : Log) → Saw self.now log → OnOk result (found.new.items
+            ≡ found.old.items ++ map (as_breach self.now.is_whole) (findings_of log way (entry_view message.now))) }
     {
-        self.open(way).ids()
+        let token = progress_token(message)?;
+        let session = self.session_breaks(way, message, token.as_ref());
+        let progress = self.progress_breaks(way, token.as_ref());
+        drop(token);
+        self.push(found, session)?;
+        self.push(found, self.documents.breaks(way, message))?;
+        self.push(found, progress)
     }
 
-    /// The place of the request of this way and id that waits for its reply.
-    pub fn place_of(&self, way: Way, id: &RequestId) -> Option<u64>
-        ensures { (log : Log) → Saw self.now log
-            → result ≡ option_map (λ asked. asked.place) (waiting_in way id.now log) }
+    fn push(
+        &self,
+        found: &mut Vec<Breach>,
+        finding: Option<(Rule, Option<u64>)>,
+    ) -> Result<(), AllocError>
+        ensures { OnOk result (found.new.items
+            ≡ found.old.items ++ map (as_breach self.now.is_whole) (option_to_list finding)) }
     {
-        let asked = self.open(way).data(id)?;
-        Some(asked.place)
-    }
-
-    fn open(&self, way: Way) -> &Incoming<Asked>
-        ensures { result.now ≡ open_on way self.now }
-    {
-        match way {
-            Way::ToServer => &self.to_server.incoming,
-            Way::ToClient => &self.to_client.incoming,
+        if let Some(finding) = finding {
+            found.push(breach_of(finding, self.is_whole))?;
         }
+        Ok(())
     }
 
-    /// The rule that a message would break if it passed now. The error means that an allocation failed.
-    pub fn breach(&self, way: Way, message: &Message) -> Result<Option<Breach>, AllocError>
-        ensures { (log : Log) → Saw self.now log → IfOk result (λ found.
-            found ≡ breach_of log way (message_view message.now)) }
+    fn progress_breaks(&self, way: Way, token: Option<&LoggedId>) -> Option<(Rule, Option<u64>)>
+        ensures { (log : Log) → Saw self.now log → (m : Message) → option_map (λ t. t.now) token.entry ≡ token_named m
+            → result ≡ progress_finding log way m }
     {
-        let found = self
-            .lifecycle_breaks(way, message)
-            .or(self.id_breaks(way, message));
-        let Some((rule, against)) = found else {
-            return Ok(None);
-        };
-        let id = id_of(message)?;
-        Ok(Some(Breach { rule, id, against }))
+        self.created.breaks(&self.asked, way, token?)
     }
 
-    fn lifecycle_breaks(&self, way: Way, message: &Message) -> Option<(Rule, Option<u64>)>
-        ensures { (log : Log) → Saw self.now log
-            → result ≡ lifecycle_finding log way (message_view message.now) }
+    fn session_breaks(
+        &self,
+        way: Way,
+        message: &Entry,
+        token: Option<&LoggedId>,
+    ) -> Option<(Rule, Option<u64>)>
+        ensures { (log : Log) → Saw self.now log → option_map (λ t. t.now) token.entry ≡ token_named (entry_view message.now)
+            → result ≡ session_finding log way (entry_view message.now) }
     {
-        match (way, message) {
-            (_, Message::Response(_)) => None,
-            (Way::ToServer, _) => self.lifecycle.client_breaks(message),
-            (Way::ToClient, _) => self.lifecycle.server_breaks(message),
-        }
+        self.lifecycle_breaks(way, message, token)
+            .or(self.id_breaks(way, message))
     }
 
-    fn id_breaks(&self, way: Way, message: &Message) -> Option<(Rule, Option<u64>)>
-        ensures { (log : Log) → Saw self.now log
-            → result ≡ id_finding log way (message_view message.now) }
+    fn lifecycle_breaks(
+        &self,
+        way: Way,
+        message: &Entry,
+        token: Option<&LoggedId>,
+    ) -> Option<(Rule, Option<u64>)>
+        ensures { (log : Log) → Saw self.now log → option_map (λ t. t.now) token.entry ≡ token_named (entry_view message.now)
+            → result ≡ lifecycle_finding log way (entry_view message.now) }
     {
-        match message {
-            Message::Request(request) => {
-                let place = self.place_of(way, &request.id)?;
-                Some((Rule::IdStillOpen, Some(place)))
+        let waiting = place_of_opening(&self.asked);
+        match (way, message.kind()) {
+            (_, Kind::Reply(_, _)) => None,
+            (Way::ToServer, _) => self.stands.client_breaks(waiting, message),
+            (Way::ToClient, _) => {
+                let tells = self.tells_opening(token);
+                self.stands.server_breaks(waiting, tells, message)
             }
-            Message::Notification(_) => None,
-            Message::Response(response) => match self.place_of(way.other(), &response.id) {
+        }
+    }
+
+    fn tells_opening(&self, token: Option<&LoggedId>) -> bool
+        ensures { result ≡ is_some_such (λ name. list_any (opens_under name) self.now.asked.items) (option_map (λ t. t.now) token.entry) }
+    {
+        match token {
+            Some(token) => may_tell(&self.asked, token),
+            None => false,
+        }
+    }
+
+    fn id_breaks(&self, way: Way, message: &Entry) -> Option<(Rule, Option<u64>)>
+        ensures { (log : Log) → Saw self.now log
+            → result ≡ id_finding log way (entry_view message.now) }
+    {
+        match message.kind() {
+            Kind::Request(id) => {
+                let asked = self.waiting(way, id)?;
+                Some((Rule::IdStillOpen, Some(asked.place)))
+            }
+            Kind::Notification => None,
+            Kind::Reply(id, _) => match self.waiting(way.other(), id) {
                 Some(_) => None,
                 None => Some((Rule::NobodyAsked, None)),
             },
         }
     }
 
-    /// Keeps what a message opens or closes, and where the lifecycle stands then.
-    fn keep(&mut self, place: u64, way: Way, message: &Message) -> Result<(), AllocError>
-        ensures ok { (log : Log) → Saw self.old log
-            → OnOk result (Saw self.new (passed way place (message_view message.now) ∷ log)) }
-        ensures err { OnErr result (self.new ≡ self.old) }
+    /// Whether the message begins a new session: an `initialize` behind `exit`, or any `initialize` if the session was seen from its middle
+    /// on. Call `finish` then, and go on with a new watch.
+    pub fn begins_session(&self, way: Way, message: &LoggedMessage) -> bool
+        ensures { (log : Log) → Saw self.now log
+            → result ≡ begins_in self.now.is_whole log way (option_map entry_view message.now.entry) }
     {
-        let answers = self.answers_initialize(way, message);
-        let stands = self.lifecycle.after(place, way, message, answers);
-        let client = &mut self.to_server.incoming;
-        let server = &mut self.to_client.incoming;
-        match way {
-            Way::ToServer => keep_open(client, server, kept_of(place, way, message), message)?,
-            Way::ToClient => keep_open(server, client, kept_of(place, way, message), message)?,
-        }
-        self.lifecycle = stands;
-        Ok(())
-    }
-
-    fn answers_initialize(&self, way: Way, message: &Message) -> bool
-        ensures { (log : Log) (place : ℕ) → Saw self.now log
-            → result ≡ replies_to_it log (passed way place (message_view message.now)) }
-    {
-        let Message::Response(response) = message else {
-            return false;
-        };
-        match self.open(way.other()).data(&response.id) {
-            Some(asked) => asked.is_initialize,
+        match &message.entry {
+            Some(entry) => {
+                way.is_from_client()
+                    && asks(entry, "initialize")
+                    && (!self.is_whole || self.stands.exit.is_some())
+            }
             None => false,
         }
     }
-}
 
-fn kept_of(place: u64, way: Way, message: &Message) -> Asked
-    ensures { result ≡ asked_of (passed way place (message_view message.now)) }
-{
-    let is_initialize = way.is_from_client() && asks(message, "initialize");
-    Asked {
-        place,
-        is_initialize,
+    /// The requests that have no reply, where the session is over (`Rule::NoReply`): those to the server, if it has ended or `exit` passed,
+    /// and those to the client, if it has ended or `exit` passed. They stand in the order in which they passed. The error means that
+    /// an allocation failed.
+    pub fn finish(
+        &self,
+        server_ended: bool,
+        client_ended: bool,
+    ) -> Result<Vec<Unanswered>, AllocError>
+        ensures { (log : Log) → Saw self.now log → IfOk result (λ found.
+            found.items ≡ unanswered_of server_ended client_ended log) }
+    {
+        let left = self.stands.exit.is_some();
+        all_unanswered(
+            self.alloc,
+            &self.asked,
+            server_ended || left,
+            client_ended || left,
+        )
     }
-}
 
-/// Keeps a request, unless one waits under its id, and takes out the one that a reply answers.
-fn keep_open(
-    asked: &mut Incoming<Asked>,
-    answered: &mut Incoming<Asked>,
-    kept: Asked,
-    message: &Message,
-) -> Result<(), AllocError>
-    ensures asked { OnOk result ((id : Id) → map.get asked.new id
-        ≡ opened (is_id id (request_id (message_view message.now))) kept (map.get asked.old id)) }
-    ensures answered { OnOk result ((id : Id) → map.get answered.new id
-        ≡ closed (is_id id (reply_id (message_view message.now))) (map.get answered.old id)) }
-    ensures err { OnErr result ((asked.new ≡ asked.old) × (answered.new ≡ answered.old)) }
-{
-    match message {
-        Message::Request(request) => keep_request(asked, &request.id, kept),
-        Message::Notification(_) => Ok(()),
-        Message::Response(response) => {
-            answered.complete(&response.id);
-            Ok(())
+    /// The requests that have no reply, in the order in which they passed.
+    pub fn asked(&self) -> &[Asked]
+        ensures { (log : Log) → Saw self.now log → result.now ≡ open_of log }
+    {
+        &self.asked
+    }
+
+    /// The request that the next reply of this id answers, if a request of this way waits under it.
+    pub fn waiting(&self, way: Way, id: &LoggedId) -> Option<&Asked>
+        ensures { (log : Log) → Saw self.now log
+            → option_map (λ a. a.now) result ≡ waiting way id.now log }
+    {
+        first_for(&self.asked, way, id)
+    }
+
+    fn enter(&mut self, place: u64, way: Way, message: &LoggedMessage) -> Result<(), AllocError>
+        ensures ok { (log : Log) → Saw self.old log
+            → OnOk result (Saw self.new (entered way place (option_map entry_view message.now.entry) log)) }
+        ensures whole { self.new.is_whole ≡ self.old.is_whole }
+        ensures err { OnErr result (KeepsSame self.old self.new) }
+    {
+        match &message.entry {
+            Some(entry) => self.keep(place, way, entry),
+            None => Ok(()),
+        }
+    }
+
+    fn keep(&mut self, place: u64, way: Way, message: &Entry) -> Result<(), AllocError>
+        ensures ok { (log : Log) → Saw self.old log
+            → OnOk result (Saw self.new (passed way place (entry_view message.now) ∷ log)) }
+        ensures whole { self.new.is_whole ≡ self.old.is_whole }
+        ensures err { OnErr result (KeepsSame self.old self.new) }
+    {
+        let answers = self.answers_initialize(way, message);
+        let stands = self.stands.after(place, way, message, answers);
+        match message.kind() {
+            Kind::Request(id) => self.keep_request(place, way, id, message)?,
+            Kind::Notification => self.keep_told(place, way, message)?,
+            Kind::Reply(id, succeeds) => self.keep_reply(way, id, *succeeds)?,
+        }
+        self.stands = stands;
+        Ok(())
+    }
+
+    fn answers_initialize(&self, way: Way, message: &Entry) -> bool
+        ensures { (log : Log) (place : ℕ) → Saw self.now log
+            → result ≡ replies_to_it log (passed way place (entry_view message.now)) }
+    {
+        let Kind::Reply(id, _) = message.kind() else {
+            return false;
+        };
+        match self.waiting(way.other(), id) {
+            Some(asked) => asked.opens_session(),
+            None => false,
+        }
+    }
+
+    fn keep_request(
+        &mut self,
+        place: u64,
+        way: Way,
+        id: &LoggedId,
+        message: &Entry,
+    ) -> Result<(), AllocError>
+        ensures asked { OnOk result (self.new.asked.items ≡ self.old.asked.items
+            ++ request_of way place id.now (unwrap_or (method_in (view message.now.tree)) []) (params_in (view message.now.tree)) ∷ []) }
+        ensures same { (self.new.created ≡ self.old.created) × (self.new.documents ≡ self.old.documents)
+            × (self.new.stands ≡ self.old.stands) × (self.new.is_whole ≡ self.old.is_whole) }
+        ensures err { OnErr result (self.new.asked.items ≡ self.old.asked.items) }
+    {
+        let kept = kept_of(self.alloc, way, place, id, message)?;
+        self.asked.push(kept)?;
+        Ok(())
+    }
+
+    /// Keeps what a notification does: a client's with a document, a server's with a token.
+    fn keep_told(&mut self, place: u64, way: Way, message: &Entry) -> Result<(), AllocError>
+        ensures documents { (log : Log) → Opened self.old.documents log → OnOk result (Opened self.new.documents
+            (passed way place (entry_view message.now) ∷ log)) }
+        ensures live { OnOk result (self.new.created.live.items
+            ≡ live_before (ended_by way (entry_view message.now)) self.old.created.live.items) }
+        ensures ended { OnOk result (self.new.created.ended.items
+            ≡ with_ended self.old.created.live.items place (ended_by way (entry_view message.now)) self.old.created.ended.items) }
+        ensures same { (self.new.asked.items ≡ self.old.asked.items) × (self.new.stands ≡ self.old.stands)
+            × (self.new.is_whole ≡ self.old.is_whole) }
+        ensures err { OnErr result (KeepsSame self.old self.new) }
+    {
+        match way {
+            Way::ToServer => self.documents.keep(place, way, message),
+            Way::ToClient => self.created.end(place, message),
+        }
+    }
+
+    /// Keeps what a reply does: it answers a request, and may let a token be created.
+    fn keep_reply(&mut self, way: Way, id: &LoggedId, succeeds: bool) -> Result<(), AllocError>
+        ensures asked { OnOk result (self.new.asked.items ≡ answered way id.now self.old.asked.items) }
+        ensures live { OnOk result (self.new.created.live.items
+            ≡ with_accepted (accepted_in succeeds way id.now self.old.asked.items) self.old.created.live.items) }
+        ensures ended { OnOk result (self.new.created.ended.items
+            ≡ ended_before (accepted_in succeeds way id.now self.old.asked.items) self.old.created.ended.items) }
+        ensures same { (self.new.documents ≡ self.old.documents) × (self.new.stands ≡ self.old.stands)
+            × (self.new.is_whole ≡ self.old.is_whole) }
+        ensures err { OnErr result (KeepsSame self.old self.new) }
+    {
+        let name = self.accepted(way, id, succeeds)?;
+        self.created.accept(name)?;
+        answer(&mut self.asked, way.other(), id);
+        Ok(())
+    }
+
+    /// The token that a reply lets be created.
+    fn accepted(
+        &self,
+        way: Way,
+        id: &LoggedId,
+        succeeds: bool,
+    ) -> Result<Option<LoggedId>, AllocError>
+        ensures { IfOk result (λ name. name ≡ accepted_in succeeds way id.now self.now.asked.items) }
+    {
+        if !succeeds {
+            return Ok(None);
+        }
+        let Some(asked) = first_for(&self.asked, way.other(), id) else {
+            return Ok(None);
+        };
+        match &asked.created {
+            Some(name) => Ok(Some(name.clone()?)),
+            None => Ok(None),
         }
     }
 }
 
-fn keep_request(asked: &mut Incoming<Asked>, id: &RequestId, kept: Asked) -> Result<(), AllocError>
-    ensures ok { OnOk result ((q : Id) → map.get asked.new q
-        ≡ opened (same_id q id.now) kept (map.get asked.old q)) }
-    ensures err { OnErr result (asked.new ≡ asked.old) }
+/// What a message breaks of the rules of its shape.
+fn shape_breaches(alloc: Global, faults: &[Rule]) -> Result<Vec<Breach>, AllocError>
+    ensures { IfOk result (λ found. found.items ≡ map breach_of_shape faults.now) }
 {
-    if !asked.is_completed(id) {
-        return Ok(());
-    }
-    match asked.register(id.clone()?, kept) {
-        Ok(()) => Ok(()),
-        Err(_) => Err(AllocError),
-    }
+    faults.iter().map(|rule| shape_breach(*rule)).collect(alloc)
 }
 
-/// The id of a request or a reply.
-fn id_of(message: &Message) -> Result<Option<RequestId>, AllocError>
-    ensures { IfOk result (λ id. id ≡ id_in (message_view message.now)) }
+/// The requests that have no reply, of those sides that have ended.
+fn all_unanswered(
+    alloc: Global,
+    asked: &[Asked],
+    server_ended: bool,
+    client_ended: bool,
+) -> Result<Vec<Unanswered>, AllocError>
+    ensures { IfOk result (λ found. found.items
+        ≡ map told_by (filter (is_over_for server_ended client_ended) asked.now)) }
 {
-    match message {
-        Message::Request(request) => Ok(Some(request.id.clone()?)),
-        Message::Notification(_) => Ok(None),
-        Message::Response(response) => Ok(Some(response.id.clone()?)),
-    }
+    asked
+        .iter()
+        .filter(|it| is_over(server_ended, client_ended, it))
+        .map(told_of)
+        .collect(alloc)
 }

@@ -19,16 +19,17 @@ use Rattle.lsp_session.specs.Session.{Exchange, sends_of, SessionAnswer}
 use Rattle.lsp_session.specs.Session.{Stop, refused, decided, no_more, timed_out, exhausted}
 use Rattle.lsp_session.specs.SessionLaws.{is_refusal}
 use Rattle.lsp_watch.specs.CleanLog.{is_call}
-use Rattle.lsp_watch.specs.Log.{Log, passed, from_client, is_id}
-use Rattle.lsp_watch.specs.Rules.{breach_of, lifecycle_finding, id_finding}
-use Rattle.lsp_watch.specs.declared.breach.Way.{Way}
-use Rattle.lsp_watch.specs.declared.breach.Way.TheVariants.{ToServer, ToClient}
+use Rattle.lsp_watch.specs.Log.{Log, Open, passed, from_client, is_id, waiting, request_of as kept_of}
+use Rattle.lsp_watch.proofs.Queues.{first, rest, queue, waiting_is, queue_request, queue_reply}
+use Rattle.lsp_watch.specs.Rules.{session_finding, lifecycle_finding, id_finding}
+use Rattle.lsp_watch.specs.declared.way.Way.{Way}
+use Rattle.lsp_watch.specs.declared.way.Way.TheVariants.{ToServer, ToClient}
 use Rattle.lsp_watched.specs.Recorded.{gone, IsSentAt, IsRecorded}
 use Rattle.lsp_watched.specs.Sessions.{ClientKeepsIds, ServerIsClean}
 use Rattle.lsp_watched.proofs.Recorded.{sends_append}
 use Rattle.lsp_watched.proofs.RecordedStart.{recorded_keeps_lifecycle}
 use Rattle.lsp_watched.proofs.Replies.{replies_fit}
-use Rattle.lsp_watched.proofs.Waits.{waits, after_request, after_notification, after_reply, request_fits}
+use Rattle.lsp_watched.proofs.Waits.{request_fits}
 
 -- ---- ids that ascend
 
@@ -120,37 +121,38 @@ free_before least (x ∷ xs) m ys id all is =
 
 -- ---- what waits
 
-free_waits : (id : Id) (log : Log) → Free id (requests_in (gone ToClient log)) → waits ToClient id log ≡ false
-free_waits id [] free = refl
-free_waits id (p ∷ log) free = by p.way p.place p.message (λ f. free_waits id log f) free
+free_queue : (id : Id) (log : Log) → Free id (requests_in (gone ToClient log)) → queue ToClient id log ≡ []
+free_queue id [] free = refl
+free_queue id (p ∷ log) free = by p.way p.place p.message (λ f. free_queue id log f) free
   where
     front : (m : Message) → Free id (requests_in (gone ToClient log ++ m ∷ []))
         → Free id (requests_in (gone ToClient log)) × Free id (requests_in (m ∷ []))
     front m f = free_front id (requests_in (gone ToClient log)) (requests_in (m ∷ []))
         (subst (Free id) (requests_append (gone ToClient log) (m ∷ [])) f)
 
-    answered : (b w : Bool) → w ≡ false → cond b false w ≡ false
-    answered true w none = refl
-    answered false w none = none
+    answered : (b : Bool) (xs : List Open) → xs ≡ [] → cond b (rest xs) xs ≡ []
+    answered true xs none = ap rest none
+    answered false xs none = none
 
     by : (way : Way) (place : ℕ) (m : Message)
-        → (Free id (requests_in (gone ToClient log)) → waits ToClient id log ≡ false)
+        → (Free id (requests_in (gone ToClient log)) → queue ToClient id log ≡ [])
         → Free id (requests_in (gone ToClient (passed way place m ∷ log)))
-        → waits ToClient id (passed way place m ∷ log) ≡ false
-    by ToServer place (request i method params) rest f =
-        after_request ToClient ToServer id place log i method params ∙ rest f
-    by ToServer place (notification method params) rest f =
-        after_notification ToClient ToServer id place log method params ∙ rest f
-    by ToServer place (response i outcome) rest f = after_reply ToClient ToServer id place log i outcome
-        ∙ answered (same_id id i) (waits ToClient id log) (rest f)
-    by ToClient place (request i method params) rest f =
+        → queue ToClient id (passed way place m ∷ log) ≡ []
+    by ToServer place (request i method params) more f =
+        queue_request ToClient id ToServer place log i method params ∙ append-nil (queue ToClient id log) ∙ more f
+    by ToServer place (notification method params) more f = more f
+    by ToServer place (response i outcome) more f = queue_reply ToClient id ToServer place log i outcome
+        ∙ answered (same_id id i) (queue ToClient id log) (more f)
+    by ToClient place (request i method params) more f =
         let parts = front (request i method params) f in
-        after_request ToClient ToClient id place log i method params
-        ∙ (λ k. parts.1.0 k || rest parts.0 k)
-    by ToClient place (notification method params) rest f =
-        after_notification ToClient ToClient id place log method params ∙ rest (front (notification method params) f).0
-    by ToClient place (response i outcome) rest f = after_reply ToClient ToClient id place log i outcome
-        ∙ rest (front (response i outcome) f).0
+        queue_request ToClient id ToClient place log i method params
+        ∙ (λ k. more parts.0 k ++ cond (parts.1.0 k) (kept_of ToClient place i method params ∷ []) [])
+    by ToClient place (notification method params) more f = more (front (notification method params) f).0
+    by ToClient place (response i outcome) more f = queue_reply ToClient id ToClient place log i outcome
+        ∙ more (front (response i outcome) f).0
+
+free_waits : (id : Id) (log : Log) → Free id (requests_in (gone ToClient log)) → waiting ToClient id log ≡ None
+free_waits id log free = waiting_is ToClient id log ∙ ap first (free_queue id log free)
 
 -- ---- the requests of a session
 
@@ -226,11 +228,11 @@ module _ (exchanges : List Exchange) (own : Ascends 0 (requests_in (sends_of exc
       (subst (Ascends 0) (ap requests_in cut ∙ requests_append (gone ToClient before) (m ∷ later)) own) refl
 
   clean : (before : Log) (way : Way) (m : Message) → lifecycle_finding before way m ≡ None
-      → id_finding before way m ≡ None → breach_of before way m ≡ None
-  clean before way m keeps fits = ap (option_map _) (λ k. option_or (keeps k) (fits k))
+      → id_finding before way m ≡ None → session_finding before way m ≡ None
+  clean before way m keeps fits = λ k. option_or (keeps k) (fits k)
 
   call_is_clean : (before : Log) (way : Way) (m : Message) → from_client way ≡ false → is_call m ≡ true
-      → IsSentAt exchanges before m → lifecycle_finding before way m ≡ None → breach_of before way m ≡ None
+      → IsSentAt exchanges before m → lifecycle_finding before way m ≡ None → session_finding before way m ≡ None
   call_is_clean before ToServer m way call at keeps = cc
   call_is_clean before ToClient (response i outcome) way call at keeps = cc
   call_is_clean before ToClient (notification method params) way call at keeps =
@@ -253,7 +255,7 @@ server_is_clean may first last held exchanges stop shutdown_reply answer log law
     by own (is_call p.message) refl
   where
     by : Ascends 0 (requests_in (sends_of exchanges)) → (b : Bool) → is_call p.message ≡ b
-        → breach_of before p.way p.message ≡ None
+        → session_finding before p.way p.message ≡ None
     by own true call = call_is_clean exchanges own before p.way p.message way call (recorded later before p is way)
         (recorded_keeps_lifecycle true true exchanges stop shutdown_reply answer log laws.order recorded anew
         later before p is way)

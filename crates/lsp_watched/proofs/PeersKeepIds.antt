@@ -25,11 +25,11 @@ use Rattle.lsp_peers.specs.declared.step.Step.{Step}
 use Rattle.lsp_peers.specs.declared.step.Step.TheVariants.{Register, Tell, Answer, Refuse, Cancel}
 use Rattle.lsp_watch.specs.Log.{Log, passed, same_way, other as back}
 use Rattle.lsp_watch.specs.Rules.{id_finding}
-use Rattle.lsp_watch.specs.declared.breach.Way.{Way}
+use Rattle.lsp_watch.specs.declared.way.Way.{Way}
 use Rattle.lsp_watched.specs.Passing.{Pass}
 use Rattle.lsp_watched.specs.Peers.{PassAll, way_from, IsLogOf, KeepsIds}
 use Rattle.lsp_watched.proofs.Waits.{at_each_none, at_each_more, waits, after_request, after_notification}
-use Rattle.lsp_watched.proofs.Waits.{after_reply, request_fits, reply_fits}
+use Rattle.lsp_watched.proofs.Waits.{after_reply, none_waits, request_fits, reply_fits}
 
 -- ---- one more entry of a list
 
@@ -216,11 +216,11 @@ module _ (client t : Side) (own others : List Entry) (before : Log)
       → (id : Id) → waits way id new
       ≡ cond (has id (replied others)) false (is_some (item_at (payloads own ++ payload_in step outcome) id))
   own_after new (Register side method params payload) (Registered key) is_new passes id = ap (waits way id) passes.1
-      ∙ after_request way way id passes.0 before key _ _
+      ∙ after_request way way id passes.0 before key (string_bytes method) (view params)
       ∙ (λ i. (same_own_way client t i && same_id id key) || mine id i)
       ∙ asked (payloads own) (replied others) key id payload is_new.0 is_new.1
   own_after new (Tell side method params) Told is_new passes id = ap (waits way id) passes.1
-      ∙ after_notification way way id passes.0 before _ _ ∙ own_same id
+      ∙ after_notification way way id passes.0 before (string_bytes method) (view params) ∙ own_same id
   own_after new (Answer side key value) (Answered label) is_new passes id = own_reply new key _ passes id
   own_after new (Refuse side key code why) (Answered label) is_new passes id = own_reply new key _ passes id
   own_after new (Cancel side key) Cancelled is_new passes id = own_reply new key _ passes id
@@ -246,10 +246,10 @@ module _ (client t : Side) (own others : List Entry) (before : Log)
       → waits far id new ≡ cond (has id (replied own ++ replied_in step outcome)) false (is_some (item_at
       (payloads others) id))
   far_after new (Register side method params payload) (Registered key) passes id = ap (waits far id) passes.1
-      ∙ after_request far way id passes.0 before key _ _
+      ∙ after_request far way id passes.0 before key (string_bytes method) (view params)
       ∙ ap (λ b. (b && same_id id key) || waits far id before) (not_other_way client t) ∙ far_same id
   far_after new (Tell side method params) Told passes id = ap (waits far id) passes.1
-      ∙ after_notification far way id passes.0 before _ _ ∙ far_same id
+      ∙ after_notification far way id passes.0 before (string_bytes method) (view params) ∙ far_same id
   far_after new (Answer side key value) (Answered label) passes id = far_reply new key _ passes id
   far_after new (Refuse side key code why) (Answered label) passes id = far_reply new key _ passes id
   far_after new (Cancel side key) Cancelled passes id = far_reply new key _ passes id
@@ -310,9 +310,9 @@ module _ (client t : Side) (own others : List Entry) (before : Log)
     pub kept_after : (new : Log) (step : Step) (outcome : Outcome) → outcome ≡ outcome_of own others step
         → Pass way (written_in step outcome) before new → KeepsIds before → KeepsIds new
     kept_after new (Register side method params payload) (Registered key) came passes kept = one_kept _ new passes
-        (request_fits before way key (string_bytes method) (view params) (asks_anew key (new_of
-        (Register side method params payload) (Registered key)
-        came).0)) kept
+        (request_fits before way key (string_bytes method) (view params) (none_waits way key before kept (asks_anew key
+        (new_of (Register side method params payload) (Registered key)
+        came).0))) kept
     kept_after new (Tell side method params) Told came passes kept = one_kept _ new passes refl kept
     kept_after new (Answer side key value) (Answered label) came passes kept = reply_kept new key _
         (answered _ label came)

@@ -11,7 +11,7 @@ use Rattle.lsp_session.specs.Answered.{RepliesToEach, requests_of, IsReplied, Al
 use Rattle.lsp_session.specs.Session.{Exchange, messages_of, sends_of, SessionAnswer, Stop}
 use Rattle.lsp_watch.specs.CleanLog.{is_call}
 use Rattle.lsp_watch.specs.Log.{Log, Passed, passed, from_client}
-use Rattle.lsp_watch.specs.declared.breach.Way.TheVariants.{ToServer, ToClient}
+use Rattle.lsp_watch.specs.declared.way.Way.TheVariants.{ToServer, ToClient}
 use Rattle.lsp_watched.specs.Recorded.{gone, IsSentAt, IsRecorded}
 use Rattle.lsp_watched.specs.Sessions.{PassSession, IsLogOfSession, ClientKeepsIds, ServerIsClean}
 use Rattle.lsp_watched.specs.Passing.{Pass}

@@ -14,16 +14,19 @@ use Rattle.lsp_session.specs.Answered.{AllReplied}
 use Rattle.lsp_session.specs.Session.{Exchange, messages_of, sends_of, SessionAnswer, Stop}
 use Rattle.lsp_session.specs.SessionLaws.{KeepsOrder, IsOpened, IsUnstarted, AllRefused, AllEarly}
 use Rattle.lsp_watch.specs.CleanLog.{AtEach, is_call}
-use Rattle.lsp_watch.specs.Log.{Log, Passed, passed, from_client, same_way, waiting, is_some_initialize}
+use Rattle.lsp_watch.specs.Log.{Log, Passed, Open, passed, from_client, same_way, waiting}
+use Rattle.lsp_watch.specs.Log.{request_of, is_some_such, opens_session}
+use Rattle.lsp_watch.proofs.Queues.{first, rest, queue, waiting_is, queue_request, queue_reply}
 use Rattle.lsp_watch.specs.Rules.{lifecycle_finding, initialize_result}
-use Rattle.lsp_watch.specs.declared.breach.Way.{Way}
-use Rattle.lsp_watch.specs.declared.breach.Way.TheVariants.{ToServer, ToClient}
+use Rattle.lsp_watch.specs.declared.way.Way.{Way}
+use Rattle.lsp_watch.specs.declared.way.Way.TheVariants.{ToServer, ToClient}
 use Rattle.lsp_watched.specs.Recorded.{gone, IsSentAt, IsRecorded}
 use Rattle.lsp_watched.specs.Sessions.{ClientKeepsIds, ServerKeepsLifecycle}
 use Rattle.lsp_watched.proofs.Recorded.{RepliesAtMost, AllAtMost, at_most_each, at_most_at, never_more, never_more_of}
 use Rattle.lsp_watched.proofs.Recorded.{is_a_reply, came_last, sends_append, IsSentOf}
 use Rattle.lsp_watched.proofs.Replies.{at_before, how_many_append, told, one_more, balanced, IsBounded, AsksNew}
-use Rattle.lsp_watched.proofs.Sessions.{HasBegun, begun_more, begun_keeps, none_waiting, front_replied}
+use Rattle.lsp_watched.proofs.Sessions.{HasBegun, begun_more, begun_keeps, front_replied}
+use Rattle.lsp_watched.proofs.Waits.{none_asks}
 
 -- ---- where a list is cut
 
@@ -218,30 +221,35 @@ module _ (id : Id) where
   told_grows [] log = omega arith
   told_grows (p ∷ later) log = omega (arith, told_grows later log, told_once p (later ++ log))
 
-  kept : (b : Bool) (w : Option Passed) (p q : Passed) → w ≡ Some q → cond b (option_or w (Some p)) w ≡ Some q
-  kept true None p q is = cc
-  kept true (Some r) p q is = is
-  kept false w p q is = is
+  kept : (xs ys : List Open) (q : Open) → first xs ≡ Some q → first (xs ++ ys) ≡ Some q
+  kept [] ys q is = cc
+  kept (x ∷ xs) ys q is = is
 
-  untold : (b : Bool) (w : Option Passed) (n : ℕ) (q : Passed) → n + one_if b ≤ n → w ≡ Some q → cond b None w ≡ Some q
-  untold true w n q less is = absurd (omega (arith, less))
-  untold false w n q less is = is
+  untold : (b : Bool) (xs : List Open) (n : ℕ) (q : Open) → n + one_if b ≤ n → first xs ≡ Some q
+      → first (cond b (rest xs) xs) ≡ Some q
+  untold true xs n q less is = absurd (omega (arith, less))
+  untold false xs n q less is = is
 
-  stays_once : (way : Way) (place : ℕ) (m : Message) (log : Log) (q : Passed)
+  -- the first request under the id that waits
+  abbrev next : Log → Option Open
+  next log = first (queue ToServer id log)
+
+  stays_once : (way : Way) (place : ℕ) (m : Message) (log : Log) (q : Open)
       → told id (passed way place m ∷ log) ≤ told id log
-      → waiting ToServer id log ≡ Some q → waiting ToServer id (passed way place m ∷ log) ≡ Some q
-  stays_once ToServer place (request i method params) log q less is =
-      kept (same_id id i) (waiting ToServer id log) _ q is
-  stays_once ToServer place (notification method params) log q less is = is
-  stays_once ToServer place (response i outcome) log q less is = is
-  stays_once ToClient place (request i method params) log q less is = is
-  stays_once ToClient place (notification method params) log q less is = is
+      → next log ≡ Some q → next (passed way place m ∷ log) ≡ Some q
+  stays_once way place (request i method params) log q less is =
+      ap first (queue_request ToServer id way place log i method params)
+      ∙ kept (queue ToServer id log) _ q is
+  stays_once way place (notification method params) log q less is = is
+  stays_once ToServer place (response i outcome) log q less is =
+      ap first (queue_reply ToServer id ToServer place log i outcome) ∙ is
   stays_once ToClient place (response i outcome) log q less is =
-      untold (same_id id i) (waiting ToServer id log) (told id log) q
+      ap first (queue_reply ToServer id ToClient place log i outcome)
+      ∙ untold (same_id id i) (queue ToServer id log) (told id log) q
       (omega (arith, less, how_many_append (is_reply_under id) (gone ToClient log) (response i outcome ∷ []))) is
 
-  stays : (later log : Log) (q : Passed) → told id (later ++ log) ≤ told id log → waiting ToServer id log ≡ Some q
-      → waiting ToServer id (later ++ log) ≡ Some q
+  stays : (later log : Log) (q : Open) → told id (later ++ log) ≤ told id log → next log ≡ Some q
+      → next (later ++ log) ≡ Some q
   stays [] log q less is = is
   stays (p ∷ later) log q less is = stays_once p.way p.place p.message (later ++ log) q
       (omega (arith, less, told_grows later log))
@@ -317,22 +325,27 @@ module _ (exchanges : List Exchange) (log : Log) (recorded : IsRecorded exchange
         none_before : waiting ToServer id before ≡ None
         none_before = keeps since before (passed ToServer place initialize) refl refl
 
-        waits_at_first : waiting ToServer id (passed ToServer place initialize ∷ before)
-            ≡ Some (passed ToServer place initialize)
-        waits_at_first = ap (λ b. cond b
-            (option_or (waiting ToServer id before) (Some (passed ToServer place initialize)))
-            (waiting ToServer id before)) (same_own id)
-            ∙ none_waiting (waiting ToServer id before) (passed ToServer place initialize)
-            (ap (λ (o : Option Passed). is_some o) none_before)
+        abbrev kept_first : Open
+        kept_first = request_of ToServer place id method params
 
-        waits_on : waiting ToServer id (since ++ passed ToServer place initialize ∷ before)
-            ≡ Some (passed ToServer place initialize)
-        waits_on = stays id since (passed ToServer place initialize ∷ before) (passed ToServer place initialize)
+        empty : (xs : List Open) → first xs ≡ None → xs ≡ []
+        empty [] none = refl
+        empty (x ∷ xs) none = cc
+
+        waits_at_first : first (queue ToServer id (passed ToServer place initialize ∷ before)) ≡ Some kept_first
+        waits_at_first = ap first (queue_request ToServer id ToServer place before id method params
+            ∙ ap (λ xs. xs ++ cond (same_id id id) (kept_first ∷ []) []) (empty (queue ToServer id before)
+            (sym (waiting_is ToServer id before) ∙ none_before))
+            ∙ ap (λ b. cond b (kept_first ∷ []) []) (same_own id))
+
+        waits_on : waiting ToServer id (since ++ passed ToServer place initialize ∷ before) ≡ Some kept_first
+        waits_on = waiting_is ToServer id (since ++ passed ToServer place initialize ∷ before)
+            ∙ stays id since (passed ToServer place initialize ∷ before) kept_first
             (omega (
               arith,
               balanced before (at_before AsksNew (since ++ passed ToServer place initialize ∷ before) since before
                   (passed ToServer place initialize) refl keeps) bounded id,
-              ap (λ (o : Option Passed). one_if (is_some o)) none_before,
+              ap one_if (none_asks ToServer id before none_before),
               ap (how_many (is_request_under id)) took,
               ap (how_many (is_reply_under id)) sent,
               never_more_of front all_at_most id,
@@ -342,7 +355,7 @@ module _ (exchanges : List Exchange) (log : Log) (recorded : IsRecorded exchange
             ∷ before)
         begins replies = ap (λ (b : Bool). is_some (cond (b && true) (Some replies)
             (initialize_result (since ++ passed ToServer place initialize ∷ before))))
-            (ap is_some_initialize waits_on ∙ is_initialize)
+            (ap (is_some_such opens_session) waits_on ∙ is_initialize)
 
     module _ (cut : exchanges ≡ front ++ exchange ∷ rest) where
       begun_at : (later b : Log) (replies : ℕ) → log ≡ later ++ passed ToClient replies gives ∷ b

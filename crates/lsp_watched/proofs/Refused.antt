@@ -14,7 +14,7 @@ use Rattle.lsp_peers.specs.declared.step.Side.TheVariants.{A, B}
 use Rattle.lsp_peers.specs.declared.step.Step.TheVariants.{Register, Answer}
 use Rattle.lsp_session.specs.Session.{Exchange, messages_of}
 use Rattle.lsp_watch.specs.Log.{Log, passed}
-use Rattle.lsp_watch.specs.declared.breach.Way.TheVariants.{ToServer, ToClient}
+use Rattle.lsp_watch.specs.declared.way.Way.TheVariants.{ToServer, ToClient}
 use Rattle.lsp_watched.specs.Peers.{IsLogOf, KeepsIds}
 use Rattle.lsp_watched.specs.Recorded.{IsRecorded}
 use Rattle.lsp_watched.specs.Sessions.{IsLogOfSession, ClientKeepsIds, ServerIsClean, ServerKeepsLifecycle}
@@ -97,11 +97,10 @@ replied_twice = (
 abbrev asked_again : Log
 asked_again = passed ToServer 2 initialize ∷ begun
 
--- A client that reuses an id before the reply gets two replies under it, and the second finds no request: that is why
--- the law of a server's replies asks for a client that does not.
+-- A client that reuses an id before the reply may get two replies under it, one for each request. It does not keep its
+-- ids.
 reused : IsLogOfSession (exchange [] ∷ exchange (result ∷ result ∷ []) ∷ [])
     (passed ToClient 4 result ∷ passed ToClient 3 result ∷ asked_again)
-    × (ServerRepliesFit (passed ToClient 4 result ∷ passed ToClient 3 result ∷ asked_again) → ⊥)
     × (ClientKeepsIds asked_again → ⊥)
 reused = (
   (
@@ -117,7 +116,6 @@ reused = (
       refl,
     ),
   ),
-  λ fits. let none = fits [] (passed ToClient 3 result ∷ asked_again) _ refl refl refl in cc,
   λ keeps. let none = keeps [] begun _ refl refl in cc,
 )
 
@@ -127,7 +125,6 @@ abbrev two_in_turn : List Exchange
 two_in_turn = exchange (result ∷ []) ∷ exchange (result ∷ []) ∷ []
 
 reused_ahead : IsRecorded two_in_turn (passed ToClient 4 result ∷ passed ToClient 3 result ∷ asked_again)
-    × (ServerRepliesFit (passed ToClient 4 result ∷ passed ToClient 3 result ∷ asked_again) → ⊥)
     × (ClientKeepsIds asked_again → ⊥)
 reused_ahead = (
   at_each_more (IsSentOf two_in_turn) (passed ToClient 4 result) (passed ToClient 3 result ∷ asked_again)
@@ -156,7 +153,6 @@ reused_ahead = (
       }) (at_each_more (IsSentOf two_in_turn) (passed ToServer 2 initialize) begun (λ way. cc)
       (at_each_more (IsSentOf two_in_turn) (passed ToServer 1 initialize) [] (λ way. cc)
       (at_each_none (IsSentOf two_in_turn))))),
-  λ fits. let none = fits [] (passed ToClient 3 result ∷ asked_again) _ refl refl refl in cc,
   λ keeps. let none = keeps [] begun _ refl refl in cc,
 )
 

@@ -9,12 +9,12 @@ use Rattle.lsp_acts.specs.Law.{one_if, is_request_under, is_reply_under, came_wi
 use Rattle.lsp_session.specs.Session.{Exchange, messages_of, sends_of}
 use Rattle.lsp_watch.specs.CleanLog.{AtEach, is_call}
 use Rattle.lsp_watch.specs.Log.{Log, Passed, passed, from_client}
-use Rattle.lsp_watch.specs.Rules.{breach_of}
-use Rattle.lsp_watch.specs.declared.breach.Way.{Way}
-use Rattle.lsp_watch.specs.declared.breach.Way.TheVariants.{ToServer, ToClient}
+use Rattle.lsp_watch.specs.Rules.{session_finding}
+use Rattle.lsp_watch.specs.declared.way.Way.{Way}
+use Rattle.lsp_watch.specs.declared.way.Way.TheVariants.{ToServer, ToClient}
 use Rattle.lsp_watched.specs.Recorded.{gone, IsSentAt, IsRecorded}
 use Rattle.lsp_watched.specs.Sessions.{AsksAnew, ClientKeepsIds, ServerRepliesFit}
-use Rattle.lsp_watched.proofs.Waits.{waits, after_request, after_notification, after_reply, reply_fits}
+use Rattle.lsp_watched.proofs.Waits.{waits, after_request, after_notification, after_reply, reply_fits, none_asks}
 
 -- ---- what stands in a part of a log
 
@@ -81,7 +81,7 @@ client_step place (request i method params) old new balance = λ id. omega (
   arith,
   how_many_append (is_request_under id) (gone ToServer old) (request i method params ∷ []),
   one_asked (same_id id i) (waits ToServer id old) (asked id old) (told id old)
-      (λ same. ap (λ k. waits ToServer k old) (same_is id i same) ∙ ap (λ o. is_some o) new) (balance id),
+      (λ same. ap (λ k. waits ToServer k old) (same_is id i same) ∙ none_asks ToServer i old new) (balance id),
   ap one_if (after_request ToServer ToServer id place old i method params),
 )
 client_step place (notification method params) old new balance = λ id. omega (
@@ -168,10 +168,10 @@ one_more exchanges before m never at = λ id. omega (
 )
 
 fits : (before : Log) (way : Way) (place : ℕ) (m : Message) → (from_client way ≡ false → OneMore before m)
-    → Balances before → from_client way ≡ false → is_call m ≡ false → breach_of before way m ≡ None
+    → Balances before → from_client way ≡ false → is_call m ≡ false → session_finding before way m ≡ None
 fits before ToServer place m bound balance = λ way reply. cc
 fits before ToClient place (response i outcome) bound balance = λ way reply.
-    ap (option_map _) (reply_fits before ToClient i outcome (waiting_for i outcome before (bound refl) balance))
+    reply_fits before ToClient i outcome (waiting_for i outcome before (bound refl) balance)
 fits before ToClient place (request i method params) bound balance = λ way reply. cc
 fits before ToClient place (notification method params) bound balance = λ way reply. cc
 

@@ -1,7 +1,6 @@
 -- What a session sends breaks no rule.
 use Rattle.std.proofs.Common.{◌≡◌, ◌⊎◌, inl, inr, Bool, true, false, cond, ◌&&◌, ◌||◌, List, [], ◌∷◌, ◌++◌, Option}
 use Rattle.std.proofs.Common.{Some, None, is_some, refl, sym, ap, ◌∙◌, subst, ℕ, codes, option_map, Ok}
-use Rattle.std.specs.Option.{option_or}
 use Rattle.std.specs.Prelude.{option_to_list}
 use Rattle.std.specs.Str.{bytes_eq}
 use Rattle.lsp_message.specs.Id.{Id, same_id}
@@ -10,20 +9,21 @@ use Rattle.lsp_message.proofs.Ids.{same_own}
 use Rattle.lsp_session.specs.Answered.{RepliesToEach, requests_of, AllReplied, AnswersRequests}
 use Rattle.lsp_session.specs.Session.{Exchange, messages_of, SessionAnswer, Stop}
 use Rattle.lsp_session.specs.SessionLaws.{KeepsOrder, EndsWithResult, IsOpened, IsUnstarted, AllRefused, AllEarly}
-use Rattle.lsp_watch.specs.Log.{Log, Passed, passed, from_client, waiting, answers_initialize, is_success}
-use Rattle.lsp_watch.specs.Log.{is_some_initialize}
-use Rattle.lsp_watch.specs.Rules.{breach_of, lifecycle_finding, initialize_result, initializing, is_early}
-use Rattle.lsp_watch.specs.declared.breach.Rule.TheVariants.{BeforeResult}
-use Rattle.lsp_watch.specs.declared.breach.Way.TheVariants.{ToServer, ToClient}
+use Rattle.lsp_watch.specs.Log.{Log, Passed, Open, passed, from_client, waiting, answers_initialize, is_success}
+use Rattle.lsp_watch.specs.Log.{request_of, is_some_such, opens_session}
+use Rattle.lsp_watch.proofs.Queues.{first, rest, queue, waiting_is, queue_request, queue_notification, queue_reply}
+use Rattle.lsp_watch.specs.Rules.{session_finding, lifecycle_finding, initialize_result, initializing, is_early}
+use Rattle.lsp_watch.specs.Rules.{tells_opening}
+use Rattle.lsp_watch.specs.declared.rule.Rule.TheVariants.{BeforeResult}
+use Rattle.lsp_watch.specs.declared.way.Way.TheVariants.{ToServer, ToClient}
 use Rattle.lsp_watched.specs.Passing.{Pass}
 use Rattle.lsp_watched.specs.Sessions.{PassSession, IsLogOfSession, ServerIsClean, ServerKeepsLifecycle}
-use Rattle.lsp_watched.proofs.Waits.{at_each_none, at_each_more, waits, after_request, after_notification}
-use Rattle.lsp_watched.proofs.Waits.{after_reply, reply_fits}
+use Rattle.lsp_watched.proofs.Waits.{at_each_none, at_each_more, one_found}
 
 -- ---- what is said of each message of the server
 
 abbrev IsClean : Log → Passed → Type 0
-IsClean before p = from_client p.way ≡ false → breach_of before p.way p.message ≡ None
+IsClean before p = from_client p.way ≡ false → session_finding before p.way p.message ≡ None
 
 abbrev KeepsLifecycle : Log → Passed → Type 0
 KeepsLifecycle before p = from_client p.way ≡ false → lifecycle_finding before p.way p.message ≡ None
@@ -67,11 +67,16 @@ front_replied (x ∷ xs) ys all = (all.0, front_replied xs ys all.1)
 
 -- no request of the client waits
 abbrev Quiet : Log → Type 0
-Quiet log = (id : Id) → waits ToServer id log ≡ false
+Quiet log = (id : Id) → queue ToServer id log ≡ []
+
+-- the only one waits
+closed : {A : Type 0} (b : Bool) (x : A) → cond b (rest (cond b (x ∷ []) [])) (cond b (x ∷ []) []) ≡ []
+closed true x = refl
+closed false x = refl
 
 module _ (P : Log → Passed → Type 0) (of_client : (before : Log) (place : ℕ) (m : Message)
     → P before (passed ToServer place m))
-    (of_reply : (before : Log) (place : ℕ) (id : Id) (outcome : _) → waits ToServer id before ≡ true
+    (of_reply : (before : Log) (place : ℕ) (id : Id) (outcome : _) → is_some (waiting ToServer id before) ≡ true
     → P before (passed ToClient place (response id outcome))) where
   abbrev Log_holds : Log → Type 0
   Log_holds log = (later before : Log) (p : Passed) → log ≡ later ++ p ∷ before → P before p
@@ -83,7 +88,7 @@ module _ (P : Log → Passed → Type 0) (of_client : (before : Log) (place : �
   -- a message that is no request
   mute : (m : Message) (place : ℕ) (old : Log) (sent : List Message) (new : Log) → RepliesToEach [] sent
       → Pass ToClient sent (passed ToServer place m ∷ old) new
-      → ((id : Id) → waits ToServer id (passed ToServer place m ∷ old) ≡ waits ToServer id old) → Quiet old
+      → ((id : Id) → queue ToServer id (passed ToServer place m ∷ old) ≡ queue ToServer id old) → Quiet old
       → Log_holds old → Log_holds new × Quiet new
   mute m place old sent new replies passes same quiet holds =
       let is = none_sent sent (passed ToServer place m ∷ old) new replies passes in
@@ -102,10 +107,10 @@ module _ (P : Log → Passed → Type 0) (of_client : (before : Log) (place : �
   exchanged (Some (notification method params)) sent old mid new replies came passes quiet holds =
       mute (notification method params) came.0 old sent new replies (subst
       (λ l. Pass ToClient sent l new) came.1 passes)
-      (λ id. after_notification ToServer ToServer id came.0 old method params) quiet holds
+      (λ id. queue_notification ToServer id ToServer came.0 old method params) quiet holds
   exchanged (Some (response i outcome)) sent old mid new replies came passes quiet holds =
       mute (response i outcome) came.0 old sent new replies (subst (λ l. Pass ToClient sent l new) came.1 passes)
-      (λ id. after_reply ToServer ToServer id came.0 old i outcome) quiet holds
+      (λ id. queue_reply ToServer id ToServer came.0 old i outcome) quiet holds
   exchanged (Some (request i method params)) [] old mid new replies came passes quiet holds = absurd replies
   exchanged (Some (request i method params)) (m ∷ n ∷ ms) old mid new replies came passes quiet holds = absurd replies.1
   exchanged (Some (request i method params)) (m ∷ []) old mid new replies came passes quiet holds =
@@ -113,22 +118,22 @@ module _ (P : Log → Passed → Type 0) (of_client : (before : Log) (place : �
       let reply = replies.0 in
       let is_new : new ≡ passed ToClient passes.0 (response i reply.0) ∷ asked =
       passes.1 ∙ (λ k. passed ToClient passes.0 (reply.1 k) ∷ came.1 k) in
-      let opens : (id : Id) → waits ToServer id asked ≡ (same_id id i || false) =
-      λ id. after_request ToServer ToServer id came.0 old i method params ∙ ap (λ b. same_id id i || b) (quiet id) in
-      let waiting_for : waits ToServer i asked ≡ true = opens i ∙ ap (λ b. b || false) (same_own i) in
+      let kept : Open = request_of ToServer came.0 i method params in
+      let opens : (id : Id) → queue ToServer id asked ≡ cond (same_id id i) (kept ∷ []) [] =
+      λ id. queue_request ToServer id ToServer came.0 old i method params
+      ∙ ap (λ xs. xs ++ cond (same_id id i) (kept ∷ []) []) (quiet id) in
+      let waiting_for : is_some (waiting ToServer i asked) ≡ true =
+      ap (λ (o : Option Open). is_some o) (waiting_is ToServer i asked
+      ∙ ap first (opens i ∙ ap (λ b. cond b (kept ∷ []) []) (same_own i))) in
       subst (λ l. Log_holds l × Quiet l) (sym is_new) (
         at_each_more P (passed ToClient passes.0 (response i reply.0)) asked
             (of_reply asked passes.0 i reply.0 waiting_for)
             (at_each_more P (passed ToServer came.0 (request i method params)) old (of_client old came.0
             (request i method params))
             holds),
-        λ id. after_reply ToServer ToClient id passes.0 asked i reply.0
-            ∙ ap (λ b. cond (same_id id i) false b) (opens id) ∙ closed (same_id id i),
+        λ id. queue_reply ToServer id ToClient passes.0 asked i reply.0
+            ∙ ap (λ xs. cond (same_id id i) (rest xs) xs) (opens id) ∙ closed (same_id id i) kept,
       )
-    where
-      closed : (b : Bool) → cond b false (b || false) ≡ false
-      closed true = refl
-      closed false = refl
 
   all_exchanged : (xs : List Exchange) (old new : Log) → AllReplied xs → PassSession xs old new → Quiet old
       → Log_holds old
@@ -146,9 +151,9 @@ quiet_first id = refl
 client_clean : (before : Log) (place : ℕ) (m : Message) → IsClean before (passed ToServer place m)
 client_clean before place m = λ e. cc
 
-reply_clean : (before : Log) (place : ℕ) (id : Id) (outcome : _) → waits ToServer id before ≡ true
+reply_clean : (before : Log) (place : ℕ) (id : Id) (outcome : _) → is_some (waiting ToServer id before) ≡ true
     → IsClean before (passed ToClient place (response id outcome))
-reply_clean before place id outcome one = λ e. ap (option_map _) (reply_fits before ToClient id outcome one)
+reply_clean before place id outcome one = λ e. one_found (waiting ToServer id before) one
 
 abbrev replied_clean : (xs : List Exchange) (new : Log) → AllReplied xs → PassSession xs [] new → ServerIsClean new
 replied_clean xs new all passes = (all_exchanged IsClean client_clean reply_clean xs [] new all passes quiet_first
@@ -172,7 +177,7 @@ server_is_clean exchanges stop shutdown_reply answer log (inr last) passes =
 client_keeps : (before : Log) (place : ℕ) (m : Message) → KeepsLifecycle before (passed ToServer place m)
 client_keeps before place m = λ e. cc
 
-reply_keeps : (before : Log) (place : ℕ) (id : Id) (outcome : _) → waits ToServer id before ≡ true
+reply_keeps : (before : Log) (place : ℕ) (id : Id) (outcome : _) → is_some (waiting ToServer id before) ≡ true
     → KeepsLifecycle before (passed ToClient place (response id outcome))
 reply_keeps before place id outcome one = λ e. refl
 
@@ -191,9 +196,11 @@ pub begun_keeps : (before : Log) (place : ℕ) (m : Message) → HasBegun before
     → KeepsLifecycle before (passed ToClient place m)
 begun_keeps before place (response id outcome) begun = λ e. refl
 begun_keeps before place (request id method params) begun = λ e. ap (λ b. cond (b || (is_some (initializing before)
-    && is_early (request id method params))) None (Some (BeforeResult, initializing before))) begun
+    && (tells_opening before (request id method params) || is_early (request id method params)))) None
+    (Some (BeforeResult, initializing before))) begun
 begun_keeps before place (notification method params) begun = λ e. ap (λ b. cond (b || (is_some (initializing before)
-    && is_early (notification method params))) None (Some (BeforeResult, initializing before))) begun
+    && (tells_opening before (notification method params) || is_early (notification method params)))) None
+    (Some (BeforeResult, initializing before))) begun
 
 begun_step : (before : Log) (place : ℕ) (m : Message) → HasBegun before
     → KeepsLifecycle before (passed ToClient place m)
@@ -215,10 +222,6 @@ begun_session (x ∷ xs) old new passes begun keeps =
     (begun_after_client ms old passes.0 passes.2 begun) came in
     begun_session xs passes.1 new passes.4 sent.1 sent.0
 
-pub none_waiting : (o : Option Passed) (p : Passed) → is_some o ≡ false → option_or o (Some p) ≡ Some p
-none_waiting None p e = refl
-none_waiting (Some q) p e = cc
-
 -- the exchange that gives `initialize` its result
 begins : (i : Id) (method : List ℕ) (params result : _) (asked replied : ℕ) (old : Log) → Quiet old
     → bytes_eq method (codes "initialize") ≡ true
@@ -226,11 +229,13 @@ begins : (i : Id) (method : List ℕ) (params result : _) (asked replied : ℕ) 
     (request i method params) ∷ old)
 begins i method params result asked replied old quiet is =
     let p : Passed = passed ToServer asked (request i method params) in
-    let found : cond (same_id i i) (option_or (waiting ToServer i old) (Some p)) (waiting ToServer i old) ≡ Some p =
-    ap (λ b. cond b (option_or (waiting ToServer i old) (Some p)) (waiting ToServer i old)) (same_own i)
-    ∙ none_waiting (waiting ToServer i old) p (quiet i) in
+    let kept : Open = request_of ToServer asked i method params in
+    let found : waiting ToServer i (p ∷ old) ≡ Some kept = waiting_is ToServer i (p ∷ old)
+    ∙ ap first (queue_request ToServer i ToServer asked old i method params
+    ∙ ap (λ xs. xs ++ cond (same_id i i) (kept ∷ []) []) (quiet i)
+    ∙ ap (λ b. cond b (kept ∷ []) []) (same_own i)) in
     ap (λ (b : Bool). is_some (cond (b && true) (Some replied) (initialize_result (p ∷ old))))
-    (ap is_some_initialize found ∙ is)
+    (ap (is_some_such opens_session) found ∙ is)
 
 abbrev replied_keeps : (xs : List Exchange) (new : Log) → AllReplied xs → PassSession xs [] new
     → ServerKeepsLifecycle new × Quiet new

@@ -1,13 +1,16 @@
 -- Whether a request waits after one more message, and which messages fit.
 use Rattle.std.proofs.Common.{◌≡◌, Bool, true, false, cond, ◌&&◌, ◌||◌, List, [], ◌∷◌, Option, Some, None, is_some}
-use Rattle.std.proofs.Common.{refl, ap, ◌∙◌, option_map, ℕ, subst}
-use Rattle.std.specs.Option.{option_or}
+use Rattle.std.proofs.Common.{refl, sym, ap, ◌∙◌, option_map, ℕ, subst, ◌++◌, ◌⊎◌, inl, inr}
+use Rattle.std.proofs.lemmas.List.{append-nil}
 use Rattle.lsp_message.specs.Id.{Id, same_id}
-use Rattle.lsp_message.specs.Message.{request, notification, response}
+use Rattle.lsp_message.specs.Message.{Message, request, notification, response}
 use Rattle.lsp_watch.specs.CleanLog.{AtEach}
-use Rattle.lsp_watch.specs.Log.{Log, Passed, passed, other, same_way, waiting}
+use Rattle.lsp_watch.specs.Log.{Log, Passed, Open, passed, other, same_way, is_request, is_reply, waiting, request_of}
+use Rattle.lsp_watch.proofs.Queues.{first, rest, queue, waiting_is, queue_request, queue_notification, queue_reply}
+use Rattle.lsp_watch.proofs.Queues.{other_ways, same_way_is}
+use Rattle.lsp_message.proofs.Ids.{same_is}
 use Rattle.lsp_watch.specs.Rules.{id_finding, reply_finding}
-use Rattle.lsp_watch.specs.declared.breach.Way.{Way}
+use Rattle.lsp_watch.specs.declared.way.Way.{Way}
 
 -- ---- a log, message by message
 
@@ -24,17 +27,10 @@ at_each_more P p log here there (x ∷ later) before q is = there later before q
 
 -- ---- what waits
 
--- whether a request of this way and id waits
+-- the last message of this way and id is a request: so it waits, if each comes where none waits
 abbrev pub waits : Way → Id → Log → Bool
-waits way id log = is_some (waiting way id log)
-
--- after one more message, which is a reply to it or not, or such a request or not
-one_more : (replies asks : Bool) (p : Passed) (o : Option Passed) → is_some (cond replies None
-    (cond asks (option_or o (Some p)) o)) ≡ cond replies false (asks || is_some o)
-one_more true asks p o = refl
-one_more false true p None = refl
-one_more false true p (Some q) = refl
-one_more false false p o = refl
+waits way id [] = false
+waits way id (p ∷ before) = cond (is_reply way id p) false (is_request way id p || waits way id before)
 
 and_false : (b : Bool) → (b && false) ≡ false
 and_false true = refl
@@ -44,40 +40,180 @@ module _ (way went : Way) (id : Id) (place : ℕ) (before : Log) where
   pub after_request : (key : Id) (method : List ℕ) (params : _)
       → waits way id (passed went place (request key method params) ∷ before)
       ≡ ((same_way way went && same_id id key) || waits way id before)
-  after_request key method params = one_more (same_way (other way) went && false) (same_way way went && same_id id key)
-      _ (waiting way id before)
-      ∙ ap (λ b. cond b false ((same_way way went && same_id id key) || waits way id before))
+  after_request key method params =
+      ap (λ b. cond b false ((same_way way went && same_id id key) || waits way id before))
       (and_false (same_way (other way) went))
 
   pub after_notification : (method : List ℕ) (params : _)
       → waits way id (passed went place (notification method params) ∷ before) ≡ waits way id before
-  after_notification method params = one_more (same_way (other way) went && false) (same_way way went && false) _
-      (waiting way id before)
-      ∙ ap (λ b. cond b false ((same_way way went && false) || waits way id before)) (and_false (same_way
+  after_notification method params =
+      ap (λ b. cond b false ((same_way way went && false) || waits way id before)) (and_false (same_way
       (other way) went))
       ∙ ap (λ b. b || waits way id before) (and_false (same_way way went))
 
   pub after_reply : (key : Id) (outcome : _) → waits way id (passed went place (response key outcome) ∷ before)
       ≡ cond (same_way (other way) went && same_id id key) false (waits way id before)
-  after_reply key outcome = one_more (same_way (other way) went && same_id id key) (same_way way went && false) _
-      (waiting way id before)
-      ∙ ap (λ b. cond (same_way (other way) went && same_id id key) false (b || waits way id before))
+  after_reply key outcome =
+      ap (λ b. cond (same_way (other way) went && same_id id key) false (b || waits way id before))
       (and_false (same_way way went))
+
+-- ---- it does wait
+
+module _ (way : Way) (id : Id) where
+  abbrev some_waits : Log → Bool
+  some_waits log = is_some (first (queue way id log))
+
+  or_more : (a b c : Bool) → (b ≡ true → c ≡ true) → (a || b) ≡ true → (a || c) ≡ true
+  or_more true b c more e = refl
+  or_more false b c more e = more e
+
+  some_push : (xs : List Open) (b : Bool) (r : Open) → (b || is_some (first xs)) ≡ true
+      → is_some (first (xs ++ cond b (r ∷ []) [])) ≡ true
+  some_push [] true r e = refl
+  some_push [] false r e = e
+  some_push (x ∷ xs) b r e = refl
+
+  at_reply : (b : Bool) (w : Bool) (xs : List Open) → (w ≡ true → is_some (first xs) ≡ true) → cond b false w ≡ true
+      → is_some (first (cond b (rest xs) xs)) ≡ true
+  at_reply true w xs more e = cc
+  at_reply false w xs more e = more e
+
+  pub does_wait : (log : Log) → waits way id log ≡ true → some_waits log ≡ true
+  does_wait [] e = cc
+  does_wait (p ∷ before) e = by p.way p.place p.message (does_wait before) e
+    where
+      by : (went : Way) (place : ℕ) (m : Message) → (waits way id before ≡ true → some_waits before ≡ true)
+          → waits way id (passed went place m ∷ before) ≡ true → some_waits (passed went place m ∷ before) ≡ true
+      by went place (request i method params) more e =
+          ap (λ xs. is_some (first xs)) (queue_request way id went place before i method params)
+          ∙ some_push (queue way id before) (same_way way went && same_id id i)
+          (request_of went place i method params) (or_more (same_way way went && same_id id i) (waits way id before)
+          (some_waits before) more (sym (after_request way went id place before i method params) ∙ e))
+      by went place (notification method params) more e =
+          more (sym (after_notification way went id place before method params) ∙ e)
+      by went place (response i outcome) more e =
+          ap (λ xs. is_some (first xs)) (queue_reply way id went place before i outcome)
+          ∙ ap (λ b. is_some (first (cond (b && same_id id i) (rest (queue way id before)) (queue way id before))))
+          (other_ways way went)
+          ∙ at_reply (same_way (other way) went && same_id id i) (waits way id before) (queue way id before) more
+          (sym (after_reply way went id place before i outcome) ∙ e)
+
+  -- where none waits, the last message is no request
+  pub none_asks : (log : Log) → waiting way id log ≡ None → waits way id log ≡ false
+  none_asks log none = by (waits way id log) refl
+    where
+      by : (b : Bool) → waits way id log ≡ b → waits way id log ≡ false
+      by false e = e
+      by true e =
+          let bad : false ≡ true = ap (λ (o : Option Open). is_some o) (sym none ∙ waiting_is way id log)
+          ∙ does_wait log e in
+          cc
+
+-- ---- logs in which each request comes where none waits
+
+abbrev pub FitsIds : Log → Type 0
+FitsIds log = AtEach (λ before p. id_finding before p.way p.message ≡ None) log
+
+module _ (way : Way) (id : Id) where
+  -- none waits, or one
+  abbrev pub AtMostOne : Log → Type 0
+  AtMostOne log = ((queue way id log ≡ []) × (waits way id log ≡ false))
+      ⊎ ((r : Open) × (queue way id log ≡ r ∷ []) × (waits way id log ≡ true))
+
+  none_first : (xs : List Open) → first xs ≡ None → xs ≡ []
+  none_first [] e = refl
+  none_first (x ∷ xs) e = cc
+
+  unmapped : {A B : Type 0} (f : A → B) (o : Option A) → option_map f o ≡ None → o ≡ None
+  unmapped f None e = refl
+  unmapped f (Some x) e = cc
+
+  parts_of : (a b : Bool) → (a && b) ≡ true → (a ≡ true) × (b ≡ true)
+  parts_of true b e = (refl, e)
+  parts_of false b e = cc
+
+  rest_of : (before : Log) → AtMostOne before → rest (queue way id before) ≡ []
+  rest_of before (inl none) = ap rest none.0
+  rest_of before (inr one) = ap rest one.1
+
+  same : (p : Passed) (before : Log) → queue way id (p ∷ before) ≡ queue way id before
+      → waits way id (p ∷ before) ≡ waits way id before → AtMostOne before → AtMostOne (p ∷ before)
+  same p before q w (inl none) = inl (q ∙ none.0, w ∙ none.1)
+  same p before q w (inr one) = inr (one.0, q ∙ one.1, w ∙ one.2)
+
+  step : (went : Way) (place : ℕ) (m : Message) (before : Log) → id_finding before went m ≡ None → AtMostOne before
+      → AtMostOne (passed went place m ∷ before)
+  step went place (notification method params) before fits one = same (passed went place (notification method params))
+      before (queue_notification way id went place before method params)
+      (after_notification way went id place before method params) one
+  step went place (request i method params) before fits one = by (same_way way went && same_id id i) refl
+    where
+      by : (b : Bool) → (same_way way went && same_id id i) ≡ b
+          → AtMostOne (passed went place (request i method params) ∷ before)
+      by true is =
+          let both = parts_of (same_way way went) (same_id id i) is in
+          let none : waiting way id before ≡ None =
+          ap (λ w. waiting w id before) (sym (same_way_is way went both.0))
+          ∙ ap (λ k. waiting went k before) (same_is id i both.1)
+          ∙ unmapped _ (waiting went i before) fits in
+          inr (
+            (request_of went place i method params),
+            queue_request way id went place before i method params
+                ∙ ap (λ b. queue way id before ++ cond b ((request_of went place i method params) ∷ []) []) is
+                ∙ ap (λ xs. xs ++ (request_of went place i method params) ∷ []) (none_first (queue way id before)
+                (sym (waiting_is way id before) ∙ none)),
+            after_request way went id place before i method params ∙ ap (λ b. b || waits way id before) is,
+          )
+      by false is = same (passed went place (request i method params)) before
+          (queue_request way id went place before i method params
+          ∙ ap (λ b. queue way id before ++ cond b ((request_of went place i method params) ∷ []) []) is
+          ∙ append-nil (queue way id before))
+          (after_request way went id place before i method params ∙ ap (λ b. b || waits way id before) is) one
+  step went place (response i outcome) before fits one = by (same_way (other way) went && same_id id i) refl
+    where
+      replied : (b : Bool) → (same_way (other way) went && same_id id i) ≡ b
+          → queue way id (passed went place (response i outcome) ∷ before)
+          ≡ cond b (rest (queue way id before)) (queue way id before)
+      replied b is = queue_reply way id went place before i outcome
+          ∙ ap (λ c. cond (c && same_id id i) (rest (queue way id before)) (queue way id before)) (other_ways way went)
+          ∙ ap (λ c. cond c (rest (queue way id before)) (queue way id before)) is
+
+      by : (b : Bool) → (same_way (other way) went && same_id id i) ≡ b
+          → AtMostOne (passed went place (response i outcome) ∷ before)
+      by true is = inl (
+        replied true is ∙ rest_of before one,
+        after_reply way went id place before i outcome ∙ ap (λ b. cond b false (waits way id before)) is,
+      )
+      by false is = same (passed went place (response i outcome)) before (replied false is)
+          (after_reply way went id place before i outcome ∙ ap (λ b. cond b false (waits way id before)) is) one
+
+  pub at_most_one : (log : Log) → FitsIds log → AtMostOne log
+  at_most_one [] fits = inl (refl, refl)
+  at_most_one (p ∷ before) fits = step p.way p.place p.message before (fits [] before p refl)
+      (at_most_one before (λ later b q is. fits (p ∷ later) b q (ap (λ l. p ∷ l) is)))
+
+  -- so where the last message is no request, none waits
+  pub none_waits : (log : Log) → FitsIds log → waits way id log ≡ false → waiting way id log ≡ None
+  none_waits log fits quiet = by (at_most_one log fits)
+    where
+      by : AtMostOne log → waiting way id log ≡ None
+      by (inl none) = waiting_is way id log ∙ ap first none.0
+      by (inr one) = let bad : false ≡ true = sym quiet ∙ one.2 in cc
 
 -- ---- what fits
 
-none_found : {A B : Type 0} (f : A → B) (o : Option A) → is_some o ≡ false → option_map f o ≡ None
-none_found f None e = refl
-none_found f (Some x) e = cc
+none_found : {A B : Type 0} (f : A → B) (o : Option A) → o ≡ None → option_map f o ≡ None
+none_found f o e = ap (option_map f) e
 
-pub request_fits : (before : Log) (way : Way) (id : Id) (method : List ℕ) (params : _) → waits way id before ≡ false
+pub request_fits : (before : Log) (way : Way) (id : Id) (method : List ℕ) (params : _) → waiting way id before ≡ None
     → id_finding before way (request id method params) ≡ None
 request_fits before way id method params none = none_found _ _ none
 
-one_found : (o : Option Passed) → is_some o ≡ true → reply_finding o ≡ None
+pub one_found : (o : Option Open) → is_some o ≡ true → reply_finding o ≡ None
 one_found None e = cc
 one_found (Some x) e = refl
 
 pub reply_fits : (before : Log) (way : Way) (id : Id) (outcome : _) → waits (other way) id before ≡ true
     → id_finding before way (response id outcome) ≡ None
-reply_fits before way id outcome one = one_found _ one
+reply_fits before way id outcome one = one_found (waiting (other way) id before)
+    (ap (λ (o : Option Open). is_some o) (waiting_is (other way) id before) ∙ does_wait (other way) id before one)

@@ -2,7 +2,7 @@
 use Rattle.std.specs.Prelude.{◌≡◌, ℕ, List, [], ◌∷◌}
 use Rattle.lsp_message.specs.Message.{Message}
 use Rattle.lsp_watch.specs.Log.{Log, passed}
-use Rattle.lsp_watch.specs.declared.breach.Way.{Way}
+use Rattle.lsp_watch.specs.declared.way.Way.{Way}
 
 -- these messages pass this way, in order and at whatever places: the log is old before them, and new behind them
 abbrev pub Pass : Way → List Message → Log → Log → Type 0

@@ -7,8 +7,8 @@ use Rattle.lsp_peers.specs.declared.step.Side.TheVariants.{A, B}
 use Rattle.lsp_watch.specs.CleanLog.{AtEach}
 use Rattle.lsp_watch.specs.Log.{Log}
 use Rattle.lsp_watch.specs.Rules.{id_finding}
-use Rattle.lsp_watch.specs.declared.breach.Way.{Way}
-use Rattle.lsp_watch.specs.declared.breach.Way.TheVariants.{ToServer, ToClient}
+use Rattle.lsp_watch.specs.declared.way.Way.{Way}
+use Rattle.lsp_watch.specs.declared.way.Way.TheVariants.{ToServer, ToClient}
 use Rattle.lsp_watched.specs.Passing.{Pass}
 
 -- which way a side sends, if this one is the client

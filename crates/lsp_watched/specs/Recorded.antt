@@ -4,8 +4,8 @@ use Rattle.lsp_message.specs.Message.{Message}
 use Rattle.lsp_session.specs.Session.{Exchange, messages_of, sends_of}
 use Rattle.lsp_watch.specs.CleanLog.{AtEach}
 use Rattle.lsp_watch.specs.Log.{Log, from_client, same_way}
-use Rattle.lsp_watch.specs.declared.breach.Way.{Way}
-use Rattle.lsp_watch.specs.declared.breach.Way.TheVariants.{ToServer, ToClient}
+use Rattle.lsp_watch.specs.declared.way.Way.{Way}
+use Rattle.lsp_watch.specs.declared.way.Way.TheVariants.{ToServer, ToClient}
 
 -- the messages that went this way, in order
 abbrev pub gone : Way → Log → List Message

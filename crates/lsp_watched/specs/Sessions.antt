@@ -4,8 +4,8 @@ use Rattle.lsp_message.specs.Message.{Message, request}
 use Rattle.lsp_session.specs.Session.{Exchange}
 use Rattle.lsp_watch.specs.CleanLog.{AtEach, is_call}
 use Rattle.lsp_watch.specs.Log.{Log, from_client, waiting}
-use Rattle.lsp_watch.specs.Rules.{breach_of, lifecycle_finding}
-use Rattle.lsp_watch.specs.declared.breach.Way.TheVariants.{ToServer, ToClient}
+use Rattle.lsp_watch.specs.Rules.{session_finding, lifecycle_finding}
+use Rattle.lsp_watch.specs.declared.way.Way.TheVariants.{ToServer, ToClient}
 use Rattle.lsp_watched.specs.Passing.{Pass}
 
 -- at each exchange the message passes that comes, and then what is sent for it
@@ -29,11 +29,11 @@ ClientKeepsIds log = AtEach (λ before p. from_client p.way ≡ true → AsksAne
 -- no reply of the server breaks a rule
 abbrev pub ServerRepliesFit : Log → Type 0
 ServerRepliesFit log = AtEach (λ before p. from_client p.way ≡ false → is_call p.message ≡ false
-    → breach_of before p.way p.message ≡ None) log
+    → session_finding before p.way p.message ≡ None) log
 
 -- no message of the server breaks a rule, whatever the client's do
 abbrev pub ServerIsClean : Log → Type 0
-ServerIsClean log = AtEach (λ before p. from_client p.way ≡ false → breach_of before p.way p.message ≡ None) log
+ServerIsClean log = AtEach (λ before p. from_client p.way ≡ false → session_finding before p.way p.message ≡ None) log
 
 -- none breaks a rule of the lifecycle
 abbrev pub ServerKeepsLifecycle : Log → Type 0

@@ -1,0 +1,153 @@
+-- The requests of one way and id that have no reply, message by message.
+use Rattle.std.proofs.Common.{◌≡◌, Bool, true, false, cond, ◌&&◌, List, [], ◌∷◌, ◌++◌, Option, Some, None, refl, sym}
+use Rattle.std.proofs.Common.{ap, ◌∙◌, ℕ}
+use Rattle.std.specs.Prelude.{filter, find}
+use Rattle.lsp_message.proofs.Ids.{same_is}
+use Rattle.lsp_message.specs.Id.{Id, same_id}
+use Rattle.lsp_message.specs.Message.{request, notification, response}
+use Rattle.lsp_watch.specs.Log.{Log, Open, passed, other, same_way, is_for, request_of, without_first}
+use Rattle.lsp_watch.specs.Log.{open_of, waiting}
+use Rattle.lsp_watch.specs.declared.way.Way.{Way}
+use Rattle.lsp_watch.specs.declared.way.Way.TheVariants.{ToServer, ToClient}
+
+-- ---- lists
+
+abbrev pub first : {A : Type 0} → List A → Option A
+first [] = None
+first (x ∷ xs) = Some x
+
+abbrev pub rest : {A : Type 0} → List A → List A
+rest [] = []
+rest (x ∷ xs) = xs
+
+module _ {A : Type 0} (p : A → Bool) where
+  pub find_is : (xs : List A) → find p xs ≡ first (filter p xs)
+  find_is [] = refl
+  find_is (x ∷ xs) = by (p x) (find_is xs)
+    where
+      by : (b : Bool) → find p xs ≡ first (filter p xs)
+          → cond b (Some x) (find p xs) ≡ first (cond b (x ∷ filter p xs) (filter p xs))
+      by true e = refl
+      by false e = e
+
+  pub filter_push : (xs : List A) (y : A) → filter p (xs ++ y ∷ []) ≡ filter p xs ++ cond (p y) (y ∷ []) []
+  filter_push [] y = refl
+  filter_push (x ∷ xs) y = by (p x) (filter_push xs y)
+    where
+      by : (b : Bool) → filter p (xs ++ y ∷ []) ≡ filter p xs ++ cond (p y) (y ∷ []) []
+          → cond b (x ∷ filter p (xs ++ y ∷ [])) (filter p (xs ++ y ∷ []))
+          ≡ cond b (x ∷ filter p xs) (filter p xs) ++ cond (p y) (y ∷ []) []
+      by true e = ap (λ zs. x ∷ zs) e
+      by false e = e
+
+  -- without its first, the others stay
+  pub filter_own : (xs : List A) → filter p (without_first p xs) ≡ rest (filter p xs)
+  filter_own [] = refl
+  filter_own (x ∷ xs) = by (p x) refl (filter_own xs)
+    where
+      by : (b : Bool) → p x ≡ b → filter p (without_first p xs) ≡ rest (filter p xs)
+          → filter p (cond b xs (x ∷ without_first p xs)) ≡ rest (cond b (x ∷ filter p xs) (filter p xs))
+      by true is e = refl
+      by false is e = ap (λ b. cond b (x ∷ filter p (without_first p xs)) (filter p (without_first p xs))) is ∙ e
+
+  -- without one that is not such, all that are such stay
+  pub filter_other : (q : A → Bool) → ((x : A) → q x ≡ true → p x ≡ false) → (xs : List A)
+      → filter p (without_first q xs) ≡ filter p xs
+  filter_other q apart [] = refl
+  filter_other q apart (x ∷ xs) = by (q x) refl (filter_other q apart xs)
+    where
+      by : (b : Bool) → q x ≡ b → filter p (without_first q xs) ≡ filter p xs
+          → filter p (cond b xs (x ∷ without_first q xs)) ≡ cond (p x) (x ∷ filter p xs) (filter p xs)
+      by true is e = ap (λ b. cond b (x ∷ filter p xs) (filter p xs)) (sym (apart x is))
+      by false is e = ap (λ zs. cond (p x) (x ∷ zs) zs) e
+
+  -- where none is such, none goes
+  pub none_goes : (xs : List A) → filter p xs ≡ [] → without_first p xs ≡ xs
+  none_goes [] e = refl
+  none_goes (x ∷ xs) e = by (p x) e (none_goes xs)
+    where
+      by : (b : Bool) → cond b (x ∷ filter p xs) (filter p xs) ≡ [] → (filter p xs ≡ [] → without_first p xs ≡ xs)
+          → cond b xs (x ∷ without_first p xs) ≡ x ∷ xs
+      by true e more = cc
+      by false e more = ap (λ zs. x ∷ zs) (more e)
+
+  -- the one that was put behind, where no other is such
+  pub last_goes : (xs : List A) (y : A) → filter p xs ≡ [] → p y ≡ true → without_first p (xs ++ y ∷ []) ≡ xs
+  last_goes [] y e is = ap (λ b. cond b [] (y ∷ [])) is
+  last_goes (x ∷ xs) y e is = by (p x) e (last_goes xs y)
+    where
+      by : (b : Bool) → cond b (x ∷ filter p xs) (filter p xs) ≡ []
+          → (filter p xs ≡ [] → p y ≡ true → without_first p (xs ++ y ∷ []) ≡ xs)
+          → cond b (xs ++ y ∷ []) (x ∷ without_first p (xs ++ y ∷ [])) ≡ x ∷ xs
+      by true e more = cc
+      by false e more = ap (λ zs. x ∷ zs) (more e is)
+
+-- ---- ways and ids
+
+pub same_way_is : (a b : Way) → same_way a b ≡ true → b ≡ a
+same_way_is ToServer ToServer e = refl
+same_way_is ToServer ToClient e = cc
+same_way_is ToClient ToServer e = cc
+same_way_is ToClient ToClient e = refl
+
+pub same_way_own : (a : Way) → same_way a a ≡ true
+same_way_own ToServer = refl
+same_way_own ToClient = refl
+
+pub other_ways : (a b : Way) → same_way a (other b) ≡ same_way (other a) b
+other_ways ToServer ToServer = refl
+other_ways ToServer ToClient = refl
+other_ways ToClient ToServer = refl
+other_ways ToClient ToClient = refl
+
+pub both : (a b : Bool) → (a && b) ≡ true → (a ≡ true) × (b ≡ true)
+both true b e = (refl, e)
+both false b e = cc
+
+pub and_true : (a b : Bool) → a ≡ true → b ≡ true → (a && b) ≡ true
+and_true true b e f = f
+and_true false b e f = cc
+
+-- the requests of this way and id that have no reply, the first first
+abbrev pub queue : Way → Id → Log → List Open
+queue way id log = filter (is_for way id) (open_of log)
+
+pub waiting_is : (way : Way) (id : Id) (log : Log) → waiting way id log ≡ first (queue way id log)
+waiting_is way id log = find_is (is_for way id) (open_of log)
+
+module _ (way : Way) (id : Id) (went : Way) (place : ℕ) (before : Log) where
+  pub queue_request : (i : Id) (method : List ℕ) (params : _)
+      → queue way id (passed went place (request i method params) ∷ before)
+      ≡ queue way id before ++ cond (same_way way went && same_id id i) (request_of went place i method params ∷ []) []
+  queue_request i method params = filter_push (is_for way id) (open_of before)
+      (request_of went place i method params)
+
+  pub queue_notification : (method : List ℕ) (params : _)
+      → queue way id (passed went place (notification method params) ∷ before) ≡ queue way id before
+  queue_notification method params = refl
+
+  -- a reply to a request of this way and id, and to another
+  pub queue_reply : (i : Id) (outcome : _)
+      → queue way id (passed went place (response i outcome) ∷ before)
+      ≡ cond (same_way way (other went) && same_id id i) (rest (queue way id before)) (queue way id before)
+  queue_reply i outcome = by (same_way way (other went) && same_id id i) refl
+    where
+      by : (b : Bool) → (same_way way (other went) && same_id id i) ≡ b
+          → filter (is_for way id) (without_first (is_for (other went) i) (open_of before))
+          ≡ cond b (rest (queue way id before)) (queue way id before)
+      by true is =
+          let parts = both (same_way way (other went)) (same_id id i) is in
+          let way_is : other went ≡ way = same_way_is way (other went) parts.0 in
+          let id_is : id ≡ i = same_is id i parts.1 in
+          ap (λ w. filter (is_for way id) (without_first (is_for w i) (open_of before))) way_is
+          ∙ ap (λ k. filter (is_for way id) (without_first (is_for way k) (open_of before))) (sym id_is)
+          ∙ filter_own (is_for way id) (open_of before)
+      by false is = filter_other (is_for way id) (is_for (other went) i) apart (open_of before)
+        where
+          apart : (o : Open) → is_for (other went) i o ≡ true → is_for way id o ≡ false
+          apart o at =
+              let parts = both (same_way (other went) o.way) (same_id i o.id) at in
+              let way_is : o.way ≡ other went = same_way_is (other went) o.way parts.0 in
+              let id_is : i ≡ o.id = same_is i o.id parts.1 in
+              ap (λ w. same_way way w && same_id id o.id) way_is
+              ∙ ap (λ k. same_way way (other went) && same_id id k) (sym id_is) ∙ is

@@ -1,0 +1,76 @@
+-- What a watch says of a message and of the end of a session.
+use Rattle.std.specs.Prelude.{ℕ, Bool, false, ◌||◌, List, [], ◌∷◌, ◌++◌, Option, Some, None, is_some, map, filter}
+use Rattle.std.specs.Prelude.{option_to_list, ◌&&◌, not, if◌then◌else◌, codes}
+use Rattle.lsp_message.specs.Message.{Message}
+use Rattle.lsp_watch.specs.Documents.{document_finding}
+use Rattle.lsp_watch.specs.Log.{Log, Finding, Open, asks, from_client, passed, open_of}
+use Rattle.lsp_watch.specs.Progress.{progress_finding}
+use Rattle.lsp_watch.specs.Rules.{session_finding, lifecycle_of}
+use Rattle.lsp_watch.specs.declared.breach.Breach.{Breach}
+use Rattle.lsp_watch.specs.declared.breach.Unanswered.{Unanswered}
+use Rattle.lsp_watch.specs.declared.breach.Verdict.TheVariants as verdict
+use Rattle.lsp_watch.specs.declared.rule.Rule.{Rule}
+use Rattle.lsp_watch.specs.declared.rule.Rule.TheVariants.{Unreadable}
+use Rattle.lsp_watch.specs.declared.breach.Verdict.{Verdict}
+use Rattle.lsp_watch.specs.declared.way.Way.{Way}
+
+-- what is broken only because something did not pass cannot be told of a log that begins in the middle of a session
+abbrev pub verdict_of : Bool → Bool → Verdict
+verdict_of is_whole is_against = if is_whole || is_against then verdict.Breach else verdict.CannotTell
+
+abbrev pub as_breach : Bool → Finding → Breach
+as_breach is_whole found =
+    record { rule = found.0; verdict = verdict_of is_whole (is_some found.1); against = found.1 }
+
+-- the rules that a message breaks, by all that passed before it
+abbrev pub findings_of : Log → Way → Message → List Finding
+findings_of before way m = option_to_list (session_finding before way m)
+    ++ (option_to_list (document_finding before way m) ++ option_to_list (progress_finding before way m))
+
+-- what cannot be read may be right
+abbrev pub shape_verdict : Rule → Verdict
+shape_verdict Unreadable = verdict.CannotTell
+shape_verdict rule = verdict.Breach
+
+abbrev pub shape_breach : Rule → Breach
+shape_breach rule = record { rule = rule; verdict = shape_verdict rule; against = None }
+
+abbrev pub entry_findings : Log → Way → Option Message → List Finding
+entry_findings before way None = []
+entry_findings before way (Some m) = findings_of before way m
+
+-- What is said of a message, which may be one that cannot be placed in a session: the rules of its shape, and then
+-- those of the session.
+abbrev pub breaches_of : Bool → Log → Way → List Rule → Option Message → List Breach
+breaches_of is_whole before way faults m =
+    map shape_breach faults ++ map (as_breach is_whole) (entry_findings before way m)
+
+-- the log after the message
+abbrev pub entered : Way → ℕ → Option Message → Log → Log
+entered way place None log = log
+entered way place (Some m) log = passed way place m ∷ log
+
+-- A message begins a new session: `initialize` behind `exit`, or any in a log that began in the middle of a session.
+abbrev pub begins_in : Bool → Log → Way → Option Message → Bool
+begins_in is_whole before way None = false
+begins_in is_whole before way (Some m) =
+    from_client way && (asks (codes "initialize") m && (not is_whole || is_some ((lifecycle_of before).exit)))
+
+-- ---- the end
+
+-- of a client it cannot be told: it may end before its user has answered
+abbrev pub told_of : Open → Unanswered
+told_of o = record {
+  way = o.way;
+  place = o.place;
+  verdict = if from_client o.way then verdict.Breach else verdict.CannotTell;
+}
+
+-- whether the side has ended that was asked
+abbrev pub is_over : Bool → Bool → Open → Bool
+is_over server_ended client_ended o = if from_client o.way then server_ended else client_ended
+
+-- the requests that have no reply, where the sides have ended, each by itself or by `exit`
+abbrev pub unanswered_of : Bool → Bool → Log → List Unanswered
+unanswered_of server_ended client_ended log = let left : Bool = is_some ((lifecycle_of log).exit) in
+    map told_of (filter (is_over (server_ended || left) (client_ended || left)) (open_of log))
