@@ -16,6 +16,7 @@ from lsp import (
 )
 from recorder_client import CHANGE, INITIALIZE, INITIALIZED, SESSION, framed, listening, server
 
+NO_REPLY = "the session is over, and the request has no reply (JSON-RPC 2.0, section 5)"
 NOT_OPEN = 'the document is not open (LSP 3.17, "DidOpenTextDocument Notification")'
 # Frames that no program of ours writes: another order of the header, spaces, a body with a line's end.
 ODD_BODY = b'{ "id" : 1 ,\n "method" : "initialize", "jsonrpc":"2.0" }'
@@ -31,7 +32,7 @@ def between(server_port, *words):
 
 
 def summary(requests, replies, breaches, is_open=0):
-    return f"client, server: requests {requests}, replies {replies}, open {is_open}, breaches {breaches}\n"
+    return f"client, server: requests {requests}, replies {replies}, open {is_open}, breaches {breaches}, failing {breaches}\n"
 
 
 def line_of(check):
@@ -92,7 +93,8 @@ def check_told_at_once():
     place = len(frame(INITIALIZE)) + len(frame(INITIALIZED))
     line = f"client:{place}: -> textDocument/didChange file:///a: {NOT_OPEN}"
     told = {"kind": "breach", "file": "client", "byte": place, "way": "->", "rule": "NotOpen", "method": "textDocument/didChange"}
-    for words in ["--once"], ["--once", "--json"]:
+    told |= {"level": "must", "side": "client", "fails": True}
+    for words in ["--once", "--fail-on", "both"], ["--once", "--fail-on", "client", "--json"]:
         with server() as demo, between(demo.port, *words) as check, check.connect() as client:
             client.exchange([(frame(INITIALIZE), INITIALIZE_REPLY), (frame(INITIALIZED) + frame(CHANGE), None)])
             if "--json" in words:
@@ -133,8 +135,8 @@ def check_clients():
                     theirs.receive(frame(INITIALIZE))
                 expect("what a client reads whose server is gone", client.rest(), b"")
                 # (though it stays)
-                expect("what is told", check.says("an open request"), "client:0: -> 1: has no reply")
-                expect("the summary", check.says("the session") + "\n", summary(1, 0, 0, 1))
+                expect("what is told", check.says("an open request"), f"client:0: -> initialize 1: {NO_REPLY}")
+                expect("the summary", check.says("the session") + "\n", summary(1, 0, 1, 1))
         expect("whether it listens on", check.is_up(), True)
 
 
@@ -148,6 +150,22 @@ def check_no_server():
         expect("whether the address is named", f"no connection to the server at {HOST}:{port}: " in errors, True)
 
 
+def check_null_id():
+    print("an error that names no request breaks no rule, and the session goes on")
+    with both_ends("--once") as (check, client, theirs):
+        for sent, came in [(frame(INITIALIZE), frame(NO_REQUEST)), (frame(INITIALIZED), frame(INITIALIZE_REPLY))]:
+            client.send_bytes(sent)
+            theirs.receive(sent)
+            theirs.send_bytes(came)
+            client.receive(came)
+        client.connection.close()
+        theirs.connection.close()
+        expect("whether a rule is broken by the server", check.end()[0], 0)
+
+
+NO_REQUEST = b'{"jsonrpc":"2.0","id":null,"error":{"code":-32700,"message":"no JSON"}}'
+
+
 def in_a_minute(check):
     begun = time.monotonic()
     check()
@@ -155,7 +173,9 @@ def in_a_minute(check):
 
 
 def check_all():
-    for check in [check_session, check_bytes, check_long_header, check_told_at_once, check_order, check_clients, check_no_server]:
+    for check in [
+        check_session, check_bytes, check_long_header, check_told_at_once, check_order, check_clients, check_no_server, check_null_id,
+    ]:
         in_a_minute(check)
 
 

@@ -50,7 +50,7 @@ class Watched(Typed):
             for name, lines in zip(names, cls.sessions):
                 (Path(folder) / name).write_text("".join(lines))
             told = judged(names, folder)
-        wrong = [line for line in told if line["kind"] == "stop" or line["kind"] == "breach" and line["way"] == "<-"]
+        wrong = [line for line in told if line["kind"] == "stop" or line["kind"] == "breach" and line["side"] == "server"]
         expect("what lsp_check says of the server", wrong, [])
 
 

@@ -3,6 +3,7 @@ import json
 import re
 
 HEAD = re.compile(r"\[Trace - ([^\]]*)\] (Sending|Received) (request|notification|response) '(.*?)(?: - \((.*)\))?'")
+TOOK = re.compile(r"' in (\d+)ms|Processing request took (\d+)ms")
 HELIX = re.compile(r"(\S+) helix_lsp::transport \[INFO\] (\S+) (->|<-) (.*)$")
 NEOVIM = re.compile(r'"rpc\.(send|receive)"\t(.*)$')
 EMACS = re.compile(r"\[jsonrpc\] e\[([^\]]*)\] *(-->|<--) (\S+) ?(.*)$")
@@ -38,14 +39,15 @@ def traces(lines):
                 break
             body.append(below)
         word, _, text = "\n".join(body).partition(":")
-        message = {"id": an_id(key)} if key else {}
+        message = {"jsonrpc": "2.0", **({"id": an_id(key)} if key else {})}
         if kind == "response":
             message["result"] = json.loads(text) if word == "Result" else None
         else:
             message["method"] = method
             if text.strip():
                 message["params"] = json.loads(text)
-        yield at + 1, "", "->" if verb == "Sending" else "<-", message, time_of(time)
+        took = TOOK.search(line) if kind == "response" else None
+        yield at + 1, "", "->" if verb == "Sending" else "<-", message, time_of(time), int(took[1]) if took else None
 
 
 def json_traces(lines):
@@ -73,7 +75,8 @@ def lua(text):
             return string(at)
         word = LUA_WORD.match(text, at)
         known = {"true": True, "false": False, "vim.empty_dict()": {}}
-        return known[word[0]] if word[0] in known else an_id(word[0]) if word[0].isdigit() else None, word.end()
+        is_number = re.fullmatch(r"-?\d+", word[0])
+        return known[word[0]] if word[0] in known else int(word[0]) if is_number else None, word.end()
 
     def string(at):
         quote, out, at = text[at], "", at + 1
@@ -151,7 +154,7 @@ def emacs(lines):
             message = lisp(LISP_WORD.findall("\n".join(lines[at + 1:]))[::-1])
         else:
             method, _, key = name.rstrip("]").partition("[")
-            message = {"id": an_id(key)} if key else {}
+            message = {"jsonrpc": "2.0", **({"id": an_id(key)} if key else {})}
             if key and (way, name) in asked:
                 message["result"] = None
             else:
@@ -164,10 +167,10 @@ MARKS = [("isLSPMessage", json_traces), ("helix_lsp", helix), ("[Trace - ", trac
 
 
 def passed_in(text):
-    """What passed by a log: of each server by its name, as (line, way, message, time)."""
+    """What passed by a log: of each server by its name, as (line, way, message, time), and how long a reply took if its line says so."""
     lines = [it.rstrip("\r") for it in text.split("\n")]
     read = next(read for mark, read in MARKS if mark in text)
     servers = {}
-    for line, name, way, message, time in read(lines):
-        servers.setdefault(name, []).append((line, way, message, time))
+    for line, name, *passed in read(lines):
+        servers.setdefault(name, []).append((line, *passed))
     return servers

@@ -1,34 +1,18 @@
--> {"jsonrpc":"2.0","id":0,"method":"initialize"}
 <- {"jsonrpc":"2.0","id":0,"result":null}
 -> {"jsonrpc":"2.0","method":"initialized"}
--> {"jsonrpc":"2.0","method":"textDocument/didOpen","params":{"textDocument":{"uri":"file:///project/py/main.py","version":1}}}
--> {"jsonrpc":"2.0","id":9,"method":"textDocument/prepareCallHierarchy","params":{"textDocument":{"uri":"file:///project/py/main.py"}}}
-<- {"jsonrpc":"2.0","id":9,"error":{"code":-32601,"message":"Method Not Found: textDocument/prepareCallHierarchy"}}
--> {"jsonrpc":"2.0","id":11,"method":"textDocument/references","params":{"textDocument":{"uri":"file:///project/py/main.py"}}}
-<- {"jsonrpc":"2.0","id":11,"result":null}
--> {"jsonrpc":"2.0","method":"textDocument/didChange","params":{"textDocument":{"uri":"file:///project/py/main.py","version":3}}}
--> {"jsonrpc":"2.0","method":"textDocument/didChange","params":{"textDocument":{"uri":"file:///project/py/main.py","version":4}}}
--> {"jsonrpc":"2.0","method":"textDocument/didChange","params":{"textDocument":{"uri":"file:///project/py/main.py","version":5}}}
--> {"jsonrpc":"2.0","method":"$/cancelRequest"}
--> {"jsonrpc":"2.0","method":"textDocument/didChange","params":{"textDocument":{"uri":"file:///project/py/main.py","version":7}}}
--> {"jsonrpc":"2.0","method":"textDocument/didChange","params":{"textDocument":{"uri":"file:///project/py/main.py","version":10}}}
--> {"jsonrpc":"2.0","method":"textDocument/didChange","params":{"textDocument":{"uri":"file:///project/py/main.py","version":11}}}
--> {"jsonrpc":"2.0","method":"textDocument/didChange","params":{"textDocument":{"uri":"file:///project/py/main.py","version":13}}}
--> {"jsonrpc":"2.0","method":"textDocument/didChange","params":{"textDocument":{"uri":"file:///project/py/main.py","version":15}}}
--> {"jsonrpc":"2.0","method":"$/cancelRequest"}
--> {"jsonrpc":"2.0","method":"textDocument/didChange","params":{"textDocument":{"uri":"file:///project/py/main.py","version":16}}}
--> {"jsonrpc":"2.0","method":"textDocument/didChange","params":{"textDocument":{"uri":"file:///project/py/main.py","version":18}}}
--> {"jsonrpc":"2.0","method":"textDocument/didChange","params":{"textDocument":{"uri":"file:///project/py/main.py","version":20}}}
--> {"jsonrpc":"2.0","method":"$/cancelRequest"}
--> {"jsonrpc":"2.0","method":"textDocument/didChange","params":{"textDocument":{"uri":"file:///project/py/main.py","version":21}}}
--> {"jsonrpc":"2.0","method":"textDocument/didChange","params":{"textDocument":{"uri":"file:///project/py/main.py","version":22}}}
--> {"jsonrpc":"2.0","method":"textDocument/didChange","params":{"textDocument":{"uri":"file:///project/py/main.py","version":24}}}
--> {"jsonrpc":"2.0","id":33,"method":"textDocument/completion","params":{"textDocument":{"uri":"file:///project/py/main.py"}}}
--> {"jsonrpc":"2.0","method":"textDocument/didChange","params":{"textDocument":{"uri":"file:///project/py/main.py","version":26}}}
--> {"jsonrpc":"2.0","method":"textDocument/didChange","params":{"textDocument":{"uri":"file:///project/py/main.py","version":27}}}
--> {"jsonrpc":"2.0","method":"textDocument/didChange","params":{"textDocument":{"uri":"file:///project/py/main.py","version":30}}}
--> {"jsonrpc":"2.0","method":"textDocument/didChange","params":{"textDocument":{"uri":"file:///project/py/main.py","version":33}}}
-<- {"jsonrpc":"2.0","id":33,"result":null}
--> {"jsonrpc":"2.0","method":"exit"}
-<- {"jsonrpc":"2.0","id":37,"error":{"code":-32602,"message":"TypeError: pylsp.python_lsp.PythonLSPServer.m_shutdown() argument after ** must be a mapping, not list","data":{"traceback":["  File \"/python/pylsp_jsonrpc/endpoint.py\", line 117, in consume\n    self._handle_request(message['id'], message['method'], message.get('params'))\n    ~~~~~~~~~~~~~~~~~~~~^^^^^^^^^^^^^^^^^^^^^^^^^^^^^^^^^^^^^^^^^^^^^^^^^^^^^^^^^\n","  File \"/python/pylsp_jsonrpc/endpoint.py\", line 197, in _handle_request\n    handler_result = handler(params)\n","  File \"/python/pylsp_jsonrpc/dispatchers.py\", line 25, in handler\n    return method(**(params or {}))\n"]}}}
--> {"jsonrpc":"2.0","id":37,"method":"shutdown","params":{"partialResultToken":2}}
+-> {"jsonrpc":"2.0","method":"textDocument/didOpen","params":{"textDocument":{"uri":"file:///project/go/main.go","version":0}}}
+<- {"jsonrpc":"2.0","method":"$/progress","params":{"token":"3532344000688779950","value":{"kind":"begin"}}}
+<- {"jsonrpc":"2.0","id":2,"method":"workspace/configuration"}
+-> {"jsonrpc":"2.0","error":{"code":1.0,"message":""}}
+-> {"jsonrpc":"2.0","id":2,"result":null}
+-> {"jsonrpc":"2.0","id":3,"method":"textDocument/references","params":{"textDocument":{"uri":"file:///project/go/main.go"}}}
+<- {"jsonrpc":"2.0","id":3,"result":null}
+<- {"jsonrpc":"2.0","method":"textDocument/publishDiagnostics"}
+<- {"jsonrpc":"2.0","id":15,"result":null}
+-> {"jsonrpc":"2.0","method":"textDocument/didChange","params":{"textDocument":{"uri":"file:///project/go/main.go","version":4}}}
+-> {"jsonrpc":"2.0","method":"textDocument/didChange","params":{"textDocument":{"uri":"file:///project/go/main.go","version":6}}}
+<- {"jsonrpc":"2.0","method":"textDocument/publishDiagnostics"}
+-> {"jsonrpc":"2.0","id":15,"method":"shutdown"}
+
+<- {"jsonrpc": "2.0", "id": 90, "result": null}
+<- {"jsonrpc":"2.0","id":15,"result":null}

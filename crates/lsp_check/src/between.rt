@@ -1,13 +1,13 @@
 // What passes between clients and a server, judged while it passes.
 use crate::frames::Frames;
-use crate::judgement::Judgement;
+use crate::judgement::{Ends, Judgement};
 use crate::merged::tell_stop;
+use crate::outcome::Outcome;
 use crate::passed::Passing;
-use crate::passing::{Ended, Hears, pass_on};
 use crate::report::{Report, SECOND};
-use crate::verdict::Verdict;
 use anyhow::Result;
-use crossbeam_channel::{Receiver, Sender, bounded};
+use crossbeam_channel::{Receiver, bounded};
+use lsp_proxy::{Ended, Heard, Teller, pass_on};
 use lsp_watch::Way;
 use std::alloc::AllocError;
 use std::io::{self, Read, Write};
@@ -22,47 +22,14 @@ const ROOM: usize = 1024;
 /// How many seconds a side is listened to that says nothing, once what it says reaches nobody.
 const LAST_SECONDS: u64 = 10;
 
-/// What a thread tells of its way.
-#[derive(Drop)]
-enum Heard {
-    /// This was read, and is written next.
-    Piece(Way, Vec<u8>),
-    /// The side that sends this way has closed.
-    End(Way),
-    /// There was no memory to tell what passes.
-    Lost,
-}
-
-/// Tells the judgement what passes one way.
-#[derive(Drop)]
-struct Teller<R> {
-    rt: R,
-    way: Way,
-    sender: Sender<Heard>,
-}
-
-impl<R: Wait + AllocGlobal> Hears for Teller<R> {
-    fn hear(&mut self, piece: &[u8]) {
-        let mut bytes = Vec::new(self.rt.alloc());
-        let heard = match bytes.extend_from_slice(piece) {
-            Ok(()) => Heard::Piece(self.way, bytes),
-            Err(_) => {
-                drop(bytes);
-                Heard::Lost
-            }
-        };
-        drop(self.sender.send(&self.rt, heard));
-    }
-}
-
-/// Passes the bytes of a client and a server on to each other, judges them, and gives the verdict at their end.
+/// Passes the bytes of a client and a server on to each other, judges them, and returns the outcome at their end.
 pub fn judge_between<R, W: Write>(
     rt: &R,
     client: R::Stream,
     server: R::Stream,
     report: &Report<'_>,
     out: &mut W,
-) -> Result<Verdict>
+) -> Result<Outcome>
 where
     R: Net + Threads + Wait + AllocGlobal + Copy + Drop + Send + 'static,
     R::Stream: Send + 'static,
@@ -71,8 +38,8 @@ where
     drop(client.set_nodelay(true));
     drop(server.set_nodelay(true));
     let (sender, heard) = bounded(rt.alloc(), ROOM)?;
-    let upward = told_by(rt, Way::ToServer, sender.clone()?);
-    let downward = told_by(rt, Way::ToClient, sender);
+    let upward = Teller::new(*rt, Way::ToServer, sender.clone()?);
+    let downward = Teller::new(*rt, Way::ToClient, sender);
     let ends = (client.try_clone()?, server.try_clone()?);
     let upward = start(rt, upward, client.try_clone()?, server.try_clone()?)?;
     let downward = match start(rt, downward, server, client) {
@@ -93,14 +60,6 @@ where
     judged
 }
 
-fn told_by<R: Copy>(rt: &R, way: Way, sender: Sender<Heard>) -> Teller<R> {
-    Teller {
-        rt: *rt,
-        way,
-        sender,
-    }
-}
-
 /// Starts a thread that passes on what one side sends.
 fn start<R, S>(rt: &R, tell: Teller<R>, from: S, to: S) -> io::Result<JoinHandle<()>>
 where
@@ -110,8 +69,8 @@ where
     Builder::new().spawn(rt, move || pass_way(tell, from, to))
 }
 
-/// Passes on what one side sends. At its end the other side reads the end. If the other side is gone, the rest is only heard. Of a client
-/// whose server is gone no more is taken.
+/// Passes on what one side sends. At its end the other side reads the end. If the other side is gone, the rest is only judged. If the server
+/// is gone, nothing more is read from its client.
 fn pass_way<R, S>(tell: Teller<R>, from: S, to: S)
 where
     R: Wait + AllocGlobal + Drop,
@@ -123,12 +82,12 @@ where
         drop(from.set_read_timeout(Some(Duration::from_secs(LAST_SECONDS))));
         pass_on(&mut tell, &mut from, &mut io::sink());
     }
-    let how = match tell.way {
+    let how = match tell.way() {
         Way::ToServer => Shutdown::Write,
         Way::ToClient => Shutdown::Both,
     };
     drop(to.shutdown(how));
-    drop(tell.sender.send(&tell.rt, Heard::End(tell.way)));
+    tell.end();
 }
 
 /// What is judged of the two ways.
@@ -137,22 +96,28 @@ struct Ways {
     judged: Judgement,
     client: Frames,
     server: Frames,
+    /// Whether the server closed before the client.
+    is_server_first: bool,
+    /// Whether the client has closed.
+    is_client_over: bool,
     /// Whether the rest only passes.
     is_over: bool,
 }
 
-/// Judges what is heard up to the end of both ways, and gives the verdict.
+/// Judges what passes, up to the end of both ways, and returns the outcome.
 fn judge_heard<R: Wait, W: Write>(
     rt: &R,
     heard: &Receiver<Heard>,
     report: &Report<'_>,
     out: &mut W,
-) -> Result<Verdict> {
+) -> Result<Outcome> {
     let alloc = report.alloc;
     let mut ways = Ways {
         judged: Judgement::new(alloc),
         client: Frames::new(alloc),
         server: Frames::new(alloc),
+        is_server_first: false,
+        is_client_over: false,
         is_over: false,
     };
     let judged = ways.judge(rt, heard, report, out);
@@ -167,15 +132,19 @@ impl Ways {
         heard: &Receiver<Heard>,
         report: &Report<'_>,
         out: &mut W,
-    ) -> Result<Verdict> {
+    ) -> Result<Outcome> {
         for one in heard.iter(rt) {
             let judged = self.hear(&one, report, out);
             drop(one);
             judged?;
         }
-        self.judged.end(report, out)?;
+        let ends = Ends {
+            server: self.is_server_first && !self.is_over,
+            client: false,
+        };
+        self.judged.end(ends, report, out)?;
         out.flush()?;
-        Ok(Verdict {
+        Ok(Outcome {
             is_broken: self.judged.is_broken(),
             is_judged: self.judged.is_judged(),
             is_whole: !self.is_over,
@@ -192,7 +161,7 @@ impl Ways {
                 *way
             }
             Heard::End(way) => {
-                self.side(*way).end();
+                self.end(*way);
                 *way
             }
             Heard::Lost => return Err(AllocError.into()),
@@ -215,11 +184,7 @@ impl Ways {
             let Some((place, message)) = self.side(way).take() else {
                 return Ok(());
             };
-            let passing = Passing {
-                way,
-                message,
-                time: None,
-            };
+            let passing = Passing::new(way, message);
             let place = begin_of(way).saturating_add(place);
             let seen = self.judged.see(place, &passing, report, out);
             drop(passing);
@@ -234,6 +199,15 @@ impl Ways {
             self.is_over = true;
         }
         Ok(())
+    }
+
+    /// A side has closed.
+    fn end(&mut self, way: Way) {
+        match way {
+            Way::ToServer => self.is_client_over = true,
+            Way::ToClient => self.is_server_first = !self.is_client_over,
+        }
+        self.side(way).end();
     }
 
     fn side(&mut self, way: Way) -> &mut Frames {

@@ -2,7 +2,7 @@
 use memchr::memmem;
 use std::alloc::AllocError;
 
-/// What stands before the first place of a mark, and what stands behind that mark.
+/// What stands before the first place of a mark, and what stands after it.
 pub fn cut<'b>(bytes: &'b [u8], mark: &[u8]) -> Option<(&'b [u8], &'b [u8])> {
     let at = memmem::find(bytes, mark)?;
     let (before, rest) = bytes.split_at_checked(at)?;
@@ -44,7 +44,7 @@ pub fn trim_end(bytes: &[u8]) -> &[u8] {
     rest
 }
 
-/// The bytes without blanks at their begin.
+/// The bytes without blanks at their start.
 pub fn trim_start(bytes: &[u8]) -> &[u8] {
     while_first(bytes, is_blank).1
 }

@@ -4,7 +4,7 @@
 use crate::bytes::{cut, push_quoted, trim_end, trim_start, while_first};
 use crate::lisp::read_list;
 use crate::message_text::MessageText;
-use crate::reader::{Entry, Taken};
+use crate::reader::{Found, Taken};
 use crate::time::time_in;
 use lsp_watch::Way;
 use std::alloc::{AllocError, Global};
@@ -28,7 +28,7 @@ struct Head<'l> {
 #[derive(Drop)]
 pub struct Emacs {
     alloc: Global,
-    held: Option<Entry>,
+    held: Option<Found>,
     name: Vec<u8>,
     lisp: Vec<u8>,
     message: MessageText,
@@ -68,7 +68,7 @@ impl Emacs {
         let Some(head) = head_of(line) else {
             return Ok(ended);
         };
-        let entry = Entry {
+        let found = Found {
             way: head.way,
             line: number,
             time: head.time,
@@ -77,46 +77,46 @@ impl Emacs {
         if let (Some(json), Taken::Nothing) = (head.json, &ended) {
             out.clear();
             out.extend_from_slice(json)?;
-            return Ok(Taken::Entry(entry));
+            return Ok(Taken::Found(found));
         }
         self.name.clear();
         self.name.extend_from_slice(head.name)?;
         self.lisp.clear();
         self.lisp.extend_from_slice(head.json.unwrap_or(b""))?;
-        self.held = Some(entry);
+        self.held = Some(found);
         Ok(ended)
     }
 
     /// The message that is read, if there is one: nothing more of it comes.
     pub fn end(&mut self, out: &mut Vec<u8>) -> Result<Taken, AllocError> {
-        let Some(entry) = self.held.take() else {
+        let Some(found) = self.held.take() else {
             return Ok(Taken::Nothing);
         };
         out.clear();
         let lisp = trim_start(self.lisp.as_slice());
         match lisp {
-            [] if self.name.is_empty() => Ok(Taken::Unread(entry.line)),
+            [] if self.name.is_empty() => Ok(Taken::Unread(found.line)),
             [] => {
                 self.is_short = true;
-                self.put_short(entry.way, out)?;
-                Ok(Taken::Entry(entry))
+                self.put_short(found.way, out)?;
+                Ok(Taken::Found(found))
             }
             [b'{', ..] => {
                 out.extend_from_slice(lisp)?;
-                Ok(Taken::Entry(entry))
+                Ok(Taken::Found(found))
             }
-            _ => self.put_list(&entry, out),
+            _ => self.put_list(&found, out),
         }
     }
 
-    fn put_list(&mut self, entry: &Entry, out: &mut Vec<u8>) -> Result<Taken, AllocError> {
+    fn put_list(&mut self, found: &Found, out: &mut Vec<u8>) -> Result<Taken, AllocError> {
         self.message.clear();
         let list = trim_start(self.lisp.as_slice());
         if !read_list(list, &mut self.name, &mut self.message)? {
-            return Ok(Taken::Unread(entry.line));
+            return Ok(Taken::Unread(found.line));
         }
         out.extend_from_slice(self.message.as_slice())?;
-        Ok(Taken::Entry(*entry))
+        Ok(Taken::Found(*found))
     }
 
     /// The text of a message of which there are only its method and its id. It is a reply, if such a request is open the other way.
@@ -160,12 +160,12 @@ impl Emacs {
     }
 }
 
-/// The method of a name, which has perhaps an id behind it.
+/// The method of a name, which may have an id after it.
 fn method_in(name: &[u8]) -> &[u8] {
     while_first(name, |it| it != b'[').0
 }
 
-/// The id behind a method, in square brackets; it may be empty.
+/// The id after a method, in square brackets. It may be empty.
 fn id_in(name: &[u8]) -> &[u8] {
     match cut(name, b"[") {
         Some((_, id)) => while_first(id, |it| it != b']').0,

@@ -1,133 +1,168 @@
 // The judgement of files.
+use crate::choice::Choice;
+use crate::command_line::form_of;
 use crate::format::KNOWN;
 use crate::frames::Frames;
 use crate::lines::judge_lines;
 use crate::merged::{Side, judge_frames};
+use crate::outcome::Outcome;
 use crate::refuse;
 use crate::report::{Form, Places, Report, SECOND};
-use crate::verdict::Verdict;
-use crate::words::form_of;
 use anyhow::Result;
 use clap::ArgMatches;
+use std::alloc::Global;
+use std::cell::Cell;
 use std::fs;
 use std::io::{BufRead, BufReader, Write};
 use std::rt::Files;
 
-/// Judges each file that the words name, and gives the verdict on all. A file that can't be read is told.
+/// Judges each file that the arguments name, and returns the outcome of all. A file that can't be read is reported.
 pub fn judge_files<R: Files + Input + AllocGlobal, E: Write, W: Write>(
     rt: &R,
     matches: &ArgMatches<'_>,
+    choice: &Choice,
     errors: &mut E,
     out: &mut W,
-) -> Result<Verdict> {
+) -> Result<Outcome> {
     let form = form_of(matches);
-    if let (Some(first), Some(second)) = (
-        matches.get_str("to-server"),
-        matches.get_str("to-client"),
-    ) {
-        let verdict = judge_pair(rt, form, first, second, out)?;
-        return say_if_empty(verdict, first, errors);
+    if matches.get_flag("log") {
+        writeln!(
+            errors,
+            "lsp_check: --log is not needed: the log is recognised"
+        )?;
     }
-    let mut verdict = Verdict::new();
-    for file in matches.get_strs("FILE").unwrap_or(&[]) {
-        verdict = verdict.and(judge_file(rt, form, file, errors, out)?);
+    let has_told = Cell::new(false);
+    Report::begin(rt.alloc(), form, out)?;
+    let mut outcome = Outcome::new();
+    match (matches.get_str("to-server"), matches.get_str("to-client")) {
+        (Some(first), Some(second)) => {
+            let places = Places {
+                first,
+                second: Some(second),
+            };
+            let report = report_of(rt.alloc(), form, places, choice, &has_told);
+            outcome = judge_pair(rt, &report, first, second, errors, out)?;
+        }
+        _ => {
+            for file in matches.get_strs("FILE").unwrap_or(&[]) {
+                let places = Places {
+                    first: file,
+                    second: None,
+                };
+                let report = report_of(rt.alloc(), form, places, choice, &has_told);
+                outcome = outcome.and(judge_file(rt, &report, file, errors, out)?);
+            }
+        }
     }
-    Ok(verdict)
+    Report::end(form, out)?;
+    Ok(outcome)
 }
 
-/// Judges a file. One that can't be opened is not judged, and one that can't be read on is not whole.
-fn judge_file<R: Files + Input + AllocGlobal, E: Write, W: Write>(
-    rt: &R,
+/// The report on what stands at these places.
+pub fn report_of<'a>(
+    alloc: Global,
     form: Form,
-    file: &str,
-    errors: &mut E,
-    out: &mut W,
-) -> Result<Verdict> {
-    let places = Places {
-        first: file,
-        second: None,
-    };
-    let report = Report {
-        alloc: rt.alloc(),
+    places: Places<'a>,
+    choice: &'a Choice,
+    has_told: &'a Cell<bool>,
+) -> Report<'a> {
+    Report {
+        alloc,
         form,
         places,
         server: "",
-    };
+        choice,
+        may_begin_late: places.second.is_none(),
+        has_told,
+    }
+}
+
+/// Judges a file. One that can't be opened is not judged.
+fn judge_file<R: Files + Input + AllocGlobal, E: Write, W: Write>(
+    rt: &R,
+    report: &Report<'_>,
+    file: &str,
+    errors: &mut E,
+    out: &mut W,
+) -> Result<Outcome> {
     if file == "-" {
         let mut reader = BufReader::new(rt.alloc(), rt.reader())?;
-        return judge_reader(&report, &mut reader, errors, out);
+        return judge_reader(report, &mut reader, errors, out);
     }
     match fs::open(rt, file) {
         Ok(opened) => {
             let mut reader = BufReader::new(rt.alloc(), opened)?;
-            judge_reader(&report, &mut reader, errors, out)
+            judge_reader(report, &mut reader, errors, out)
         }
         Err(error) => {
             drop(out.flush());
             refuse(errors, file, error.into());
-            Ok(Verdict {
-                is_judged: false,
-                ..Verdict::new()
-            })
+            Ok(Outcome::unjudged())
         }
     }
 }
 
+/// Judges what a reader has. If it can't be read on, not all was read.
 fn judge_reader<B: BufRead, E: Write, W: Write>(
     report: &Report<'_>,
     reader: &mut B,
     errors: &mut E,
     out: &mut W,
-) -> Result<Verdict> {
+) -> Result<Outcome> {
     let file = report.places.first;
-    match judge_lines(report, reader, out) {
-        Ok(verdict) => say_if_empty(verdict, file, errors),
+    report.begin_file(out)?;
+    let outcome = match judge_lines(report, reader, out) {
+        Ok(outcome) => say_if_empty(outcome, file, errors)?,
         Err(error) => {
             drop(out.flush());
             refuse(errors, file, error);
-            Ok(Verdict {
-                is_whole: false,
-                ..Verdict::new()
-            })
+            Outcome::unread()
         }
-    }
+    };
+    report.end_file(out)?;
+    Ok(outcome)
 }
 
 /// Tells if there was no message.
-fn say_if_empty<E: Write>(verdict: Verdict, file: &str, errors: &mut E) -> Result<Verdict> {
-    if !verdict.is_judged {
+fn say_if_empty<E: Write>(outcome: Outcome, file: &str, errors: &mut E) -> Result<Outcome> {
+    if !outcome.is_judged {
         writeln!(errors, "{file}: {KNOWN}")?;
     }
-    Ok(verdict)
+    Ok(outcome)
 }
 
-fn judge_pair<R: Files + AllocGlobal, W: Write>(
+fn judge_pair<R: Files + AllocGlobal, E: Write, W: Write>(
     rt: &R,
-    form: Form,
+    report: &Report<'_>,
     to_server: &str,
     to_client: &str,
+    errors: &mut E,
     out: &mut W,
-) -> Result<Verdict> {
+) -> Result<Outcome> {
     let alloc = rt.alloc();
-    let places = Places {
-        first: to_server,
-        second: Some(to_client),
-    };
-    let report = Report {
-        alloc,
-        form,
-        places,
-        server: "",
+    let (sent, came) = match (fs::open(rt, to_server), fs::open(rt, to_client)) {
+        (Ok(sent), Ok(came)) => (sent, came),
+        (Err(error), _) => {
+            refuse(errors, to_server, error.into());
+            return Ok(Outcome::unjudged());
+        }
+        (_, Err(error)) => {
+            refuse(errors, to_client, error.into());
+            return Ok(Outcome::unjudged());
+        }
     };
     let mut client = Side {
-        reader: BufReader::new(alloc, fs::open(rt, to_server)?)?,
+        reader: BufReader::new(alloc, sent)?,
         frames: Frames::new(alloc),
         begin: 0,
     };
     let mut server = Side {
-        reader: BufReader::new(alloc, fs::open(rt, to_client)?)?,
+        reader: BufReader::new(alloc, came)?,
         frames: Frames::new(alloc),
         begin: SECOND,
     };
-    judge_frames(&report, &mut client, &mut server, out)
+    report.begin_file(out)?;
+    let outcome = judge_frames(report, &mut client, &mut server, out)?;
+    report.end_file(out)?;
+    say_if_empty(outcome, to_server, errors)
 }

@@ -1,5 +1,6 @@
-// Which log it is: that is seen by its first lines.
+// Which log it is, by its first lines.
 use crate::bytes::{cut, trim_end};
+use crate::reader::is_of_helix;
 use crate::{emacs, trace};
 use memchr::memmem;
 use std::fmt;
@@ -7,7 +8,7 @@ use std::fmt;
 /// Whose lines they are.
 #[derive(Clone, Copy, Debug, PartialEq, Eq)]
 pub enum Format {
-    /// A recorder's: each line has a message behind `-> ` or `<- `.
+    /// A recorder's: each line has a message after `-> ` or `<- `.
     Recorder,
     /// VS Code's client, which traces each message as an object in one line.
     TraceJson,
@@ -23,18 +24,18 @@ pub enum Format {
     Frames,
 }
 
-/// What is said of a file in which there is no message.
+/// What is reported of a file that has no message.
 pub const KNOWN: &str =
     "no message was found in it. These files are known: recordings of example_recorder (`-> {..}`), traces of VS Code as text and as \
 JSON (\"trace.server\": \"verbose\"; so do coc.nvim, lsp-mode and `gopls -rpc.trace`), Neovim's lsp.log (vim.lsp.set_log_level(\"debug\")), the events \
 of Emacs' eglot, the log of Helix (hx -v), and frames (--to-server, --to-client)";
 
-/// What is said of a file that begins with a frame.
+/// What is reported of a file that begins with a frame.
 pub const ONE_DIRECTION: &str =
     "it has frames of one direction: name those of both, by --to-server FRAMES and --to-client FRAMES";
 
 impl Format {
-    /// The log of which this line is, if it has a mark by which that is known.
+    /// The log that this line belongs to, if it has a mark of that log.
     pub fn of_line(line: &[u8], is_first: bool) -> Option<Format> {
         if is_first && (line.starts_with(b"-> ") || line.starts_with(b"<- ")) {
             Some(Format::Recorder)
@@ -44,7 +45,7 @@ impl Format {
             Some(Format::TraceJson)
         } else if trace::is_head(line) {
             Some(Format::Trace)
-        } else if cut(line, b"helix_lsp::transport [").is_some() {
+        } else if is_of_helix(line) {
             Some(Format::Helix)
         } else if cut(line, b"\t\"rpc.send\"\t").is_some()
             || cut(line, b"\t\"rpc.receive\"\t").is_some()
@@ -57,8 +58,8 @@ impl Format {
         }
     }
 
-    /// Whether a body stands there as its side sent it. Else the editor printed it in its own words, and what can't be read is no
-    /// fault of that side.
+    /// Whether a body stands there as its side sent it. Otherwise the editor printed it in its own notation, and if it can't be read, that
+    /// is no fault of that side.
     pub fn is_verbatim(self) -> bool {
         match self {
             Format::Recorder | Format::TraceJson | Format::Helix | Format::Frames => true,

@@ -1,6 +1,6 @@
-// The frames of one way (LSP 3.17, "Base Protocol"), of which pieces come.
-use lsp_message::{Front, Limits, Message, ReadFault, front};
-use memchr::memmem;
+// The frames of one way (LSP 3.17, "Base Protocol"), which arrive in pieces.
+use lsp_proxy::{self as proxy, Contents};
+use lsp_watch::LoggedMessage;
 use std::alloc::{AllocError, Global};
 use std::io::{self, BufRead};
 use std::mem;
@@ -8,12 +8,12 @@ use std::mem;
 /// What comes next.
 #[derive(Debug, Drop)]
 pub enum Next {
-    Message(Message),
+    Message(LoggedMessage),
     /// The next piece tells.
     More,
-    /// Nothing: all ends behind a frame.
+    /// Nothing: the bytes end after a frame.
     End,
-    /// Nothing: all ends in a frame.
+    /// Nothing: the bytes end within a frame.
     Cut,
     /// This is wrong with the frame.
     Bad(&'static str),
@@ -23,10 +23,7 @@ pub enum Next {
 #[derive(Drop)]
 pub struct Frames {
     alloc: Global,
-    /// What came and is not passed.
-    bytes: Vec<u8>,
-    /// How many bytes were passed.
-    pub passed: u64,
+    contents: Contents,
     pub next: Next,
 }
 
@@ -34,22 +31,17 @@ impl Frames {
     pub fn new(alloc: Global) -> Frames {
         Frames {
             alloc,
-            bytes: Vec::new(alloc),
-            passed: 0,
+            contents: Contents::new(alloc),
             next: Next::More,
         }
     }
 
     /// Takes the next message, if there is one, and its place: how many bytes stand before its frame.
-    pub fn take(&mut self) -> Option<(u64, Message)> {
-        let Front::Whole(count) = front(self.bytes.as_slice()) else {
-            return None;
-        };
+    pub fn take(&mut self) -> Option<(u64, LoggedMessage)> {
         match mem::replace(&mut self.next, Next::More) {
             Next::Message(message) => {
-                let place = self.passed;
-                remove_front(&mut self.bytes, count);
-                self.passed = place.saturating_add(count as u64);
+                let place = self.contents.place();
+                self.contents.pass();
                 Some((place, message))
             }
             other => {
@@ -61,26 +53,30 @@ impl Frames {
 
     /// Looks what comes next, by the pieces that came.
     pub fn look(&mut self) -> Result<(), AllocError> {
-        self.next = match front(self.bytes.as_slice()) {
-            Front::Whole(count) => next_in(self.alloc, &self.bytes[..count])?,
-            Front::Fault(_) => Next::Bad("the header part of the frame is bad"),
-            Front::More if is_long_header(self.bytes.as_slice()) => {
-                Next::Bad("the header part of the frame is longer than 64 KiB")
+        self.next = match self.contents.next() {
+            proxy::Next::Content(content) => {
+                Next::Message(LoggedMessage::from_content(self.alloc, content)?)
             }
-            Front::More => Next::More,
+            proxy::Next::More => Next::More,
+            proxy::Next::Bad(why) => Next::Bad(why),
         };
         Ok(())
     }
 
     /// Takes one more piece.
     pub fn push(&mut self, piece: &[u8]) -> Result<(), AllocError> {
-        self.bytes.extend_from_slice(piece)
+        self.contents.push(piece)
+    }
+
+    /// The place of what comes next: how many bytes stand before it.
+    pub fn place(&self) -> u64 {
+        self.contents.place()
     }
 
     /// No piece comes any more.
     pub fn end(&mut self) {
         if let Next::More = &self.next {
-            self.next = if self.bytes.is_empty() {
+            self.next = if self.contents.is_empty() {
                 Next::End
             } else {
                 Next::Cut
@@ -106,33 +102,4 @@ impl Frames {
         }
         Ok(())
     }
-}
-
-/// Whether the header part goes on behind the most bytes that it may have. Else each piece of one that never ends would be looked
-/// through again.
-fn is_long_header(bytes: &[u8]) -> bool {
-    match bytes.get(..Limits::HEADER_BYTES as usize) {
-        Some(front) => memmem::find(front, b"\r\n\r\n").is_none(),
-        None => false,
-    }
-}
-
-/// What a whole frame holds.
-fn next_in(alloc: Global, frame: &[u8]) -> Result<Next, AllocError> {
-    let mut rest = frame;
-    match Message::read(alloc, &mut rest) {
-        Ok(Some(message)) => Ok(Next::Message(message)),
-        Ok(None) => Ok(Next::End),
-        Err(ReadFault::Memory) => Err(AllocError),
-        Err(ReadFault::BodyNotText) => Ok(Next::Bad("the content part is not UTF-8")),
-        Err(_) => Ok(Next::Bad("the content part is no message of JSON-RPC 2.0")),
-    }
-}
-
-/// Removes the first bytes, this many or all.
-fn remove_front(bytes: &mut Vec<u8>, count: usize) {
-    let len = bytes.len();
-    let count = count.min(len);
-    bytes.as_mut_slice().copy_within(count..len, 0);
-    bytes.truncate(len - count);
 }

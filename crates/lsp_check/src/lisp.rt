@@ -22,7 +22,7 @@ pub fn read_list(
     Ok(false)
 }
 
-/// Takes one token, and gives what stands behind it, or `None` if it is none.
+/// Takes one token, and returns what stands after it, or `None` if there is no token.
 fn read_token<'t>(
     list: &'t [u8],
     text: &mut Vec<u8>,
@@ -60,7 +60,7 @@ fn read_token<'t>(
     }
 }
 
-/// A text behind its quote, without its escapes, and what stands behind it.
+/// A text after its quote, without its escapes, and what stands after it.
 fn read_text<'t>(list: &'t [u8], text: &mut Vec<u8>) -> Result<Option<&'t [u8]>, AllocError> {
     text.clear();
     let mut rest = list;

@@ -22,7 +22,7 @@ pub fn read_table(
     Ok(false)
 }
 
-/// Takes one token, and gives what stands behind it, or `None` if it is none.
+/// Takes one token, and returns what stands after it, or `None` if there is no token.
 fn read_token<'t>(
     table: &'t [u8],
     text: &mut Vec<u8>,
@@ -85,7 +85,7 @@ fn read_angle<'t>(table: &'t [u8], out: &mut MessageText) -> Result<Option<&'t [
     Ok(Some(rest))
 }
 
-/// A text in quotes, without its escapes, and what stands behind it.
+/// A text in quotes, without its escapes, and what stands after it.
 fn read_text<'t>(table: &'t [u8], text: &mut Vec<u8>) -> Result<Option<&'t [u8]>, AllocError> {
     text.clear();
     let Some((quote, mut rest)) = table.split_first() else {
@@ -105,7 +105,7 @@ fn read_text<'t>(table: &'t [u8], text: &mut Vec<u8>) -> Result<Option<&'t [u8]>
     Ok(None)
 }
 
-/// An escape behind its backslash: a letter, up to three digits, or the character itself.
+/// An escape after its backslash: a letter, up to three digits, or the character itself.
 fn read_escape<'t>(escaped: &'t [u8], text: &mut Vec<u8>) -> Result<&'t [u8], AllocError> {
     let (byte, rest) = match escaped {
         [a @ b'0'..=b'9', b @ b'0'..=b'9', c @ b'0'..=b'9', rest @ ..] => {
@@ -138,7 +138,7 @@ fn digits(digits: &[u8]) -> u8 {
     value
 }
 
-/// A key, if an equals sign stands behind the word, and else a value.
+/// A key if an equals sign stands after the word, and otherwise a value.
 fn read_word<'t>(table: &'t [u8], out: &mut MessageText) -> Result<Option<&'t [u8]>, AllocError> {
     let (word, rest) = while_first(
         table,

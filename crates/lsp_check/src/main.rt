@@ -4,33 +4,48 @@
 
 mod between;
 mod bytes;
+mod choice;
+mod command_line;
 mod emacs;
 mod files;
 mod format;
 mod frames;
+mod html;
+mod json;
 mod judgement;
+mod junit;
 mod lines;
 mod lisp;
+mod log;
 mod lua;
 mod merged;
 mod message_text;
+mod outcome;
+mod pairs;
 mod passed;
-mod passing;
 mod reader;
 mod report;
+mod rules_list;
+mod sarif;
 mod sessions;
+mod shown;
+mod stats;
+mod text;
 mod time;
 mod told;
 mod trace;
 mod traced;
-mod verdict;
-mod words;
 
 use anyhow::{Error, Result};
 use between::judge_between;
+use choice::Choice;
 use clap::ArgMatches;
-use files::judge_files;
-use report::{Form, Places, Report};
+use command_line::{choice_of, command, form_of};
+use files::{judge_files, report_of};
+use report::{Form, Places};
+use rules_list::tell_rules;
+use shown::{show_html, show_stats};
+use std::cell::Cell;
 use std::io::{BufWriter, Write};
 use std::net::{Net, OpenListener, TcpListener, TcpStream};
 use std::process::ExitCode;
@@ -38,7 +53,6 @@ use std::rt::{Env, Files};
 use std::sync::Wait;
 use std::thread::Threads;
 use std::{env, io};
-use words::{command, form_of};
 
 fn main(rt: HostRuntime) -> ExitCode {
     let mut errors = rt.stderr();
@@ -54,7 +68,7 @@ pub fn refuse<E: Write>(errors: &mut E, what: &str, error: Error) -> u8 {
     3
 }
 
-/// Judges what the words name, and gives the exit status.
+/// Judges what the arguments name, and gives the exit status.
 fn status<R, E: Write>(rt: &R, errors: &mut E) -> Result<u8>
 where
     R: Env
@@ -72,14 +86,11 @@ where
         + 'static,
     R::Stream: Send + 'static,
 {
-    let words: Vec<String> = env::args(rt)?.collect(rt.alloc())?;
-    match command(rt.alloc())?.try_get_matches_from(words.as_slice()) {
+    let arguments: Vec<String> = env::args(rt)?.collect(rt.alloc())?;
+    match command(rt.alloc())?.try_get_matches_from(arguments.as_slice()) {
         Ok(matches) => {
             let mut out = BufWriter::new(rt.alloc(), io::writer(rt))?;
-            let status = match matches.subcommand_matches("between") {
-                Some(matches) => serve(rt, matches, errors, &mut out)?,
-                None => judge_files(rt, &matches, errors, &mut out)?.status(),
-            };
+            let status = run(rt, &matches, errors, &mut out)?;
             out.flush()?;
             Ok(status)
         }
@@ -90,10 +101,46 @@ where
     }
 }
 
+/// Does what the arguments say, and gives the exit status.
+fn run<R, E: Write, W: Write>(
+    rt: &R,
+    matches: &ArgMatches<'_>,
+    errors: &mut E,
+    out: &mut W,
+) -> Result<u8>
+where
+    R: Files + Net + Threads + Wait + AllocGlobal + Input + Copy + Drop + Send + 'static,
+    R::Stream: Send + 'static,
+{
+    if let Some(matches) = matches.subcommand_matches("rules") {
+        tell_rules(rt.alloc(), form_of(matches), out)?;
+        return Ok(0);
+    }
+    if let Some(matches) = matches.subcommand_matches("stats") {
+        return show_stats(rt, matches, errors, out);
+    }
+    if let Some(matches) = matches.subcommand_matches("html") {
+        return show_html(rt, matches, errors, out);
+    }
+    let between = matches.subcommand_matches("between");
+    let choice = match choice_of(rt.alloc(), between.unwrap_or(matches)) {
+        Ok(choice) => choice,
+        Err(error) => {
+            refuse(errors, "lsp_check", error);
+            return Ok(2);
+        }
+    };
+    match between {
+        Some(matches) => serve(rt, matches, &choice, errors, out),
+        None => Ok(judge_files(rt, matches, &choice, errors, out)?.status()),
+    }
+}
+
 /// Judges the sessions of clients with a server, one after another, and gives the status of the only one.
 fn serve<R, E: Write, W: Write>(
     rt: &R,
     matches: &ArgMatches<'_>,
+    choice: &Choice,
     errors: &mut E,
     out: &mut W,
 ) -> Result<u8>
@@ -108,7 +155,7 @@ where
     let listener = TcpListener::bind(rt, listen)?;
     for _ in rt.forever() {
         let (client, _peer) = listener.accept()?;
-        let status = judge_client(rt, form, client, server, errors, out)?;
+        let status = judge_client(rt, form, choice, client, server, errors, out)?;
         if matches.get_flag("once") {
             return Ok(status);
         }
@@ -120,6 +167,7 @@ where
 fn judge_client<R, E: Write, W: Write>(
     rt: &R,
     form: Form,
+    choice: &Choice,
     client: R::Stream,
     address: &str,
     errors: &mut E,
@@ -139,22 +187,18 @@ where
             return Ok(2);
         }
     };
+    let has_told = Cell::new(false);
     let places = Places {
         first: "client",
         second: Some("server"),
     };
-    let report = Report {
-        alloc: rt.alloc(),
-        form,
-        places,
-        server: "",
-    };
+    let report = report_of(rt.alloc(), form, places, choice, &has_told);
     let judged = match form {
-        Form::Text => judge_between(rt, client, server, &report, errors),
         Form::Json => judge_between(rt, client, server, &report, out),
+        _ => judge_between(rt, client, server, &report, errors),
     };
     match judged {
-        Ok(verdict) => Ok(verdict.status()),
+        Ok(outcome) => Ok(outcome.status()),
         Err(error) => Ok(refuse(errors, address, error)),
     }
 }

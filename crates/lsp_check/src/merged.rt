@@ -1,11 +1,10 @@
 // The judgement of two files of frames, one of each way, which do not say what passed first.
 use crate::frames::{Frames, Next};
-use crate::judgement::Judgement;
-use crate::passed::Passing;
+use crate::judgement::{Ends, Judgement};
+use crate::outcome::Outcome;
+use crate::passed::{Order, Passing};
 use crate::report::Report;
-use crate::verdict::Verdict;
 use anyhow::Result;
-use lsp_message::Message;
 use lsp_watch::Way;
 use std::io::{BufRead, Write};
 
@@ -17,22 +16,20 @@ pub struct Side<R> {
     pub begin: u64,
 }
 
-/// Judges the messages in an order in which no rule is broken, if there is one. So a breach that is told is one in
-/// each order.
+/// Judges the messages in an order in which no rule is broken, if it finds one. A breach is reported as certain only if it is one in each
+/// order.
 ///
-/// It takes the next message of the client, unless that breaks a rule or refuses a request, and else the next one of the
-/// server. What the one sends, other than a refusal, never makes a message wrong that the other has yet to send, so no
-/// order is missed.
+/// It takes the next message of the server, unless that breaks a rule. Otherwise it takes the next one of the client.
 pub fn judge_frames<C: BufRead, S: BufRead, W: Write>(
     report: &Report<'_>,
     client: &mut Side<C>,
     server: &mut Side<S>,
     out: &mut W,
-) -> Result<Verdict> {
+) -> Result<Outcome> {
     let mut judged = Judgement::new(report.alloc);
-    let verdict = judge_all(&mut judged, report, client, server, out);
+    let outcome = judge_all(&mut judged, report, client, server, out);
     drop(judged);
-    verdict
+    outcome
 }
 
 fn judge_all<C: BufRead, S: BufRead, W: Write>(
@@ -41,38 +38,62 @@ fn judge_all<C: BufRead, S: BufRead, W: Write>(
     client: &mut Side<C>,
     server: &mut Side<S>,
     out: &mut W,
-) -> Result<Verdict> {
+) -> Result<Outcome> {
     client.frames.look_on(&mut client.reader)?;
     server.frames.look_on(&mut server.reader)?;
     for _ in 0..u64::MAX {
         match next_way(judged, &client.frames.next, &server.frames.next)? {
-            Some(Way::ToServer) => pass(judged, Way::ToServer, client, report, out)?,
-            Some(Way::ToClient) => pass(judged, Way::ToClient, server, report, out)?,
+            Some(Way::ToServer) => {
+                let order = order_beside(&server.frames.next);
+                pass(judged, Way::ToServer, order, client, report, out)?;
+            }
+            Some(Way::ToClient) => {
+                let order = order_beside(&client.frames.next);
+                pass(judged, Way::ToClient, order, server, report, out)?;
+            }
             None => break,
         }
     }
     let is_client_whole = tell_stop(&client.frames, client.begin, report, out)?;
     let is_server_whole = tell_stop(&server.frames, server.begin, report, out)?;
-    judged.end(report, out)?;
-    Ok(Verdict {
+    let ends = Ends {
+        server: is_end(&server.frames.next),
+        client: is_end(&client.frames.next),
+    };
+    judged.end(ends, report, out)?;
+    Ok(Outcome {
         is_broken: judged.is_broken(),
         is_judged: judged.is_judged(),
         is_whole: is_client_whole && is_server_whole,
     })
 }
 
+fn is_end(next: &Next) -> bool {
+    match next {
+        Next::End => true,
+        Next::Message(_) | Next::More | Next::Cut | Next::Bad(_) => false,
+    }
+}
+
+/// What is known of the order, where this comes next in the other file.
+fn order_beside(other: &Next) -> Order {
+    if is_end(other) {
+        Order::BehindAll
+    } else {
+        Order::Unknown
+    }
+}
+
 /// The way of the next message. None is judged that breaks a rule where the other file ends too early: what is lost may
 /// have been what it needs.
 fn next_way(judged: &Judgement, client: &Next, server: &Next) -> Result<Option<Way>> {
-    let client_fits = fits(judged, Way::ToServer, client)?;
-    if client_fits && !is_refusal(client) {
-        return Ok(Some(Way::ToServer));
-    }
     if fits(judged, Way::ToClient, server)? {
         return Ok(Some(Way::ToClient));
     }
+    if fits(judged, Way::ToServer, client)? {
+        return Ok(Some(Way::ToServer));
+    }
     Ok(match (client, server) {
-        (Next::Message(_), _) if client_fits => Some(Way::ToServer),
         (Next::Message(_), Next::Message(_) | Next::End) => Some(Way::ToServer),
         (Next::End, Next::Message(_)) => Some(Way::ToClient),
         _ => None,
@@ -82,23 +103,16 @@ fn next_way(judged: &Judgement, client: &Next, server: &Next) -> Result<Option<W
 /// Whether there is a message that breaks no rule.
 fn fits(judged: &Judgement, way: Way, next: &Next) -> Result<bool> {
     match next {
-        Next::Message(message) => judged.fits(way, message),
+        Next::Message(message) => Ok(judged.fits(way, message)?),
         Next::More | Next::End | Next::Cut | Next::Bad(_) => Ok(false),
     }
 }
 
-/// Whether there is a reply with an error.
-fn is_refusal(next: &Next) -> bool {
-    match next {
-        Next::Message(Message::Response(response)) => response.response_result.is_err(),
-        _ => false,
-    }
-}
-
-/// Judges the next message of a file, and looks for the one behind it.
+/// Judges the next message of a file, and looks for the one after it.
 fn pass<R: BufRead, W: Write>(
     judged: &mut Judgement,
     way: Way,
+    order: Order,
     side: &mut Side<R>,
     report: &Report<'_>,
     out: &mut W,
@@ -106,11 +120,8 @@ fn pass<R: BufRead, W: Write>(
     let Some((place, message)) = side.frames.take() else {
         return Ok(());
     };
-    let passing = Passing {
-        way,
-        message,
-        time: None,
-    };
+    let mut passing = Passing::new(way, message);
+    passing.order = order;
     let seen = judged.see(side.begin.saturating_add(place), &passing, report, out);
     drop(passing);
     seen?;
@@ -124,7 +135,7 @@ pub fn tell_stop<W: Write>(
     report: &Report<'_>,
     out: &mut W,
 ) -> Result<bool> {
-    let place = begin.saturating_add(frames.passed);
+    let place = begin.saturating_add(frames.place());
     let (why, is_whole) = match frames.next {
         Next::Cut => ("the file is cut here", true),
         Next::Bad(why) => (why, false),

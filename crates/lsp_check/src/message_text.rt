@@ -10,7 +10,7 @@ enum Open {
     Object,
 }
 
-/// The text of a message of which another language's print is read.
+/// The JSON text of a message that is read from the notation of another language.
 ///
 /// Lua and Emacs Lisp drop members that are null. So a message with no method, result or error gets `"result":null`.
 #[derive(Drop)]

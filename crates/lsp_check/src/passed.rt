@@ -1,58 +1,72 @@
 // A message that passed.
-use crate::reader::Entry;
-use lsp_message::{Message, ReadFault};
-use lsp_watch::Way;
-use std::alloc::Global;
-use std::error::Error;
-use std::fmt;
+ghost use Rattle.std.specs.Prelude.{◌≡◌};
+ghost use Rattle.lsp_check.specs.Choice.{decides as decides_for};
+
+use lsp_watch::{LoggedMessage, Rule, Way};
+
+/// What is known of the order in which two ways passed.
+#[derive(Clone, Copy, Debug, PartialEq, Eq)]
+pub enum Order {
+    /// All of it.
+    Known,
+    /// Nothing, but all of the other way has passed.
+    BehindAll,
+    /// Nothing.
+    Unknown,
+}
+
+impl Order {
+    /// Whether a breach of this rule is one in each order that there may have been.
+    ///
+    /// It is so if the rule looks at what one side sends alone. A reply that nobody asked for, an id in use and what needs the result of
+    /// `initialize` are decided once all of the other way has passed: there is no more request, reply or result that could have come
+    /// before. The rules of tokens look at both ways.
+    pub fn decides(self, rule: Rule) -> bool
+        ensures { result ≡ decides_for self rule }
+    {
+        match (self, rule) {
+            (Order::Known, _) => true,
+            (_, Rule::NoSuchToken | Rule::TokenEnded) => false,
+            (
+                Order::Unknown,
+                Rule::NobodyAsked | Rule::IdStillOpen | Rule::BeforeResult | Rule::SentAgain,
+            ) => false,
+            _ => true,
+        }
+    }
+}
 
 /// A message with its way, and when it passed, in milliseconds from some time on.
 #[derive(Debug, Drop)]
 pub struct Passing {
     pub way: Way,
-    pub message: Message,
+    pub message: LoggedMessage,
     pub time: Option<u64>,
+    /// How many milliseconds a reply took, if that is known.
+    pub took: Option<u64>,
+    pub order: Order,
 }
 
-/// Why a body is no message.
-#[derive(Clone, Copy, Debug)]
-pub enum Fault {
-    /// This byte of it, from 1 on, is not UTF-8.
-    NotText(usize),
-    /// It is no message of JSON-RPC 2.0.
-    NoMessage,
-    /// An allocation failed.
-    Memory,
-}
-
-impl fmt::Display for Fault {
-    fn fmt<W: fmt::Write>(&self, f: &mut fmt::Formatter<W>) -> fmt::Result {
-        match self {
-            Fault::NotText(place) => write!(f, "byte {place} of the body is not UTF-8"),
-            Fault::NoMessage => write!(f, "the body is no message of JSON-RPC 2.0"),
-            Fault::Memory => write!(f, "out of memory"),
+impl Passing {
+    /// A message of which no time is known, in its place.
+    pub fn new(way: Way, message: LoggedMessage) -> Passing {
+        Passing {
+            way,
+            message,
+            time: None,
+            took: None,
+            order: Order::Known,
         }
     }
-}
 
-impl Error for Fault {}
-
-/// The message of a body.
-pub fn message_of(alloc: Global, entry: &Entry, body: &[u8]) -> Result<Passing, Fault> {
-    match Message::from_content(alloc, body) {
-        Ok(message) => Ok(Passing {
-            way: entry.way,
-            message,
-            time: entry.time,
-        }),
-        Err(ReadFault::Memory) => Err(Fault::Memory),
-        Err(ReadFault::BodyNotText) => {
-            let place = match std::str::from_utf8(body) {
-                Ok(_) => 0,
-                Err(fault) => fault.valid_up_to(),
-            };
-            Err(Fault::NotText(place.saturating_add(1)))
+    /// The method; of a reply, that it is one.
+    pub fn method(&self) -> &str {
+        match &self.message.entry {
+            Some(entry) => match entry.method() {
+                "" => "reply",
+                method => method,
+            },
+            None => "message",
         }
-        Err(_) => Err(Fault::NoMessage),
     }
 }

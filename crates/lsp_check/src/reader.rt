@@ -1,4 +1,4 @@
-// The messages of a log, line by line: whose log it is, is seen by its first lines.
+// The messages of a log, line by line. Its first lines show which log it is.
 use crate::bytes::{cut, is_blank, trim_end, trim_start};
 use crate::emacs::Emacs;
 use crate::format::Format;
@@ -12,7 +12,7 @@ use std::alloc::{AllocError, Global};
 
 /// A message that stands in a log.
 #[derive(Clone, Copy, Debug)]
-pub struct Entry {
+pub struct Found {
     pub way: Way,
     /// The line of it, from 1 on.
     pub line: u64,
@@ -26,11 +26,11 @@ pub struct Entry {
 #[derive(Clone, Copy, Debug)]
 pub enum Taken {
     Nothing,
-    Entry(Entry),
+    Found(Found),
     /// A message stands at this line, and can't be read.
     Unread(u64),
-    /// The line has no mark of a way, and needs one.
-    NoWay,
+    /// This line has no mark of a way, and needs one.
+    NoWay(u64),
     /// The file has frames.
     Frames,
 }
@@ -101,7 +101,7 @@ impl LogReader {
             Some(Format::Frames) => Ok(Taken::Frames),
             Some(Format::Recorder) => self.recorded(number, line),
             Some(Format::TraceJson) => traced(self.alloc, number, line, &mut self.body),
-            Some(Format::Trace) => Ok(entry_or_nothing(
+            Some(Format::Trace) => Ok(found_or_nothing(
                 self.trace.take(number, line, &mut self.body)?,
             )),
             Some(Format::Emacs) => self.emacs.take(number, line, &mut self.body),
@@ -113,7 +113,7 @@ impl LogReader {
     /// The message that is read at the end of the log, if there is one.
     pub fn end(&mut self) -> Result<Taken, AllocError> {
         match self.format {
-            Some(Format::Trace) => Ok(entry_or_nothing(self.trace.end(&mut self.body)?)),
+            Some(Format::Trace) => Ok(found_or_nothing(self.trace.end(&mut self.body)?)),
             Some(Format::Emacs) => self.emacs.end(&mut self.body),
             _ => Ok(Taken::Nothing),
         }
@@ -126,9 +126,9 @@ impl LogReader {
             [b'-', b'>', b' ', body @ ..] => (Way::ToServer, body),
             [b'<', b'-', b' ', body @ ..] => (Way::ToClient, body),
             [] => return Ok(Taken::Nothing),
-            _ => return Ok(Taken::NoWay),
+            _ => return Ok(Taken::NoWay(number)),
         };
-        self.put(entry_of(way, number, None), body)
+        self.put(found_at(way, number, None), body)
     }
 
     /// `"rpc.send"` or `"rpc.receive"`, and a table as Lua has it.
@@ -147,7 +147,7 @@ impl LogReader {
         let table = self.table.as_slice();
         self.body.clear();
         self.body.extend_from_slice(table)?;
-        Ok(Taken::Entry(entry_of(way, number, None)))
+        Ok(Taken::Found(found_at(way, number, None)))
     }
 
     /// `TIME helix_lsp::transport [INFO] NAME -> {..}`.
@@ -158,24 +158,24 @@ impl LogReader {
         let Some((way, name, body)) = helix_parts(rest) else {
             return Ok(Taken::Nothing);
         };
-        // Helix writes each result a second time, alone, behind the reply that had it.
+        // Helix writes each result a second time, alone, after the reply that had it.
         if way == Way::ToClient && cut(body, b"\"jsonrpc\"").is_none() {
             return Ok(Taken::Nothing);
         }
         self.name.clear();
         self.name.extend_from_slice(name)?;
-        self.put(entry_of(way, number, time_in(time)), body)
+        self.put(found_at(way, number, time_in(time)), body)
     }
 
-    fn put(&mut self, entry: Entry, body: &[u8]) -> Result<Taken, AllocError> {
+    fn put(&mut self, found: Found, body: &[u8]) -> Result<Taken, AllocError> {
         self.body.clear();
         self.body.extend_from_slice(body)?;
-        Ok(Taken::Entry(entry))
+        Ok(Taken::Found(found))
     }
 }
 
-pub fn entry_of(way: Way, line: u64, time: Option<u64>) -> Entry {
-    Entry {
+pub fn found_at(way: Way, line: u64, time: Option<u64>) -> Found {
+    Found {
         way,
         line,
         time,
@@ -183,15 +183,23 @@ pub fn entry_of(way: Way, line: u64, time: Option<u64>) -> Entry {
     }
 }
 
-fn entry_or_nothing(entry: Option<Entry>) -> Taken {
-    match entry {
-        Some(entry) => Taken::Entry(entry),
+fn found_or_nothing(found: Option<Found>) -> Taken {
+    match found {
+        Some(found) => Taken::Found(found),
         None => Taken::Nothing,
     }
 }
 
-/// The way, the server's name and the body, behind `helix_lsp::transport [`. What the server wrote on standard error is none, nor is an
-/// error that Helix prints.
+/// Whether a line of Helix has a message.
+pub fn is_of_helix(line: &[u8]) -> bool {
+    match cut(line, b"helix_lsp::transport [") {
+        Some((_, rest)) => helix_parts(rest).is_some(),
+        None => false,
+    }
+}
+
+/// The way, the server's name and the body, after `helix_lsp::transport [`. A line of the server's standard error has none, nor has an error
+/// that Helix prints.
 fn helix_parts(rest: &[u8]) -> Option<(Way, &[u8], &[u8])> {
     let (level, rest) = cut(rest, b"] ")?;
     if level == b"ERROR".as_slice() {

@@ -1,5 +1,5 @@
 // The judgements of the servers of a log: each has one of its own.
-use crate::judgement::Judgement;
+use crate::judgement::{Ends, Judgement};
 use crate::passed::Passing;
 use crate::report::Report;
 use anyhow::{Result, ensure};
@@ -77,7 +77,11 @@ impl Sessions {
         let mut is_broken = false;
         for session in self.all.iter_mut() {
             let name = std::str::from_utf8(session.name.as_slice()).unwrap_or("");
-            session.judged.end(&report.of_server(name), out)?;
+            let ends = Ends {
+                server: false,
+                client: false,
+            };
+            session.judged.end(ends, &report.of_server(name), out)?;
             is_broken = is_broken || session.judged.is_broken();
         }
         Ok(is_broken)

@@ -1,7 +1,7 @@
 // Traces as text, as VS Code's client writes them, and coc.nvim, lsp-mode and `gopls -rpc.trace` after it: a line says what passed, the
 // lines below it have the params, the result or the error's data, up to an empty line or a line with a `[` at its begin.
 use crate::bytes::{cut, cut_last, is_blank, is_whole_number, push_quoted, trim_end, while_first};
-use crate::reader::Entry;
+use crate::reader::Found;
 use crate::time::time_in;
 use lsp_watch::Way;
 use std::alloc::{AllocError, Global};
@@ -10,7 +10,7 @@ use std::alloc::{AllocError, Global};
 enum Kind {
     Call,
     Reply,
-    /// A reply of which the line says that it is an error.
+    /// A reply whose line says that it is an error.
     Refusal,
 }
 
@@ -39,7 +39,7 @@ enum Body {
 /// The message whose body is read.
 #[derive(Clone, Copy)]
 struct Held {
-    entry: Entry,
+    found: Found,
     kind: Kind,
     body: Body,
     has_body: bool,
@@ -71,7 +71,7 @@ impl Trace {
         number: u64,
         line: &[u8],
         out: &mut Vec<u8>,
-    ) -> Result<Option<Entry>, AllocError> {
+    ) -> Result<Option<Found>, AllocError> {
         if line.starts_with(b"[") || is_head(line) {
             let ended = self.end(out)?;
             if let Some(head) = head_of(line) {
@@ -87,7 +87,7 @@ impl Trace {
     }
 
     /// The message that is read, if there is one: its body has ended.
-    pub fn end(&mut self, out: &mut Vec<u8>) -> Result<Option<Entry>, AllocError> {
+    pub fn end(&mut self, out: &mut Vec<u8>) -> Result<Option<Found>, AllocError> {
         let Some(held) = self.held.take() else {
             return Ok(None);
         };
@@ -97,7 +97,7 @@ impl Trace {
             Kind::Call => {}
             Kind::Reply if held.has_body => {}
             // A refusal without data is traced without a body, and every result has one, where bodies are traced.
-            Kind::Reply if self.is_verbose && held.entry.way == Way::ToServer => {
+            Kind::Reply if self.is_verbose && held.found.way == Way::ToServer => {
                 out.extend_from_slice(b",\"error\":{\"code\":0,\"message\":\"\"}")?;
             }
             Kind::Reply => out.extend_from_slice(b",\"result\":null")?,
@@ -109,7 +109,7 @@ impl Trace {
             }
         }
         out.push(b'}')?;
-        Ok(Some(held.entry))
+        Ok(Some(held.found))
     }
 
     fn begin(&mut self, number: u64, head: &Head<'_>) -> Result<(), AllocError> {
@@ -124,14 +124,14 @@ impl Trace {
             push_quoted(&mut self.text, method)?;
         }
         push_error(&mut self.error, head.error)?;
-        let entry = Entry {
+        let found = Found {
             way: head.way,
             line: number,
             time: head.time,
             took: head.took,
         };
         self.held = Some(Held {
-            entry,
+            found,
             kind: head.kind,
             body: Body::None,
             has_body: false,
@@ -201,7 +201,7 @@ pub fn is_head(line: &[u8]) -> bool {
     head_of(line).is_some()
 }
 
-/// `[Trace - 6:58:23 AM] Sending request 'initialize - (0)'.` and its kin.
+/// `[Trace - 6:58:23 AM] Sending request 'initialize - (0)'.` and similar lines.
 fn head_of(line: &[u8]) -> Option<Head<'_>> {
     let line = trim_end(line);
     if let [b'[', b'E', ..] = line {
@@ -238,7 +238,7 @@ fn head_of(line: &[u8]) -> Option<Head<'_>> {
     Some(with_tail(reply(way, id, time), tail))
 }
 
-/// What stands behind the word of a call.
+/// What stands after the word of a call.
 fn call_of(rest: &[u8]) -> Option<&[u8]> {
     rest.strip_prefix(b"request ")
         .or(rest.strip_prefix(b"notification "))
@@ -268,7 +268,7 @@ fn reply(way: Way, id: &[u8], time: Option<u64>) -> Head<'_> {
     }
 }
 
-/// A reply of which this stands behind its name: how long it took, and perhaps that the request failed.
+/// A reply, with what stands after its name: how long it took, and perhaps that the request failed.
 fn with_tail<'l>(head: Head<'l>, tail: &'l [u8]) -> Head<'l> {
     let (before, failed) = match cut(tail, b" Request failed: ") {
         Some((before, error)) => (before, Some(error)),
@@ -295,7 +295,7 @@ fn milliseconds_of(text: &[u8]) -> Option<u64> {
     std::str::from_utf8(digits).ok()?.parse::<u64>().ok()
 }
 
-/// What stands before the way, the way and what stands behind it.
+/// What stands before the way, the way, and what stands after it.
 fn way_of(line: &[u8]) -> Option<(&[u8], Way, &[u8])> {
     let (before, rest) = match line {
         [b'[', ..] => cut(line, b"] ")?,

@@ -1,6 +1,6 @@
 // The objects in which VS Code's client traces messages, where its trace is in JSON.
 use crate::bytes::{cut, cut_last, trim_end};
-use crate::reader::{Entry, Taken};
+use crate::reader::{Found, Taken};
 use lsp_watch::Way;
 use serde_json::Value;
 use std::alloc::{AllocError, Global};
@@ -21,7 +21,7 @@ pub fn traced(
     out.clear();
     if let Some((way, body, time)) = parts_of(trim_end(object)) {
         out.extend_from_slice(body)?;
-        return Ok(Taken::Entry(Entry {
+        return Ok(Taken::Found(Found {
             way,
             line: number,
             time,
@@ -83,7 +83,7 @@ fn of_object(
     };
     let text = message.to_string(alloc)?;
     out.extend_from_slice(text.as_str().as_bytes())?;
-    Ok(Taken::Entry(Entry {
+    Ok(Taken::Found(Found {
         way,
         line: number,
         time: trace.get("timestamp").and_then(Value::as_u64),

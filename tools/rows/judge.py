@@ -1,0 +1,291 @@
+"""A second judge of sessions, made from the words of JSON-RPC 2.0 and LSP 3.17. `tools/rows/watch` compares `lsp_check` with it."""
+import json
+from collections import namedtuple
+
+from tables import CRATES
+
+MODEL = (CRATES.parent / "tools" / "metamodel.txt").read_text(encoding="utf-8").splitlines()
+REQUESTS = {it.split()[1] for it in MODEL if it.startswith("request ")}
+NOTIFICATIONS = {it.split()[1] for it in MODEL if it.startswith("notification ")}
+EARLY = {("window/showMessage", False), ("window/logMessage", False), ("telemetry/event", False), ("window/showMessageRequest", True)}
+
+BASE, J45, J4, J42, J5 = 'LSP 3.17, "Base Protocol"', *(f"JSON-RPC 2.0, section{it}" for it in ("s 4 and 5", " 4", " 4.2", " 5"))
+ASK = 'LSP 3.17, "Request Message"'
+CALLS = "JSON-RPC 2.0, section 4.1, and the method's section of LSP 3.17"
+INITIALIZE, INITIALIZED = 'LSP 3.17, "Initialize Request"', 'LSP 3.17, "Initialized Notification"'
+DOCUMENT = 'LSP 3.17, "DidOpenTextDocument Notification"'
+
+# A rule: who breaks it, how strongly it is demanded, what it says, and where.
+Rule = namedtuple("Rule", "side level sentence section")
+RULES = {
+    "NotUtf8": Rule("sender", "must", "the content is not UTF-8", BASE),
+    "NotJson": Rule("sender", "must", "the content is no JSON", J45),
+    "Unreadable": Rule("sender", "must", "the content was not read: it nests too deeply, or has a text or a number that cannot be kept", J45),
+    "Batch": Rule("sender", "implied", "the content is a batch, which LSP does not have", BASE),
+    "NoObject": Rule("sender", "must", "the content is no object", J45),
+    "BadVersion": Rule("sender", "must", '`jsonrpc` is not "2.0"', J45),
+    "NoMessage": Rule("sender", "must", "there is neither a method nor an id", J4),
+    "BadMethod": Rule("sender", "must", "`method` is no text", J4),
+    "BadId": Rule("sender", "must", "`id` is neither an integer nor a text", ASK),
+    "WideId": Rule("sender", "must", "`id` is no integer of 32 bits", ASK),
+    "BadParams": Rule("sender", "must", "`params` is neither an object nor a list", J42),
+    "BothOutcomes": Rule("sender", "must", "there is a `result` and an `error`", J5),
+    "NoOutcome": Rule("sender", "must", "there is neither a `result` nor an `error`", J5),
+    "BadError": Rule("sender", "must", "`error` is no object with an integer `code` and a text `message`", J5 + ".1"),
+    "NeedsId": Rule("sender", "implied", "a request of this method has an id", CALLS),
+    "TakesNoId": Rule("sender", "implied", "a notification of this method has no id", CALLS),
+    "NobodyAsked": Rule("sender", "must", "no request waits for this reply: none had its id, or it has its reply", J5),
+    "IdStillOpen": Rule("sender", "implied", "the id is in use: a request with it has no reply yet", J4),
+    "NoReply": Rule("receiver", "must", "the session is over, and the request has no reply", J5),
+    "BeforeResult": Rule("sender", "must", "`initialize` has no result yet", INITIALIZE),
+    "BeforeInitialized": Rule("client", "must", "`initialized` has to come first", INITIALIZED),
+    "SentAgain": Rule("client", "must", "it may be sent only once", f'{INITIALIZE} and {INITIALIZED.removeprefix("LSP 3.17, ")}'),
+    "AfterShutdown": Rule("client", "must", "after `shutdown` only `exit` may be sent", 'LSP 3.17, "Shutdown Request"'),
+    "AfterExit": Rule("client", "implied", "nothing may be sent after `exit`", 'LSP 3.17, "Exit Notification"'),
+    "AlreadyOpen": Rule("client", "must", "the document is open", DOCUMENT),
+    "NotOpen": Rule("client", "must", "the document is not open", DOCUMENT),
+    "VersionNotHigher": Rule("client", "must", "the version of the document is not higher", 'LSP 3.17, "VersionedTextDocumentIdentifier"'),
+    "NoSuchToken": Rule("sender", "must", "no request has this token, or it is over", 'LSP 3.17, "Work Done Progress" and "Partial Result Progress"'),
+    "TokenEnded": Rule("sender", "should", "the progress of this token has ended", 'LSP 3.17, "Creating Work Done Progress"'),
+}
+# `lsp_check` reads no deeper content.
+MOST_DEPTH = 127
+DOCUMENTS, TOKENS = {"AlreadyOpen", "NotOpen", "VersionNotHigher"}, {"NoSuchToken", "TokenEnded"}
+
+
+def text(rule):
+    return f"{RULES[rule].sentence} ({RULES[rule].section})"
+
+
+def other(way):
+    return "<-" if way == "->" else "->"
+
+
+def culprit(rule, way):
+    """The side that breaks a rule by a message of this way."""
+    return {"sender": way, "receiver": other(way), "client": "->"}[RULES[rule].side]
+
+
+def key(value):
+    """An id or a token, so that 1 and "1" are two; None: it is none. A number goes by its value: an integer of 64 bits, or a float of such a one."""
+    if isinstance(value, float) and value.is_integer() and abs(value) < 1 << 63:
+        value = int(value)
+    return (type(value), value) if isinstance(value, str) or type(value) is int and -(1 << 63) <= value < 1 << 64 else None
+
+
+def dig(tree, *names):
+    for name in names:
+        tree = tree.get(name) if isinstance(tree, dict) else None
+    return tree
+
+
+def is_wide(value):
+    number = key(value)
+    return number is not None and number[0] is int and not -(1 << 31) <= number[1] < 1 << 31
+
+
+def shape(message):
+    """The rules of its shape that a message breaks."""
+    if isinstance(message, list):
+        return ["Batch"]
+    if not isinstance(message, dict):
+        return ["NoObject"]
+    found = [] if message.get("jsonrpc") == "2.0" else ["BadVersion"]
+    if "method" in message:
+        return found + call_shape(message)
+    return found + (reply_shape(message) if "id" in message else ["NoMessage"])
+
+
+def call_shape(message):
+    has_id, method = "id" in message, message["method"]
+    return [rule for rule, is_broken in [
+        ("BadId", has_id and key(message["id"]) is None),
+        ("WideId", has_id and is_wide(message["id"])),
+        ("BadParams", "params" in message and not isinstance(message["params"], (dict, list))),
+        ("BadMethod", not isinstance(method, str)),
+        ("NeedsId", isinstance(method, str) and not has_id and method in REQUESTS),
+        ("TakesNoId", isinstance(method, str) and has_id and method in NOTIFICATIONS),
+    ] if is_broken]
+
+
+def reply_shape(message):
+    failure, has_result = message.get("error"), "result" in message
+    is_null = message["id"] is None and failure is not None and not has_result
+    is_error = isinstance(failure, dict) and type(failure.get("code")) is int and isinstance(failure.get("message"), str)
+    return [rule for rule, is_broken in [
+        ("BadId", not is_null and key(message["id"]) is None),
+        ("WideId", is_wide(message["id"])),
+        ("BothOutcomes", has_result and "error" in message),
+        ("NoOutcome", not has_result and failure is None),
+        ("BadError", failure is not None and not is_error),
+    ] if is_broken]
+
+
+def kind(message):
+    """`request`, `note`, `reply`, or None of what has no place in a session."""
+    if not isinstance(message, dict):
+        return None
+    if "method" in message:
+        if not isinstance(message["method"], str):
+            return None
+        return "note" if "id" not in message else "request" if key(message["id"]) else None
+    return "reply" if key(message.get("id")) else None
+
+
+class Judge:
+    """Judges one session, message by message."""
+
+    def __init__(self, is_whole=True):
+        self.is_whole = is_whole
+        self.asked, self.live, self.ended, self.documents = [], set(), {}, {}
+        self.result = self.initialized = self.shutdown = self.exit = None
+
+    def begins(self, way, message):
+        """Whether another session begins."""
+        return opens(way, message) and (not self.is_whole or self.exit is not None)
+
+    def see(self, place, way, message):
+        """The rules that a message breaks: each with the place of the message that it goes against, and whether that is sure."""
+        found = [(rule, None, True) for rule in shape(message)]
+        if kind(message):
+            parts = [self.order(way, message) or self.ids(way, message), self.document(place, way, message), self.progress(way, message)]
+            found += [(rule, against, self.is_whole or against is not None) for rule, against in filter(None, parts)]
+            self.keep(place, way, message)
+        return found
+
+    def waiting(self, way, name):
+        return next((it for it in self.asked if (it["way"], it["key"]) == (way, name)), None)
+
+    def order(self, way, message):
+        if kind(message) == "reply":
+            return None
+        called = (message["method"], kind(message) == "request")
+        opening = next((it for it in self.asked if it["opens"]), None)
+        waits = opening and opening["place"]
+        if way == "<-":
+            tokens = [it["work"] for it in self.asked if it["opens"]]
+            is_early = called in EARLY or progress_key(message) is not None and progress_key(message) in tokens
+            return None if self.result is not None or (opening and is_early) else ("BeforeResult", waits)
+        if called == ("exit", False):
+            return ("AfterExit", self.exit) if self.exit is not None else None
+        for rule, place in [("AfterExit", self.exit), ("AfterShutdown", self.shutdown)]:
+            if place is not None:
+                return rule, place
+        if called == ("initialize", True):
+            return ("SentAgain", self.result) if self.result is not None else ("BeforeResult", waits) if opening else None
+        if self.result is None:
+            return "BeforeResult", waits
+        if called == ("initialized", False):
+            return ("SentAgain", self.initialized) if self.initialized is not None else None
+        return None if self.initialized is not None else ("BeforeInitialized", self.result)
+
+    def ids(self, way, message):
+        if kind(message) == "request":
+            asked = self.waiting(way, key(message["id"]))
+            return ("IdStillOpen", asked["place"]) if asked else None
+        if kind(message) == "reply" and not self.waiting(other(way), key(message["id"])):
+            return "NobodyAsked", None
+        return None
+
+    def document(self, place, way, message):
+        uri, version = dig(message, "params", "textDocument", "uri"), dig(message, "params", "textDocument", "version")
+        done = message.get("method", "") if way == "->" and kind(message) == "note" and isinstance(uri, str) else ""
+        version = version if type(version) is int and -(1 << 63) <= version < 1 << 63 else None
+        document, found = self.documents.get(uri) if done else None, None
+        if done == "textDocument/didOpen":
+            found = ("AlreadyOpen", document["opened"]) if document else None
+            self.documents[uri] = {"opened": place, "told": place, "version": version}
+        elif done == "textDocument/didChange":
+            found = None if document else ("NotOpen", None)
+            if document and version is not None:
+                if document["version"] is not None and version <= document["version"]:
+                    found = "VersionNotHigher", document["told"]
+                document |= {"told": place, "version": version}
+        elif done == "textDocument/didClose":
+            found = None if self.documents.pop(uri, None) else ("NotOpen", None)
+        return found
+
+    def progress(self, way, message):
+        name = progress_key(message)
+        if name is None:
+            return None
+        gives = [it["created"] if it["way"] == way else it["work"] if it["work"] == name else it["part"] for it in self.asked]
+        if name in gives or way == "<-" and name in self.live:
+            return None
+        return ("TokenEnded", self.ended[name]) if way == "<-" and name in self.ended else ("NoSuchToken", None)
+
+    def keep(self, place, way, message):
+        sort = kind(message)
+        if sort == "request":
+            method, params = message["method"], message.get("params")
+            creates = way == "<-" and method == "window/workDoneProgress/create"
+            self.asked.append({
+                "way": way, "place": place, "key": key(message["id"]), "id": message["id"], "method": method,
+                "opens": opens(way, message), "work": key(dig(params, "workDoneToken")), "part": key(dig(params, "partialResultToken")),
+                "created": key(dig(params, "token")) if creates else None,
+            })
+        elif sort == "reply":
+            self.answer(place, other(way), message)
+        if way == "<-" and progress_key(message) is not None and dig(message, "params", "value", "kind") == "end":
+            self.end(place, progress_key(message))
+        if way == "->" and sort != "reply":
+            name = {("initialized", "note"): "initialized", ("exit", "note"): "exit", ("shutdown", "request"): "shutdown"}.get((message["method"], sort))
+            if name:
+                setattr(self, name, place)
+
+    def answer(self, place, way, message):
+        asked = self.waiting(way, key(message["id"]))
+        if not asked:
+            return
+        self.asked.remove(asked)
+        if message.get("error") is None and "result" in message:
+            if asked["opens"]:
+                self.result = place
+            if asked["created"] is not None:
+                self.live.add(asked["created"])
+                self.ended.pop(asked["created"], None)
+
+    def end(self, place, name):
+        if name in self.live:
+            self.live.discard(name)
+            self.ended[name] = place
+
+    def left(self, server_ended, client_ended):
+        """The requests that have no reply, each with whether its side has ended."""
+        is_over = {"->": server_ended or self.exit is not None, "<-": client_ended or self.exit is not None}
+        return [(it, is_over[it["way"]]) for it in self.asked]
+
+
+def opens(way, message):
+    return way == "->" and kind(message) == "request" and message["method"] == "initialize"
+
+
+def progress_key(message):
+    return key(dig(message, "params", "token")) if kind(message) == "note" and message["method"] == "$/progress" else None
+
+
+def depth(value):
+    inner = value.values() if isinstance(value, dict) else value if isinstance(value, list) else None
+    return 0 if inner is None else 1 + max(map(depth, inner), default=0)
+
+
+def has_beyond(value):
+    """Whether there is a number beyond every float, or half of a surrogate pair: JSON may have these, and `lsp_check` reads none."""
+    try:
+        json.dumps(value, ensure_ascii=False, allow_nan=False).encode()
+        return False
+    except ValueError:
+        return True
+
+
+def loads(data):
+    """A message of these bytes, or the rule that they break."""
+    def refuse(word):
+        raise ValueError(word)
+    try:
+        message = json.loads(data.decode(), parse_constant=refuse)
+        return (None, "Unreadable") if depth(message) > MOST_DEPTH or has_beyond(message) else (message, None)
+    except UnicodeDecodeError:
+        return None, "NotUtf8"
+    except ValueError:
+        return None, "NotJson"

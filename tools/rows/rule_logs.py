@@ -1,0 +1,101 @@
+"""Two small logs for each rule: one that keeps it, and one that breaks it."""
+import json
+
+
+def line(way, message=None, **members):
+    return f"{way} {message or json.dumps({'jsonrpc': '2.0', **members}, separators=(',', ':'))}\n"
+
+
+def asks(way, key, method, params=None):
+    return line(way, id=key, method=method, **({} if params is None else {"params": params}))
+
+
+def tells(way, method, params=None):
+    return line(way, method=method, **({} if params is None else {"params": params}))
+
+
+def replies(way, key, result=None):
+    return line(way, id=key, result=result)
+
+
+def refuses(way, key, error):
+    return line(way, id=key, error=error)
+
+
+ERROR = {"code": -32601, "message": "no such method"}
+INITIALIZE, RESULT = asks("->", 0, "initialize", {"processId": None, "rootUri": None, "capabilities": {}}), replies("<-", 0, {"capabilities": {}})
+INITIALIZED = tells("->", "initialized", {})
+SHUTDOWN, DONE, EXIT = asks("->", 9, "shutdown"), replies("<-", 9), tells("->", "exit")
+PLACE = {"textDocument": {"uri": "file:///a"}, "position": {"line": 0, "character": 0}}
+HOVER, HOVERED = asks("->", 1, "textDocument/hover", PLACE), replies("<-", 1)
+LOGGED = tells("<-", "window/logMessage", {"type": 3, "message": "ready"})
+OPEN = tells("->", "textDocument/didOpen", {"textDocument": {"uri": "file:///a", "languageId": "a", "version": 1, "text": ""}})
+CLOSE = tells("->", "textDocument/didClose", {"textDocument": {"uri": "file:///a"}})
+CREATE, CREATED = asks("<-", 1, "window/workDoneProgress/create", {"token": "t"}), replies("->", 1)
+
+
+def change(version):
+    params = {"textDocument": {"uri": "file:///a", "version": version}, "contentChanges": [{"text": "b"}]}
+    return tells("->", "textDocument/didChange", params)
+
+
+def progress(kind, token="t"):
+    return tells("<-", "$/progress", {"token": token, "value": {"kind": kind, **({"title": "work"} if kind == "begin" else {})}})
+
+
+def within(*lines):
+    return [INITIALIZE, RESULT, INITIALIZED, *lines, SHUTDOWN, DONE, EXIT]
+
+
+def told(value):
+    return line("<-", f'{{"jsonrpc":"2.0","method":"telemetry/event","params":[{value}]}}')
+
+
+def nested(depth):
+    return told("[" * (depth - 1) + "]" * (depth - 1))
+
+
+# The rule, the log that keeps it, and the one that breaks it.
+LOGS = {
+    "NotUtf8": (within(line("<-", '{"jsonrpc":"2.0","method":"telemetry/event","params":["\u00e9"]}')), within(LOGGED, b'<- {"jsonrpc":"2.0","method":"a\xff"}\n')),
+    "NotJson": (within(LOGGED), within(line("<-", "{'jsonrpc': '2.0'}"))),
+    "Unreadable": (within(nested(100)), within(nested(130), told("1e999"), told('"\\ud83d"'))),
+    "Batch": (within(LOGGED, LOGGED), within(line("<-", f"[{LOGGED[3:-1]},{LOGGED[3:-1]}]"))),
+    "NoObject": (within(LOGGED), within(line("<-", '"ready"'))),
+    "BadVersion": (within(LOGGED), within(line("<-", '{"method":"window/logMessage","params":{"type":3,"message":"ready"}}'))),
+    "NoMessage": (within(LOGGED), within(line("<-", params={"type": 3, "message": "ready"}))),
+    "BadMethod": (within(LOGGED), within(line("<-", method=7))),
+    "BadId": (within(HOVER, HOVERED, refuses("<-", None, {"code": -32700, "message": "no JSON"})), within(HOVER, HOVERED, replies("<-", None))),
+    "WideId": (within(asks("->", 2147483647, "textDocument/hover", PLACE), replies("<-", 2147483647)),
+               within(asks("->", 2147483648, "textDocument/hover", PLACE), replies("<-", 2147483648))),
+    "BadParams": (within(asks("<-", 1, "workspace/inlayHint/refresh"), CREATED),
+                  within(line("<-", '{"jsonrpc":"2.0","id":1,"method":"workspace/inlayHint/refresh","params":null}'), CREATED)),
+    "BothOutcomes": (within(HOVER, refuses("<-", 1, ERROR)), within(HOVER, line("<-", id=1, result=None, error=ERROR))),
+    "NoOutcome": (within(HOVER, HOVERED), within(HOVER, line("<-", id=1))),
+    "BadError": (within(HOVER, refuses("<-", 1, ERROR)), within(HOVER, refuses("<-", 1, "no such method"))),
+    "NeedsId": (within(HOVER, HOVERED), within(tells("->", "textDocument/hover", PLACE))),
+    "TakesNoId": (within(LOGGED), within(asks("<-", 1, "window/logMessage", {"type": 3, "message": "ready"}), CREATED)),
+    "NobodyAsked": (within(HOVER, HOVERED), within(HOVER, HOVERED, HOVERED)),
+    "IdStillOpen": (within(HOVER, HOVERED, HOVER, HOVERED), within(HOVER, HOVER, HOVERED, HOVERED)),
+    "NoReply": (within(HOVER, HOVERED), within(HOVER)),
+    "BeforeResult": ([INITIALIZE, LOGGED, *within()[1:]], [INITIALIZE, tells("<-", "textDocument/publishDiagnostics", {"uri": "file:///a", "diagnostics": []}), *within()[1:]]),
+    "BeforeInitialized": (within(OPEN), [INITIALIZE, RESULT, OPEN, INITIALIZED, SHUTDOWN, DONE, EXIT]),
+    "SentAgain": (within(), within(INITIALIZED)),
+    "AfterShutdown": (within(OPEN, CLOSE), [*within(OPEN)[:-1], CLOSE, EXIT]),
+    "AfterExit": (within(), [*within(), EXIT]),
+    "AlreadyOpen": (within(OPEN, CLOSE, OPEN), within(OPEN, OPEN)),
+    "NotOpen": (within(OPEN, CLOSE), within(OPEN, CLOSE, CLOSE)),
+    "VersionNotHigher": (within(OPEN, change(2), change(4)), within(OPEN, change(2), change(2))),
+    "NoSuchToken": (within(CREATE, CREATED, progress("begin"), progress("end")), within(CREATE, refuses("->", 1, ERROR), progress("begin"), progress("end"))),
+    "TokenEnded": (within(CREATE, CREATED, progress("begin"), progress("report"), progress("end")),
+                   within(CREATE, CREATED, progress("begin"), progress("end"), progress("report"))),
+}
+
+
+def files():
+    """The logs, by their names."""
+    made = {}
+    for rule, both in LOGS.items():
+        for name, lines in zip(("kept", "broken"), both):
+            made[f"{rule}_{name}.lsp"] = b"".join(it if isinstance(it, bytes) else it.encode() for it in lines)
+    return made
