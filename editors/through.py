@@ -4,8 +4,7 @@
     editors/through.py FILE PROGRAM [WORD ..]
 
 What passes on the editor's side comes into FILE.ID.1.lsp (`tap.py`), and the recording into FILE.ID.log, with the id of this process. Ends in
-status 1 if they differ: for each way, the messages have to be the same trees in the same order, but for `"params": null`, which comes out
-as no params.
+status 1 if they differ: for each way, the messages have to be the same trees in the same order.
 """
 import json
 import os
@@ -22,11 +21,7 @@ from lsp import HOST, built, expect_soon, free_port, listens
 
 def messages(name, mark):
     with open(name, encoding="utf-8", newline="\n") as file:
-        found = [json.loads(line[3:]) for line in file.read().split("\n") if line.startswith(mark)]
-    for message in found:
-        if message.get("params", 0) is None:
-            del message["params"]
-    return found
+        return [json.loads(line[3:]) for line in file.read().split("\n") if line.startswith(mark)]
 
 
 def main(file, command):

@@ -1,19 +1,22 @@
 #!/usr/bin/env python3
 """A client, `example_recorder` and a server, over TCP on 127.0.0.1 and through pipes: what is recorded, and what a replay says.
 
-Each recording, each reply and each exit status is compared. It ends in status 1 at the first difference.
+Each recording, each reply and each exit status is compared. `lsp_check` judges the recordings of odd messages. It ends in status 1 at the
+first difference.
 """
 import json
 import socket
+import subprocess
 import sys
 import tempfile
+from contextlib import contextmanager
 from pathlib import Path
 
 sys.dont_write_bytecode = True
 
 from lsp import (
-    EXIT, HOST, INITIALIZE_REPLY, SHUTDOWN, SHUTDOWN_REPLY, Client, Program, accepted, built, expect, expect_soon, frame, free_port,
-    listens, run,
+    EXIT, HOST, INITIALIZE_REPLY, PATIENCE, SHUTDOWN, SHUTDOWN_REPLY, Client, Program, accepted, built, expect, expect_soon, frame,
+    free_port, listens, run,
 )
 
 INITIALIZE = b'{"jsonrpc":"2.0","id":1,"method":"initialize"}'
@@ -122,11 +125,104 @@ def check_last_words(log):
         expect("the recording", log.read_bytes(), b"<- " + LAST_WORDS + b"\n")
 
 
+# Messages that no `Message` of `lsp_server` is, and content that is none at all: which way it goes, its bytes, the body of its line, and the
+# rules that it breaks. The error that names no request breaks none (JSON-RPC 2.0, section 5).
+ODD = [
+    ("<-", NO_REQUEST := b'{"jsonrpc":"2.0","id":null,"error":{"code":-32700,"message":"no JSON"}}', NO_REQUEST, []),
+    ("<-", NO_ID := b'{"jsonrpc":"2.0","id":null,"result":null}', NO_ID, ["BadId"]),
+    ("->", FRACTION := b'{"jsonrpc":"2.0","id":1.5,"method":"a"}', FRACTION, ["BadId"]),
+    ("->", HUGE := b'{"jsonrpc":"2.0","id":123456789012345678901234567890,"method":"a"}', HUGE, ["BadId"]),
+    ("->", WIDE := b'{"jsonrpc":"2.0","id":4294967296,"method":"a"}', WIDE, ["WideId"]),
+    ("->", b'{ "jsonrpc": "2.0",\r\n  "method": "a" }\n', b'{ "jsonrpc": "2.0",    "method": "a" } ', []),
+    ("<-", CUT := b'{"jsonrpc":"2.0","method":', CUT, ["NotJson"]),
+    # Its line would be JSON with a space for the line end.
+    ("->", b'{"jsonrpc":"2.0","method":"a\nb"}', b'{"jsonrpc":"2.0","method":"a\x0bb"}', ["NotJson"]),
+    ("<-", b"", b"\x0b", ["NotJson"]),
+    ("<-", b" \r\n", b" \x0b\x0b\x0b", ["NotJson"]),
+    ("->", NO_TEXT := b'{"jsonrpc":"2.0","method":"\xff"}', NO_TEXT, ["NotUtf8"]),
+    ("->", LIST := b"[1]", LIST, ["Batch"]),
+]
+# A header that no program of ours writes.
+ODD_HEADER = b"Content-Type: application/vscode-jsonrpc; charset=utf-8\r\ncontent-length: %d\r\n\r\n"
+# What stands in a log, and on standard error, of each rule.
+SAYS = {
+    "BadId": '`id` is neither an integer nor a text (LSP 3.17, "Request Message")',
+    "WideId": '`id` is no integer of 32 bits (LSP 3.17, "Request Message")',
+    "NotJson": "the content is no JSON (JSON-RPC 2.0, sections 4 and 5)",
+    "NotUtf8": 'the content is not UTF-8 (LSP 3.17, "Base Protocol")',
+    "Batch": 'the content is a batch, which LSP does not have (LSP 3.17, "Base Protocol")',
+}
+
+
+@contextmanager
+def both_ends(log, start=recorder):
+    """A recorder between two ends of this program: the recorder, its client and its server."""
+    listener, port = listening()
+    with listener, start(port, log) as recording, recording.connect() as client, Client(recording, accepted(listener)) as theirs:
+        yield recording, client, theirs
+
+
+def judged(log):
+    """What `lsp_check` finds in a recording: the lines, ways and rules of the breaches."""
+    command = built("lsp_check", "--json", "--fail-on", "both", "--level", "implied", str(log))
+    found = subprocess.run(command, capture_output=True, timeout=PATIENCE, check=False).stdout.decode().splitlines()
+    return [(it["line"], it["way"], it["rule"]) for it in map(json.loads, found) if it["kind"] == "breach" and it["rule"] != "NoReply"]
+
+
+def check_odd(log):
+    print("messages of any shape pass unchanged, and so does content that is none; the log has them, and names what they break")
+    begin = [("->", INITIALIZE, INITIALIZE, []), ("<-", INITIALIZE_REPLY, INITIALIZE_REPLY, []), ("->", INITIALIZED, INITIALIZED, [])]
+    end = [("->", SHUTDOWN, SHUTDOWN, []), ("<-", SHUTDOWN_REPLY, SHUTDOWN_REPLY, []), ("->", EXIT, EXIT, [])]
+    session = [*begin, *ODD, *end]
+    broken = [(at, way, rule) for at, (way, _, _, rules) in enumerate(session, 1) for rule in rules]
+    told = "".join(f"{at}: {way} {SAYS[rule]}\n" for at, way, rule in broken)
+    for start in [recorder, piped_recorder]:
+        with both_ends(log, start) as (recording, client, theirs):
+            for way, content, _, _ in session:
+                sender, receiver = (client, theirs) if way == "->" else (theirs, client)
+                for piece in [ODD_HEADER % len(content), content[:9], content[9:]]:
+                    sender.send_bytes(piece)
+                    receiver.receive(piece)
+            theirs.connection.close()
+            if client.connection:
+                client.connection.close()
+            expect("the end of the recorder", recording.end(), (0, b"", told))
+        expect("the recording", log.read_bytes(), b"".join(b"%s %s\n" % (way.encode(), body) for way, _, body, _ in session))
+        expect("what lsp_check finds in it", judged(log), broken)
+        with Program(built("example_recorder", "replay", log)) as replayed:
+            sent = b"".join(frame(body) for way, _, body, _ in session if way == "->")
+            expect("its frames", replayed.end(), (0, sent, ""))
+
+
+def check_no_frame(log):
+    print("bytes that are no frame pass too; the recording ends before them, and is not whole")
+    for bytes_of_no_frame, why in [
+        (b"\r\n\xff\x00 no frame" * 5000, "the header part of the frame is bad"),
+        (b"Content-Type: " + b"x" * 300_000, "the header part of the frame is longer than 64 KiB"),
+        (frame(SHUTDOWN)[:-1], "the bytes end in a frame"),
+    ]:
+        with both_ends(log) as (recording, client, theirs):
+            client.send_bytes(frame(INITIALIZE) + bytes_of_no_frame)
+            client.close_input()
+            expect("what came", theirs.rest(), frame(INITIALIZE) + bytes_of_no_frame)
+            theirs.send_bytes(frame(INITIALIZE_REPLY))
+            theirs.close_input()
+            expect("what came back", client.rest(), frame(INITIALIZE_REPLY))
+            told = f"-> {why}: the rest is not recorded\nError: not all that passed is recorded\n"
+            expect("the end of the recorder", recording.end(), (1, b"", told))
+        expect("the recording", log.read_bytes(), lines_of([(INITIALIZE, INITIALIZE_REPLY)]))
+
+
 def check_replay(log):
     print("a recording is compared, and another answer is told")
     log.write_bytes(lines_of(SESSION))
     with server() as demo, replay(log, demo.port) as replayed:
         expect("the replay", replayed.end(), (0, b"3 answers, each as recorded\n", ""))
+        expect("the end of the server", demo.end(), (0, b"", ""))
+    spaced = lines_of(SESSION).replace(INITIALIZE_REPLY, b'{ "result": {"capabilities": {}}, "id": 1, "jsonrpc": "2.0" }')
+    log.write_bytes(spaced)
+    with server() as demo, replay(log, demo.port) as replayed:
+        expect("the replay of another layout", replayed.end(), (0, b"3 answers, each as recorded\n", ""))
         expect("the end of the server", demo.end(), (0, b"", ""))
     other = b'{"jsonrpc":"2.0","id":1,"result":{"capabilities":{"hoverProvider":true}}}'
     log.write_bytes(lines_of([(INITIALIZE, other)]))
@@ -202,8 +298,8 @@ def check_replay_of_jobs(log):
 def check_all():
     with tempfile.TemporaryDirectory() as folder:
         for check in [
-            check_session, check_document, check_early_close, check_last_words, check_pipes, check_replay, check_replay_in_another_order,
-            check_replay_of_jobs,
+            check_session, check_document, check_early_close, check_last_words, check_pipes, check_odd, check_no_frame, check_replay,
+            check_replay_in_another_order, check_replay_of_jobs,
         ]:
             check(Path(folder) / "session.log")
 

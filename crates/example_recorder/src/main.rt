@@ -1,24 +1,28 @@
 //! A recorder that sits between an editor and a language server, and plays a recording again.
 //!
-//!     example_recorder record LISTEN SERVER FILE    pass all messages of one session on, and write them into the file
+//!     example_recorder record LISTEN SERVER FILE    pass all bytes of one session on, and write its messages into the file
 //!     example_recorder record - SERVER FILE         the same for an editor that starts programs
 //!     example_recorder replay FILE                  write the client's messages of a recording to standard output, as frames
 //!     example_recorder replay FILE SERVER           send them to a server, and compare what it answers
 //!
 //! LISTEN and SERVER are addresses, such as 127.0.0.1:9257, and `-` is standard input and output. A line of a recording is `->` and a
-//! body for a message to the server, `<-` and a body for one to the client. While it records, it tells on standard error which line breaks
-//! a rule of `lsp_watch`.
+//! body for a message to the server, `<-` and a body for one to the client. The body is the content part, on one line. While it records, it
+//! tells on standard error which line breaks a rule of `lsp_watch`. The bytes pass unchanged, also if they are no message. A replay to a
+//! server ends at a line that is no `Message` of `lsp_server`.
 #![tactic(auto)]
 
 mod line;
+mod lines;
+mod peer;
 mod record;
 mod replay;
 
 use anyhow::{Error, Result, bail};
 use lsp_server::Connection;
+use peer::{accept, connect, parent};
 use record::{Until, record};
 use replay::{compare, write_frames};
-use std::io::{BufWriter, Write};
+use std::io::{BufRead, BufReader, BufWriter, Write};
 use std::net::Net;
 use std::sync::Wait;
 use std::thread::Threads;
@@ -35,12 +39,12 @@ fn main(rt: HostRuntime) -> Result<()> {
             recorded
         }
         [word, file] if word.as_str() == "replay" => {
-            let recording = fs::read_to_string(&rt, file.as_str())?;
-            write_frames(rt.alloc(), recording.as_str(), &mut io::writer(&rt))
+            let mut recording = BufReader::new(rt.alloc(), fs::open(&rt, file.as_str())?)?;
+            write_frames(rt.alloc(), &mut recording, &mut io::writer(&rt))
         }
         [word, file, server] if word.as_str() == "replay" => {
-            let recording = fs::read_to_string(&rt, file.as_str())?;
-            let count = replay_to(&rt, recording.as_str(), server.as_str())?;
+            let mut recording = BufReader::new(rt.alloc(), fs::open(&rt, file.as_str())?)?;
+            let count = replay_to(&rt, &mut recording, server.as_str())?;
             Ok(println!(rt; "{count} answers, each as recorded")?)
         }
         _ => bail!("usage: example_recorder record LISTEN|- SERVER FILE | replay FILE [SERVER]"),
@@ -50,36 +54,24 @@ fn main(rt: HostRuntime) -> Result<()> {
 /// Records the session of a client and a server.
 fn record_session<R, W: Write>(rt: &R, listen: &str, server: &str, log: &mut W) -> Result<()>
 where
-    R: Net
-        + Threads
-        + Wait
-        + Clock
-        + AllocGlobal
-        + Input
-        + Print
-        + Eprint
-        + Copy
-        + Drop
-        + Send
-        + 'static,
+    R: Net + Threads + Wait + AllocGlobal + Input + Print + Eprint + Copy + Drop + Send + 'static,
     R::Reader: Send + 'static,
     R::Stream: Send + 'static,
 {
-    let (client, until) = match listen {
-        "-" => (Connection::stdio(rt)?, Until::ServerCloses),
-        addr => (Connection::listen(rt, addr)?, Until::BothClose),
-    };
-    match Connection::connect(rt, server) {
-        Ok(server) => record(rt, client, server, log, until),
-        Err(fault) => {
-            drop(client);
-            Err(Error::from(fault))
+    match listen {
+        "-" => {
+            let client = parent(rt);
+            record(rt, client, connect(rt, server)?, log, Until::ServerCloses)
+        }
+        addr => {
+            let client = accept(rt, addr)?;
+            record(rt, client, connect(rt, server)?, log, Until::BothClose)
         }
     }
 }
 
 /// Plays a recording to a server, and gives how many answers were compared.
-fn replay_to<R>(rt: &R, recording: &str, server: &str) -> Result<u64>
+fn replay_to<R, B: BufRead>(rt: &R, recording: &mut B, server: &str) -> Result<u64>
 where
     R: Net + Threads + Wait + Clock + AllocGlobal + Print + Copy + Drop + Send + 'static,
     R::Stream: Send + 'static,

@@ -1,12 +1,12 @@
 // What is done with a recording.
-use crate::line::{message_of, split};
+use crate::line::{message_of, read_line};
 use anyhow::{Context, Error, Result, bail};
 use crossbeam_channel::{Receiver, Sender};
 use lsp_server::{Connection, ErrorCode, Message, RequestId, Response};
 use lsp_watch::Way;
 use serde_json::Value;
 use std::alloc::{AllocError, Global};
-use std::io::Write;
+use std::io::{self, BufRead, Write};
 use std::sync::Wait;
 use std::time::{Clock, Duration};
 
@@ -14,22 +14,26 @@ use std::time::{Clock, Duration};
 const PATIENCE: u64 = 10;
 
 /// Writes the client's messages of a recording as frames.
-pub fn write_frames<W: Write>(alloc: Global, recording: &str, writer: &mut W) -> Result<()> {
-    for line in recording.lines() {
-        let (way, body) = split(line)?;
-        match way {
-            Way::ToServer => write_frame(alloc, body, writer)?,
-            Way::ToClient => {}
+pub fn write_frames<B: BufRead, W: Write>(
+    alloc: Global,
+    recording: &mut B,
+    writer: &mut W,
+) -> Result<()> {
+    let mut line = Vec::new(alloc);
+    for _ in 0..u64::MAX {
+        match read_line(alloc, recording, &mut line)? {
+            Some((Way::ToServer, body)) => write_frame(body, writer)?,
+            Some((Way::ToClient, _)) => {}
+            None => break,
         }
     }
-    Ok(())
+    Ok(writer.flush()?)
 }
 
-fn write_frame<W: Write>(alloc: Global, body: &str, writer: &mut W) -> Result<()> {
-    let message = message_of(alloc, body)?;
-    let written = message.write(alloc, writer);
-    drop(message);
-    Ok(written?)
+/// Writes a frame with this content part, which may be none of a message.
+fn write_frame<W: Write>(content: &[u8], writer: &mut W) -> io::Result<()> {
+    write!(writer, "Content-Length: {}\r\n\r\n", content.len())?;
+    writer.write_all(content)
 }
 
 /// Sends the client's messages of a recording, compares what the server says with what it said then, and counts that.
@@ -39,9 +43,9 @@ fn write_frame<W: Write>(alloc: Global, body: &str, writer: &mut W) -> Result<()
 /// their order. How far a request is (`$/progress` of work done) is not compared. A request that the client cancels may come to what it
 /// came to, or to -32800 (LSP 3.17, "Cancellation Support"). The first difference goes to `report`, and is an error. The connection is
 /// closed at the end.
-pub fn compare<R: Wait + Clock + AllocGlobal, W: Write>(
+pub fn compare<R: Wait + Clock + AllocGlobal, B: BufRead, W: Write>(
     rt: &R,
-    recording: &str,
+    recording: &mut B,
     connection: Connection,
     report: &mut W,
 ) -> Result<u64> {
@@ -78,15 +82,19 @@ impl Replay {
     }
 
     /// Plays all lines.
-    fn play<R: Wait + Clock + AllocGlobal, W: Write>(
+    fn play<R: Wait + Clock + AllocGlobal, B: BufRead, W: Write>(
         &mut self,
         rt: &R,
-        recording: &str,
+        recording: &mut B,
         connection: &Connection,
         report: &mut W,
     ) -> Result<()> {
-        for line in recording.lines() {
-            self.play_line(rt, line, connection, report)?;
+        let mut line = Vec::new(rt.alloc());
+        for _ in 0..u64::MAX {
+            match read_line(rt.alloc(), recording, &mut line)? {
+                Some((way, body)) => self.play_line(rt, way, body, connection, report)?,
+                None => break,
+            }
         }
         Ok(())
     }
@@ -94,16 +102,16 @@ impl Replay {
     fn play_line<R: Wait + Clock + AllocGlobal, W: Write>(
         &mut self,
         rt: &R,
-        line: &str,
+        way: Way,
+        body: &[u8],
         connection: &Connection,
         report: &mut W,
     ) -> Result<()> {
-        let (way, body) = split(line)?;
         let message = message_of(rt.alloc(), body)?;
         match way {
             Way::ToServer => self.send(rt, &connection.sender, message),
             Way::ToClient => {
-                let met = self.meet(rt, &connection.receiver, &message, body, report);
+                let met = self.meet(rt, &connection.receiver, &message, report);
                 drop(message);
                 met
             }
@@ -134,7 +142,6 @@ impl Replay {
         rt: &R,
         receiver: &Receiver<Message>,
         recorded: &Message,
-        body: &str,
         report: &mut W,
     ) -> Result<()> {
         if is_of_work_done(recorded) {
@@ -145,7 +152,7 @@ impl Replay {
         let compared = if is_cancelled {
             Ok(())
         } else {
-            expect(rt.alloc(), found.as_ref(), Some(body), report)
+            expect(rt.alloc(), found.as_ref(), Some(recorded), report)
         };
         drop(found);
         self.count = self.count.saturating_add(1);
@@ -266,22 +273,29 @@ fn token_of(message: &Message) -> Option<(Option<&str>, Option<i64>)> {
     Some((token.as_str(), token.as_i64()))
 }
 
-/// Compares what was found with what was recorded. With no recorded body nothing is to be found.
+/// Compares what was found with what was recorded, as both are written here: spaces and the order of members do not count. With nothing
+/// recorded nothing is to be found.
 fn expect<W: Write>(
     alloc: Global,
     found: Option<&Message>,
-    recorded: Option<&str>,
+    recorded: Option<&Message>,
     report: &mut W,
 ) -> Result<()> {
-    let found = match found {
-        Some(message) => Some(message.body_text(alloc)?),
-        None => None,
-    };
-    let found = found.as_ref().map(|body| body.as_str());
+    let found = text_of(alloc, found)?;
+    let recorded = text_of(alloc, recorded)?;
     if found == recorded {
         return Ok(());
     }
+    let recorded = recorded.as_ref().map(|it| it.as_str());
+    let found = found.as_ref().map(|it| it.as_str());
     writeln!(report, "recorded: {}", recorded.unwrap_or("nothing more"))?;
     writeln!(report, "found: {}", found.unwrap_or("nothing"))?;
     bail!("not as recorded")
+}
+
+fn text_of(alloc: Global, message: Option<&Message>) -> Result<Option<String>, AllocError> {
+    match message {
+        Some(message) => Ok(Some(message.body_text(alloc)?)),
+        None => Ok(None),
+    }
 }

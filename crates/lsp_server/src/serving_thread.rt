@@ -21,13 +21,10 @@ impl<T> Promise<T> for Anything {
 /// Starts a thread that calls `serve` with the runtime and the connection, and gives its handle. `join` waits for the thread, and
 /// gives what `serve` gave.
 ///
-/// <!-- from crates/example_recorder/src/record.rt -->
+/// <!-- from crates/example_connection/src/client.rt -->
 /// ```rust
-/// let upward = spawn(
-///     rt,
-///     upward,
-///     move |rt, between| pass(rt, Way::ToServer, between, also_told),
-/// )?;
+/// let (client, server) = Connection::memory(rt.alloc())?;
+/// let thread = spawn(rt, server, |rt, server| serve(&rt, server))?;
 /// ```
 ///
 /// It is an error if the system refuses the thread, or if an end of the connection can't be copied. Then `serve` was not called, and
