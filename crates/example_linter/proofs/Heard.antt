@@ -12,7 +12,8 @@ use Rattle.std.specs.Cmp.Lexicographic.{slice_cmp}
 use Rattle.std.specs.List.{All}
 use Rattle.std.specs.Map.{lookup}
 use Rattle.std.specs.Ordering.{nat_cmp}
-use Rattle.std.specs.Prelude.{MatchOption, IsSomeAnd, option_map, option_and_then, codes, map, Result, Ok, Err, OnOk}
+use Rattle.std.specs.Prelude.{MatchOption, IsSomeAnd, IfErr, option_map, option_and_then, codes, map, Result, Ok, Err}
+use Rattle.std.specs.Prelude.{OnOk}
 use Rattle.std.specs.Str.{bytes_eq}
 use Rattle.lsp_documents.specs.Heard.{Answers, FailedBy, notice_in}
 use Rattle.lsp_documents.specs.Held.{documents_of}
@@ -23,6 +24,7 @@ use Rattle.lsp_documents.specs.Params.{opened_in, uri_in}
 use Rattle.lsp_documents.specs.Params.{document_in, text_in, version_in}
 use Rattle.lsp_documents.specs.declared.documents.TextDocuments.{TextDocuments}
 use Rattle.lsp_documents.specs.declared.fault.DocumentFault.{DocumentFault}
+use Rattle.lsp_documents.specs.declared.fault.DocumentFault.TheVariants.{Memory}
 use Rattle.lsp_documents.specs.declared.fault.DocumentUpdate.{DocumentUpdate}
 use Rattle.lsp_documents.specs.declared.fault.UpdateFault.{UpdateFault}
 use Rattle.lsp_documents.specs.declared.kept.Open.{Open}
@@ -123,12 +125,21 @@ is_current : (documents : Documents) (uri : List ℕ) (change : SlotChange Analy
 is_current documents uri change slot analysis is e =
     (subst (IsChangeOf documents uri) (sym e) is).1
 
+-- an analysis is stopped of a document whose text is not known
+is_stopped : (documents : Documents) (uri q : List ℕ) (change : SlotChange Analysis) → IsChangeOf documents uri change
+    → Stop (text q) ≡ change → option_and_then shown (documents.held q) ≡ None
+is_stopped documents uri q change is e =
+    let stop = subst (IsChangeOf documents uri) (sym e) is in
+    let same : q ≡ uri = cc (stop.0) in
+    ap (λ (u : List ℕ). option_and_then shown (documents.held u)) same ∙ stop.1
+
 -- the analysis of one document follows it
 pub one_follows : (before now : Documents) (uri : List ℕ) (change : SlotChange Analysis)
     → Touches before now (Some uri) → IsChangeOf now uri change → Follow before (change ∷ []) now
 one_follows before now uri change touches is = record {
   started = λ slot analysis last.
       is_current now uri change slot analysis is (only last.before last.after _ change last.cut);
+  stopped = λ q some more cut. is_stopped now uri q change is (only some more (Stop (text q)) change cut);
   others = λ q alone. ap (option_and_then shown) (touches q (other_slot q uri
       (subst (λ (s : Id). same_id (text q) s ≡ false) (slot_is now uri change is) alone.0)));
 }
@@ -141,6 +152,10 @@ all_follow before now changes touches are = record {
       let at = in_list (λ change. (uri : List ℕ) × IsChangeOf now uri change) last.before last.after
       (Start slot analysis) changes last.cut are.each in
       is_current now at.0 (Start slot analysis) slot analysis at.1 refl;
+  stopped = λ q some more cut.
+      let at = in_list (λ change. (uri : List ℕ) × IsChangeOf now uri change) some more (Stop (text q)) changes cut
+      are.each in
+      is_stopped now at.0 q (Stop (text q)) at.1 refl;
   others = λ uri alone.
       let gone = are.all uri alone in
       ap (option_and_then shown) (gone ∙ sym (touches uri gone));
@@ -188,6 +203,38 @@ heard_as (Some method) before params result heard now h e = (
       x now)) e h,
 )
 
+-- what became of the documents, where memory did not fail
+abbrev Applied : Option DocumentMethod → TextDocuments → Data → TextDocuments → Type 0
+Applied found before params now = MatchOption found (now ≡ before)
+    (λ method. (heard : Result DocumentUpdate UpdateFault) × Answers method before params heard now
+    × IfErr heard (λ missed. missed.fault ≡ Memory → ⊥))
+
+pub applied_other : (found : Option DocumentMethod) (before : TextDocuments) (params : Data)
+    (result : Option (Result DocumentUpdate UpdateFault)) (held now : TextDocuments)
+    → Heard found before params result held → result ≡ None → now ≡ held → Applied found before params now
+applied_other None before params result held now h e same = same ∙ h.1
+applied_other (Some method) before params result held now h e same =
+    absurd (subst (λ (r : Option (Result DocumentUpdate UpdateFault)). IsSomeAnd r (λ x. Answers method before params
+    x held)) e h)
+
+pub applied : (found : Option DocumentMethod) (before : TextDocuments) (params : Data)
+    (result : Option (Result DocumentUpdate UpdateFault)) (heard : Result DocumentUpdate UpdateFault)
+    (held now : TextDocuments) → Heard found before params result held → result ≡ Some heard
+    → IfErr heard (λ missed. missed.fault ≡ Memory → ⊥) → now ≡ held → Applied found before params now
+applied None before params result heard held now h e sure same = let no = sym h.0 ∙ e in absurd (cc (no))
+applied (Some method) before params result heard held now h e sure same = (
+  heard,
+  subst (Answers method before params heard) (sym same)
+      (subst (λ (r : Option (Result DocumentUpdate UpdateFault)). IsSomeAnd r (λ x. Answers method before params
+      x held)) e h),
+  sure,
+)
+
+-- the URI of a notification that was not applied
+pub uri_of : (same missed : UpdateFault) (uri : Option (List ℕ)) → same ≡ missed
+    → option_map (λ s. s.now) same.uri ≡ uri → option_map (λ s. s.now) missed.uri ≡ uri
+uri_of same missed uri is are = ap (λ (m : UpdateFault). option_map (λ s. s.now) m.uri) (sym is) ∙ are
+
 pub hears_made : (found : Option DocumentMethod) (before : TextDocuments) (params : Data)
     (result : Option (Result DocumentUpdate UpdateFault)) (m : DocumentUpdate) (now : TextDocuments)
     → Heard found before params result now → result ≡ Some (Ok m)
@@ -201,6 +248,10 @@ pub hears_missed : (found : Option DocumentMethod) (before : TextDocuments) (par
     → Touches (documents_of before) (documents_of now) (option_map (λ s. s.now) m.uri)
 hears_missed found before params result m now h e =
     let a = heard_as found before params result (Err m) now h e in not_made a.0 before now params m a.1
+
+pub on_ok : {A E P : Type 0} (r : Result A E) → P → OnOk r P
+on_ok (Ok it) holds = holds
+on_ok (Err fault) holds = tt
 
 pub follows_one : {A E : Type 0} (r : Result A E) (before held now : TextDocuments)
     (old new : List (SlotChange Analysis)) (uri : List ℕ)

@@ -2,4 +2,5 @@ mod Crossing
 mod Heard
 mod Lists
 mod Marks
+mod Sends
 mod Turns

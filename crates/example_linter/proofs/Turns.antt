@@ -1,37 +1,45 @@
--- Through the turns of the server, each analysis that stands in a slot is of its document as it is then.
+-- Through the turns of the server, each analysis that stands in a slot is of its document as it is then, and its
+-- documents are what the client's notifications make of them.
 use Rattle.serde_json.specs.Data.{Data}
 use Rattle.std.proofs.Common.{◌≡◌, refl, sym, ◌∙◌, ap, subst, inl, inr, ℕ, List, [], ◌∷◌, ◌++◌, append_assoc}
-use Rattle.std.proofs.Common.{append-nil, Option, Some, None, string_bytes}
+use Rattle.std.proofs.Common.{append-nil, Bool, true, false, Option, Some, None, string_bytes, codes, Vec, Global}
+use Rattle.std.proofs.lemmas.Slice.Eq.{bytes_eq-Decides}
+use Rattle.std.specs.Bool.{MatchBool}
 use Rattle.std.specs.Prelude.{map as map_list, ℤ, IsSomeAnd}
+use Rattle.std.specs.Str.{bytes_eq}
 use Rattle.lsp_documents.specs.Held.{documents_of}
 use Rattle.lsp_documents.specs.Notices.{Documents}
 use Rattle.lsp_documents.specs.declared.known.OpenText.{OpenText}
 use Rattle.lsp_jobs.specs.Asking.{by_server, of_job}
 use Rattle.lsp_jobs.specs.Ends.{Came, ComesTo, End, Outcome, end_of, ended, found, gave, gave_up, out_of_memory}
+use Rattle.lsp_jobs.specs.JobLaw.{AnswersByJobs, AreTakenAt}
 use Rattle.lsp_jobs.specs.Pooled.{reply_at}
 use Rattle.lsp_jobs.specs.SlotLaw.{AllLeaveAlone, AreTurns, IsCalled, IsLeft, IsTurn, LastStart, LeavesAlone, Left}
-use Rattle.lsp_jobs.specs.SlotLaw.{SeesLeft, SlotHistory, Stands, StartsLast, Turn, WakeDoes, at_ends}
+use Rattle.lsp_jobs.specs.SlotLaw.{MayPass, SeesLeft, Stands, StartsLast, Turn, WakeDoes, at_ends}
 use Rattle.lsp_jobs.specs.Stated.{SeesEnd, StatedJobs}
 use Rattle.lsp_jobs.specs.declared.asking.RequestOrigin.{RequestOrigin}
 use Rattle.lsp_jobs.specs.declared.job_server.JobEnd.{JobEnd}
 use Rattle.lsp_jobs.specs.declared.job_server.JobEnd.TheVariants.{Cancelled, Done, Failed}
 use Rattle.lsp_jobs.specs.declared.job_server.SlotChange.{SlotChange}
-use Rattle.lsp_jobs.specs.declared.job_server.SlotChange.TheVariants.{Start}
+use Rattle.lsp_jobs.specs.declared.job_server.SlotChange.TheVariants.{Start, Stop}
 use Rattle.lsp_jobs.specs.declared.names.JobName.{JobName}
 use Rattle.lsp_jobs.specs.declared.names.JobName.TheVariants.{Request, Slot}
-use Rattle.lsp_message.specs.Id.{Id}
+use Rattle.lsp_message.specs.Id.{Id, text}
 use Rattle.lsp_message.specs.Message.{Message, request, notification, response}
+use Rattle.lsp_message.specs.Methods.{is_initialize}
 use Rattle.lsp_acts.specs.Acts.{Act, TakesBack, tells, asks, replies, cancels}
-use Rattle.lsp_acts.specs.Law.{Call}
+use Rattle.lsp_acts.specs.Law.{AnswersInitialize, Initializes}
 use Rattle.lsp_acts.specs.declared.server.Server.{Ghosts as Plain}
-use Rattle.lsp_session.specs.Session.{Exchange}
+use Rattle.lsp_session.specs.Session.{Exchange, Stop as StopOfSession, came_of}
 use Rattle.lsp_text.specs.Documents.{Document}
 use Rattle.lsp_text.specs.Lines.{LinedText}
 use Rattle.lsp_types.specs.declared.diagnostics.Diagnostic.{Diagnostic}
 use Rattle.example_linter.proofs.Lists.{not_empty, only, place, some_and}
+use Rattle.example_linter.proofs.Sends.{by_an_act}
 use Rattle.example_linter.specs.Followed.{Follow, IsCurrent, IsOf, known, shows}
 use Rattle.example_linter.specs.Marks.{AreMarksOf, FindsMarks}
-use Rattle.example_linter.specs.Shown.{Shows, ShowsHeld, ShowsHeldTexts}
+use Rattle.example_linter.specs.Opened.{Applies, AppliesAll, HasNone}
+use Rattle.example_linter.specs.Shown.{Shows, ShowsHeld, ShowsOpenTexts, shows_marks}
 use Rattle.example_linter.specs.declared.Analysis.{Analysis}
 use Rattle.example_linter.specs.declared.Findings.{Findings}
 use Rattle.example_linter.specs.declared.Linter.{Linter}
@@ -49,10 +57,27 @@ none_told : {P : Type 0} {acts : List (Act (RequestOrigin P))} (first : List (Ac
     → acts ≡ map_list by_server (first ++ []) → acts ≡ []
 none_told first none all = all ∙ ap (λ l. map_list by_server (l ++ [])) none
 
+abbrev params_in : {P : Type 0} → Data → Act P → Data
+params_in other (tells method params) = params
+params_in other act = other
+
+-- what an act shows does not depend on what the server keeps with its requests
+as_told : {P : Type 0} (uri : List ℕ) (version : Option ℤ) (marks : List Data) (params : Data)
+    → ◌≡◌ {A = Act P} (tells shows_marks params) (shows uri version marks)
+    → ◌≡◌ {A = Act (Unit {0})} (tells shows_marks params) (shows uri version marks)
+as_told {P} uri version marks params e =
+    ap (λ (p : Data). tells shows_marks p) (ap (λ (act : Act P). params_in params act) e)
+
 module _ {P : Type 0} (written : Diagnostic → Data) (plain : Plain Linter P)
     (may : StatedJobs Linter Analysis Findings P) where
   -- what the server and its jobs state, as far as it is needed here
   pub record States : Type 0 where
+    pub initialized : (old : Linter) (params : Data) (outcome : Outcome) (new : Linter)
+        → plain.initializes old params outcome new
+        → (new.changes ≡ old.changes) × HasNone new.documents
+    pub applied : (old : Linter) (method : List ℕ) (params : Data) (acts : List (Act P)) (new : Linter)
+        → plain.notified old method params acts new
+        → Applies old.documents (Some (notification method params)) new.documents
     pub began : (old : Linter) (acts : List (Act P)) (new : Linter) → plain.at_initialized old acts new → new ≡ old
     pub requested : (old : Linter) (id : Id) (method : List ℕ) (params : Data) (acts : List (Act P)) (new : Linter)
         → plain.requested old id method params acts new → new ≡ old
@@ -115,6 +140,7 @@ module _ {P : Type 0} (written : Diagnostic → Data) (plain : Plain Linter P)
   follow_none documents changes none = record {
     started = λ slot analysis last.
         absurd (not_empty last.before last.after (Start slot analysis) (sym none ∙ last.cut));
+    stopped = λ uri some more cut. absurd (not_empty some more (Stop (text uri)) (sym none ∙ cut));
     others = λ uri alone. refl;
   }
 
@@ -187,23 +213,16 @@ module _ {P : Type 0} (written : Diagnostic → Data) (plain : Plain Linter P)
     good_from earlier start now good back =
         subst (Good earlier) (sym (taken back.0 start now back.1)) good
 
-    goes_on : (start last : Linter) (earlier turns before later : List (Turn plain may)) (t : Turn plain may)
-        → Good earlier start → AreTurns plain may start turns last → turns ≡ before ++ t ∷ later
-        → Good (earlier ++ before) t.old × IsTurn plain may t
-    goes_on start last earlier [] before later t good are e = absurd (not_empty before later t e)
-    goes_on start last earlier (x ∷ turns) [] later t good are e =
-        let same : x ≡ t = cc (e) in
-        subst (λ (y : List (Turn plain may) × Turn plain may). Good y.0 y.1.old × IsTurn plain may y.1)
-        (λ k. (sym (append-nil earlier) k, same k)) (good_from earlier start x.old good are.0, are.1)
-    goes_on start last earlier (x ∷ turns) (b ∷ before) later t good are e =
-        let same : x ≡ b = cc (e) in
-        let more : turns ≡ before ++ t ∷ later = cc (e) in
-        let on = goes_on x.new last (earlier ++ x ∷ []) turns before later t
-        (good_on earlier x (good_from earlier start x.old good are.0) are.1) are.2 more in (
-          subst (λ (l : List (Turn plain may)). Good l t.old) (append_assoc earlier (x ∷ []) before
-              ∙ ap (λ (y : Turn plain may). earlier ++ y ∷ before) same) on.0,
-          on.1,
-        )
+    -- the same after all these turns
+    good_all : (start last : Linter) (earlier turns : List (Turn plain may)) → Good earlier start
+        → AreTurns plain may start turns last → Good (earlier ++ turns) last
+    good_all start last earlier [] good are =
+        subst (λ (l : List (Turn plain may)). Good l last) (sym (append-nil earlier))
+        (good_from earlier start last good are)
+    good_all start last earlier (x ∷ turns) good are =
+        subst (λ (l : List (Turn plain may)). Good l last) (append_assoc earlier (x ∷ []) turns)
+        (good_all x.new last (earlier ++ x ∷ []) turns
+        (good_on earlier x (good_from earlier start x.old good are.0) are.1) are.2)
 
     nothing_left : (left : List (Left may)) → at_ends may left ≡ []
     nothing_left [] = refl
@@ -280,14 +299,119 @@ module _ {P : Type 0} (written : Diagnostic → Data) (plain : Plain Linter P)
           (cancels (of_job c.0)) (sym c.1 ∙ at) in
           absurd (cc (one))
 
-    pub all_shown : (start : Linter) (opening : Exchange) (begun : List (Act (RequestOrigin P)))
-        (calls : List (Call (RequestOrigin P))) → start.changes.items ≡ []
-        → (history : SlotHistory plain may start opening begun calls)
-        → ShowsHeldTexts plain may history.turns
-    all_shown start opening begun calls none history earlier later t cut woken before after method params at =
-        let good : Good [] start = record {
-          none = none;
+    -- what came makes of the documents what it says
+    same_documents : (old new : Linter) (came : Option Message) → Applies old.documents came old.documents → new ≡ old
+        → Applies old.documents came new.documents
+    same_documents old new came applies same =
+        subst (λ (s : Linter). Applies old.documents came s.documents) (sym same) applies
+
+    no_document : (old new : Linter) (method : List ℕ) (params : Data)
+        → bytes_eq method (codes "initialized") ≡ true → new ≡ old
+        → Applies old.documents (Some (notification method params)) new.documents
+    no_document old new method params is same =
+        subst (λ (m : List ℕ). Applies old.documents (Some (notification m params)) new.documents)
+        (sym ((bytes_eq-Decides method (codes "initialized")).0 is)) (ap (λ (s : Linter). s.documents) same)
+
+    called_applies : (old : Linter) (came : Option Message) (at : Option JobName) (acts : List (Act P)) (now : Linter)
+        → IsCalled plain may old came at acts now → Applies old.documents came now.documents
+    called_applies old (Some (request id method params)) at acts now itself =
+        same_documents old now (Some (request id method params)) refl
+        (states.requested old id method params acts now itself.1)
+    called_applies old (Some (notification method params)) at acts now heard = elim heard.0 [
+      | inl does ↦ states.applied old method params acts now does
+      | inr began ↦ no_document old now method params began.0 (states.began old acts now began.1)
+    ]
+    called_applies old (Some (response id outcome)) at acts now replied =
+        same_documents old now (Some (response id outcome)) refl
+        (states.replied old replied.0 outcome acts now replied.1)
+    called_applies old None at acts now e =
+        same_documents old now None refl (same_at_end old e.0 (end_of e.1) e.2 now e.3)
+
+    passed_applies : (old : Linter) (came : Option Message) (acts : List (Act (RequestOrigin P))) (new : Linter)
+        → MayPass plain may old came acts → new ≡ old → Applies old.documents came new.documents
+    passed_applies old (Some (request id method params)) acts new passes same =
+        same_documents old new (Some (request id method params)) refl same
+    passed_applies old (Some (notification method params)) acts new passes same = absurd passes
+    passed_applies old (Some (response id outcome)) acts new passes same =
+        same_documents old new (Some (response id outcome)) refl same
+    passed_applies old None acts new passes same = same_documents old new None refl same
+
+    turn_applies : (t : Turn plain may) → IsTurn plain may t → Applies t.old.documents t.call.came t.new.documents
+    turn_applies t (inl did) =
+        let are : t.new.documents ≡ t.asked.documents =
+        ap (λ (s : Linter). s.documents) (sees t.made t.left t.new did.3)
+        ∙ (states.changed t.asked t.changes t.made did.2).2 in
+        subst (Applies t.old.documents t.call.came) (sym are)
+        (called_applies t.old t.call.came t.heard did.0 t.asked did.1)
+    turn_applies t (inr pass) = passed_applies t.old t.call.came t.call.acts t.new pass.0 pass.3
+
+    all_applied : (start now : Linter) (xs : List Exchange) (turns : List (Turn plain may))
+        → AreTakenAt plain may xs turns → AreTurns plain may start turns now
+        → AppliesAll start.documents (came_of xs) now.documents
+    all_applied start now [] [] at are = ap (λ (s : Linter). s.documents) (taken are.0 start now are.1)
+    all_applied start now [] (t ∷ turns) at are = absurd at
+    all_applied start now (x ∷ xs) [] at are = absurd at
+    all_applied start now (x ∷ xs) (t ∷ turns) at are = (
+      t.new.documents,
+      subst (λ (y : Linter × Option Message). Applies y.0.documents y.1 t.new.documents)
+          (λ k. (taken are.0.0 start t.old are.0.1 k, at.0.0 k)) (turn_applies t are.1),
+      all_applied t.new now xs turns at.1 are.2,
+    )
+
+    -- at the result of `initialize` no document is open, and no change is left to be made
+    abbrev Fresh : Linter → Type 0
+    Fresh s = (s.changes.items ≡ []) × HasNone s.documents
+
+    fresh_start : (early : List Exchange) (old start : Linter) → Fresh old
+        → AnswersInitialize plain old early start → Fresh start
+    fresh_start [] old start fresh same = subst Fresh (sym same) fresh
+    fresh_start (x ∷ early) old start fresh run = fresh_start early run.0 start (at x.came run.1) run.2
+      where
+        by : (b : Bool) (m : Message) → MatchBool b (Initializes plain old m x.sent run.0) (run.0 ≡ old)
+            → Fresh run.0
+        by true m i =
+            let gave = states.initialized old i.params i.outcome run.0 i.gave in
+            (ap (λ (c : Vec (SlotChange Analysis) Global). c.items) gave.0 ∙ fresh.0, gave.1)
+        by false m same = subst Fresh (sym same) fresh
+
+        at : (came : Option Message)
+            → IsSomeAnd came (λ m. MatchBool (is_initialize m) (Initializes plain old m x.sent run.0)
+            (run.0 ≡ old)) → Fresh run.0
+        at None never = absurd never
+        at (Some m) answered = by (is_initialize m) m answered
+
+    -- by what a law of the library says of each wake
+    pub all_shown : (first : Linter) (stop : StopOfSession) (exchanges : List Exchange) → first.changes.items ≡ []
+        → HasNone first.documents → AnswersByJobs plain may first stop exchanges → ShowsOpenTexts exchanges
+    all_shown first stop exchanges none empty jobs earlier later x before after params cut woken sent =
+        let w = (jobs earlier later x cut woken).0 in
+        let led = w.led in
+        let fresh = fresh_start led.early first led.start (none, empty) led.initialized in
+        let good : Good w.turns w.turn.old = good_all led.start w.turn.old [] w.turns (record {
+          none = fresh.0;
           right = λ slot analysis last. absurd (not_empty last.before last.since last.turn last.cut);
-        } in
-        shows_held t earlier (goes_on start history.last [] history.turns earlier later t good history.linked cut).0
-        before after method params at (history.wakes earlier later t cut woken)
+        }) led.linked in
+        let has = by_an_act w.turn.call.acts w.sent.0 params before (after ++ w.lost)
+        (w.sent.1 ∙ ap (λ (l : List Message). l ++ w.lost) sent
+        ∙ append_assoc before (notification shows_marks params ∷ after) w.lost) in
+        let shown = shows_held w.turn w.turns good has.0 has.1 shows_marks params has.2 w.does in
+        record {
+          documents = w.turn.old.documents;
+          opened = record {
+            early = led.early;
+            later = led.later;
+            cut = led.cut;
+            result = led.result;
+            first = led.start.documents;
+            none = fresh.1;
+            made = all_applied led.start w.turn.old led.later w.turns led.taken led.linked;
+          };
+          shown = record {
+            uri = shown.uri;
+            document = shown.document;
+            held = shown.held;
+            marks = shown.marks;
+            are_its = shown.are_its;
+            shown = as_told shown.uri shown.document.version shown.marks params shown.shown;
+          };
+        }

@@ -3,7 +3,8 @@ use Rattle.serde_json.specs.Data.{Data, array}
 use Rattle.serde_json.specs.View.{items_of}
 use Rattle.std.specs.Arc.{arc_value}
 use Rattle.std.specs.List.{All}
-use Rattle.std.specs.Prelude.{◌≡◌, ℕ, ℤ, true, List, [], Option, None, option_and_then, IsSomeAnd, string_bytes}
+use Rattle.std.specs.Prelude.{◌≡◌, ℕ, ℤ, true, List, [], ◌∷◌, ◌++◌, Option, None, option_and_then, IsSomeAnd}
+use Rattle.std.specs.Prelude.{string_bytes}
 use Rattle.lsp_documents.specs.Notices.{Documents, shown}
 use Rattle.lsp_jobs.specs.SlotLaw.{LeavesAlone, StartsLast}
 use Rattle.lsp_jobs.specs.declared.job_server.SlotChange.{SlotChange}
@@ -35,12 +36,15 @@ IsCurrent documents slot analysis = (slot ≡ text (string_bytes analysis.source
     × IsSomeAnd (known documents (string_bytes analysis.source.uri)) (IsOf analysis)
 
 -- The changes of slots follow the documents, which were these before and are these now: what is started last in a slot
--- is of its document as it is now, and a slot that is not changed has the name of none that changed.
-pub record Follow (before : Documents) (changes : List (SlotChange Analysis)) (now : Documents)
+-- is of its document as it is now, a slot where an analysis is stopped has the name of no document whose text is known,
+-- and a slot that is not changed has the name of none that changed.
+pub record Follow (old : Documents) (changes : List (SlotChange Analysis)) (now : Documents)
     : Type 0 where
   pub started : (slot : Id) (analysis : Analysis) → StartsLast changes slot analysis
       → IsCurrent now slot analysis
-  pub others : (uri : List ℕ) → LeavesAlone (text uri) changes → known now uri ≡ known before uri
+  pub stopped : (uri : List ℕ) (before after : List (SlotChange Analysis)) → changes ≡ before ++ Stop (text uri) ∷ after
+      → known now uri ≡ None
+  pub others : (uri : List ℕ) → LeavesAlone (text uri) changes → known now uri ≡ known old uri
 
 -- What becomes of the analysis of a document: one of its text takes the place of the one before. Or, if its text is not
 -- known, none goes on.

@@ -1,3 +1,4 @@
 pub mod Followed
 pub mod Marks
+pub mod Opened
 pub mod Shown

@@ -5,21 +5,20 @@
 //! the place of the analysis before. So nobody waits for an analysis, and none of an older text is shown.
 #![tactic(auto)]
 
+ghost use Rattle.serde_json.specs.View.{view};
 ghost use Rattle.std.specs.List.{All};
-ghost use Rattle.std.specs.Prelude.{◌≡◌, ◌<◌, ◌∷◌, ◌++◌, [], List, ℕ, IfOk, OnOk, Some, false, map, true};
+ghost use Rattle.std.specs.Prelude.{◌≡◌, ◌<◌, ◌∷◌, ◌++◌, [], List, IfOk, OnOk, Option, Some, false, map, string_bytes, true};
 ghost use Rattle.lsp_documents.specs.Held.{documents_of};
 ghost use Rattle.lsp_jobs.specs.JobLaw.{LawfulJobSession};
-ghost use Rattle.lsp_jobs.specs.SlotLaw.{SlotHistory};
-ghost use Rattle.lsp_jobs.specs.declared.asking.RequestOrigin.{RequestOrigin};
 ghost use Rattle.lsp_jobs.specs.declared.job_server.SlotChange.{SlotChange as ChangeOfSlot};
-ghost use Rattle.lsp_acts.specs.Acts.{Act as PlainAct};
-ghost use Rattle.lsp_acts.specs.Law.{Call};
-ghost use Rattle.lsp_session.specs.Session.{Exchange};
+ghost use Rattle.lsp_message.specs.Message.{Message, notification as told};
+ghost use Rattle.lsp_session.specs.Session.{Exchange, SessionAnswer, Stop};
 ghost use Rattle.lsp_threads.specs.Passing.{GivenTo, OfTaken, TakenFrom, noted};
 ghost use Rattle.lsp_threads.specs.Threads.{ThreadsTellOver};
 ghost use Rattle.example_linter.specs.Followed.{act_seen, AreChangesOf, Clears, Follow, IsChangeOf};
 ghost use Rattle.example_linter.specs.Marks.{AreMarksOf, mark_of};
-ghost use Rattle.example_linter.specs.Shown.{ShowsHeldTexts};
+ghost use Rattle.example_linter.specs.Opened.{Applies, HasNone};
+ghost use Rattle.example_linter.specs.Shown.{LintSession, ShowsOpenTexts};
 
 use anyhow::{Result as Answer, bail};
 use lsp_documents::{Agreed, OpenText, TextDocuments};
@@ -187,19 +186,22 @@ impl Slots<Linter, Analysis> for Linter {
 impl Server for Linter {
     ghost use Rattle.std.specs.Prelude.{Err};
     ghost use Rattle.lsp_message.specs.Converted.{method_not_found};
+    ghost use Rattle.lsp_message.specs.Message.{notification};
     ghost use Rattle.lsp_acts.specs.Acts.{replies};
 
     type Payload = ();
 
-    ghost initializes = { λ old _ _ new. new.changes ≡ old.changes };
+    // No document is open at first.
+    ghost initializes = { λ old _ _ new. (new.changes ≡ old.changes) × HasNone new.documents };
 
     ghost at_initialized = { λ old acts new. (acts ≡ []) × (new ≡ old) };
 
     ghost requested = { λ old id _ _ acts new. (acts ≡ replies id (Err method_not_found) ∷ []) × (new ≡ old) };
 
-    // The analyses follow the documents, and the marks go of what is not known any more.
-    ghost notified = { λ old _ _ acts new.
-        (old.changes.items ≡ [] → Follow (documents_of old.documents) new.changes.items (documents_of new.documents))
+    // A notification makes of the documents what it says. The analyses follow the documents, and the marks go of what is not known any more.
+    ghost notified = { λ old method params acts new.
+        Applies old.documents (Some (notification method params)) new.documents
+        × (old.changes.items ≡ [] → Follow (documents_of old.documents) new.changes.items (documents_of new.documents))
         × All (Clears (documents_of new.documents)) acts };
 
     ghost replied = { λ old _ _ acts new. (acts ≡ []) × (new ≡ old) };
@@ -252,7 +254,8 @@ impl Server for Linter {
 
 impl Linter {
     fn new(alloc: Global) -> Linter
-        ensures { result.changes.items ≡ [] }
+        ensures changes { result.changes.items ≡ [] }
+        ensures documents { HasNone result.documents }
     {
         Linter {
             alloc,
@@ -264,13 +267,15 @@ impl Linter {
     /// Has the analyses follow a notification of a document. If it names none, each text may be lost.
     fn note(&mut self, notification: &Notification, acts: &mut Acts) -> Result<(), AllocError>
         requires { acts.old.items ≡ [] }
+        ensures applies { OnOk result (Applies self.old.documents (Some (told (string_bytes notification.now.method)
+            (view notification.now.params))) self.new.documents) }
         ensures follow { OnOk result (self.old.changes.items ≡ []
             → Follow (documents_of self.old.documents) self.new.changes.items (documents_of self.new.documents)) }
         ensures clear { OnOk result (All (Clears (documents_of self.new.documents)) (map act_seen acts.new.items)) }
     {
         match self.documents.apply(notification) {
             Some(Ok(update)) => self.look_at(update.uri, acts),
-            Some(Err(missed)) => match missed.uri {
+            Some(Err(missed)) => match missed.unless_memory()?.uri {
                 Some(uri) => self.look_at(uri, acts),
                 None => self.look_at_all(acts),
             },
@@ -329,7 +334,8 @@ fn change_of(
     Ok(SlotChange::Start(slot, Analysis { alloc, source }))
 }
 
-/// Serves a client. The session keeps the laws of a session of a server with jobs, whatever the analyses come to and when.
+/// Serves a client. The session keeps the laws of a session of a server with jobs, whatever the analyses find and when. The marks that the
+/// client gets at a wake are those of its text: see `marks_are_of_held_texts`.
 fn serve<T, R, W>(
     rt: &T,
     alloc: Global,
@@ -341,8 +347,10 @@ where
     T: Threads + Wait + Copy + Drop + Send + 'static,
     R: BufRead + Drop + Send + 'static,
     W: Write + Drop + Send + 'static,
+    requires changes { linter.changes.items ≡ [] }
+    requires documents { HasNone linter.documents }
     ensures told { IfOk result.1 (λ done. OfTaken done.taken.parts (λ text.
-        ThreadsTellOver true ⟦<EndSession as BadContentPolicy>⟧.passes client.limits (LawfulJobSession T ⟦<Linter as Server>⟧
+        ThreadsTellOver true ⟦<EndSession as BadContentPolicy>⟧.passes client.limits (LintSession T ⟦<Linter as Server>⟧
         (record {
           sorts = ⟦<Linter as JobServer<Analysis>>⟧.sorts;
           gives = ⟦<Linter as JobServer<Analysis>>⟧.gives;
@@ -360,6 +368,7 @@ where
         × GivenTo (W.contents client.writer) done.given.parts (W.contents done.writer)) }
 {
     session_with_jobs_keeps_laws::<T, Linter, Analysis>();
+    marks_are_of_held_texts::<T>();
     // Two analyses run at a time, and as many as there are documents may wait.
     let mut options = JobOptions::new(PoolSize::from(2));
     options.threads.limits = client.limits;
@@ -367,13 +376,13 @@ where
     run_jobs(rt, alloc, reader, writer, linter, policy, options)
 }
 
-/// What is published at a wake are all the marks of the text that the server holds at that moment for the document, under its URI and with
-/// its version: never those of an older text, and none of a document that was closed. `history` is what a law of the library says of a
-/// session with jobs (`slots_hear_their_last_jobs`).
-fn marks_are_of_held_texts()
-    ensures { (start : Linter) (opening : Exchange) (begun : List (PlainAct (RequestOrigin Unit)))
-        (calls : List (Call (RequestOrigin Unit))) → start.changes.items ≡ []
-        → (history : SlotHistory ⟦<Linter as Server>⟧
+/// Of a session with jobs, from a server that holds no documents: the marks that are published at a wake are all the marks of the text that
+/// the server holds at that moment for the document, under its URI and with its version. They are never those of an older text, nor of a
+/// document that was closed. The text is what the client's notifications since the result of `initialize` made of no documents.
+fn marks_are_of_held_texts<T: Wait + Drop>()
+    ensures { (first last : Linter) (exchanges : List Exchange) (stop : Stop) (shutdown_reply : Option Message)
+        (answer : SessionAnswer) → first.changes.items ≡ [] → HasNone first.documents
+        → LawfulJobSession T ⟦<Linter as Server>⟧
         (record {
           sorts = ⟦<Linter as JobServer<Analysis>>⟧.sorts;
           gives = ⟦<Linter as JobServer<Analysis>>⟧.gives;
@@ -385,8 +394,9 @@ fn marks_are_of_held_texts()
           comes_to = ⟦<Analysis as Job>⟧.comes_to;
           reports = ⟦<Analysis as Job>⟧.reports;
           asks = ⟦<Analysis as Job>⟧.asks;
-        }) start opening begun calls)
-        → ShowsHeldTexts _ _ history.turns }
+        })
+        first last exchanges stop shutdown_reply answer
+        → ShowsOpenTexts exchanges }
 {}
 
 fn main(rt: HostRuntime) -> Answer<()> {
