@@ -1,3 +1,5 @@
+mod Aloud
+mod Applied
 mod Known
 mod Searches
 mod Symbols

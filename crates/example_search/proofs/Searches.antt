@@ -5,14 +5,15 @@ use Rattle.std.proofs.Common.{◌≡◌, ◌⊎◌, refl, sym, ◌∙◌, ap, su
 use Rattle.std.proofs.Common.{Option, Some, None, string_bytes, codes}
 use Rattle.std.proofs.lemmas.Slice.Eq.{bytes_eq-Decides}
 use Rattle.std.specs.Bool.{MatchBool}
-use Rattle.std.specs.Prelude.{IsSomeAnd}
+use Rattle.std.specs.Prelude.{IsSomeAnd, map}
 use Rattle.std.specs.Str.{bytes_eq}
 use Rattle.lsp_documents.specs.Held.{texts_of}
 use Rattle.lsp_documents.specs.Known.{copied}
 use Rattle.lsp_documents.specs.declared.documents.TextDocuments.{TextDocuments}
+use Rattle.lsp_jobs.specs.Asking.{by_server}
 use Rattle.lsp_jobs.specs.Ends.{Came, ComesTo, End, Outcome, end_of, ended, found, gave, gave_up, out_of_memory}
-use Rattle.lsp_jobs.specs.JobLaw.{AnswersRequest, AreTakenAt, RepliesItself}
-use Rattle.lsp_jobs.specs.SlotLaw.{AreTurns, IsCalled, IsTurn, Left, MayPass, SeesLeft, Turn}
+use Rattle.lsp_jobs.specs.JobLaw.{AnswersRequest, AreTakenAt, RepliesItself, SendsSo}
+use Rattle.lsp_jobs.specs.SlotLaw.{AreTurns, IsCalled, IsTurn, Left, MayPass, SeesLeft, Turn, at_ends}
 use Rattle.lsp_jobs.specs.Stated.{SeesEnd, StatedJobs}
 use Rattle.lsp_jobs.specs.declared.asking.RequestOrigin.{RequestOrigin}
 use Rattle.lsp_jobs.specs.declared.job_server.JobEnd.{JobEnd}
@@ -23,24 +24,40 @@ use Rattle.lsp_message.specs.Id.{Id}
 use Rattle.lsp_message.specs.Message.{Message, request, notification, response}
 use Rattle.lsp_message.specs.Methods.{is_initialize}
 use Rattle.lsp_acts.specs.Acts.{Act, TakesBack, replies}
+use Rattle.lsp_acts.specs.Answering.{logs_error}
 use Rattle.lsp_acts.specs.Law.{AnswersInitialize, Initializes}
+use Rattle.lsp_acts.specs.SentByActs.{acts_done_at}
 use Rattle.lsp_acts.specs.declared.server.Server.{Ghosts as Plain}
-use Rattle.lsp_session.specs.Session.{Exchange, came_of}
+use Rattle.lsp_session.specs.Session.{Exchange}
 use Rattle.example_search.proofs.Symbols.{answered}
-use Rattle.example_search.specs.Open.{AnswersSearch, HasNone, Hears, HearsAll, Makes, SearchesOpenTexts}
+use Rattle.example_search.specs.Open.{AnswersSearch, Applies, HasNone, Hears, HearsAll, LogsLost, SearchesOpenTexts}
+use Rattle.example_search.specs.Open.{SendsLost, all_lost}
 use Rattle.example_search.specs.Sources.{Answers, RepliesSymbols, word_in}
 use Rattle.example_search.specs.declared.search.Search.{Search}
 use Rattle.example_search.specs.declared.server.Sums.{Sums}
 
--- nothing changes the documents
-stays : (old new : TextDocuments) (came : Option Message) → Makes old came new → Hears old came new
-stays old new came makes = (old, inl refl, makes)
+-- nothing is lost
+stays : {Told : Type 0} (old new : TextDocuments) (came : Option Message) → Applies old came new
+    → Hears old came Told new
+stays old new came applies = record { left = old; loses = inl refl; applies = applies }
+
+-- the client is told otherwise
+told_so : {Told Other : Type 0} (old new : TextDocuments) (came : Option Message) → (Told → Other)
+    → Hears old came Told new → Hears old came Other new
+told_so old new came so hears = record {
+  left = hears.left;
+  loses = elim hears.loses [
+    | inl kept ↦ inl kept
+    | inr lost ↦ inr (lost.0, so lost.1)
+  ];
+  applies = hears.applies;
+}
 
 -- `initialized` is no notification of a document
 no_document : (old new : TextDocuments) (method : List ℕ) (params : Data)
-    → bytes_eq method (codes "initialized") ≡ true → new ≡ old → Makes old (Some (notification method params)) new
+    → bytes_eq method (codes "initialized") ≡ true → new ≡ old → Applies old (Some (notification method params)) new
 no_document old new method params is same =
-    subst (λ (m : List ℕ). Makes old (Some (notification m params)) new)
+    subst (λ (m : List ℕ). Applies old (Some (notification m params)) new)
     (sym ((bytes_eq-Decides method (codes "initialized")).0 is)) same
 
 some_act : {A B : Type 0} (before after : List A) (x : A) → before ++ x ∷ after ≡ [] → B
@@ -56,10 +73,10 @@ module _ {F P : Type 0} (plain : Plain Sums P) (may : StatedJobs Sums Search F P
         → new.documents ≡ old.documents
     pub requested : (old : Sums) (id : Id) (method : List ℕ) (params : Data) (acts : List (Act P)) (new : Sums)
         → plain.requested old id method params acts new
-        → Hears old.documents (Some (request id method params)) new.documents
+        → Hears old.documents (Some (request id method params)) (LogsLost acts) new.documents
     pub notified : (old : Sums) (method : List ℕ) (params : Data) (acts : List (Act P)) (new : Sums)
         → plain.notified old method params acts new
-        → Hears old.documents (Some (notification method params)) new.documents
+        → Hears old.documents (Some (notification method params)) (LogsLost acts) new.documents
     pub replied : (old : Sums) (payload : P) (outcome : Outcome) (acts : List (Act P)) (new : Sums)
         → plain.replied old payload outcome acts new → new.documents ≡ old.documents
     pub took_back : (old : Sums) (payload : P) (new : Sums) → plain.takes_back old payload new
@@ -93,7 +110,7 @@ module _ {F P : Type 0} (plain : Plain Sums P) (may : StatedJobs Sums Search F P
 
     -- what a turn makes of the documents
     called : (old : Sums) (came : Option Message) (at : Option JobName) (acts : List (Act P)) (now : Sums)
-        → IsCalled plain may old came at acts now → Hears old.documents came now.documents
+        → IsCalled plain may old came at acts now → Hears old.documents came (LogsLost acts) now.documents
     called old (Some (request id method params)) at acts now itself =
         states.requested old id method params acts now itself.1
     called old (Some (notification method params)) at acts now heard = elim heard.0 [
@@ -109,7 +126,7 @@ module _ {F P : Type 0} (plain : Plain Sums P) (may : StatedJobs Sums Search F P
         (ap (λ (s : Sums). s.documents) (at_end old e.0 (end_of e.1) e.2 now e.3).1)
 
     passed : (old : Sums) (came : Option Message) (acts : List (Act (RequestOrigin P))) (new : Sums)
-        → MayPass plain may old came acts → new ≡ old → Hears old.documents came new.documents
+        → MayPass plain may old came acts → new ≡ old → Hears old.documents came (LogsLost acts) new.documents
     passed old (Some (request id method params)) acts new passes same =
         stays old.documents new.documents (Some (request id method params)) (ap (λ (s : Sums). s.documents) same)
     passed old (Some (notification method params)) acts new passes same = absurd passes
@@ -118,13 +135,36 @@ module _ {F P : Type 0} (plain : Plain Sums P) (may : StatedJobs Sums Search F P
     passed old None acts new passes same =
         stays old.documents new.documents None (ap (λ (s : Sums). s.documents) same)
 
-    turned : (t : Turn plain may) → IsTurn plain may t → Hears t.old.documents t.call.came t.new.documents
+    -- what is logged first is logged first of all that is done in the turn
+    first_of_all : (acts ends : List (Act P)) (all : List (Act (RequestOrigin P)))
+        → all ≡ map by_server (acts ++ ends) → LogsLost acts → LogsLost all
+    first_of_all acts ends all are lost =
+        (map by_server (lost.0 ++ ends), are ∙ ap (λ (l : List (Act P)). map by_server (l ++ ends)) lost.1)
+
+    abbrev Turned : Turn plain may → Sums → Type 0
+    Turned t now = Hears t.old.documents t.call.came (LogsLost t.call.acts) now.documents
+
+    turned : (t : Turn plain may) → IsTurn plain may t → Turned t t.new
     turned t (inl did) =
         let same : t.new ≡ t.asked =
         sees t.made t.left t.new did.3 ∙ states.changed t.asked t.changes t.made did.2 in
-        subst (λ (s : Sums). Hears t.old.documents t.call.came s.documents) (sym same)
-        (called t.old t.call.came t.heard did.0 t.asked did.1)
+        subst (Turned t) (sym same) (told_so t.old.documents t.asked.documents t.call.came
+        (first_of_all did.0 (at_ends may t.left) t.call.acts did.4)
+        (called t.old t.call.came t.heard did.0 t.asked did.1))
     turned t (inr pass) = passed t.old t.call.came t.call.acts t.new pass.0 pass.3
+
+    -- and is sent first
+    sent_first : (x : Exchange) (acts : List (Act (RequestOrigin P)))
+        → SendsSo (acts_done_at x.came acts) x.sent → LogsLost acts → SendsLost x.sent
+    sent_first x acts sends lost =
+        by x.came (subst (λ (l : List (Act (RequestOrigin P))). SendsSo (acts_done_at x.came l) x.sent) lost.1 sends)
+      where
+        by : (came : Option Message) → SendsSo (acts_done_at came (logs_error all_lost ∷ lost.0)) x.sent
+            → SendsLost x.sent
+        by None so = (_, sym so.1)
+        by (Some (request id method params)) so = (_, sym so.1)
+        by (Some (notification method params)) so = (_, sym so.1)
+        by (Some (response id outcome)) so = (_, sym so.1)
 
     taken : (payloads : List P) (old new : Sums) → TakesBack plain.takes_back old payloads new
         → new.documents ≡ old.documents
@@ -134,14 +174,15 @@ module _ {F P : Type 0} (plain : Plain Sums P) (may : StatedJobs Sums Search F P
 
     -- what turns make of them, one at each exchange
     heard_all : (start now : Sums) (xs : List Exchange) (turns : List (Turn plain may)) → AreTakenAt plain may xs turns
-        → AreTurns plain may start turns now → HearsAll start.documents (came_of xs) now.documents
+        → AreTurns plain may start turns now → HearsAll start.documents xs now.documents
     heard_all start now [] [] at are = taken are.0 start now are.1
     heard_all start now [] (t ∷ turns) at are = absurd at
     heard_all start now (x ∷ xs) [] at are = absurd at
     heard_all start now (x ∷ xs) (t ∷ turns) at are = (
       t.new.documents,
-      subst (λ (y : TextDocuments × Option Message). Hears y.0 y.1 t.new.documents)
-          (λ k. (taken are.0.0 start t.old are.0.1 k, at.0.0 k)) (turned t are.1),
+      told_so start.documents t.new.documents x.came (sent_first x t.call.acts at.0.1)
+          (subst (λ (y : TextDocuments × Option Message). Hears y.0 y.1 (LogsLost t.call.acts) t.new.documents)
+          (λ k. (taken are.0.0 start t.old are.0.1 k, at.0.0 k)) (turned t are.1)),
       heard_all t.new now xs turns at.1 are.2,
     )
 

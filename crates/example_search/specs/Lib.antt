@@ -1,4 +1,5 @@
 pub mod Found
 pub mod Open
 pub mod Promise
+pub mod Seen
 pub mod Sources

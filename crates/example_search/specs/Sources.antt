@@ -41,3 +41,10 @@ Answers texts params outcome =
     ((word : List ℕ) × (tree : Data) × (word_in params ≡ Some word) × (outcome ≡ Ok tree)
     × FindsSymbols texts word tree)
     ⊎ ((outcome ≡ Err no_memory) ⊎ (outcome ≡ Err canceled))
+
+-- The same at once: without a word it is an error, and an allocation that fails ends the session.
+abbrev pub AnswersNow : List (List ℕ × LinedText) → Data → Outcome → Type 0
+AnswersNow texts params outcome =
+    ((word : List ℕ) × (tree : Data) × (word_in params ≡ Some word) × (outcome ≡ Ok tree)
+    × FindsSymbols texts word tree)
+    ⊎ ((word_in params ≡ None) × (outcome ≡ Err which_word))

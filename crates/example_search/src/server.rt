@@ -1,13 +1,17 @@
 // The server: the texts that are open, what the client is told, and what it asks.
 ghost use Rattle.serde_json.specs.View.{view};
-ghost use Rattle.std.specs.Prelude.{◌≡◌, ◌⊎◌, None, Some, IfOk, IfSome, MatchOption, OnOk, option_map, string_bytes};
-ghost use Rattle.lsp_documents.specs.Held.{documents_of, texts_of};
+ghost use Rattle.std.specs.List.{All};
+ghost use Rattle.std.specs.Prelude.{◌≡◌, [], ◌∷◌, ◌++◌, None, Some, IfOk, IfSome, List, MatchOption, OnOk, codes, map, option_map, string_bytes};
+ghost use Rattle.lsp_documents.specs.Held.{texts_of};
 ghost use Rattle.lsp_documents.specs.Known.{copied};
-ghost use Rattle.lsp_documents.specs.Notices.{MissesAll};
+ghost use Rattle.lsp_acts.specs.Acts.{replies};
 ghost use Rattle.lsp_message.specs.Message.{notification as told};
 ghost use Rattle.lsp_message.specs.View.{error_view};
-ghost use Rattle.example_search.specs.Open.{HasNone, Makes};
-ghost use Rattle.example_search.specs.Sources.{FindsSymbols, which_word, word_in};
+ghost use Rattle.lsp_jobs.specs.Ends.{Outcome};
+ghost use Rattle.lsp_acts.specs.declared.server.Act.{Act as RustAct};
+ghost use Rattle.example_search.specs.Open.{Applies, HasNone};
+ghost use Rattle.example_search.specs.Seen.{IsToldBy, LosesAloud, act_seen};
+ghost use Rattle.example_search.specs.Sources.{AnswersNow, FindsSymbols, which_word, word_in};
 
 use crate::search::{Search, Silence};
 use crate::sums::{Problem, Word, sheet_of, value_of, word_at};
@@ -50,20 +54,23 @@ pub struct Sums {
 type Acts = Vec<Act<()>>;
 
 impl Server for Sums {
-    ghost use Rattle.std.specs.Prelude.{◌≡◌, Some};
+    ghost use Rattle.std.specs.Prelude.{◌≡◌, Some, codes};
     ghost use Rattle.lsp_message.specs.Message.{notification, request};
-    ghost use Rattle.example_search.specs.Open.{HasNone, Hears};
+    ghost use Rattle.lsp_documents.specs.Held.{texts_of};
+    ghost use Rattle.example_search.specs.Open.{AnswersAtOnce, HasNone, Hears, LogsLost};
 
-    // No document is open at first, and each message makes of the documents what it says.
+    // No document is open at first, and each message makes of the documents what it says. They are lost before it only if the client is told
+    // so first. A search is answered at once.
     ghost initializes = { λ _ _ _ new. HasNone new.documents };
 
     ghost at_initialized = { λ old _ new. new.documents ≡ old.documents };
 
-    ghost requested = { λ old id method params _ new.
-        Hears old.documents (Some (request id method params)) new.documents };
+    ghost requested = { λ old id method params acts new.
+        Hears old.documents (Some (request id method params)) (LogsLost acts) new.documents
+        × (method ≡ codes "workspace/symbol" → AnswersAtOnce (texts_of new.documents) id params acts) };
 
-    ghost notified = { λ old method params _ new.
-        Hears old.documents (Some (notification method params)) new.documents };
+    ghost notified = { λ old method params acts new.
+        Hears old.documents (Some (notification method params)) (LogsLost acts) new.documents };
 
     ghost replied = { λ old _ _ _ new. new.documents ≡ old.documents };
 
@@ -93,7 +100,9 @@ impl Server for Sums {
 
     fn notification(&mut self, notification: Notification) -> Result<Acts, AllocError> {
         let mut acts = self.lose_texts()?;
-        self.note(&notification, &mut acts)?;
+        let mut more = Vec::new(self.alloc);
+        self.note(&notification, &mut more)?;
+        acts.append(&mut more)?;
         Ok(acts)
     }
 
@@ -179,7 +188,10 @@ impl Sums {
 
     /// What is done at a request.
     fn reply_to(&mut self, request: Request) -> Result<Acts, AllocError>
-        ensures { self.new.documents ≡ self.old.documents }
+        ensures same { self.new.documents ≡ self.old.documents }
+        ensures search { IfOk result (λ acts. string_bytes request.method ≡ codes "workspace/symbol" → (outcome : Outcome)
+            × (map act_seen acts.items ≡ replies request.id outcome ∷ [])
+            × AnswersNow (texts_of self.old.documents) (view request.params) outcome) }
     {
         match request.method.as_str() {
             "textDocument/hover" => self.reply(request.id, self.hover(&request.params)?),
@@ -191,17 +203,19 @@ impl Sums {
     }
 
     /// If a body was passed over since the last message, no text is sure: each is lost, and its marks go, until its client sends it whole.
+    /// The client is told so first.
     fn lose_texts(&mut self) -> Result<Acts, AllocError>
-        ensures { (self.new.documents ≡ self.old.documents)
-            ⊎ MissesAll (documents_of self.old.documents) (documents_of self.new.documents) }
+        ensures { IfOk result (λ acts. LosesAloud self.old.documents (map act_seen acts.items) self.new.documents) }
     {
         let mut acts = Vec::new(self.alloc);
-        if self.passed_over.take() {
-            self.documents.invalidate_all();
-            self.complaint.clear();
-            self.log(1, &"a body was no message: no text is known", &mut acts)?;
-            self.mark_all(&mut acts)?;
+        if !self.passed_over.take() {
+            return Ok(acts);
         }
+        self.documents.invalidate_all();
+        self.complaint.clear();
+        let lost = "a body was no message: no text is known";
+        acts.push(Act::log(self.alloc, 1u32, lost)?)?;
+        self.mark_all(&mut acts)?;
         Ok(acts)
     }
 
@@ -228,7 +242,11 @@ impl Sums {
     }
 
     /// Finds the headings of all texts that contain a word, at once (LSP 3.17, "Workspace Symbols Request").
-    fn search(&self, request: Request) -> Result<Acts, AllocError> {
+    fn search(&self, request: Request) -> Result<Acts, AllocError>
+        ensures { IfOk result (λ acts. (outcome : Outcome)
+            × (map act_seen acts.items ≡ replies request.id outcome ∷ [])
+            × AnswersNow (texts_of self.now.documents) (view request.params) outcome) }
+    {
         match self.search_in(&request.params)? {
             Some(search) => {
                 let found = found_by(search)?;
@@ -300,8 +318,8 @@ impl Sums {
 
     /// What the client is told after a notification.
     fn note(&mut self, notification: &Notification, acts: &mut Acts) -> Result<(), AllocError>
-        ensures { Makes self.old.documents (Some (told (string_bytes notification.now.method)
-            (view notification.now.params))) self.new.documents }
+        ensures { OnOk result (Applies self.old.documents (Some (told (string_bytes notification.now.method)
+            (view notification.now.params))) self.new.documents) }
     {
         match self.documents.apply(notification) {
             Some(Ok(update)) => self.follow(update, acts),
@@ -360,7 +378,10 @@ impl Sums {
     }
 
     /// Shows what is wrong with each text that is open.
-    fn mark_all(&self, acts: &mut Acts) -> Result<(), AllocError> {
+    fn mark_all(&self, acts: &mut Acts) -> Result<(), AllocError>
+        ensures { OnOk result ((more : List (RustAct Unit)) × (acts.new.items ≡ acts.old.items ++ more)
+            × All IsToldBy more) }
+    {
         for (uri, kept) in self.documents.iter() {
             self.mark(uri.as_str(), kept.document(), acts)?;
         }
@@ -374,7 +395,9 @@ impl Sums {
         uri: &str,
         document: Option<&TextDocument>,
         acts: &mut Acts,
-    ) -> Result<bool, AllocError> {
+    ) -> Result<bool, AllocError>
+        ensures { OnOk result ((act : RustAct Unit) × (acts.new.items ≡ acts.old.items ++ act ∷ []) × IsToldBy act) }
+    {
         let marks = match document {
             Some(document) => self.marks_in(document.text())?,
             None => Vec::new(self.alloc),

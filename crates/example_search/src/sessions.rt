@@ -133,7 +133,8 @@ where
 
 /// Of a session with jobs, from a server that holds no documents: each reply at a wake is to the last request under its id,
 /// which is a search. It has all headings with the request's word, of the texts that were open when the request came, and no others. These are what
-/// the client's notifications before it made of no documents. Or it is the error of a failed allocation, or of a cancellation.
+/// the client's notifications before it made of no documents. The texts were lost before a message only if the client was told so. Or the
+/// reply is the error of a failed allocation, or of a cancellation.
 fn symbols_are_of_open_texts<T: Wait + Drop>()
     ensures { (first last : Sums) (exchanges : List Exchange) (stop : Stop) (shutdown_reply : Option Message)
         (answer : SessionAnswer) → HasNone first.documents

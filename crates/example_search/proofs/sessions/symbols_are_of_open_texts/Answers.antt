@@ -6,7 +6,7 @@ pub returns : goal.returns
 returns g c = λ first last exchanges stop shutdown_reply answer none lawful. searches _ _ (record {
   initialized = λ old params outcome new h. h;
   began = λ old acts new h. h;
-  requested = λ old id method params acts new h. h;
+  requested = λ old id method params acts new h. h.0;
   notified = λ old method params acts new h. h;
   replied = λ old payload outcome acts new h. h;
   took_back = λ old payload new h. h;

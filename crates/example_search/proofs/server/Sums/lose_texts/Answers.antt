@@ -1,0 +1,8 @@
+use Rattle.example_search.proofs.Aloud.{lost_aloud}
+use Rattle.example_search.proofs.server.Sums.lose_texts.Goals as goal
+
+pub returns : goal.returns
+returns c =
+    lost_aloud _ _ _ _ _ _
+    (record { agreed = c.invalidate_all.ensures.agreed; held = c.invalidate_all.ensures.held })
+    c.in_ok-log.ensures c.new-acts.ensures.items c.in_ok-push.ensures.items c.in_ok-mark_all.ensures
