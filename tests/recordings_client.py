@@ -33,6 +33,9 @@ LINE_END = re.compile("\r\n|\n|\r")
 # `example_search` allows as a value.
 LONGEST, LONGEST_UNASKED = 20, 80
 CONFIGURATION = {"example_diagnostics": [LONGEST], "example_search": [{"largest": 20}]}
+# The lines that `example_diagnostics` marks in one recording, from open to close. Spyder's versions go back from 8 to -17 at 25 undos, and
+# marks are shown throughout. Only what this client adds at the end, a change that can't be read and the close, takes them away.
+SHOWN = {"spyder6_search": {"file:///project/a.py": [[2], [2, 5], [2, 5, 17, 20], [2], [], [2], []]}}
 UNIT_LENGTHS = {"utf-8": lambda char: len(char.encode()), "utf-16": lambda char: 1 + (char > "\uffff"), "utf-32": lambda char: 1}
 
 
@@ -202,13 +205,15 @@ def status_of(messages):
     return 0 if behind[:1] == [("exit", False)] else 1
 
 
-def holds(client):
+def holds(client, recording):
     """Whether the texts, and the marks, are those of the client."""
     for id, text in client.held.items():
         expect(f"the {id}", client.replied[id][0]["result"], text)
     if client.way == ["example_diagnostics"]:
         for uri, marks in client.marks.items():
             expect(f"the marks of {uri}", marks, client.wanted[uri])
+        for uri, marks in SHOWN.get(recording.stem, {}).items():
+            expect(f"the marks of {uri}", client.marks.get(uri), marks)
 
 
 def replays(recording, way):
@@ -220,7 +225,7 @@ def replays(recording, way):
             client.look(json.loads(body))
         expect("the status", program.status(), status_of(messages))
         expect("the requests without one reply", [id for id in asked if len(client.replied.get(id, [])) != 1], [])
-        holds(client)
+        holds(client, recording)
         return len(asked) + len(client.held)
 
 
