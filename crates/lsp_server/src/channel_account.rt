@@ -4,8 +4,8 @@ ghost use Rattle.std.specs.Borrow.{ftrue};
 
 use std::marker::{Model, PhantomData};
 
-/// An account of the messages that were taken from a channel or sent into it, oldest first. Clauses alone see it: nothing of it is left
-/// when a program runs.
+/// An account of the messages that were taken from a channel or sent into it, oldest first. Only clauses see it.
+/// Nothing of it is left when a program runs.
 #[derive(Drop)]
 pub(crate) struct ChannelAccount<M> {
     marker: PhantomData<M>,
@@ -20,7 +20,7 @@ impl<M> Model for ChannelAccount<M> {
 unsafe impl<M> Send for ChannelAccount<M> {}
 
 impl<M> ChannelAccount<M> {
-    /// An account of nothing.
+    /// Makes an empty account.
     pub(crate) fn new() -> ChannelAccount<M>
         ensures { result.messages ≡ [] }
     {
@@ -29,7 +29,7 @@ impl<M> ChannelAccount<M> {
         }
     }
 
-    /// The same account, and one message more.
+    /// Returns the same account with one message more.
     pub(crate) fn with_one(&self, _message: &M) -> ChannelAccount<M>
         ensures { result.messages ≡ self.now.messages ++ _message.now ∷ [] }
     {

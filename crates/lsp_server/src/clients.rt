@@ -1,4 +1,5 @@
-//! The clients of a program: that of its standard input and output, one that listens itself, or those of a socket, one after another.
+//! Serves the clients of a program: the one at standard input and output, one that listens itself, or those that
+//! connect to an address, one after another.
 ghost use Rattle.std.specs.Prelude.{◌≡◌, Some, map, IfOk, IfErr, IsErr, IsErrAnd, IsSomeAnd, IsTrue, string_bytes};
 ghost use Rattle.std.specs.Duration.{as_nanos};
 ghost use Rattle.std.specs.IoError.{error_kind};
@@ -23,30 +24,34 @@ use std::sync::Wait;
 use std::time::{Clock, Duration};
 use std::{io, thread};
 
-/// How many seconds pass before the next client is accepted, if the system refused one. Without a pause a program that has no
-/// descriptors left would try without end.
+/// How many seconds pass before the next client is accepted after the system refused one. Without a pause, a program
+/// that has no descriptors left would try again without end.
 const PAUSE_SECONDS: u64 = 1;
 
-/// How many seconds a client of an address may be silent at first, if the options say nothing else.
+/// How many seconds a client of an address may be silent at first, if the options do not say otherwise.
 const SILENT_SECONDS: u64 = 30;
 
-/// How the clients of an address are served.
+/// How `serve_clients` serves the clients of an address.
 #[derive(Drop)]
 pub struct ClientOptions {
-    /// How long a client may be connected before it sends its first bytes. Then it is given up, so that the next is served: for its
-    /// session a read failed. Afterwards it may be silent as long as it likes, as an editor whose user is away. Without a time it may
-    /// be silent from the start. A time of zero gives up every client.
+    /// How long a client may be connected before it sends its first bytes. After that time a read fails, so the session
+    /// ends and the next client is served. A client that has sent something may be silent for any time, as an editor is
+    /// while its user is away. `None` lets a client be silent from the start. A time of zero ends the session of every
+    /// client.
     pub silence: Option<Duration>,
-    /// Whether the system looks now and then whether the machine of a client is still there. One that went without a word, as at a power
-    /// cut, is then found after the system's time, which is two hours on most (`net.ipv4.tcp_keepalive_time`): a read fails, and the
-    /// next client is served. Without it such a client is waited for until something is sent to it.
+    /// Whether the system checks from time to time that the client's machine is still there. If a machine goes away
+    /// without notice, for example at a power cut, the system finds out after its own time, which is two hours on most
+    /// (`net.ipv4.tcp_keepalive_time`). A read fails then, and the next client is served. With `false` the program
+    /// waits for such a client until something is sent to it.
     pub keep_alive: bool,
-    /// How many bytes a header part and a content part of a client may have. The streams that `serve` is given have these limits.
+    /// How many bytes a header part and a content part of a client may have. The streams that `serve` receives have
+    /// these limits.
     pub limits: Limits,
 }
 
 impl ClientOptions {
-    /// Half a minute, with looks whether the machine is there, 64 KiB for a header part, and any number of bytes for a content part.
+    /// Returns the default options: half a minute of silence, checks of the client's machine, 64 KiB for a header part,
+    /// and no limit for a content part.
     pub fn new() -> ClientOptions
         ensures silence { IsSomeAnd result.silence (λ time. as_nanos time ≡ 30000000000) }
         ensures keep_alive { IsTrue result.keep_alive }
@@ -63,14 +68,14 @@ impl ClientOptions {
     }
 }
 
-/// What a client sends. `I`, `S` and `P` read standard input, a socket and a socket file.
+/// The reader that receives the client's bytes. `I`, `S` and `P` read standard input, a socket and a socket file.
 #[derive(Drop)]
 pub enum ClientReader<I, S, P> {
-    /// Over standard input.
+    /// Reads standard input.
     Standard(I),
-    /// Over a socket.
+    /// Reads a socket.
     Socket(S),
-    /// Over a socket file.
+    /// Reads a socket file.
     Pipe(P),
 }
 
@@ -86,14 +91,14 @@ impl<I: Read, S: Read, P: Read> Read for ClientReader<I, S, P> {
     }
 }
 
-/// What a client reads. `O`, `S` and `P` write to standard output, a socket and a socket file.
+/// The writer that sends bytes to the client. `O`, `S` and `P` write to standard output, a socket and a socket file.
 #[derive(Drop)]
 pub enum ClientWriter<O, S, P> {
-    /// Over standard output.
+    /// Writes to standard output.
     Standard(O),
-    /// Over a socket.
+    /// Writes to a socket.
     Socket(S),
-    /// Over a socket file.
+    /// Writes to a socket file.
     Pipe(P),
 }
 
@@ -117,42 +122,44 @@ impl<O: Write, S: Write, P: Write> Write for ClientWriter<O, S, P> {
     }
 }
 
-/// What a client of a program sends, over the medium that the words name.
+/// The reader of a client, over the medium that the arguments name.
 type Sent<R> = ClientReader<
     <R as Input>::Reader,
     ReadHalf<<R as Net>::Stream>,
     ReadHalf<PipeStream<UnixStream>>,
 >;
 
-/// What it reads.
+/// The writer of a client, over the same medium.
 type Given<R> = ClientWriter<
     StandardOutput<R>,
     WriteHalf<<R as Net>::Stream>,
     WriteHalf<PipeStream<UnixStream>>,
 >;
 
-/// Both.
+/// The reader and the writer of a client.
 type Ends<R> = (BufReader<Sent<R>>, Given<R>);
 
-/// The streams of a client, which `serve_clients` hands to its closure.
+/// The streams of a client, which `serve_clients` passes to its closure.
 pub type Streams<R> = ClientStreams<BufReader<Sent<R>>, Given<R>>;
 
-/// Serves the client that the words of the command line name. `words` are those behind the program's name, or behind your own first
-/// words. The first word that asks for a channel decides (LSP 3.17, "Implementation Considerations"):
+/// Serves the client that the program's arguments name. `words` are the arguments after the program's name, or after
+/// your own first arguments. The first argument that asks for a channel decides (LSP 3.17, "Implementation
+/// Considerations"):
 ///
-/// - `--socket=PORT`, `--port=PORT`: the client listens at this port of the machine, and the program connects to 127.0.0.1.
+/// - `--socket=PORT`, `--port=PORT`: the client listens at this port of the machine, and the program connects to
+///   127.0.0.1.
 /// - `--pipe=NAME`: the client listens at this socket file, and the program connects to it.
-/// - an address, as `127.0.0.1:9257`, which is a word that does not begin with `-`: clients connect there, one after another, until the
-///   program is stopped.
-/// - `--node-ipc` is refused: only programs under node can be reached so.
+/// - an address such as `127.0.0.1:9257`, which is an argument that does not begin with `-`: clients connect to it, one
+///   after another, until the program is stopped.
+/// - `--node-ipc` is refused: only programs under node can be reached this way.
 ///
-/// Where no word decides, the client is at standard input and output: `--stdio` says just that, and is passed over. So is
-/// `--clientProcessId=PID`: a client that is gone shows at the end of its stream. The value of an option may also be the next word. An
-/// option that LSP does not have is named on standard error and passed over, since editors give one list of words to many servers, and a
-/// server that ends at a word can't be used at all.
+/// If no argument decides, the client is at standard input and output. `--stdio` asks for just that, and is ignored.
+/// `--clientProcessId=PID` is ignored too: the stream of a client that is gone ends. The value of an option may also be
+/// the next argument. An option that LSP does not have is named on standard error and ignored. Editors give the same
+/// arguments to many servers, and a server that ends at an unknown one can't be used with them at all.
 ///
-/// `serve` runs the session of one client, whose streams it is given: over a transport of them by `StreamTransport::serve`, or in
-/// threads that own the reader and the writer.
+/// `serve` runs the session of one client on the streams that it receives: with a transport of them by
+/// `StreamTransport::serve`, or in threads that own the reader and the writer.
 ///
 /// <!-- from crates/example_diagnostics/src/main.rt -->
 /// ```rust
@@ -165,18 +172,21 @@ pub type Streams<R> = ClientStreams<BufReader<Sent<R>>, Given<R>>;
 /// })?;
 /// ```
 ///
-/// For one client the result is what `serve` gave, or an error, and `serve` was not called. Over standard input and output the error is
-/// `OutOfMemory`: there was no memory for a buffer. Where the client listens, it may also be that nobody does. It is `InvalidInput` at
-/// `--node-ipc`, and where a port or a name is missing. With an address nothing but an error is given: the text is no address with a port,
-/// or nobody may listen there, for example since the port is in use.
+/// For one client, the result is what `serve` returned. On an error `serve` was not called. With standard input and
+/// output the error is `OutOfMemory`: there was no memory for a buffer. If the client listens, connecting to it may
+/// also fail. `--node-ipc`, or a port or a name that is missing, gives `InvalidInput`. With an address the call returns
+/// only on an error: the text is no address with a port, or the program may not listen there, for example because the
+/// port is in use.
 ///
-/// What goes wrong with one client of an address is a line on standard error, and the next one is served: an error of `serve`, a client that left
-/// without `shutdown`, or one that the system refused, for example since the program has no descriptors left. After such a refusal a
-/// second passes.
+/// If something goes wrong with one client of an address, one line goes to standard error and the next client is
+/// served. This applies to an error of `serve`, to a client that left without `shutdown`, and to a client that the
+/// system refused, for example because the program has no descriptors left. After such a refusal the program waits for
+/// a second.
 ///
-/// A client that waits for the one before it gets no reply until that one is gone. One that says nothing at all, and one whose machine is
-/// gone, is given up as `options` say, and one that reads nothing, or very little, after half a minute. Once a session has ended, its client is cut off. Whoever reaches the
-/// address is served, so where strangers do, the options should limit the content part too.
+/// A client that waits for the one before it gets no reply until that one is gone. A client that never sends anything
+/// is given up after `silence`, and one whose machine is gone is found as `keep_alive` says. One that reads nothing, or
+/// very little, is given up after half a minute. When a session has ended, its client is disconnected. Whoever reaches
+/// the address is served. So if strangers can reach it, limit the content part too.
 pub fn serve_clients<R, F, E>(
     rt: &R,
     words: &[String],
@@ -209,7 +219,7 @@ where
     Ok(serve(streams_of::<R>(ends?, options.limits)))
 }
 
-/// The streams of a client with these ends.
+/// Makes the streams of a client from these ends.
 fn streams_of<R>(ends: Ends<R>, limits: Limits) -> Streams<R>
 where
     R: Net + Input + Print + Drop,
@@ -232,7 +242,7 @@ fn name_unknown<R: Eprint>(rt: &R, words: &[String]) {
     }
 }
 
-/// The ends of the client of standard input and output.
+/// Makes the ends of the client at standard input and output.
 fn standard_ends<R>(rt: &R) -> io::Result<Ends<R>>
 where
     R: Net + AllocGlobal + Input + Print + Copy + Drop,
@@ -245,7 +255,7 @@ where
     Ok((reader, ClientWriter::Standard(StandardOutput::new(*rt))))
 }
 
-/// The ends of the client that listens at a port of this machine.
+/// Makes the ends of the client that listens at a port of this machine.
 fn port_ends<R>(rt: &R, port: &str) -> io::Result<Ends<R>>
 where
     R: Net + AllocGlobal + Input + Print + Drop,
@@ -262,7 +272,7 @@ where
     )
 }
 
-/// The ends of the client that listens at a socket file.
+/// Makes the ends of the client that listens at a socket file.
 fn pipe_ends<R>(rt: &R, name: &str) -> io::Result<Ends<R>>
 where
     R: Net + AllocGlobal + Input + Print + Drop,
@@ -274,7 +284,7 @@ where
     Ok((reader, ClientWriter::Pipe(writer)))
 }
 
-/// Serves the clients that connect to an address. It returns only if nobody may listen there.
+/// Serves the clients that connect to an address. It returns only if the program may not listen there.
 fn serve_socket<R, F, E>(
     rt: &R,
     address: &str,
@@ -332,7 +342,7 @@ where
     let _ = whole.shutdown(Shutdown::Both);
 }
 
-/// The reader and the writer of a stream.
+/// Makes the reader and the writer of a stream.
 fn socket_ends<R>(rt: &R, stream: R::Stream, silence: Option<Duration>) -> io::Result<Ends<R>>
 where
     R: Net + AllocGlobal + Input + Print + Drop,

@@ -25,25 +25,25 @@ use std::time::Clock;
 /// How many bytes a reader is asked for at once: as many as a pipe holds.
 pub(crate) const READ_AHEAD: usize = 65536;
 
-/// The two channels of one side: what it sends, and what it receives.
+/// The two channels of one side: one for the messages that it sends, one for those that it receives.
 ///
-/// Make one over standard input and output (`stdio`), over TCP (`connect`, `listen`, `over_stream`), over any reader and writer
-/// (`over`), or in memory for tests (`memory`). Then do the handshake by `initialize`, go through `receiver`, and give each
-/// request to `handle_shutdown` first (LSP 3.17, "Server lifecycle").
+/// Make one for standard input and output (`stdio`), for TCP (`connect`, `listen`, `over_stream`), for any reader and
+/// writer (`over`), or in memory for tests (`memory`). Then do the handshake with `initialize`, take messages from
+/// `receiver`, and pass each request to `handle_shutdown` first (LSP 3.17, "Server lifecycle").
 ///
-/// The calls of the handshake and the shutdown wait for the other side, and may wait for ever. An error of theirs prints one of
-/// the texts of `ProtocolError`; `docs/LIFECYCLE.md` has a table of which message leads to which.
+/// The calls of the handshake and the shutdown wait for the other side, and may wait for ever. Their errors print one
+/// of the texts of `ProtocolError`. A table in `docs/LIFECYCLE.md` lists which message leads to which.
 #[derive(Drop)]
 pub struct Connection {
-    /// To the other side.
+    /// Sends messages to the other side.
     pub sender: Sender<Message>,
-    /// From the other side.
+    /// Receives messages from the other side.
     pub receiver: Receiver<Message>,
 }
 
 impl Connection {
-    /// Makes two connections, each of which receives what the other sends. Use them for tests. Any number of messages may wait
-    /// in between. The error means that an allocation failed.
+    /// Makes two connections, each of which receives what the other sends. Use them for tests. Any number of messages
+    /// may wait in between. The error means that an allocation failed.
     pub fn memory(alloc: Global) -> Result<(Connection, Connection), AllocError> {
         let (to_second, from_first) = unbounded(alloc)?;
         let (to_first, from_second) = unbounded(alloc)?;
@@ -58,11 +58,12 @@ impl Connection {
         Ok((first, second))
     }
 
-    /// Makes a connection over any reader and writer, such as the pipes of a child process. A longer header part or content
-    /// part than `limits` allow is read fault 14 or 12 of `IoThreads::join`. Of messages that nobody received `UNREAD_WEIGHT` may be in memory.
+    /// Makes a connection on any reader and writer, such as the pipes of a child process. If a header part or a content
+    /// part is longer than `limits` allow, `IoThreads::join` returns read fault 14 or 12. Messages that were read and
+    /// not received weigh at most `UNREAD_WEIGHT` together.
     ///
-    /// The reader gets a buffer here. The writer needs none: frames of messages that wait together are one write. The faults are
-    /// those of `stdio`.
+    /// The reader gets a buffer here. The writer needs none: the frames of messages that wait together are one write.
+    /// The faults are those of `stdio`.
     pub fn over<R, S, W>(
         rt: &R,
         reader: S,
@@ -78,11 +79,13 @@ impl Connection {
         Connection::over_within(rt, reader, writer, limits, UNREAD_WEIGHT)
     }
 
-    /// As `over`, with a bound on what may be unread: what was read and not taken from `receiver` weighs at most `unread`, as
-    /// `UNREAD_WEIGHT` has it, or it is one message. With `u64::MAX` it may weigh anything, and 16 messages wait at most.
+    /// Does what `over` does, with another bound on unread messages. The messages that were read and not taken from
+    /// `receiver` weigh at most `unread` together, in the units of `UNREAD_WEIGHT`, unless there is only one.
+    /// `u64::MAX` is no bound by weight. At most 16 messages wait in any case.
     ///
-    /// The thread that reads does not read on meanwhile, so the client has to wait. It looks again after a millisecond, and later
-    /// after ten. It goes on once enough was taken, and ends if the connection's receiver is gone.
+    /// While too much is unread, the thread that reads does not read on, so the client has to wait. The thread checks
+    /// again after a millisecond, later after ten. It goes on once enough was taken. It ends if the connection's
+    /// receiver is gone.
     pub fn over_within<R, S, W>(
         rt: &R,
         reader: S,
@@ -121,8 +124,8 @@ impl Connection {
         Ok((Connection { sender, receiver }, IoThreads::of(started)))
     }
 
-    /// Waits for the request `initialize`, and gives its id and its params. Use it in place of `initialize` if your answer depends
-    /// on the params, or has more than capabilities in it:
+    /// Waits for the request `initialize`, and returns its id and its params. Use it in place of `initialize` if your
+    /// answer depends on the params, or contains more than capabilities:
     ///
     /// <!-- from crates/example_connection/src/main.rt -->
     /// ```rust
@@ -132,8 +135,8 @@ impl Connection {
     /// connection.initialize_finish(rt, id, about(rt.alloc())?)?;
     /// ```
     ///
-    /// An earlier request is answered with code -32002, an earlier notification is dropped. It is an error if `exit` or a response
-    /// comes, if the other side is gone, or if an allocation fails.
+    /// An earlier request is answered with code -32002, and an earlier notification is dropped. It is an error if
+    /// `exit` or a response arrives, if the other side is gone, or if an allocation fails.
     pub fn initialize_start<R: Wait + Clock + AllocGlobal>(
         &self,
         rt: &R,
@@ -141,8 +144,8 @@ impl Connection {
         self.initialize_start_while(rt, || true)
     }
 
-    /// As `initialize_start`, until `running` answers false, which is an error then. It is asked before each wait, and a wait takes
-    /// at most one second.
+    /// Does what `initialize_start` does, until `running` returns false, which is an error then. It calls `running`
+    /// before each wait, and a wait takes at most one second.
     pub fn initialize_start_while<R: Wait + Clock + AllocGlobal, C: Fn() -> bool>(
         &self,
         rt: &R,
@@ -160,9 +163,10 @@ impl Connection {
         started.unwrap_or_else(|| Err(ProtocolError::disconnected()))
     }
 
-    /// Sends the result of `initialize`, and waits for the notification `initialized`. The example stands at `initialize_start`.
+    /// Sends the result of `initialize`, and waits for the notification `initialized`. For an example see
+    /// `initialize_start`.
     ///
-    /// It is an error if another message comes first, if the other side is gone, or if an allocation fails.
+    /// It is an error if another message arrives first, if the other side is gone, or if an allocation fails.
     pub fn initialize_finish<R: Wait + Clock + AllocGlobal>(
         &self,
         rt: &R,
@@ -178,8 +182,8 @@ impl Connection {
         )
     }
 
-    /// As `initialize_finish`, until `running` answers false, which is an error then. The result is sent before `running` is asked
-    /// for the first time.
+    /// Does what `initialize_finish` does, until `running` returns false, which is an error then. The result is sent
+    /// before the first call of `running`.
     pub fn initialize_finish_while<R: Wait + Clock + AllocGlobal, C: Fn() -> bool>(
         &self,
         rt: &R,
@@ -201,7 +205,8 @@ impl Connection {
         finished.unwrap_or_else(|| Err(ProtocolError::disconnected()))
     }
 
-    /// Does the whole handshake: sends `{"capabilities":<server_capabilities>}`, and gives the params of `initialize`.
+    /// Does the whole handshake: it sends `{"capabilities":<server_capabilities>}`, and returns the params of
+    /// `initialize`.
     ///
     /// <!-- from crates/lsp_demo/src/serve.rt -->
     /// ```rust
@@ -226,8 +231,8 @@ impl Connection {
         Ok(params)
     }
 
-    /// As `initialize`, until `running` answers false, which is an error then. It may read a flag that another thread sets, as
-    /// `|| !stopped.load(Ordering::SeqCst)`. This one counts:
+    /// Does what `initialize` does, until `running` returns false, which is an error then. `running` may read a flag
+    /// that another thread sets, for example `|| !stopped.load(Ordering::SeqCst)`. This one counts:
     ///
     /// <!-- from crates/test_live/src/connections.rt -->
     /// ```rust
@@ -252,8 +257,9 @@ impl Connection {
         Ok(params)
     }
 
-    /// If the request is `shutdown`, answers it with null and waits up to 30 seconds for the notification `exit`: then `Ok(true)`,
-    /// and the session is over. For any other request it gives `Ok(false)` at once, and the request is yours to answer.
+    /// Answers the request `shutdown` with null, and waits up to 30 seconds for the notification `exit`. Then it
+    /// returns `Ok(true)`, and the session is over. For any other request it returns `Ok(false)` at once, and you
+    /// answer the request.
     ///
     /// <!-- from crates/example_connection/src/main.rt -->
     /// ```rust
@@ -271,8 +277,8 @@ impl Connection {
     /// }
     /// ```
     ///
-    /// It is an error if another message comes in place of `exit`, if none comes in time, if the other side is gone, or if an
-    /// allocation fails.
+    /// It is an error if another message arrives in place of `exit`, if none arrives in time, if the other side is
+    /// gone, or if an allocation fails.
     pub fn handle_shutdown<R: Wait + Clock + AllocGlobal>(
         &self,
         rt: &R,

@@ -1,3 +1,3 @@
-//! Frames and values by type, without a session.
+//! Frames, and values read and written by type, without a session.
 
 pub use lsp_message::{ResultText, read_as, write_as, write_frames};

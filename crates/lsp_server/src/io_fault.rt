@@ -19,27 +19,28 @@ use std::io::ErrorKind;
 /// | `Socket` | `socket fault` |
 /// | `Memory` | `out of memory` |
 ///
-/// To tell a person more, match on the variant, and print the kind of `Socket` by `{kind:?}`.
+/// To show a person more, match on the variant, and print the kind of `Socket` with `{kind:?}`.
 #[derive(Clone, Copy, Debug, PartialEq, Eq)]
 pub enum IoFault {
     /// 1: a message was not read.
     Read(ReadFault),
     /// 2: a message was not written.
     Write(WriteFault),
-    /// 3: a message came, but the connection's receiver is gone.
+    /// 3: a message was read, but the connection's receiver is gone.
     Closed,
     /// 4: a thread was not started.
     Start,
-    /// 5: the socket failed, with this kind: a bad address, a port in use, nobody who listens, an option that can't be set.
+    /// 5: the socket failed, with this kind: the address is bad, the port is in use, nobody listens, or an option can't
+    /// be set.
     Socket(ErrorKind),
-    /// 6: an allocation failed, of a channel or a buffer.
+    /// 6: an allocation of a channel or a buffer failed.
     Memory,
 }
 
 impl IoFault {
     ghost use Rattle.lsp_server.specs.IoFault.{io_fault_number};
 
-    /// The fault's number, from 1 to 6.
+    /// Returns the fault's number, from 1 to 6.
     pub fn number(self) -> u8
         ensures { result ≡ io_fault_number self }
     {

@@ -1,4 +1,4 @@
-//! The threads of a connection: one reads, one writes, and one drops large messages that were written.
+//! The threads of a connection. One reads, one writes, and one drops large messages that were written.
 ghost use Rattle.std.specs.Prelude.{◌≡◌, true, IfErr};
 ghost use Rattle.lsp_server.specs.IoFault.{is_start_fault, reader_answer};
 ghost use Rattle.lsp_server.specs.Joining.{HasEnded, IsEndOf, Joined};
@@ -13,11 +13,11 @@ use std::sync::Wait;
 use std::thread;
 use std::thread::{JoinHandle, Promise, PromisedHandle, Threads};
 
-/// How many messages can wait in each of the two channels of a connection. More room wakes the threads less often. Less room
-/// keeps less in memory for a peer that reads nothing.
+/// How many messages can wait in each of the two channels of a connection. With more room the threads are woken less
+/// often. With less room, less memory is used for a peer that reads nothing.
 pub const CHANNEL_ROOM: usize = 16;
 
-/// The threads of a connection. If you drop this, they run on.
+/// The threads of a connection. If you drop this value, they run on.
 #[derive(Drop)]
 pub struct IoThreads {
     reader: JoinHandle<Result<(), IoFault>>,
@@ -28,14 +28,14 @@ pub struct IoThreads {
 /// The thread that writes.
 #[derive(Drop)]
 enum Writer {
-    /// It may still run.
+    /// The thread may still run.
     Started(PromisedHandle<WriterEnd, WritesChannel>),
-    /// It has ended, and told this.
+    /// The thread has ended with this result.
     Ended(WriterEnd),
 }
 
 impl Writer {
-    /// What the thread tells. It is waited for if it may still run.
+    /// Returns the result of the thread. It waits for the thread if that may still run.
     fn join<R: Threads>(self, rt: &R) -> WriterEnd
         ensures { IsEndOf self result }
     {
@@ -47,10 +47,11 @@ impl Writer {
 }
 
 impl IoThreads {
-    /// Waits until everything that was sent is written, or until a write failed. Gives the threads back, for `join`.
+    /// Waits until everything that was sent is written, or until a write failed. It returns the threads, for `join`.
     ///
-    /// Drop the connection first, or it waits for ever. Call it before a program ends without `join`, as after an error of the
-    /// handshake: else the last replies may be lost. It does not wait for the thread that reads, so a silent peer can't hold it up.
+    /// Drop the connection first; otherwise the call waits for ever. Call it before a program ends without `join`, for
+    /// example after an error of the handshake. Otherwise the last replies may be lost. It does not wait for the thread
+    /// that reads, so a silent peer can't hold it up.
     pub fn flush<R: Threads>(self, rt: &R) -> IoThreads
         ensures written { HasEnded self.writer result.writer }
         ensures same_reader { result.reader ≡ self.reader }
@@ -68,10 +69,11 @@ impl IoThreads {
         }
     }
 
-    /// Waits for the threads to end, and gives their fault if there is one. Drop the connection first, or it waits for ever.
+    /// Waits for the threads to end, and returns their fault if there is one. Drop the connection first; otherwise the
+    /// call waits for ever.
     ///
-    /// - The thread that reads ends after an `exit`, at the end of the input, at a fault, or when a message comes and the
-    ///   connection's receiver is gone. Its fault is answered at once, without waiting for the others.
+    /// - The thread that reads ends after an `exit`, at the end of the input, at a fault, or when a message was read
+    ///   and the connection's receiver is gone. Its fault is returned at once, without waiting for the other threads.
     /// - The thread that writes ends when the connection's sender is gone and everything is written, or at a fault.
     pub fn join<R: Threads>(self, rt: &R) -> Result<(), IoFault>
         ensures { Joined self.writer result }
@@ -86,7 +88,7 @@ impl IoThreads {
         writer.join(rt).answer
     }
 
-    /// The threads that were started.
+    /// Makes the value from the threads that were started.
     pub(crate) fn of(started: Started<WriterEnd, WritesChannel>) -> IoThreads {
         let Started {
             reader,
@@ -109,14 +111,14 @@ pub(crate) struct Started<T: Drop, P: Promise<T>> {
     dropper: JoinHandle<()>,
 }
 
-/// Starts the threads of a connection, in the order writer, dropper, reader, and gives the end at which this side receives. No other
-/// place starts one. The thread that writes takes from `outgoing`, and keeps the promise.
+/// Starts the threads of a connection, in the order writer, dropper, reader, and gives the end at which this side
+/// receives. No other place starts one. The thread that writes takes from `outgoing`, and keeps the promise.
 ///
 /// A thread that is not started lets go of its ends of the channels, and this call of the others. So those that were
 /// started before find their channels closed, and end.
 ///
-/// It carries any type `M`: the check finds that a thread may own the ends of a channel only if it need not look into what the
-/// channel carries.
+/// It carries any type `M`: the check finds that a thread may own the ends of a channel only if it need not look into
+/// what the channel carries.
 pub(crate) fn start_threads<M, T, P, R, F, G>(
     rt: &R,
     alloc: Global,
@@ -175,7 +177,7 @@ where
     }
 }
 
-/// What the thread that reads answers.
+/// Returns the result of the thread that reads.
 pub(crate) fn reader_end(end: ReadEnd) -> Result<(), IoFault>
     ensures { result ≡ reader_answer end }
 {

@@ -8,7 +8,7 @@ use crossbeam_channel::Receiver;
 use lsp_message::Message;
 use std::sync::Wait;
 
-/// What a channel gave, and whether it told that no more come.
+/// The messages that a channel gave, and whether it reported that no more follow.
 #[derive(Drop)]
 pub(crate) struct TakenMessages {
     account: ChannelAccount<Message>,
@@ -38,7 +38,8 @@ impl TakenMessages {
     }
 }
 
-/// The receiving end, and what it gave. Nothing else takes from this end, so each message that it gave is in the account.
+/// The receiving end, and the messages that it gave. Nothing else takes from this end, so each message that it gave is
+/// in the account.
 #[derive(Drop)]
 pub(crate) struct Outgoing {
     receiver: Receiver<Message>,
@@ -56,7 +57,7 @@ impl Outgoing {
         }
     }
 
-    /// Takes the next message. It waits for one, and gives none once no more can come.
+    /// Takes the next message. It waits for one, and returns none once no more can follow.
     pub(crate) fn next<R: Wait>(&mut self, rt: &R) -> Option<Message>
         ensures some { IfSome result (λ message.
             taken_of self.new.taken ≡ takes (taken_of self.old.taken) (message_view message)) }
@@ -89,7 +90,7 @@ impl Outgoing {
         }
     }
 
-    /// Lets the end go, and gives what was taken.
+    /// Lets the end go, and returns what was taken.
     pub(crate) fn finish(self) -> TakenMessages
         ensures { result ≡ self.taken }
     {

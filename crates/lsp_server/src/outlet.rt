@@ -15,21 +15,23 @@ use std::sync::Wait;
 use std::thread;
 use std::time::{Clock, Duration};
 
-/// How many milliseconds the reader rests at first before it looks again whether a message was taken, and how many at most.
+/// How many milliseconds the reader waits at first before it checks again whether a message was taken, and how many at
+/// most.
 const SHORT_REST: u64 = 1;
 
 const LONG_REST: u64 = 10;
 
-/// Sends what was read on a channel, and drops what was written meanwhile. It lets nothing in that is too much.
+/// Sends the messages that were read on a channel, and drops those that were written meanwhile. It accepts no message
+/// that would be too much.
 #[derive(Drop)]
 pub(crate) struct Outlet<'a, R: Wait> {
     rt: &'a R,
     alloc: Global,
     incoming: &'a Sender<Message>,
-    /// What was sent.
+    /// The messages that were sent.
     sent: ChannelAccount<Message>,
     returned: &'a Returned<Message>,
-    /// The weights of what was sent. It is as long as the channel, or longer.
+    /// The weights of the messages that were sent. It is as long as the channel, or longer.
     unread: UnreadWeights,
     /// How much may be unread.
     bound: u64,
@@ -38,7 +40,7 @@ pub(crate) struct Outlet<'a, R: Wait> {
 }
 
 impl<'a, R: Wait> Outlet<'a, R> {
-    /// Nothing was sent on the channel.
+    /// Starts with a channel on which nothing was sent.
     pub(crate) fn new(
         rt: &'a R,
         alloc: Global,
@@ -61,7 +63,7 @@ impl<'a, R: Wait> Outlet<'a, R> {
         }
     }
 
-    /// Notes how many bytes the content part has that is read.
+    /// Records how many bytes the content part has that is being read.
     pub(crate) fn note_read(&self, length: usize) {
         self.returned.note_read(length);
     }
@@ -84,8 +86,8 @@ impl<'a, R: Wait> Outlet<'a, R> {
         forwarded
     }
 
-    /// Sends a message to a place that is free, or to one that was kept, or to the next that is free. A receiver that is gone is told
-    /// of first, since a place that was kept would take the message all the same.
+    /// Sends a message to a place that is free, or to one that was kept, or to the next that is free. It checks first
+    /// whether the receiver is gone, since a place that was kept would take the message all the same.
     fn forward(&mut self, message: Message) -> Result<(), SendFault>
         ensures refused { IfErr result (λ fault. handed_back fault ≡ message) }
         ensures account { self.new.sent.messages ≡ self.old.sent.messages }
@@ -115,8 +117,9 @@ impl<'a, R: Wait> Outlet<'a, R> {
 }
 
 impl<'a, R: Wait + Clock> Outlet<'a, R> {
-    /// Waits until a message of this weight may be sent, too: until so much was taken, or all. It ends at once if the receiver is
-    /// gone, which the next `send` tells. Meanwhile it drops what was written. The error means that an allocation failed.
+    /// Waits until a message of this weight may be sent too: until enough messages, or all, were taken. It ends at once
+    /// if the receiver is gone, which the next `send` reports. Meanwhile it drops messages that were written. The error
+    /// means that an allocation failed.
     pub(crate) fn make_room(&mut self, weight: u64) -> Result<(), AllocError>
         ensures { self.new.sent.messages ≡ self.old.sent.messages }
     {
@@ -134,7 +137,8 @@ impl<'a, R: Wait + Clock> Outlet<'a, R> {
         unreachable!()
     }
 
-    /// Whether the receiver is gone. It keeps each place that is free: a channel whose receiver is there has no more than its room.
+    /// Returns whether the receiver is gone. It keeps each place that is free: a channel whose receiver is there has no
+    /// more than its room.
     fn is_left(&mut self) -> Result<bool, AllocError>
         ensures { self.new.sent.messages ≡ self.old.sent.messages }
     {

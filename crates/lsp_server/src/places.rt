@@ -9,14 +9,16 @@ use std::alloc::{AllocError, Global};
 use std::sync::Wait;
 use std::time::Clock;
 
-/// A place of a channel that is kept for one message. If this is dropped, the channel has a place less for the rest of its life.
+/// A place of a channel that is kept for one message. If this value is dropped, the channel has one place less for the
+/// rest of its life.
 pub(crate) struct Place<'a, R: Wait> {
     rt: &'a R,
     operation: SelectedOperation<'a>,
 }
 
 impl<'a, R: Wait + Clock> Place<'a, R> {
-    /// Takes a place that is free. Each call gives one if the receiver is gone. The error means that an allocation failed.
+    /// Takes a place that is free. Each call gives one if the receiver is gone. The error means that an allocation
+    /// failed.
     pub(crate) fn take<M: Drop>(
         rt: &'a R,
         alloc: Global,
@@ -32,7 +34,7 @@ impl<'a, R: Wait + Clock> Place<'a, R> {
 }
 
 impl<'a, R: Wait> Place<'a, R> {
-    /// Sends a message to this place, on the channel that it is of.
+    /// Sends a message to this place, on the channel that it belongs to.
     pub(crate) fn send<M: Drop>(self, sender: &Sender<M>, message: M) -> Result<(), SendError<M>>
         ensures { IfErr result (λ refused. send_message refused ≡ message) }
     {
@@ -48,7 +50,7 @@ impl<'a, R: Wait> Drop for Place<'a, R> {
     }
 }
 
-/// Where an operation is finished that sends nothing.
+/// The target of an operation that sends nothing.
 #[derive(Drop)]
 struct Nowhere {
     none: Receiver<()>,

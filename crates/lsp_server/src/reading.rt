@@ -55,7 +55,7 @@ pub(crate) fn read_all<R: Wait + Clock + Drop, B: BufRead + Drop>(
     reader_end(read_messages(alloc, &mut reader, &mut outlet, limits))
 }
 
-/// Hands on a reader's messages, up to and with the first `exit`, as `read_loop_within` does.
+/// Passes on a reader's messages, up to and including the first `exit`, as `read_loop_within` does.
 fn read_messages<R: Wait + Clock, B: BufRead>(
     alloc: Global,
     reader: &mut B,
@@ -84,8 +84,8 @@ fn read_messages<R: Wait + Clock, B: BufRead>(
     ReadEnd::Fault(ReadFault::Input(ErrorKind::Other))
 }
 
-/// Reads one message, as `Message::read_telling` does, once it may be read. It takes no byte while too much is unread, and makes no
-/// tree that would be too much.
+/// Reads one message, as `Message::read_telling` does, once it may be read. It takes no byte while too much is unread,
+/// and makes no tree that would be too much.
 fn read_weighed<R: Wait + Clock, B: BufRead>(
     alloc: Global,
     reader: &mut B,

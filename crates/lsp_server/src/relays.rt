@@ -4,18 +4,18 @@ ghost use Rattle.std.specs.Prelude.{◌≡◌, ◌<◌, [], false, IfOk, None};
 use lsp_message::Message;
 use std::alloc::{AllocError, Global};
 
-/// What a relay carries: a message, or `End`, the sign that no more follow.
+/// What a relay carries: a message, or `End`, which means that no more messages follow.
 pub type Parcel = lsp_relay::Parcel<Message>;
 
-/// The sender's end of a relay. Contracts see which relay it belongs to and the parcels that were sent, in order, and
-/// whether a waker was ever made.
+/// The sender's end of a relay. Contracts see which relay it belongs to, which parcels were sent, in order, and whether
+/// a waker was ever made.
 pub type RelayTx = lsp_relay::RelayTx<Message>;
 
-/// The receiver's end of a relay. Contracts see which relay it belongs to and the parcels that were taken, in order, and
-/// how many wakes.
+/// The receiver's end of a relay. Contracts see which relay it belongs to, which parcels were taken, in order, and the
+/// number of wake-ups.
 pub type RelayRx = lsp_relay::RelayRx<Message>;
 
-/// Makes a relay with room for this many parcels, at least one. The error means that an allocation failed.
+/// Makes a relay with room for `room` parcels, at least one. The error means that an allocation failed.
 pub fn relay(alloc: Global, room: usize) -> Result<(RelayTx, RelayRx), AllocError>
     requires { 0 < room }
     ensures one_relay { IfOk result (λ ends. ends.1.relay ≡ ends.0.relay) }

@@ -1,4 +1,4 @@
-//! Threads and memory: the bounds of a connection, and what a program may set at its start.
+//! Threads and memory: the bounds of a connection, and what a program may set when it starts.
 
 pub use crate::io_threads::CHANNEL_ROOM;
 pub use crate::memory::keep_freed_memory;

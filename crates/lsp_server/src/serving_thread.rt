@@ -8,7 +8,7 @@ use std::alloc::AllocError;
 use std::thread;
 use std::thread::{JoinHandle, Promise, PromisedHandle, SpawnError, Threads};
 
-/// The promise that each result keeps.
+/// A promise that every result keeps.
 #[derive(Drop)]
 struct Anything;
 
@@ -18,8 +18,8 @@ impl<T> Promise<T> for Anything {
     ghost kept_by = { λ _ _. ⊤ };
 }
 
-/// Starts a thread that calls `serve` with the runtime and the connection, and gives its handle. `join` waits for the thread, and
-/// gives what `serve` gave.
+/// Starts a thread that calls `serve` with the runtime and the connection, and returns its handle. The handle's `join`
+/// waits for the thread, and returns the result of `serve`.
 ///
 /// <!-- from crates/example_connection/src/client.rt -->
 /// ```rust
@@ -27,8 +27,9 @@ impl<T> Promise<T> for Anything {
 /// let thread = spawn(rt, server, |rt, server| serve(&rt, server))?;
 /// ```
 ///
-/// It is an error if the system refuses the thread, or if an end of the connection can't be copied. Then `serve` was not called, and
-/// the error's `value` is the connection. No clause says that it is this one, since contracts see nothing of a channel's end.
+/// It is an error if the system refuses the thread, or if an end of the connection can't be copied. Then `serve` was
+/// not called, and the error's `value` is the connection. No clause says that it is this one, since contracts do not
+/// see the ends of a channel.
 pub fn spawn<R, F, T>(
     rt: &R,
     connection: Connection,
@@ -46,7 +47,8 @@ where
     }
 }
 
-/// As `spawn`, with a promise that each result of `serve` keeps: by the contract of `join`, the result that it gives keeps it too.
+/// Does what `spawn` does, with a promise that each result of `serve` keeps. By the contract of `join`, the result that
+/// `join` returns keeps it too.
 pub fn spawn_with<R, P, F, T>(
     rt: &R,
     promise: P,
@@ -76,7 +78,7 @@ where
     }
 }
 
-/// A second pair of ends of the connection's channels.
+/// Makes a second pair of ends of the connection's channels.
 fn another(connection: &Connection) -> Result<Connection, AllocError> {
     Ok(Connection {
         sender: connection.sender.clone()?,
@@ -86,8 +88,8 @@ fn another(connection: &Connection) -> Result<Connection, AllocError> {
 
 /// Starts the thread, or gives nothing if the system refuses it.
 ///
-/// It takes the ends of channels that carry any type `M`: the check finds that a thread may own them only if it need not look into
-/// what they carry.
+/// It takes the ends of channels that carry any type `M`: the check finds that a thread may own them only if it need
+/// not look into what they carry.
 fn start<M, R, P, F, T>(
     rt: &R,
     promise: P,

@@ -19,22 +19,23 @@ use std::sync::Wait;
 use std::thread::Threads;
 use std::time::{Clock, Duration};
 
-/// How many seconds one write waits for room. The system takes what it can of a frame first, so it is two or three times as
-/// long before a peer that reads nothing is given up. One that reads very little is given up too: a writer waits until there is room for
-/// a good part of the system's buffer.
+/// How many seconds one write waits for room. The system takes what it can of a frame first. So a peer that reads
+/// nothing is given up after two or three times as long. One that reads very little is given up too: a writer waits
+/// until a good part of the system's buffer is free.
 const WRITE_SECONDS: u64 = 10;
 
 impl Connection {
-    /// Connects to the peer that listens at the address, such as `"127.0.0.1:9257"`: a host's name or an IP address, and a port. If
-    /// a name has several addresses, it takes the first that answers.
+    /// Connects to the peer that listens at the address, such as `"127.0.0.1:9257"`: a host's name or an IP address,
+    /// and a port. If a name has several addresses, it takes the first that answers.
     ///
     /// The faults are
     ///
     /// - `Start`: a thread was not started.
-    /// - `Socket`: the text is not an address with a port, or nobody listens there. The kind inside tells more.
+    /// - `Socket`: the text is not an address with a port, or nobody listens there. The kind inside says which.
     /// - `Memory`: an allocation failed.
     ///
-    /// If the peer reads nothing, or very little, for half a minute, a write fails, and `IoThreads::join` answers write fault 1.
+    /// If the peer reads nothing, or very little, for half a minute, a write fails, and `IoThreads::join` returns write
+    /// fault 1.
     pub fn connect<R, A>(rt: &R, addr: A) -> Result<(Connection, IoThreads), IoFault>
     where
         R: Net + Threads + Wait + Clock + AllocGlobal + Copy + Drop + Send + 'static,
@@ -45,8 +46,8 @@ impl Connection {
         Connection::connect_within(rt, addr, Limits::none())
     }
 
-    /// As `connect`, with limits on what is read. After a content part that is too long `IoThreads::join` answers read fault 12, and after
-    /// such a header part read fault 14.
+    /// Does what `connect` does, with limits on a header part and a content part. If the peer sends a longer content
+    /// part, `IoThreads::join` returns read fault 12; after a longer header part, read fault 14.
     pub fn connect_within<R, A>(
         rt: &R,
         addr: A,
@@ -62,11 +63,11 @@ impl Connection {
         Connection::over_stream(rt, stream, limits)
     }
 
-    /// Listens at the address, and gives a connection to the first peer that comes. Then it listens no more, and cuts off any
-    /// other peer that was waiting.
+    /// Listens at the address, and makes a connection with the first peer that connects. Then it stops listening, and
+    /// disconnects any other peer that was waiting.
     ///
-    /// The faults are those of `connect`. It is also `Socket` if the address can't be listened at, for example because the port is
-    /// in use.
+    /// The faults are those of `connect`. It is also `Socket` if the program can't listen at the address, for example
+    /// because the port is in use.
     pub fn listen<R, A>(rt: &R, addr: A) -> Result<(Connection, IoThreads), IoFault>
     where
         R: Net + Threads + Wait + Clock + AllocGlobal + Copy + Drop + Send + 'static,
@@ -77,8 +78,9 @@ impl Connection {
         Connection::listen_within(rt, addr, Limits::none())
     }
 
-    /// As `listen`, with limits on what is read. After a content part that is too long `IoThreads::join` answers read fault 12, and after
-    /// such a header part read fault 14. Use it, with both limits, if strangers can connect.
+    /// Does what `listen` does, with limits on a header part and a content part. If the peer sends a longer content
+    /// part, `IoThreads::join` returns read fault 12; after a longer header part, read fault 14. Use it, with both
+    /// limits, if strangers can connect.
     pub fn listen_within<R, A>(
         rt: &R,
         addr: A,
@@ -96,8 +98,8 @@ impl Connection {
         Connection::over_stream(rt, stream, limits)
     }
 
-    /// Makes a connection over a stream that you accepted, for example from a listener at a port that the system chose. The
-    /// limits are those of `listen_within`.
+    /// Makes a connection on a stream that you accepted, for example from a listener at a port that the system chose.
+    /// The limits are those of `listen_within`.
     ///
     /// The faults are those of `connect`.
     pub fn over_stream<R>(
@@ -121,7 +123,8 @@ fn socket_fault(error: io::Error) -> IoFault
     IoFault::Socket(error.kind())
 }
 
-/// Has the system look now and then whether the machine of a stream's peer is still there. A read fails once it is not.
+/// Makes the system check from time to time whether the machine of a stream's peer is still there. A read fails once it
+/// is not.
 pub(crate) fn keep_alive<S: AsRawFd>(stream: &S) {
     let mut on = [0u8; 16];
     on[..4].copy_from_slice(&1i32.to_ne_bytes());
@@ -130,8 +133,8 @@ pub(crate) fn keep_alive<S: AsRawFd>(stream: &S) {
     let _ = unsafe { net::setsockopt(fd, net::SOL_SOCKET, net::SO_KEEPALIVE, &on, 4) };
 }
 
-/// What reads from a stream, and what writes to it. With a time, a read fails if the peer sends nothing for that long, until its first
-/// bytes came.
+/// Makes the reader and the writer of a stream. With a time, a read fails if the peer sends nothing for that long
+/// before its first bytes.
 pub(crate) fn halves<S: OpenStream + Drop>(
     stream: S,
     silence: Option<Duration>,
@@ -147,7 +150,7 @@ pub(crate) fn halves<S: OpenStream + Drop>(
     Ok((reader, WriteHalf { stream }))
 }
 
-/// A stream as the thread that reads holds it.
+/// The half of a stream that the reading thread owns.
 #[derive(Drop)]
 pub struct ReadHalf<S> {
     stream: S,
@@ -168,9 +171,9 @@ impl<S: OpenStream + Read> Read for ReadHalf<S> {
     }
 }
 
-/// A stream as the thread that writes holds it. Its outgoing direction ends with this value: the peer reads the end then,
-/// although the thread that reads still holds the stream. After a write that failed, both directions end, so that the
-/// thread that reads waits no longer for a peer that can't be answered.
+/// The half of a stream that the writing thread owns. When it is dropped, the outgoing direction ends: the peer reads
+/// the end of the stream, although the reading thread still holds its half. After a failed write both directions end,
+/// so the reading thread no longer waits for a peer that can't be answered.
 pub struct WriteHalf<S: OpenStream> {
     stream: S,
 }
@@ -198,8 +201,8 @@ impl<S: OpenStream + Write> Write for WriteHalf<S> {
     }
 }
 
-/// Writes as `write` does, and again if a signal came before anything was written. While a write has a time, a stop of the process and its
-/// continuation are such a signal (signal(7)).
+/// Writes as `write` does, and again if a signal came before anything was written. While a write has a time, a stop of
+/// the process and its continuation are such a signal (signal(7)).
 fn write_again<W: Write>(writer: &mut W, buf: &[u8]) -> io::Result<usize>
     ensures bound { WritesAtMost result buf.now }
     ensures bytes { WriteAppends (W.contents writer.old) (W.contents writer.new) result buf.now }

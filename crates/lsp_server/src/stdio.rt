@@ -13,7 +13,7 @@ use std::thread::Threads;
 use std::time::Clock;
 
 impl Connection {
-    /// Makes a connection over standard input and output, for a server that an editor starts:
+    /// Makes a connection on standard input and output, for a server that an editor starts:
     ///
     /// <!-- from crates/example_connection/src/main.rt -->
     /// ```rust
@@ -24,7 +24,7 @@ impl Connection {
     /// threads.join(&rt)?;
     /// ```
     ///
-    /// The faults are `Start`, a thread was not started, and `Memory`, an allocation failed.
+    /// The fault is `Start` if a thread was not started, and `Memory` if an allocation failed.
     pub fn stdio<R>(rt: &R) -> Result<(Connection, IoThreads), IoFault>
     where
         R: Threads + Wait + Clock + AllocGlobal + Input + Print + Copy + Drop + Send + 'static,
@@ -34,8 +34,8 @@ impl Connection {
         Connection::stdio_within(rt, Limits::none())
     }
 
-    /// As `stdio`, with limits on what is read (LSP 3.17, "Base Protocol"). After a content part that is too long `IoThreads::join` answers
-    /// read fault 12, and after such a header part read fault 14.
+    /// Does what `stdio` does, with limits on a header part and a content part (LSP 3.17, "Base Protocol"). After a
+    /// longer content part, `IoThreads::join` returns read fault 12; after a longer header part, read fault 14.
     pub fn stdio_within<R>(rt: &R, limits: Limits) -> Result<(Connection, IoThreads), IoFault>
     where
         R: Threads + Wait + Clock + AllocGlobal + Input + Print + Copy + Drop + Send + 'static,
@@ -46,14 +46,15 @@ impl Connection {
     }
 }
 
-/// Standard output as a writer that a thread may own: `run_threads` and `Connection::over` take one.
+/// Standard output as a writer that a thread may own, for example for `run_threads` and `Connection::over`.
 ///
-/// Nothing is kept back, so a flush has nothing to write. What a terminal or a pipe does with the bytes, no contract says.
+/// It keeps no bytes back, so a flush has nothing to write. No contract says what a terminal or a pipe does with the
+/// bytes.
 #[derive(Drop)]
 pub struct StandardOutput<R>(R);
 
 impl<R: Print> StandardOutput<R> {
-    /// The standard output of a runtime, such as `StandardOutput::new(rt)` in `main`.
+    /// Makes the standard output of a runtime, for example `StandardOutput::new(rt)` in `main`.
     pub fn new(rt: R) -> StandardOutput<R>
         ensures { result.0 ≡ rt }
     {

@@ -1,4 +1,5 @@
-//! The ends of a connection's two channels as boxes. No clause says what a channel delivers, so their relations allow everything.
+//! The ends of a connection's two channels as an inbox and an outbox. No clause says what a channel delivers, so their
+//! relations allow everything.
 ghost use Rattle.std.specs.Prelude.{◌≡◌, IfErr};
 ghost use Rattle.lsp_session.specs.Boxes.{handed_back};
 
@@ -56,7 +57,7 @@ impl<'a, R: Wait> Outbox for ChannelOutbox<'a, R> {
     }
 }
 
-/// Sends a message, or tells why the channel refused it.
+/// Sends a message, or returns why the channel refused it.
 fn forward<R: Wait>(rt: &R, sender: &Sender<Message>, message: Message) -> Result<(), SendFault>
     ensures { IfErr result (λ fault. handed_back fault ≡ message) }
 {

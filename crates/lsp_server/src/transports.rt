@@ -1,4 +1,4 @@
-//! What a session runs on: values that give messages and take them.
+//! What a session runs on: values that read messages and write them.
 
 pub use crate::stdio::StandardOutput;
 pub use lsp_session::{

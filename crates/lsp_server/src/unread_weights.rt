@@ -7,17 +7,17 @@ use std::alloc::{AllocError, Global};
 use std::collections::VecDeque;
 use std::marker::Model;
 
-/// How much may be unread in a connection that says nothing else: 64 MB of weight. What the receiver has not taken weighs no more,
-/// unless it is one message alone.
+/// The default bound on the unread messages of a connection: 64 MB of weight. The messages that the receiver has not
+/// taken weigh no more, unless there is only one.
 ///
-/// A message weighs what its memory takes at most, by an estimate: a byte for each byte of its content part, 208 more for each comma
-/// and each `[` of it, and 900 more for each `{`. Those in strings count too.
+/// The weight of a message is an estimate of the most memory that it takes: a byte for each byte of its content part,
+/// 208 more for each comma and each `[`, and 900 more for each `{`. Those in strings count too.
 pub const UNREAD_WEIGHT: u64 = 67_108_864;
 
-/// What an item of a list takes at most, or a member of an object, but for the bytes of its text.
+/// The most memory in bytes that an item of a list or a member of an object takes, without the bytes of its text.
 const ITEM_WEIGHT: u64 = 208;
 
-/// What an object takes at most that has a member.
+/// The most memory in bytes that an object with a member takes.
 const OBJECT_WEIGHT: u64 = 900;
 
 /// The weights of the messages that were sent into a channel and may still be there, oldest first.
@@ -35,7 +35,7 @@ impl Model for UnreadWeights {
 }
 
 impl UnreadWeights {
-    /// Nothing was sent. Memory for so many weights is there from the start. The error means that an allocation failed.
+    /// Makes an account of no messages, with memory for `room` weights. The error means that an allocation failed.
     pub(crate) fn new(alloc: Global, room: usize) -> Result<UnreadWeights, AllocError>
         ensures { IfOk result (λ unread. unread ≡ []) }
     {
@@ -44,7 +44,7 @@ impl UnreadWeights {
         })
     }
 
-    /// A message of this weight is sent. The error means that an allocation failed.
+    /// Records that a message of this weight is sent. The error means that an allocation failed.
     pub(crate) fn sent(&mut self, weight: u64) -> Result<(), AllocError>
         ensures ok { OnOk result (self.new ≡ self.old ++ weight ∷ []) }
         ensures err { OnErr result (self.new ≡ self.old) }
@@ -53,7 +53,7 @@ impl UnreadWeights {
         Ok(())
     }
 
-    /// The channel has so many messages. So the older ones were taken.
+    /// Records that the channel contains `len` messages, so the older ones were taken.
     pub(crate) fn settled(&mut self, len: usize)
         ensures { self.new ≡ newest len self.old }
     {
@@ -69,7 +69,7 @@ impl UnreadWeights {
         let _ = self.weights.pop_front();
     }
 
-    /// What they weigh together.
+    /// Returns the weight of all unread messages together.
     pub(crate) fn weight(&self) -> u64
         ensures { result ≡ capped (sum self.now) }
     {
@@ -80,7 +80,7 @@ impl UnreadWeights {
         all
     }
 
-    /// Whether a message of this weight may be sent, too.
+    /// Returns whether a message of this weight may be sent too.
     pub(crate) fn has_room(&self, weight: u64, bound: u64) -> bool
         ensures { IsTrue result ↔ HasRoom self.now weight bound }
     {
@@ -88,7 +88,7 @@ impl UnreadWeights {
     }
 }
 
-/// What the message of a content part weighs.
+/// Returns the weight of the message in a content part.
 pub(crate) fn weight_of(content: &[u8]) -> u64
     ensures { result ≡ capped (content_weight content.now) }
 {
@@ -99,7 +99,7 @@ pub(crate) fn weight_of(content: &[u8]) -> u64
         .saturating_add(objects.saturating_mul(OBJECT_WEIGHT))
 }
 
-/// How often a byte stands in a content part. The search passes over what lies between in wide steps.
+/// Counts a byte in a content part. The search skips the bytes between in wide steps.
 fn count_of(content: &[u8], byte: u8) -> u64
     ensures { result ≡ count_by (λ it. it == byte) content.now }
 {

@@ -1,4 +1,4 @@
-//! The words of a command line that say where a program's client is (LSP 3.17, "Implementation Considerations").
+//! The arguments of a command line that say where a program's client is (LSP 3.17, "Implementation Considerations").
 ghost use Rattle.std.specs.Prelude.{◌≡◌, map, option_map, string_bytes};
 ghost use Rattle.lsp_server.specs.Words.{channel_of, channel_view, option_name, option_value, is_option as begins_as_option, is_unknown as names_nothing, with_port as needs_port};
 
@@ -13,7 +13,7 @@ pub(crate) enum Channel<'a> {
     Port(&'a str),
     /// The client listens at this socket file.
     Pipe(&'a str),
-    /// Nowhere, for this reason.
+    /// Nowhere: the arguments were refused for this reason.
     Refused(&'a str),
 }
 
@@ -23,7 +23,7 @@ const NO_NAME: &str = "no name behind `--pipe`";
 
 pub(crate) const NO_PORT: &str = "no port number behind `--socket` or `--port`";
 
-/// The channel that the words ask for: the first that asks for one decides.
+/// Returns the channel that the arguments ask for. The first argument that asks for one decides.
 pub(crate) fn channel_in(words: &[String]) -> Channel<'_>
     ensures { channel_view result ≡ channel_of (map string_bytes words.now) }
 {
@@ -55,7 +55,7 @@ pub(crate) fn channel_in(words: &[String]) -> Channel<'_>
     }
 }
 
-/// A channel behind `--socket`, where standard input and output is a port that is missing.
+/// Returns the channel after `--socket`. Standard input and output then means that the port is missing.
 fn with_port(channel: Channel<'_>) -> Channel<'_>
     ensures { channel_view result ≡ needs_port (channel_view channel.entry) }
 {
@@ -65,7 +65,7 @@ fn with_port(channel: Channel<'_>) -> Channel<'_>
     }
 }
 
-/// Whether the word is an option that LSP does not have.
+/// Returns whether the argument is an option that LSP does not have.
 pub(crate) fn is_unknown(word: &str) -> bool
     ensures { result ≡ names_nothing word.now }
 {
@@ -83,7 +83,7 @@ fn is_option(word: &str) -> bool
     word.starts_with("-")
 }
 
-/// The name of an option, and what stands behind the first `=`.
+/// Splits an option into its name and the text after the first `=`.
 fn parts_of(word: &str) -> (&str, Option<&str>)
     ensures name { result.0.now ≡ option_name word.now }
     ensures value { option_map (λ s. s.now) result.1 ≡ option_value word.now }

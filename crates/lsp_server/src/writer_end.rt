@@ -6,12 +6,12 @@ use lsp_message::{Message, Passed};
 use std::snapshot::Snapshot;
 use std::thread::Promise;
 
-/// What the thread answers. But for `answer`, clauses alone see it.
+/// The result of the thread. Except `answer`, only clauses see it.
 #[derive(Drop)]
 pub(crate) struct WriterEnd {
     /// The channel that it took from.
     pub(crate) channel: Snapshot<Receiver<Message>>,
-    /// What it took.
+    /// The messages that it took.
     pub(crate) taken: TakenMessages,
     /// The bytes that the writer took.
     pub(crate) given: Passed,

@@ -1,4 +1,4 @@
-//! What the thread of a connection does that writes. Frames of messages that wait together are written together.
+//! The thread of a connection that writes. It writes the frames of messages that wait together at once.
 ghost use Rattle.std.specs.Prelude.{◌≡◌, ◌++◌, List, [], ℕ, IfErr, IfNone, IfOk, IfSome, OnErr, OnOk, Some, string_bytes};
 ghost use Rattle.std.specs.Io.KnownBytes.{Appends};
 ghost use Rattle.lsp_message.specs.View.{message_view};
@@ -45,8 +45,8 @@ pub(crate) fn write_all<R: Wait + Drop, W: Write + Drop>(
     }
 }
 
-/// Writes what the channel gives as frames, in order, until the channel is closed or a write fails (LSP 3.17, "Base Protocol"). What the
-/// writer takes is noted.
+/// Writes the messages of the channel as frames, in order, until the channel is closed or a write fails (LSP 3.17,
+/// "Base Protocol"). The bytes that the writer takes are recorded.
 fn write_messages<R: Wait, W: Write>(
     rt: &R,
     alloc: Global,
@@ -71,7 +71,7 @@ fn write_messages<R: Wait, W: Write>(
     unreachable!()
 }
 
-/// Writes a message as a frame, and with it frames of the messages that wait behind it.
+/// Writes a message as a frame, together with frames of the messages that wait after it.
 fn write_message<R: Wait, W: Write>(
     rt: &R,
     alloc: Global,
@@ -105,8 +105,8 @@ fn frame_of<R: Wait>(
     Ok(frame)
 }
 
-/// Writes a frame, and frames of the messages that wait. It waits for none. What was gathered is written in any case, also if no
-/// memory is left for the frame of a message behind it.
+/// Writes a frame, and frames of the messages that wait. It waits for none. The gathered frames are written in any
+/// case, also if no memory is left for the frame of a later message.
 fn write_behind<R: Wait, W: Write>(
     rt: &R,
     alloc: Global,
@@ -170,7 +170,7 @@ fn join<W: Write>(
     Ok(next)
 }
 
-/// Writes what was gathered before no memory was left, and gives the fault.
+/// Writes the frames that were gathered before memory ran out, and returns the fault.
 fn fail_behind<W: Write>(writer: &mut W, gathered: String, given: &mut Passed) -> WriteFault
     ensures written { FailsBehind (string_bytes gathered) result (noted given.old) (noted given.new) }
     ensures given { GivesMore given.old.parts given.new.parts (W.contents writer.old) (W.contents writer.new) }

@@ -1,6 +1,7 @@
-//! Messages that were written, on their way to the thread that drops them. Two threads that allocate and free in one arena of the C
-//! library wait for its lock. So what came from the other side, or has parts that did, goes back to the thread that reads, which
-//! allocated it, or to a thread of its own. What this side made is dropped by the thread that writes.
+//! Messages that were written, on their way to the thread that drops them. Two threads that allocate and free in one
+//! arena of the C library wait for its lock. So a message that came from the other side, or that has parts which did,
+//! goes back to the reading thread, which allocated it, or to a thread for dropping. The writing thread drops messages
+//! that this side made.
 use crossbeam_channel::{Receiver, Sender, bounded};
 use lsp_threads::give_back::{GiveBack, GivenBack, way_back};
 use std::alloc::{AllocError, Global};
@@ -13,11 +14,11 @@ const WRITTEN_ROOM: usize = 16;
 /// How many large messages wait for the thread that drops.
 const LARGE_ROOM: usize = 1;
 
-/// The longest frame in bytes of a small message. Of large ones the thread that reads is given one at a time, since it may wait
-/// long for its peer and keeps them meanwhile.
+/// The longest frame in bytes of a small message. The reading thread receives large messages one at a time, since it
+/// may wait long for its peer and keeps them meanwhile.
 const SMALL_FRAME: usize = 8192;
 
-/// Where the thread that writes sends its messages when it needs them no more.
+/// Where the writing thread sends messages that it no longer needs.
 #[derive(Drop)]
 pub(crate) struct Written<M: Drop> {
     back: GiveBack<M>,
@@ -26,8 +27,8 @@ pub(crate) struct Written<M: Drop> {
 }
 
 impl<M: Drop> Written<M> {
-    /// Lets a message go whose frame has so many bytes. What this side made is dropped here, before the frame is written: its maker may
-    /// wait for the peer's next message meanwhile, and allocates nothing then.
+    /// Lets a message go whose frame has `frame_length` bytes. A message that this side made is dropped here, before
+    /// the frame is written: its maker may wait for the peer's next message meanwhile, and allocates nothing then.
     pub(crate) fn let_go<R: Wait>(&self, rt: &R, message: M, frame_length: usize) {
         if self.is_made_here(frame_length) {
             drop(message);
@@ -50,7 +51,8 @@ impl<M: Drop> Written<M> {
         }
     }
 
-    /// Whether this side made most of a message whose frame has so many bytes: what was read last is much shorter.
+    /// Returns whether this side made most of a message whose frame has `frame_length` bytes: the message that was read
+    /// last is much shorter.
     fn is_made_here(&self, frame_length: usize) -> bool {
         frame_length / 2 > self.last_read.load(Ordering::Relaxed)
     }
@@ -64,7 +66,7 @@ pub(crate) struct Returned<M: Drop> {
 }
 
 impl<M: Drop> Returned<M> {
-    /// Notes how many bytes the content part has that is read.
+    /// Records how many bytes the content part has that is being read.
     pub(crate) fn note_read(&self, length: usize) {
         self.last_read.store(length, Ordering::Relaxed);
     }
@@ -75,8 +77,8 @@ impl<M: Drop> Returned<M> {
     }
 }
 
-/// Where messages go when they are written, and the two ends at which they come out: that of the thread that reads, and that of
-/// the thread that drops large ones.
+/// Makes the channel for messages that are written, and its two ends: that of the reading thread, and that of the
+/// thread that drops large messages.
 pub(crate) fn channels_of_written<M: Drop>(
     alloc: Global,
 ) -> Result<(Written<M>, Returned<M>, Receiver<M>), AllocError> {
@@ -91,7 +93,7 @@ pub(crate) fn channels_of_written<M: Drop>(
     Ok((written, Returned { back, last_read }, large))
 }
 
-/// Drops large messages as they come, until no more can come.
+/// Drops large messages as they arrive, until no more can follow.
 pub(crate) fn drop_all<R: Wait + Drop, M: Drop>(rt: R, large: Receiver<M>) {
     for message in large.iter(&rt) {
         drop(message);
