@@ -9,8 +9,8 @@ use std::marker::Model;
 /// How many bytes of a message are shown at most.
 const SHOWN_BYTES: usize = 400;
 
-/// The beginning of what `{:?}` prints of a message: as many whole characters as 400 bytes have room for. It takes no more memory than
-/// these.
+/// Returns the first characters of what `{:?}` prints of a message: as many whole characters as 400 bytes have room
+/// for. It takes no more memory than these.
 pub(crate) fn beginning_of<D: Debug>(alloc: Global, message: &D) -> Result<String, AllocError>
     ensures { IfOk result (λ shown. length (string_bytes shown) ≤ 400) }
 {
@@ -22,7 +22,7 @@ pub(crate) fn beginning_of<D: Debug>(alloc: Global, message: &D) -> Result<Strin
     Ok(beginning.into_text())
 }
 
-/// Keeps what is written to it, up to so many bytes, and then fails.
+/// Keeps the text that is written to it, up to a number of bytes, and then fails.
 #[derive(Drop)]
 struct Beginning {
     text: String,

@@ -31,8 +31,8 @@ enum ProtocolRepr {
 
 /// Why a handshake, or the end of a session, failed (LSP 3.17, "Server lifecycle").
 ///
-/// It prints one of these texts. Where the table has `..`, the message that came follows as `{:?}` prints it, 400 bytes of it at
-/// most, and that part may change.
+/// It prints one of these texts. In place of `..` it prints the message that arrived, as `{:?}` does, at most 400 bytes
+/// of it. That part may change between versions.
 ///
 /// | Text | `channel_is_disconnected` |
 /// |---|---|
@@ -45,8 +45,8 @@ enum ProtocolRepr {
 /// | `channel disconnected waiting for exit notification` | true |
 /// | `out of memory` | false |
 ///
-/// To find out which it is, ask `channel_is_disconnected` and `is_out_of_memory`, or look at the text. Two errors are equal if
-/// they print the same and answer the same to `channel_is_disconnected`.
+/// To find out which error it is, call `channel_is_disconnected` and `is_out_of_memory`, or compare the text. Two
+/// errors are equal if they print the same text and return the same from `channel_is_disconnected`.
 #[derive(Debug, Drop)]
 pub struct ProtocolError(ProtocolRepr);
 
@@ -63,7 +63,7 @@ impl From<SendFault> for ProtocolError {
 
     ghost from_gives = { λ fault error. error ≡ fault_of_refusal fault };
 
-    /// The fault of a session whose outbox refuses a message: `disconnected channel`, or `out of memory`.
+    /// Makes the error of a session whose outbox refuses a message: `disconnected channel`, or `out of memory`.
     fn from(fault: SendFault) -> ProtocolError {
         match fault {
             SendFault::Closed(message) => {
@@ -81,7 +81,7 @@ impl From<SendFault> for ProtocolError {
 impl From<AllocError> for ProtocolError {
     ghost from_gives = { λ _ error. error ≡ out_of_memory };
 
-    /// The error `out of memory`.
+    /// Makes the error `out of memory`.
     fn from(_failed: AllocError) -> ProtocolError {
         ProtocolError::out_of_memory()
     }
@@ -90,7 +90,8 @@ impl From<AllocError> for ProtocolError {
 impl ProtocolError {
     ghost use Rattle.lsp_session.specs.ProtocolError.{is_disconnected, is_memory};
 
-    /// Whether the other side is gone: the texts `disconnected channel` and `channel disconnected waiting for exit notification`.
+    /// Returns whether the other side is gone: the texts `disconnected channel` and `channel disconnected waiting for
+    /// exit notification`.
     pub fn channel_is_disconnected(&self) -> bool
         ensures { result ≡ is_disconnected self.now }
     {
@@ -102,7 +103,7 @@ impl ProtocolError {
         )
     }
 
-    /// Whether an allocation failed: the text `out of memory`.
+    /// Returns whether an allocation failed: the text `out of memory`.
     pub fn is_out_of_memory(&self) -> bool
         ensures { result ≡ is_memory self.now }
     {
@@ -114,14 +115,14 @@ impl ProtocolError {
 }
 
 impl ProtocolError {
-    /// The error `disconnected channel`, of a closed inbox or outbox.
+    /// Returns the error `disconnected channel` of a closed inbox or outbox.
     pub fn disconnected() -> ProtocolError
         ensures { result ≡ disconnected }
     {
         ProtocolError(ProtocolRepr::Disconnected)
     }
 
-    /// Why a session stopped that ends with this error.
+    /// Returns why a session stopped that ends with this error.
     pub(crate) fn stop_reason(&self) -> StopReason
         ensures { result ≡ reason_of_fault self.now }
     {
@@ -158,7 +159,7 @@ impl ProtocolError {
         ProtocolError(ProtocolRepr::ShutdownDisconnected)
     }
 
-    /// The error `out of memory`, of a failed allocation.
+    /// Returns the error `out of memory` of a failed allocation.
     pub fn out_of_memory() -> ProtocolError
         ensures { result ≡ out_of_memory }
     {

@@ -1,4 +1,4 @@
-//! Laws of the lifecycle and of sessions, each as the contract of a function: the proofs of callers may rest on them.
+//! Laws of the lifecycle and of sessions. Each is the contract of a function, on which the proofs of callers may rest.
 pub mod clients;
 pub mod dialogs;
 pub mod policies;

@@ -1,5 +1,5 @@
-//! A server's session (LSP 3.17, "Server lifecycle"): the handshake and the shutdown over boxes of any kind, and the loops
-//! between bytes and messages. `lsp_server` gives all of it on under the same names, except for the module `machine`.
+//! A server's session (LSP 3.17, "Server lifecycle"): the handshake and the shutdown with any inbox and outbox, and the
+//! loops between bytes and messages. `lsp_server` exports all of it under the same names, except the module `machine`.
 #![tactic(auto)]
 
 mod beginning;

@@ -1,8 +1,9 @@
-//! The lifecycle of a session (LSP 3.17, "Server lifecycle"), over whatever gives messages and whatever takes them.
+//! The lifecycle of a session (LSP 3.17, "Server lifecycle"), with any value that reads messages and any that sends
+//! them.
 //!
-//! The table shows what each call answers to which message. An error is named by the text that it prints.
+//! The table shows the answer of each call to each message. An error is named by the text that it prints.
 //!
-//! | What comes | `start_within` | `wait_within`, `finish_within`, `finish` | `shutdown` |
+//! | Event | `start_within` | `wait_within`, `finish_within`, `finish` | `shutdown` |
 //! |---|---|---|---|
 //! | the request `initialize` | its id and its params | `expected initialized notification, got: ..` | `unexpected message during shutdown: ..` |
 //! | another request | it is answered with code -32002, and the wait goes on | `expected initialized notification, got: ..` | `unexpected message during shutdown: ..` |
@@ -14,8 +15,8 @@
 //! | the end of the messages | `disconnected channel` | `disconnected channel` | `channel disconnected waiting for exit notification` |
 //! | a gate that says no | `Initialization has been aborted during initialization` | the same | no gate is asked |
 //!
-//! A closed outbox ends the handshake with `disconnected channel`, and a failed allocation with `out of memory`. If the reply to
-//! `shutdown` can't be sent, it waits for `exit` all the same.
+//! A closed outbox ends the handshake with `disconnected channel`, and a failed allocation with `out of memory`. If the
+//! reply to `shutdown` can't be sent, `shutdown` waits for `exit` all the same.
 ghost use Rattle.std.specs.Prelude.{◌≡◌, ◌≢◌, Ok, IfErr};
 ghost use Rattle.serde_json.specs.Data.{null};
 ghost use Rattle.serde_json.specs.View.{view};
@@ -44,30 +45,30 @@ pub use initialized::{finish, finish_within, wait_within};
 pub use kinds::is_exit;
 pub use lists::{ListGate, ListInbox, ListOutbox};
 
-/// What a receive gives.
+/// The result of a receive.
 #[derive(Debug, Drop)]
 pub enum Event {
-    /// A message came.
+    /// A message arrived.
     Message(Message),
-    /// Nothing came in time.
+    /// No message arrived in time.
     Timeout,
-    /// Nothing will come any more.
+    /// No more messages can arrive.
     Closed,
 }
 
-/// What a session that serves its client waits for.
+/// An event for which a session waits while it serves its client.
 #[derive(Debug, Drop)]
 pub enum Arrival {
-    /// A message came.
+    /// A message arrived.
     Message(Message),
     /// Something that the service waits for is ready.
     Woken,
-    /// Nothing will come any more.
+    /// No more messages can arrive.
     Closed,
 }
 
 impl Arrival {
-    /// What a receive without limit gave. It is no wake.
+    /// Makes an arrival from the result of a receive without limit. It is no wake-up.
     pub fn from_event(event: Event) -> Arrival
         requires { event_view event ≢ timeout }
         ensures { arrival_view result ≡ event_view event }
@@ -80,41 +81,41 @@ impl Arrival {
     }
 }
 
-/// Gives messages one after another.
+/// A source of messages, one after another.
 pub trait Inbox {
     ghost use Rattle.lsp_session.specs.Event.{Event};
 
-    /// One receive may give this event, and change the contents so.
+    /// One receive may return this event, and change the contents in this manner.
     ghost receives: { Self → Event → Self → Type 0 };
 
-    /// Waits for a message, but no longer than this many seconds.
+    /// Waits for a message, but no longer than `seconds` seconds.
     fn receive_for(&mut self, seconds: u64) -> Event
         ensures { receives self.old (event_view result) self.new };
 
-    /// Waits for a message without limit. It never gives `Timeout`.
+    /// Waits for a message without limit. It never returns `Timeout`.
     fn receive(&mut self) -> Event
         ensures receives { WaitsFor receives self.old (event_view result) self.new }
         ensures never_timeout { event_view result ≢ timeout };
 }
 
-/// An inbox that may also give wakes: something that a service waits for is ready.
+/// An inbox that may also give wake-ups, which mean that something is ready for which a service waits.
 pub trait WakingInbox: Inbox {
     ghost use Rattle.std.specs.Prelude.{⊤};
     ghost use Rattle.lsp_session.specs.Event.{Event};
 
-    /// What a wait that also gives wakes says besides. An inbox that wakes says here that such a wait passes over none, if
-    /// `receive` may.
+    /// What a wait that also gives wake-ups promises beyond `receives`. An inbox with wake-ups says here that such a
+    /// wait loses none of them, although `receive` may.
     ghost listens: { Self → Event → Self → Type 0 } = { λ _ _ _. ⊤ };
 
-    /// Waits for a message or a wake, without limit. A session calls it from `initialized` up to `shutdown`, and nowhere else, so no
-    /// service is woken before or after. That it calls it there, and not `receive`, is in the contract of a session over one value
-    /// (`serve_transport`).
+    /// Waits for a message or a wake-up, without limit. A session calls it from `initialized` up to `shutdown` and
+    /// nowhere else, so no service is woken before or after. The contract of `serve_transport`, a session on one value,
+    /// says that the session calls it there, and not `receive`.
     fn receive_or_woken(&mut self) -> Arrival
         ensures receives { WaitsFor Self.receives self.old (arrival_view result) self.new }
         ensures listens { listens self.old (arrival_view result) self.new };
 }
 
-/// Why a message was not taken. Each variant gives it back.
+/// Why an outbox did not take a message. Each variant returns the message.
 #[derive(Debug, Drop)]
 pub enum SendFault {
     /// The outbox is closed.
@@ -123,16 +124,16 @@ pub enum SendFault {
     Memory(Message),
 }
 
-/// Takes messages one after another.
+/// A destination of messages, one after another.
 pub trait Outbox {
     ghost use Rattle.std.specs.Prelude.{Result};
     ghost use Rattle.lsp_message.specs.Message.{Message};
     ghost use Rattle.lsp_session.specs.declared.lifecycle.SendFault.{SendFault};
 
-    /// One send of this message may have this outcome, and change the contents so.
+    /// One send of this message may have this outcome, and change the contents in this manner.
     ghost sends: { Self → Message → Result Unit SendFault → Self → Type 0 };
 
-    /// Sends a message. A fault gives it back.
+    /// Sends a message. A fault returns it.
     fn send(&mut self, message: Message) -> Result<(), SendFault>
         ensures sends { sends self.old (message_view message) result self.new }
         ensures handed_back { IfErr result (λ fault. handed_back fault ≡ message) };
@@ -140,13 +141,14 @@ pub trait Outbox {
 
 /// An outbox that also takes results that are text already.
 pub trait TextOutbox: Outbox {
-    /// Sends the response with this id and this text as its result. A fault gives back the response with null as its result.
+    /// Sends the response with this id and this text as its result. A fault returns the response with null as its
+    /// result.
     fn send_text(&mut self, id: RequestId, text: ResultText) -> Result<(), SendFault>
         ensures sends { Self.sends self.old (response id (Ok (view text))) result self.new }
         ensures handed_back { IfErr result (λ fault. message_view (handed_back fault) ≡ response id (Ok null)) };
 }
 
-/// The response with this id and null as its result: what a fault of `TextOutbox::send_text` gives back.
+/// Makes the response with this id and null as its result. A fault of `TextOutbox::send_text` returns it.
 pub fn without_result(id: RequestId) -> Message
     ensures { message_view result ≡ response id (Ok null) }
 {
@@ -156,17 +158,17 @@ pub fn without_result(id: RequestId) -> Message
     })
 }
 
-/// Says whether a handshake should go on.
+/// Decides whether a handshake should go on.
 pub trait Gate {
     ghost use Rattle.std.specs.Prelude.{Bool, ⊤};
 
-    /// The gate may be asked. One that calls a closure needs that it may be called.
+    /// The gate may be asked. A gate that calls a closure requires that the closure may be called.
     ghost can_ask: { Self → Type 0 } = { λ _. ⊤ };
 
-    /// One question may have this answer, and change the contents so.
+    /// One question may have this answer, and change the contents in this manner.
     ghost asks: { Self → Bool → Self → Type 0 };
 
-    /// Whether to go on.
+    /// Returns whether to go on.
     fn ask(&mut self) -> bool
         requires { can_ask self.old }
         ensures asks { asks self.old result self.new }

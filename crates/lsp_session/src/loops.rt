@@ -59,7 +59,7 @@ pub use write::{WriteEnd, write_loop};
 /// How a loop over a reader's messages ended.
 #[derive(Clone, Copy, Debug, PartialEq, Eq)]
 pub enum ReadEnd {
-    /// With the notification `exit`, which was handed on.
+    /// With the notification `exit`, which was passed on.
     Exit,
     /// At the end of the input.
     End,
@@ -71,7 +71,7 @@ pub enum ReadEnd {
     Memory,
 }
 
-/// How reading ends if a message is refused.
+/// Says how reading ends if a message is refused.
 impl From<SendFault> for ReadEnd {
     ghost use Rattle.std.specs.Prelude.{◌≡◌};
     ghost use Rattle.lsp_session.specs.ReadLoop.{refused_end};
@@ -92,8 +92,8 @@ impl From<SendFault> for ReadEnd {
     }
 }
 
-/// Hands on a reader's messages, up to and with the first `exit`. Of any reader it is known that each change of the outbox is that
-/// of a send.
+/// Passes on a reader's messages to an outbox, up to and including the first `exit`. `offered` holds for every reader:
+/// each change of the outbox is that of a send.
 pub fn read_loop<R: BufRead, O: Outbox>(alloc: Global, reader: &mut R, outbox: &mut O) -> ReadEnd
     ensures handed { IfSome (R.remaining reader.old) (λ text.
         Hands no_limit O.sends text outbox.old outbox.new (R.remaining reader.new) result) }
@@ -102,8 +102,8 @@ pub fn read_loop<R: BufRead, O: Outbox>(alloc: Global, reader: &mut R, outbox: &
     read_loop_within(alloc, reader, outbox, u64::MAX)
 }
 
-/// Hands on a reader's messages, up to and with the first `exit`. A message whose content part has more than `limit` bytes
-/// ends the loop with `ReadFault::TooLong`, and is unread. A header part is not bounded.
+/// Passes on a reader's messages to an outbox, up to and including the first `exit`. A message whose content part has
+/// more than `limit` bytes ends the loop with `ReadFault::TooLong`, and stays unread. A header part is not bounded.
 pub fn read_loop_within<R: BufRead, O: Outbox>(
     alloc: Global,
     reader: &mut R,

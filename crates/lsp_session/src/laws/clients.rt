@@ -1,4 +1,4 @@
-//! What a client reads of a session.
+//! What a client receives in a session.
 ghost use Rattle.std.specs.Prelude.{◌<◌, ◌^◌, ◌++◌, ℕ, List, length, Option, Some, Result};
 ghost use Rattle.lsp_session.specs.ClientReads.{ClientReads};
 ghost use Rattle.lsp_session.specs.PassingBytes.{GivesAndTells};
@@ -11,10 +11,12 @@ ghost use Rattle.lsp_message.specs.declared.frame.limits.Limits.{Limits};
 
 use crate::loops::{BadContentPolicy, Service};
 
-/// A client that reads the bytes which a session wrote gets the messages that the session sent, in order (LSP 3.17, "Base Protocol"), up
-/// to the first that nests more than 127 levels. Only the last message may be missing, if a write or an allocation failed. The data of an
-/// error comes back as absent if it is null. A fact of each session whose writer says what it holds, and that wrote fewer than 2^64 bytes,
-/// with a policy or without one. `frames_are_read_back` of `lsp_message` says it of frames alone.
+/// A client that reads the bytes which a session wrote receives the messages that the session sent, in order (LSP 3.17,
+/// "Base Protocol"), up to the first that nests more than 127 levels. Only the last message may be missing, if a write
+/// or an allocation failed. An error's data of null is read back as absent.
+///
+/// This applies to each session whose writer says what it contains, and that wrote fewer than 2^64 bytes, with a policy
+/// or without one. `frames_are_read_back` of `lsp_message` says the same about frames alone.
 pub fn client_reads_what_was_sent<S: Service, L: BadContentPolicy>()
     ensures bytes { (limit : Limits) (old new : S) (text : List ℕ) (left : Option (List ℕ))
         (before written : List ℕ) (answer : Result EndOfSession FaultOfSession)

@@ -12,9 +12,10 @@ ghost use Rattle.lsp_session.specs.SessionLaws.{Both};
 use crate::lifecycle::{Outbox, WakingInbox};
 use crate::loops::{Handler, Service};
 
-/// Over a transport that keeps an account of its acts, a session acts in order: a message is read, all that is to be sent for it is sent, and
-/// only then the next is read. So the result of `initialize` is sent before `initialized` is read, and the reply to `shutdown` before
-/// `exit` is (LSP 3.17, "Server lifecycle"). This is said of the same exchanges as all else.
+/// On a transport that keeps an account of its acts, a session acts in order: it reads a message, sends everything that
+/// is to be sent for it, and only then reads the next one. So the result of `initialize` is sent before `initialized`
+/// is read, and the reply to `shutdown` before `exit` is read (LSP 3.17, "Server lifecycle"). This is about the same
+/// exchanges as all other clauses of the session.
 pub fn session_acts_in_order<L: WakingInbox + Outbox, S: Service>()
     ensures { (account : L → List Act) (old new : S) (before after : L) (answer : SessionAnswer)
         → KeepsAccount L.receives L.sends account
@@ -25,11 +26,15 @@ pub fn session_acts_in_order<L: WakingInbox + Outbox, S: Service>()
         (Both (SessionOut S.behavior old new) (InOrder acts)) before answer after }
 {}
 
-/// A client that waits only for what is owed to it is never kept waiting by a session that acts in order: whenever the session awaited
-/// something, the client went on. So the two never waited for each other, whatever the client sent, in whatever order, up to the end of
-/// the session or a message that the transport refused. It is a fact of the acts of a session that ended; since no session knows what it
-/// will read, one that goes on has acted so too. What is owed is what the session sends for the messages that it read, such as the
-/// result of `initialize` and the reply to `shutdown`. In a handler's session it is one reply to each request, in their order.
+/// A session that acts in order never keeps a client waiting that waits only for messages which are due to it. Whenever
+/// the session waited for something, the client went on. So the two never waited for each other, whatever the client
+/// sent, in whatever order, up to the end of the session or up to a message that the transport refused.
+///
+/// The messages that are due are those that the session sends for the messages it read, such as the result of
+/// `initialize` and the reply to `shutdown`. In a handler's session they are one reply to each request, in order.
+///
+/// This is about the acts of a session that has ended. No session knows what it will read, so a session that still runs
+/// has acted in the same way.
 pub fn client_is_never_kept_waiting<S: Service, H: Handler>()
     ensures due { (goes_on : Client) (acts : List Act) (old new : S) (exchanges : List Exchange)
         (stop : Stop) (shutdown_reply : Option Message) (answer : SessionAnswer)

@@ -1,4 +1,4 @@
-//! What a session says of its client's requests if it asks a policy at content parts that are no messages, and of its handler.
+//! What a session that asks a policy, and one of a handler, does with its client's requests.
 ghost use Rattle.serde_json.specs.View.{view};
 ghost use Rattle.std.specs.Prelude.{ℕ, List, Option, Result};
 ghost use Rattle.lsp_message.specs.Message.{Message};
@@ -19,8 +19,8 @@ ghost use Rattle.lsp_session.specs.declared.loops.stream_transport.StreamTranspo
 use crate::loops::{Application, BadContentPolicy, Handler};
 use std::io::{BufRead, Write};
 
-/// With a policy that passes over nothing, such as `EndSession`, a session from known bytes to bytes is one in which each frame is a message: what
-/// `session` says of its session is so of this one.
+/// With a policy that never skips anything, such as `EndSession`, each frame of a session from known bytes to bytes is
+/// a message. So what the contract of `session` says about its session also applies to this one.
 pub fn nothing_is_passed_over<L: BadContentPolicy, A: Application>()
     ensures { (old new : A) (limit : Limits) (text : List ℕ) (left : Option (List ℕ)) (first last : L)
         (before after : Option (List ℕ)) (answer : Result EndOfSession FaultOfSession)
@@ -29,16 +29,17 @@ pub fn nothing_is_passed_over<L: BadContentPolicy, A: Application>()
         → Gives limit (A.session old new) text left before after answer }
 {}
 
-/// With a policy that allows nothing to be skipped, such as `EndSession`, no content part is skipped in a session over a transport, of whatever
-/// reader and writer. A fact of each session that `StreamTransport::serve` ran.
+/// With a policy that never skips anything, such as `EndSession`, no content part is skipped in a session on a
+/// transport, for every reader and writer. This applies to each session that `StreamTransport::serve` ran.
 pub fn nothing_is_skipped<R: BufRead, W: Write, L: BadContentPolicy, A: Application>()
     ensures { (old new : A) (before after : TransportOf R W L) (answer : Result EndOfSession FaultOfSession)
         → PassesNothingOver L.passes → Serves L.passes (A.session old new) before answer after
         → SkipsNothing (notes_of after.transcript.now) }
 {}
 
-/// A session of a handler that is lent to a service (`HandlerService`) is one of the handler, which answers `initialize` with the capabilities that
-/// the service was lent: what `session` says is so of each session that is run over such a service, and each request gets exactly one reply
+/// A session of a handler that is lent to a service (`HandlerService`) is a session of that handler, which answers
+/// `initialize` with the capabilities that the service was lent. So what the contract of `session` says applies to each
+/// session that is run with such a service, and each request gets exactly one reply
 /// (`sessions::session_answers_requests`).
 pub fn handler_service_runs_its_handler<H: Handler>()
     ensures { (old new : ServiceOf H) (exchanges : List Exchange) (stop : Stop)

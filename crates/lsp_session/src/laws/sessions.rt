@@ -11,11 +11,12 @@ ghost use Rattle.lsp_session.specs.declared.lifecycle.SendFault.{SendFault as Re
 
 use crate::loops::{Handler, Service};
 
-/// Each request of a handler's session gets exactly one reply, under its id and in order, and no reply goes to anything else
-/// (JSON-RPC 2.0, section 5): those that came too early, `initialize`, those that the handler answered, and `shutdown`. Only a
-/// last request that the lifecycle does not allow has none; which these are the order of the lifecycle says, which the session keeps as
-/// well (`session_keeps_order`). A fact of the exchanges of each session that was run, and so of the session in each form: by the lemmas of
-/// `proofs/Forms`.
+/// Each request of a handler's session gets exactly one reply, under its id and in order, and no reply goes to anything
+/// else (JSON-RPC 2.0, section 5). This includes requests that came too early, `initialize`, those that the handler
+/// answered, and `shutdown`. The only request without a reply is a last one that the lifecycle does not allow.
+/// `session_keeps_order` says which requests these are.
+///
+/// This applies to the exchanges of each session that was run, and so to a session in each form.
 pub fn session_answers_requests<H: Handler>()
     ensures { (capabilities : Data) (old new : H) (exchanges : List Exchange)
         (stop : Stop) (shutdown_reply : Option Message) (answer : SessionAnswer)
@@ -24,8 +25,8 @@ pub fn session_answers_requests<H: Handler>()
         → Both AnswersRequests (KeepsOrder false false) exchanges stop shutdown_reply answer }
 {}
 
-/// If the answer is that the client is gone, each request that the session read has its reply: a request is left without
-/// one only if the fault shows it.
+/// If a session returns that the client is gone, each request that it read has its reply. So if a request is left
+/// without one, the fault shows it.
 #[tactic(auto, using(crate::proofs::Ordering::all_answered))]
 pub fn lost_client_was_answered()
     ensures { (exchanges : List Exchange) (stop : Stop) (shutdown_reply : Option Message)
@@ -34,7 +35,8 @@ pub fn lost_client_was_answered()
         → AllReplied exchanges }
 {}
 
-/// After a message that the outbox refused nothing more is sent, the reply to `shutdown` neither: a fact of each session.
+/// After a message that the outbox refused, nothing more is sent, not even the reply to `shutdown`. This applies to
+/// each session.
 #[tactic(auto, using(crate::proofs::Ordering::no_shutdown_reply))]
 pub fn nothing_follows_a_refusal<S: Service>()
     ensures { (old new : S) (exchanges : List Exchange) (fault : RefusedSend)
@@ -43,8 +45,8 @@ pub fn nothing_follows_a_refusal<S: Service>()
         → shutdown_reply ≡ None }
 {}
 
-/// Whatever is no reply is sent after the client sent `initialize` and then `initialized`, and after the result of
-/// `initialize` (LSP 3.17, "Server lifecycle"): a fact of each session that keeps its order.
+/// A message that is no reply is sent only after the client sent `initialize` and then `initialized`, and after the
+/// result of `initialize` (LSP 3.17, "Server lifecycle"). This applies to each session that keeps its order.
 pub fn only_replies_come_first()
     ensures { (passes_late speaks_last : Bool) (exchanges : List Exchange) (stop : Stop)
         (shutdown_reply : Option Message) (answer : SessionAnswer) (before more : List Message)
@@ -54,13 +56,18 @@ pub fn only_replies_come_first()
         → OpenedBy exchanges before }
 {}
 
-/// A session keeps the order of the lifecycle (LSP 3.17, "Server lifecycle"), whatever its service gives: up to and with `initialize`
-/// each request gets one reply, errors first and last the result of `initialize`, and nothing else is sent before `initialized` comes;
-/// then the first `shutdown` gets null, which is the last message that is sent, after what the service gives for it. If no `initialize` gets a result, nothing but
-/// errors is sent. No message comes after an `exit`, nor after a response that comes before `initialize`. The answer is that of the
-/// phase in which the session stopped: it is shut down only by an `exit` after the reply to `shutdown`. It stopped at a message that the
-/// outbox refused only if it offered one for what came last. A fact of the exchanges of each session that was run, and so of the session in each form: by
-/// the lemmas of `proofs/Forms`.
+/// A session keeps the order of the lifecycle (LSP 3.17, "Server lifecycle"), whatever its service returns.
+///
+/// - Up to and including `initialize`, each request gets one reply: first errors, and last the result of `initialize`.
+///   Nothing else is sent before `initialized` arrives. If no `initialize` gets a result, only errors are sent.
+/// - The first `shutdown` gets null, after the messages that the service returns for it. This reply is the last message
+///   that is sent.
+/// - No message is read after an `exit`, or after a response that arrives before `initialize`.
+/// - The result is that of the phase in which the session stopped. The session is shut down only by an `exit` after the
+///   reply to `shutdown`.
+/// - It stopped at a message that the outbox refused only if it offered one for the last message it read.
+///
+/// This applies to the exchanges of each session that was run, and so to a session in each form.
 pub fn session_keeps_order<S: Service>()
     ensures { (old new : S) (exchanges : List Exchange) (stop : Stop)
         (shutdown_reply : Option Message) (answer : SessionAnswer)

@@ -1,4 +1,5 @@
-//! What an engine of the lifecycle takes from a reader, and what it leaves; and what a session over a transport reads and writes.
+//! What the steps of the lifecycle take from a reader, and what they leave in it; and what a session on a transport
+//! reads and writes.
 ghost use Rattle.serde_json.specs.View.{view};
 ghost use Rattle.std.specs.Prelude.{◌≡◌, false, ℕ, List, Option, None, Result, IfSome};
 ghost use Rattle.lsp_message.specs.Frame.{no_limit};
@@ -30,8 +31,8 @@ use serde_json::Value;
 use std::alloc::Global;
 use std::io::{BufRead, Write};
 
-/// `finish` over the messages of a reader that is lent: what it takes are the messages that the reader's bytes begin
-/// with, and what follows them is left.
+/// Does what `finish` does, with the messages of a reader that is lent. It takes messages from the front of the
+/// reader's bytes. The bytes after them stay in the reader.
 pub fn finish_over_reader<R: BufRead, O: Outbox>(
     alloc: Global,
     reader: &mut R,
@@ -48,13 +49,13 @@ pub fn finish_over_reader<R: BufRead, O: Outbox>(
     finish(alloc, &mut inbox, outbox, id, initialize_result)
 }
 
-/// What a session over a transport that was not used yet comes to in bytes, and in which order it read and wrote (LSP 3.17, "Base Protocol"
-/// and "Server lifecycle"): a fact of each session that `serve_transport` ran over a `StreamTransport`, whose answer is `StreamTransport::answer`. The
-/// transport keeps its reader, its writer and its policy.
+/// Says which bytes a session on an unused transport reads and writes, and in which order (LSP 3.17, "Base Protocol"
+/// and "Server lifecycle"). It applies to each session that `serve_transport` ran on a `StreamTransport`. Its result is
+/// `StreamTransport::answer`. The transport keeps its reader, its writer and its policy.
 ///
-/// All that is to be sent for a message is written before the next message is read: the result of `initialize` before `initialized`, and the
-/// reply to `shutdown` before `exit`. So a client may wait for it before it sends on. That the writer is also flushed before the next
-/// message is read is tested, and no part of the contract.
+/// Everything that is to be sent for a message is written before the next message is read: the result of `initialize`
+/// before `initialized`, and the reply to `shutdown` before `exit`. So a client may wait for it before it sends more.
+/// That the writer is also flushed before the next message is read is tested, and not part of the contract.
 pub fn transport_gives_in_order<R: BufRead, W: Write, L: BadContentPolicy, S: Service>()
     ensures { (old new : S) (before after : TransportOf R W L) (reason : Reason) (answer : SessionAnswer)
         → IsUnused before
@@ -66,14 +67,17 @@ pub fn transport_gives_in_order<R: BufRead, W: Write, L: BadContentPolicy, S: Se
         × KeepsEnds before after }
 {}
 
-/// What a session over a transport that was not used yet took and gave, of whatever reader and writer, also of such as do not say which bytes
-/// they have, as standard input and output (LSP 3.17, "Base Protocol" and "Server lifecycle"): a fact of each session that `serve_transport`
-/// ran over a `StreamTransport`.
+/// Says which bytes a session on an unused transport took and gave, for every reader and writer (LSP 3.17, "Base
+/// Protocol" and "Server lifecycle"). This includes readers and writers that do not say which bytes they have, such as
+/// standard input and output. It applies to each session that `serve_transport` ran on a `StreamTransport`.
 ///
-/// Its transcript has the acts in their order, each with the bytes that passed in it. These are the acts of a session: a message is
-/// taken, all that is to be sent for it is given, and only then the next is taken. The bytes that were taken for a message are a frame that means it,
-/// whatever follows them, and no byte more; at the end of the messages they are those of the end of the input, or of the fault. The bytes that were given
-/// for a message are a frame of it; of one that was refused a beginning of one, or none.
+/// The transcript lists the acts in order, each with its bytes. These are the acts of a session: it takes a message,
+/// gives everything that is to be sent for it, and only then takes the next one.
+///
+/// - The bytes that were taken for a message are a frame of it, whatever follows them, and no byte more.
+/// - At the end of the messages, the bytes taken are those of the end of the input, or of the fault.
+/// - The bytes that were given for a message are a frame of it. For a message that was refused they are a prefix of
+///   one, or none.
 pub fn transport_tells_its_bytes<R: BufRead, W: Write, L: BadContentPolicy, S: Service>()
     ensures { (old new : S) (before after : TransportOf R W L) (reason : Reason) (answer : SessionAnswer)
         → IsUnused before
@@ -85,9 +89,9 @@ pub fn transport_tells_its_bytes<R: BufRead, W: Write, L: BadContentPolicy, S: S
         × PassesBetween R.remaining W.contents (notes_of after.transcript.now) before after }
 {}
 
-/// Where a reader doesn't say which bytes it has, as standard input, a file or a socket, a clause that speaks of its bytes says nothing: it holds
-/// whatever the answer is, and whatever was written. So of a program over such a reader only a transcript tells what passed
-/// (`StreamTransport::serve`).
+/// If a reader does not say which bytes it has, as standard input, a file and a socket do not, a clause about its bytes
+/// says nothing: it holds whatever the result is, and whatever was written. So for a program on such a reader only a
+/// transcript says which bytes were read and written (`StreamTransport::serve`).
 pub fn unknown_bytes_say_nothing<L: BadContentPolicy, S: Service>()
     ensures { (limit : Limits) (old new : S) (left before after : Option (List ℕ)) (first last : L)
         (answer : Result EndOfSession FaultOfSession)
@@ -95,10 +99,11 @@ pub fn unknown_bytes_say_nothing<L: BadContentPolicy, S: Service>()
         first last before after answer) }
 {}
 
-/// A session over a transport that was not used yet, whose policy ends nothing, as `Ignore` does, reads on: what it stopped at while it
-/// served its client, before a `shutdown`, is no content part that was read whole and is no message (LSP 3.17, "Base Protocol"). A fact of
-/// each session that `serve_transport` ran over a `StreamTransport`. At the other waits, such as those for `initialize` and for `exit`,
-/// nobody is asked, and such a content part ends the messages.
+/// A session on an unused transport whose policy never ends it, such as `Ignore`, reads on after bad content. While it
+/// serves its client, before a `shutdown`, it does not stop at a content part that was read whole and is no message
+/// (LSP 3.17, "Base Protocol"). This applies to each session that `serve_transport` ran on a `StreamTransport`. In the
+/// other waits, such as those for `initialize` and for `exit`, the policy is not asked, and such a content part ends
+/// the messages.
 pub fn transport_reads_on<R: BufRead, W: Write, L: BadContentPolicy, S: Service>()
     ensures { (old new : S) (before after : TransportOf R W L) (reason : Reason) (answer : SessionAnswer)
         → ((policy : L) (fault : ReadFault) → L.ends policy fault → ⊥)

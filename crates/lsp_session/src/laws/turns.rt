@@ -1,4 +1,4 @@
-//! How many turns the engines of the lifecycle take over a list of events.
+//! How many turns the steps of the lifecycle take with a list of events.
 ghost use Rattle.std.specs.Prelude.{◌<◌, ℕ, length, Option, IsSome};
 ghost use Rattle.lsp_message.specs.Message.{Message};
 ghost use Rattle.lsp_session.specs.Finish.{FinishAnswer, AwaitsWithin, FinishesWithin};
@@ -8,8 +8,9 @@ ghost use Rattle.lsp_session.specs.declared.lifecycle.lists.ListInbox.{ListInbox
 
 use crate::lifecycle::{Gate, Outbox};
 
-/// What `start_within`, `wait_within` and `finish_within` say of a call implies that the call answered, if its inbox was a
-/// list with fewer events than the call had turns, whatever gate and outbox it had: a fact of each call that was made.
+/// `start_within`, `wait_within` and `finish_within` return an answer if their inbox is a list with fewer events than
+/// they have turns, whatever the gate and the outbox are. This follows from their contracts, and applies to each call
+/// that was made.
 pub fn list_is_answered<G: Gate, O: Outbox>()
     ensures start { (limit : ℕ) (old new : G × ListInbox × O) (answer : Option StartAnswer)
         → StartsWithin G.asks ListGives O.sends limit old answer new

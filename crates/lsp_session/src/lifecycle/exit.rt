@@ -16,11 +16,12 @@ use std::alloc::Global;
 /// How long `shutdown` waits for `exit`.
 pub(crate) const EXIT_SECONDS: u64 = 30;
 
-/// If the request is `shutdown`, answers it with null and waits up to 30 seconds for the notification `exit`: then `Ok(true)`. For
-/// any other request it gives `Ok(false)`, and nothing is sent or received (LSP 3.17, "Shutdown Request").
+/// Answers the request `shutdown` with null, and waits up to 30 seconds for the notification `exit`. Then it returns
+/// `Ok(true)`. For any other request it returns `Ok(false)`, and sends and receives nothing (LSP 3.17, "Shutdown
+/// Request").
 ///
-/// If that reply can't be sent, it waits for `exit` all the same. If the id can't be copied because an allocation failed, nothing
-/// is sent or received. The table of the module has the errors.
+/// If the reply can't be sent, it waits for `exit` all the same. If the id can't be copied because an allocation
+/// failed, it sends and receives nothing. The table of the module has the errors.
 pub fn shutdown<I: Inbox, O: Outbox>(
     alloc: Global,
     inbox: &mut I,
@@ -40,14 +41,14 @@ pub fn shutdown<I: Inbox, O: Outbox>(
     shutdown_on(alloc, inbox.receive_for(EXIT_SECONDS))
 }
 
-/// Sends a message, and takes no notice of a refusal.
+/// Sends a message, and ignores a refusal.
 pub(crate) fn offer<O: Outbox>(outbox: &mut O, message: Message)
     ensures { Offers O.sends (message_view message) outbox.old outbox.new }
 {
     drop(outbox.send(message));
 }
 
-/// What an event gives in the place of `exit`.
+/// Returns the result for an event in the place of `exit`.
 pub(crate) fn shutdown_on(alloc: Global, event: Event) -> Result<bool, ProtocolError>
     ensures { EventShutsDown (event_view event) result }
 {

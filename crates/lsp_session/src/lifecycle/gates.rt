@@ -15,10 +15,10 @@ impl Gate for OpenGate {
     }
 }
 
-/// A gate that asks a closure. Contracts know nothing of its answers.
+/// A gate that calls a closure. Contracts know nothing about its answers.
 #[derive(Debug, Drop)]
 pub struct CallGate<C: Fn() -> bool> {
-    /// Whether to go on.
+    /// Returns whether to go on.
     pub running: C,
 }
 

@@ -17,12 +17,12 @@ use std::alloc::{AllocError, Global};
 /// How long one turn waits for an event.
 pub(crate) const TURN_SECONDS: u64 = 1;
 
-/// Waits for the request `initialize`, and gives its id and its params. `None` means that nothing was decided in this many turns;
-/// call it again to go on.
+/// Waits for the request `initialize`, and returns its id and its params. `None` means that nothing was decided in
+/// `turns` turns. Call it again to go on.
 ///
-/// One turn asks the gate and, if it says yes, waits up to one second for a message. An earlier request is answered with code
-/// -32002, and an earlier notification other than `exit` is dropped (LSP 3.17, "Server lifecycle"). The table of the module has
-/// the rest.
+/// One turn asks the gate and, if it says yes, waits up to one second for a message. An earlier request is answered
+/// with code -32002, and an earlier notification other than `exit` is dropped (LSP 3.17, "Server lifecycle"). The table
+/// of the module has the rest.
 pub fn start_within<I: Inbox, O: Outbox, G: Gate>(
     alloc: Global,
     inbox: &mut I,
@@ -47,7 +47,7 @@ pub fn start_within<I: Inbox, O: Outbox, G: Gate>(
     None
 }
 
-/// What an event gives before `initialize` came.
+/// Returns the result for an event before `initialize`.
 fn start_on<O: Outbox>(
     alloc: Global,
     outbox: &mut O,
@@ -66,7 +66,7 @@ fn start_on<O: Outbox>(
     }
 }
 
-/// What a message gives before `initialize` came.
+/// Returns the result for a message before `initialize`.
 fn start_on_message<O: Outbox>(
     alloc: Global,
     outbox: &mut O,

@@ -14,8 +14,8 @@ use lsp_message::{Message, RequestId, Response};
 use serde_json::Value;
 use std::alloc::Global;
 
-/// Waits for the notification `initialized`. `None` means that nothing came in this many turns; call it again to go on. A turn is
-/// that of `start_within`, and the table of the module has the answers.
+/// Waits for the notification `initialized`. `None` means that no message arrived in `turns` turns. Call it again to go
+/// on. A turn is that of `start_within`. The table of the module has the answers.
 pub fn wait_within<I: Inbox, G: Gate>(
     alloc: Global,
     inbox: &mut I,
@@ -44,7 +44,7 @@ pub fn wait_within<I: Inbox, G: Gate>(
     None
 }
 
-/// What a message gives in the place of `initialized`.
+/// Returns the result for a message in the place of `initialized`.
 pub(crate) fn finish_on(alloc: Global, message: &Message) -> Result<(), ProtocolError>
     ensures { EventFinishes (message_event (message_view message.now)) result }
 {
@@ -54,8 +54,8 @@ pub(crate) fn finish_on(alloc: Global, message: &Message) -> Result<(), Protocol
     Err(ProtocolError::expected_initialized(alloc, message))
 }
 
-/// Sends the result of `initialize`, and then waits as `wait_within` does. If the result can't be sent, no gate is asked and
-/// nothing is received. After `None` go on with `wait_within`, since the result was sent.
+/// Sends the result of `initialize`, and then waits as `wait_within` does. If the result can't be sent, no gate is
+/// asked and nothing is received. After `None` go on with `wait_within`, since the result was sent.
 pub fn finish_within<I: Inbox, O: Outbox, G: Gate>(
     alloc: Global,
     inbox: &mut I,
@@ -77,7 +77,8 @@ pub fn finish_within<I: Inbox, O: Outbox, G: Gate>(
     wait_within(alloc, inbox, gate, turns)
 }
 
-/// Sends the result of `initialize`, and waits without limit for one message. Any other than `initialized` is an error.
+/// Sends the result of `initialize`, and waits without limit for one message. Any message other than `initialized` is
+/// an error.
 pub fn finish<I: Inbox, O: Outbox>(
     alloc: Global,
     inbox: &mut I,
@@ -102,7 +103,7 @@ pub fn finish<I: Inbox, O: Outbox>(
     }
 }
 
-/// The reply with this result.
+/// Makes the reply with this result.
 pub(crate) fn ok_reply(id: RequestId, value: Value) -> Message
     ensures { message_view result ≡ ok_reply_spec id (view value) }
 {

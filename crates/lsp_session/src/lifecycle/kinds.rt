@@ -5,7 +5,7 @@ ghost use Rattle.lsp_message.specs.View.{message_view};
 
 use lsp_message::Message;
 
-/// Whether the message is the notification `exit`.
+/// Returns whether the message is the notification `exit`.
 pub fn is_exit(message: &Message) -> bool
     ensures { result ≡ exit_spec (message_view message.now) }
 {
@@ -15,7 +15,7 @@ pub fn is_exit(message: &Message) -> bool
     }
 }
 
-/// Whether the message is the notification `initialized`.
+/// Returns whether the message is the notification `initialized`.
 pub(crate) fn is_initialized(message: &Message) -> bool
     ensures { result ≡ initialized_spec (message_view message.now) }
 {

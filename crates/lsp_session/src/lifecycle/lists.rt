@@ -9,10 +9,10 @@ use lsp_message::{Message, RequestId, ResultText};
 use std::alloc::{AllocError, Global};
 use std::collections::VecDeque;
 
-/// An inbox that gives the events of a list in order, and is closed once none is left. Use it for tests.
+/// An inbox that returns the events of a list in order, and is closed once none is left. Use it for tests.
 #[derive(Debug, Drop)]
 pub struct ListInbox {
-    /// What is still to come.
+    /// The events that are left.
     pub events: VecDeque<Event>,
 }
 
@@ -57,19 +57,19 @@ impl Inbox for ListInbox {
     }
 }
 
-/// An outbox that keeps what it is sent, up to `room` messages, and is closed from then on. Use it for tests.
+/// An outbox that keeps the messages it is sent, up to `room` messages. After that it is closed. Use it for tests.
 #[derive(Debug, Drop)]
 pub struct ListOutbox {
-    /// What was sent, in order.
+    /// The messages that were sent, in order.
     pub sent: Vec<Message>,
-    /// How many messages there is room for.
+    /// How many messages the outbox has room for.
     pub room: usize,
 }
 
 impl ListOutbox {
     ghost use Rattle.std.specs.Prelude.{◌≡◌, []};
 
-    /// Makes an empty outbox with room for this many messages. It does not allocate.
+    /// Makes an empty outbox with room for `room` messages. It does not allocate.
     pub fn new(alloc: Global, room: usize) -> ListOutbox
         ensures empty { result.sent.items ≡ [] }
         ensures room { result.room ≡ room }
@@ -128,17 +128,17 @@ fn push_text(sent: &mut Vec<Message>, id: &RequestId, text: ResultText) -> Resul
     }
 }
 
-/// A gate that gives the answers of a list in order, and says no once none is left. Use it for tests.
+/// A gate that returns the answers of a list in order, and says no once none is left. Use it for tests.
 #[derive(Debug, Drop)]
 pub struct ListGate {
-    /// What is still to be answered.
+    /// The answers that are left.
     pub answers: VecDeque<bool>,
 }
 
 impl ListGate {
     ghost use Rattle.std.specs.Prelude.{◌≡◌, []};
 
-    /// Makes a gate that says no. It does not allocate.
+    /// Makes a gate with no answers, which says no. It does not allocate.
     pub fn new(alloc: Global) -> ListGate
         ensures { result.answers.items ≡ [] }
     {

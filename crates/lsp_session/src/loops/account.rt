@@ -28,7 +28,7 @@ impl<E> Model for Last<E> {
     ghost size_decreases = { λ last h. Prim.grind (arith, length-append) };
 }
 
-/// A list that clauses alone see: nothing of its items is kept when a program runs.
+/// A list that only clauses see. Nothing of its items is kept when a program runs.
 #[derive(Drop)]
 pub(crate) struct Account<E> {
     last: Option<Snapshot<Last<E>>>,
@@ -45,7 +45,7 @@ impl<E> Model for Account<E> {
 }
 
 impl<E: Drop> Account<E> {
-    /// An account of nothing.
+    /// Makes an empty account.
     pub(crate) fn new() -> Self
         ensures { result ≡ [] }
     {

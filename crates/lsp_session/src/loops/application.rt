@@ -10,23 +10,26 @@ use crate::loops::session_outcome::SessionOutcome;
 use crate::loops::transport::serve_transport;
 use std::alloc::Global;
 
-/// What you write, ready to run: an application is run for one client at a time, and says what is promised of such a session.
+/// A server that is ready to run. An application serves one client at a time, and says what is promised about such a
+/// session.
 ///
-/// Three kinds are at hand. Take a `HandlerApplication` for a server that only answers (`Handler`). Take a `QueuedServer` of `lsp_acts` for one
-/// that also speaks first (`Server`). Take a `ServiceApplication` for a `Service`, which decides about each message itself.
+/// There are three kinds. Take a `HandlerApplication` for a server that only answers (`Handler`). Take a `QueuedServer`
+/// of `lsp_acts` for one that also sends first (`Server`). Take a `ServiceApplication` for a `Service`, which decides
+/// about each message itself.
 ///
-/// Two functions run any of them. `StreamTransport::serve` runs a session over a reader and a writer on the caller's thread. `run_in_threads` of
-/// `lsp_threads` does so with a thread that reads and one that writes. You need not call `run` yourself, unless your messages come from
-/// elsewhere.
+/// Two functions run any of them. `StreamTransport::serve` runs a session on a reader and a writer, on the caller's
+/// thread. `run_in_threads` of `lsp_threads` adds a thread that reads and one that writes. You need not call `run`
+/// yourself, unless your messages come from elsewhere.
 pub trait Application {
     ghost use Rattle.lsp_session.specs.Session.{SessionPart};
 
-    /// What is promised of a session that led from the first value to the second: of its exchanges, why it stopped, the reply to
-    /// `shutdown`, and the answer.
+    /// What is promised about a session that led from the first value to the second: about its exchanges, why it
+    /// stopped, the reply to `shutdown`, and the result.
     ghost session: { Self → Self → SessionPart };
 
-    /// Runs a session over a value with both ends (LSP 3.17, "Server lifecycle"). All that is to be sent for a message is sent before the next
-    /// message is awaited. `serve_transport` says how a session goes.
+    /// Runs a session on a value that is both an inbox and an outbox (LSP 3.17, "Server lifecycle"). Everything that is
+    /// to be sent for a message is sent before the session waits for the next one. `serve_transport` describes the
+    /// session.
     fn run<T: WakingInbox + TextOutbox>(
         &mut self,
         alloc: Global,
@@ -37,10 +40,10 @@ pub trait Application {
             transport.old result.answer transport.new };
 }
 
-/// A service as an application: what is promised of its session is what the service states of itself.
+/// A service as an application. What is promised about its session is what the service states about itself.
 #[derive(Drop)]
 pub struct ServiceApplication<S> {
-    /// It decides what is sent for each message.
+    /// The service, which decides what is sent for each message.
     pub service: S,
 }
 

@@ -5,24 +5,24 @@ ghost use Rattle.lsp_session.specs.FaultCounts.{counted};
 
 use lsp_message::ReadFault;
 
-/// Is asked at each content part that is no message whether to read on (LSP 3.17, "Base Protocol").
+/// Decides, at each content part that is no message, whether the session reads on (LSP 3.17, "Base Protocol").
 pub trait BadContentPolicy {
     ghost use Rattle.lsp_message.specs.declared.frame.ReadFault.{ReadFault as Fault};
 
-    /// It may pass over a content part with this fault, and change so.
+    /// The policy may skip a content part with this fault, and change in this manner.
     ghost passes: { Self → Fault → Self → Type 0 };
 
-    /// It may end the session at a content part with this fault.
+    /// The policy may end the session at a content part with this fault.
     ghost ends: { Self → Fault → Type 0 };
 
-    /// Whether to pass over a content part with this fault and read on. False ends the session with `SessionFault::Read`, and leaves the
-    /// policy as it is. It is asked at once, before the service is woken.
+    /// Returns whether to skip a content part with this fault and read on. False ends the session with
+    /// `SessionFault::Read`, and leaves the policy as it is. The session calls it at once, before it wakes the service.
     fn passes_over(&mut self, fault: ReadFault) -> bool
         ensures { MatchBool result (passes self.old fault self.new) (ends self.old fault
             × (self.new ≡ self.old)) };
 }
 
-/// A policy that ends the session at the first content part which is no message. So nothing is ever passed over.
+/// A policy that ends the session at the first content part which is no message. So nothing is ever skipped.
 #[derive(Clone, Copy, Debug)]
 pub struct EndSession;
 
@@ -38,7 +38,7 @@ impl BadContentPolicy for EndSession {
     }
 }
 
-/// A policy that passes over each such content part, and takes no notice.
+/// A policy that skips each content part which is no message.
 #[derive(Clone, Copy, Debug)]
 pub struct Ignore;
 
@@ -52,12 +52,12 @@ impl BadContentPolicy for Ignore {
     }
 }
 
-/// A policy that passes over each such content part, and counts those of each kind. A count stays at 2^64 - 1.
+/// A policy that skips each content part which is no message, and counts those of each kind. A count stays at 2^64 - 1.
 #[derive(Clone, Copy, Debug, PartialEq, Eq)]
 pub struct FaultCounts {
     /// How many were not UTF-8.
     pub not_text: u64,
-    /// How many `serde_json` did not read.
+    /// How many were UTF-8 and no JSON that `serde_json` reads.
     pub no_json: u64,
     /// How many were JSON, but neither a message nor a list.
     pub no_message: u64,
@@ -68,7 +68,7 @@ pub struct FaultCounts {
 impl FaultCounts {
     ghost use Rattle.lsp_session.specs.FaultCounts.{no_faults};
 
-    /// Counts that are all 0.
+    /// Makes counts that are all 0.
     pub fn new() -> FaultCounts
         ensures { result ≡ no_faults }
     {

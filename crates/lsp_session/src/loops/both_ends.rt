@@ -13,7 +13,7 @@ use crate::loops::transport::{serve_by, serve_transport};
 use lsp_message::{Message, RequestId, ResultText};
 use std::alloc::Global;
 
-/// An inbox and an outbox as one value with both ends.
+/// An inbox and an outbox as one value.
 #[derive(Drop)]
 struct BothEnds<'a, I, O> {
     inbox: &'a mut I,
@@ -60,24 +60,28 @@ impl<'a, I: Inbox, O: TextOutbox> TextOutbox for BothEnds<'a, I, O> {
     }
 }
 
-/// Runs a session of a server: the handshake, what the service gives for each message, and the shutdown (LSP 3.17,
+/// Runs a session of a server: the handshake, the messages that the service returns, and the shutdown (LSP 3.17,
 /// "Server lifecycle").
 ///
-/// Before `initialize` each request is answered with `ServerNotInitialized`, and each notification but `exit` is dropped.
-/// `initialize` is answered with the service's result. If the service gives an error, that is the reply, and the session
-/// goes on as before `initialize`: a client may send it again (LSP 3.17, "Initialize Request", `retry`). When `initialized`
-/// came, what the service gives for it is sent. From then on each message goes to the service, a reply too, and each wake of the inbox,
-/// up to `shutdown`. What it gives is sent in order, and before the next message is awaited. Of two values no contract can say that, and
-/// this one doesn't; `serve_transport`, which this calls with both as one, has it in its own. Nor does this one say that the session waits
-/// for wakes (`WakingInbox::listens`), so one that passes over each of them would meet it too. That is in the contract of `serve_transport` as well.
-/// `shutdown` is answered with null, after what the service gives for it (`Service::shutdown`), and nothing follows it; `exit` then gives
-/// `ShutDown`. `Closed` comes if, from `initialized` on, `exit` comes without a `shutdown` or no more messages come. What comes at the wrong
-/// time is in the table of `lifecycle`, but that after `shutdown` responses are passed over where the service says so
-/// (`Service::passes_late`).
+/// Before `initialize`, each request is answered with `ServerNotInitialized`, and each notification except `exit` is
+/// dropped. `initialize` is answered with the service's result. If the service returns an error, that is the reply, and
+/// the session goes on as before `initialize`: the client may send it again (LSP 3.17, "Initialize Request", `retry`).
+/// When `initialized` arrives, the session sends what the service returns for it. From then on, up to `shutdown`, the
+/// service gets each message, including responses, and each wake-up of the inbox. Its messages are sent in order,
+/// before the session waits for the next message.
 ///
-/// An outbox that is closed to a message ends the session with `disconnected channel`, and a failed allocation with
-/// `out of memory`; what was to follow for that message is not sent. That this reply could not be sent is ignored. After
-/// 2^64 - 1 events it ends as if no more messages came.
+/// `shutdown` is answered with null, after the messages that the service returns for it (`Service::shutdown`). Nothing
+/// follows this reply, and `exit` then gives `ShutDown`. The result is `Closed` if, from `initialized` on, `exit`
+/// arrives without a `shutdown`, or the messages end. For a message at the wrong time see the table of `lifecycle`.
+/// This has one exception: after `shutdown`, responses are skipped if the service says so (`Service::passes_late`).
+///
+/// An outbox that is closed to a message ends the session with `disconnected channel`, and a failed allocation ends it
+/// with `out of memory`. The remaining messages of that turn are not sent. A reply to `shutdown` that could not be sent
+/// is ignored. After 2^64 - 1 events the session ends as if the messages had ended.
+///
+/// The contract of this call says less than this. A contract about two values can't say in which order they are used,
+/// nor does this one say that the session waits for wake-ups (`WakingInbox::listens`). `serve_transport`, which this
+/// function calls with both as one value, has both in its contract.
 pub fn serve_service<I: WakingInbox, O: TextOutbox, S: Service>(
     alloc: Global,
     inbox: &mut I,
@@ -92,7 +96,7 @@ pub fn serve_service<I: WakingInbox, O: TextOutbox, S: Service>(
     serve_transport(alloc, &mut transport, service)
 }
 
-/// The same of a service that gives one message at most, over any outbox.
+/// Does what `serve_service` does, for a service that returns at most one message, with any outbox.
 pub(crate) fn serve_replies<I: WakingInbox, O: Outbox, S: Service<Output = Option<Message>>>(
     alloc: Global,
     inbox: &mut I,

@@ -20,17 +20,19 @@ use crate::loops::stream_session::{SessionFault, session_answer};
 use lsp_message::{Limits, ReadFault};
 use std::alloc::Global;
 
-/// A session of a server between bytes and bytes (LSP 3.17, "Base Protocol" and "Server lifecycle"). It does no IO: the caller hands it the
-/// bytes that came, and sends its output. So it runs in an event loop, in a test, or behind an interface of another language.
+/// A session of a server from bytes to bytes (LSP 3.17, "Base Protocol" and "Server lifecycle"). It does no IO: the
+/// caller passes in the bytes that arrived, and sends its output. So it runs in an event loop, in a test, or behind an
+/// interface of another language.
 ///
-/// The session does at each message what `serve_transport` says. It holds the bytes of one frame at most, which has at most the bytes that
-/// its `Limits` allow. While more than `most_pending` bytes are to be sent it takes no input, so it holds at most these, and what it sends for
-/// one more event.
+/// At each message the session does what `serve_transport` describes. It holds the bytes of at most one frame, within
+/// its `Limits`. While more than `most_pending` bytes are to be sent, it takes no input. So it holds at most these
+/// bytes, and the output of one more event.
 ///
-/// At bytes that are no message the session ends, as one with the policy `EndSession` does. The answer of `into_parts` is then
-/// `SessionFault::Read`, and the bytes stay unread. If memory runs out, it ends, and the answer is `SessionFault::Memory`.
+/// At bytes that are no message the session ends, as one with the policy `EndSession` does. `into_parts` then returns
+/// `SessionFault::Read`, and the bytes stay unread. If memory runs out, the session ends, and `into_parts` returns
+/// `SessionFault::Memory`.
 ///
-/// This loop runs a session over a reader and a writer. `input` has the bytes that were read and not taken:
+/// This loop runs a session on a reader and a writer. `input` holds the bytes that were read and not taken:
 ///
 /// ```text
 /// while !session.is_done() {
@@ -60,7 +62,7 @@ pub struct ByteSession<S> {
 }
 
 impl<S: Service> ByteSession<S> {
-    /// A session that awaits `initialize`, for messages within limits. It takes no memory.
+    /// Makes a session that waits for `initialize`, for messages within `limits`. It does not allocate.
     pub fn new(alloc: Global, service: S, limits: Limits, most_pending: usize) -> ByteSession<S>
         ensures starts { standing result ≡ record { stage = stage.Starting; service = service; pending = [] } }
         ensures unread { unread result ≡ [] }
@@ -78,14 +80,15 @@ impl<S: Service> ByteSession<S> {
         }
     }
 
-    /// What the session waits for.
+    /// Returns what the session waits for.
     pub fn awaits(&self) -> Awaits
         ensures { result ≡ awaited_in (standing self.now).stage }
     {
         self.core.awaits()
     }
 
-    /// Whether `receive` takes bytes: the session has not ended, and at most `most_pending` bytes are to be sent.
+    /// Returns whether `receive` takes bytes: the session has not ended, and at most `most_pending` bytes are to be
+    /// sent.
     pub fn wants_input(&self) -> bool
         ensures pending { IsTrue result → length (standing self.now).pending ≤ self.now.most_pending }
         ensures waits { IsTrue result → IsOver (standing self.now).stage → ⊥ }
@@ -94,8 +97,9 @@ impl<S: Service> ByteSession<S> {
         self.core.awaits() != Awaits::Nothing && self.output.as_slice().len() <= self.most_pending
     }
 
-    /// Takes bytes that came, in pieces of any size, and serves each message that is whole. Returns how many bytes it took: all of them, unless
-    /// the session ends or more than `most_pending` bytes are to be sent. Hand it the others again when enough of the output was sent.
+    /// Takes bytes that arrived, in pieces of any size, and serves each message that is whole. It returns how many
+    /// bytes it took: all of them, unless the session ends or more than `most_pending` bytes are to be sent. Pass in
+    /// the others again when enough of the output was sent.
     pub fn receive(&mut self, bytes: &[u8]) -> usize
         ensures within { result ≤ length bytes.now }
         ensures goes { Goes self.old.input.limits self.old.most_pending S.behavior (standing self.old) (unread self.old)
@@ -111,7 +115,7 @@ impl<S: Service> ByteSession<S> {
         taken
     }
 
-    /// Takes bytes up to the end of a line of the header part or of the content part. Returns how many.
+    /// Takes bytes up to the end of a line of the header part, or up to the end of the content part. Returns how many.
     fn receive_part(&mut self, bytes: &[u8]) -> usize
         requires room { length (standing self.old).pending ≤ self.old.most_pending }
         requires waits { IsOver (standing self.old).stage → ⊥ }
@@ -174,7 +178,7 @@ impl<S: Service> ByteSession<S> {
         self.come(Came::Closed);
     }
 
-    /// Hands an event to the session, and keeps what that sends. Drops one that the session does not take.
+    /// Passes an event to the session, and keeps the output for it. It drops an event that the session does not take.
     fn come(&mut self, came: Came)
         ensures comes { Comes S.behavior (standing self.old) (came_view came) (standing self.new) }
         ensures input { self.new.input ≡ self.old.input }
@@ -194,7 +198,8 @@ impl<S: Service> ByteSession<S> {
         }
     }
 
-    /// Says that no more bytes come. The session ends. If a frame is not whole then, that is the fault that a reader meets there.
+    /// Reports that no more bytes will arrive. The session ends. If a frame is not whole then, the result is the fault
+    /// that a reader has there.
     pub fn closed(&mut self)
         ensures comes { Comes S.behavior (standing self.old) closed (standing self.new) }
         ensures unread { unread self.new ≡ unread self.old }
@@ -211,7 +216,8 @@ impl<S: Service> ByteSession<S> {
         self.come(Came::Closed);
     }
 
-    /// Says that something is ready for which the service waits. The session takes it only from `initialized` up to `shutdown`.
+    /// Reports that something is ready for which the service waits. The session takes it only from `initialized` up to
+    /// `shutdown`.
     pub fn woken(&mut self)
         ensures comes { Comes S.behavior (standing self.old) woken (standing self.new) }
         ensures unread { unread self.new ≡ unread self.old }
@@ -220,7 +226,8 @@ impl<S: Service> ByteSession<S> {
         self.come(Came::Woken);
     }
 
-    /// Says that no message came within 30 seconds. The session takes it only while it awaits `exit`, and ends.
+    /// Reports that no message arrived within 30 seconds. The session takes it only while it waits for `exit`, and
+    /// ends.
     pub fn timeout(&mut self)
         ensures comes { Comes S.behavior (standing self.old) timeout (standing self.new) }
         ensures unread { unread self.new ≡ unread self.old }
@@ -229,14 +236,15 @@ impl<S: Service> ByteSession<S> {
         self.come(Came::Timeout);
     }
 
-    /// The bytes that are to be sent.
+    /// Returns the bytes that are to be sent.
     pub fn output(&self) -> &[u8]
         ensures { result.now ≡ (standing self.now).pending }
     {
         self.output.as_slice()
     }
 
-    /// Says that so many of the first bytes of `output` were sent, and drops these.
+    /// Reports that the first `count` bytes of `output` were sent, and drops them. `count` is at most the length of
+    /// `output`.
     pub fn sent(&mut self, count: usize)
         requires { count ≤ length (standing self.old).pending }
         ensures sent { standing self.new ≡ record (standing self.old) { pending = drop_front count (standing self.old).pending } }
@@ -246,7 +254,7 @@ impl<S: Service> ByteSession<S> {
         self.output.sent(count);
     }
 
-    /// Whether the session has ended and all its output was sent.
+    /// Returns whether the session has ended and all its output was sent.
     pub fn is_done(&self) -> bool
         ensures done { IsTrue result → IsOver (standing self.now).stage × ((standing self.now).pending ≡ []) }
         ensures undone { IsOver (standing self.now).stage → (standing self.now).pending ≡ [] → IsTrue result }
@@ -254,8 +262,8 @@ impl<S: Service> ByteSession<S> {
         self.core.awaits() == Awaits::Nothing && self.output.as_slice().is_empty()
     }
 
-    /// How the session ended, and the service. Call `closed` first. Of several faults that fit, the answer has the first of `Memory`, `Read` and
-    /// `Protocol`.
+    /// Returns how the session ended, and the service. Call `closed` first. If several faults fit, the result is the
+    /// first of `Memory`, `Read` and `Protocol`.
     pub fn into_parts(self) -> (Result<SessionEnd, SessionFault>, S)
         ensures answer { result.0 ≡ session_answer_spec (outcome_of (standing self).stage).stop
             (outcome_of (standing self).stage).answer self.end None }

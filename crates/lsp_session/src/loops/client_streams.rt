@@ -8,12 +8,12 @@ use lsp_message::Limits;
 use std::alloc::Global;
 use std::io::{BufRead, Write};
 
-/// What a client's messages are read from and what it is written to, and a transcript of what passes, which clauses alone see.
+/// The reader and the writer of a client, and a transcript of the bytes, which only clauses see.
 #[derive(Drop)]
 pub struct ClientStreams<R, W> {
     /// The client's messages are read from it.
     pub reader: R,
-    /// What the client gets is written to it.
+    /// The messages to the client are written to it.
     pub writer: W,
     /// How many bytes a header part and a content part of the client may have.
     pub limits: Limits,
@@ -21,8 +21,8 @@ pub struct ClientStreams<R, W> {
 }
 
 impl<R: BufRead, W: Write> ClientStreams<R, W> {
-    /// The streams of a client of which nothing was read or written yet. A header part may have `Limits::HEADER_BYTES` bytes, and a
-    /// content part any number.
+    /// Makes the streams of a client with which nothing was read or written yet. A header part may have
+    /// `Limits::HEADER_BYTES` bytes, and a content part any number.
     pub fn new(reader: R, writer: W) -> Self
         ensures reader { result.reader ≡ reader }
         ensures writer { result.writer ≡ writer }
@@ -39,7 +39,8 @@ impl<R: BufRead, W: Write> ClientStreams<R, W> {
         }
     }
 
-    /// A transport over the streams, within their limits, with a new transcript. The policy is that of `StreamTransport::within`.
+    /// Makes a transport on the streams, within their limits, with a new transcript. `StreamTransport::within` says how
+    /// the policy is used.
     pub fn transport<'a, L: BadContentPolicy>(
         &'a mut self,
         alloc: Global,

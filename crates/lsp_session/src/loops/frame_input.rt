@@ -7,17 +7,18 @@ use lsp_message::{Front, Limits, Message, Passed, ReadFault, front};
 use memchr::{memchr, memmem};
 use std::alloc::{AllocError, Global};
 
-/// How far the frame has come.
+/// How much of the frame has arrived.
 #[derive(Clone, Copy)]
 pub(crate) enum Place {
-    /// In the header part. The line that is not whole begins at the first number, and the lines before it give this length.
+    /// In the header part. The line that is not whole begins at the first number, and the lines before it give this
+    /// length.
     Header(usize, Option<u64>),
     /// In the content part, which ends here.
     Content(usize),
 }
 
-/// Gathers the frame of one message (LSP 3.17, "Base Protocol"), and no byte behind it. It looks at each line of a header part once, and
-/// knows from then on where the frame ends.
+/// Gathers the frame of one message (LSP 3.17, "Base Protocol"), and no byte after it. It looks at each line of a
+/// header part once, and knows from then on where the frame ends.
 #[derive(Drop)]
 pub(crate) struct FrameInput {
     alloc: Global,
@@ -27,7 +28,7 @@ pub(crate) struct FrameInput {
 }
 
 impl FrameInput {
-    /// No byte of a frame has come. This takes no memory.
+    /// Starts with no byte of a frame. It does not allocate.
     pub(crate) fn new(alloc: Global, limits: Limits) -> FrameInput
         ensures empty { result.bytes.items ≡ [] }
         ensures limits { result.limits ≡ limits }
@@ -40,8 +41,8 @@ impl FrameInput {
         }
     }
 
-    /// Adds the first bytes of a piece, up to the end of a line of the header part or of the content part. Returns how many these are. The
-    /// error means that an allocation failed, and nothing was added.
+    /// Adds the first bytes of a piece, up to the end of a line of the header part or of the content part. Returns how
+    /// many these are. The error means that an allocation failed. Then nothing was added.
     pub(crate) fn gather(&mut self, piece: &[u8]) -> Result<usize, AllocError>
         ensures within { IfOk result (λ count. count ≤ length piece.now) }
         ensures some { IfOk result (λ count. 0 < length piece.now → 0 < count) }
@@ -56,7 +57,7 @@ impl FrameInput {
         }
     }
 
-    /// How many bytes of the piece belong to the line or to the content part.
+    /// Returns how many bytes of the piece belong to the line or to the content part.
     fn reach(&self, piece: &[u8]) -> usize
         ensures within { result ≤ length piece.now }
         ensures some { 0 < length piece.now → 0 < result }
@@ -67,7 +68,7 @@ impl FrameInput {
         }
     }
 
-    /// How many bytes of the piece belong to the line, up to one byte above the bound of the header part.
+    /// Returns how many bytes of the piece belong to the line, up to one byte above the bound of the header part.
     fn header_reach(&self, piece: &[u8]) -> usize
         ensures within { result ≤ length piece.now }
         ensures some { 0 < length piece.now → 0 < result }
@@ -87,7 +88,7 @@ impl FrameInput {
         }
     }
 
-    /// Looks at the bytes that were added last. Returns whether the frame is whole or has a fault, so that `read` tells which.
+    /// Looks at the bytes that were added last. Returns whether the frame is whole or has a fault; `read` says which.
     pub(crate) fn is_ready(&mut self) -> bool
         ensures kept { (self.new.limits ≡ self.old.limits) × (self.new.bytes.items ≡ self.old.bytes.items) }
     {
@@ -109,7 +110,7 @@ impl FrameInput {
         }
     }
 
-    /// Whether the header part is above its bound.
+    /// Returns whether the header part is above its bound.
     fn has_long_header(&self) -> bool {
         match self.limits.header {
             Some(most) => self.bytes.len() as u64 > most,
@@ -117,8 +118,8 @@ impl FrameInput {
         }
     }
 
-    /// The place after a whole line that begins here, with this length of the lines before. There is none if the line is bad, if the header
-    /// part ends without a length, or if its length is above the limit.
+    /// Returns the place after a whole line that begins here, with this length of the lines before. Returns `None` if
+    /// the line is bad, if the header part ends without a length, or if its length is above the limit.
     fn place_after(&self, line: usize, given: Option<u64>) -> Option<Place>
         requires { line ≤ length self.now.bytes.items }
     {
@@ -139,7 +140,7 @@ impl FrameInput {
         }
     }
 
-    /// Takes the message that the bytes begin with, if it is whole. After a fault the bytes stay.
+    /// Takes the message at the front of the bytes, if it is whole. After a fault the bytes stay.
     pub(crate) fn read(&mut self) -> Result<Option<Message>, ReadFault>
         ensures read { ReadsOne self.old.limits self.old.bytes.items result self.new.bytes.items }
         ensures limits { self.new.limits ≡ self.old.limits }
@@ -154,7 +155,7 @@ impl FrameInput {
         }
     }
 
-    /// Drops so many bytes, after which the next frame begins.
+    /// Drops `count` bytes, after which the next frame begins.
     fn skip(&mut self, count: usize)
         requires { count ≤ length self.old.bytes.items }
         ensures items { self.new.bytes.items ≡ drop_front count self.old.bytes.items }
@@ -164,7 +165,7 @@ impl FrameInput {
         self.place = Place::Header(0, None);
     }
 
-    /// The message that the bytes begin with, and how many bytes its frame has.
+    /// Returns the message at the front of the bytes, and how many bytes its frame has.
     pub(crate) fn first(&self) -> Result<Option<(Message, usize)>, ReadFault>
         ensures read { ReadsFirst self.now.limits self.now.bytes.items result }
         ensures within { IfOk result (λ found. IfSome found (λ x. x.1 ≤ length self.now.bytes.items)) }
@@ -177,7 +178,8 @@ impl FrameInput {
         }
     }
 
-    /// The fault with which the messages end if no more bytes come. There is none at the start of a line of a header part.
+    /// Returns the fault with which the messages end if no more bytes arrive. There is none at the start of a line of a
+    /// header part.
     pub(crate) fn fault_at_end(&self) -> Option<ReadFault>
         ensures { IfSome result (BeginsWithFault self.now.limits self.now.bytes.items) }
     {
@@ -191,7 +193,7 @@ impl FrameInput {
     }
 }
 
-/// The length that a field gives, if it is a `Content-Length`.
+/// Returns the length in a field, if the field is a `Content-Length`.
 fn length_in(line: &[u8]) -> Option<u64> {
     let text = line.strip_suffix(b"\r\n")?;
     let at = memmem::find(text, b": ")?;

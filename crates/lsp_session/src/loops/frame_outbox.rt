@@ -4,7 +4,7 @@ use lsp_message::{Message, Passed, RequestId, ResultText, WriteFault};
 use std::alloc::Global;
 use std::io::Write;
 
-/// Writes each message to a writer as a frame (LSP 3.17, "Base Protocol"). After a fault, which it keeps, it is closed
+/// Writes each message to a writer as a frame (LSP 3.17, "Base Protocol"). After a fault it is closed, keeps the fault,
 /// and writes nothing more.
 #[derive(Debug, Drop)]
 pub struct FrameOutbox<'a, W> {
@@ -22,7 +22,7 @@ impl<'a, W: Write> FrameOutbox<'a, W> {
     ghost use Rattle.lsp_session.specs.Boxes.{handed_back};
     ghost use Rattle.lsp_session.specs.FrameBoxes.{FrameOutboxSends};
 
-    /// An outbox over a writer. It takes no memory.
+    /// Makes an outbox on a writer. It does not allocate.
     pub fn new(alloc: Global, writer: &'a mut W) -> Self
         ensures same_writer { result.writer.ghost_name ≡ writer.entry.ghost_name }
         ensures unwritten { result.writer.now ≡ writer.old }
@@ -35,7 +35,7 @@ impl<'a, W: Write> FrameOutbox<'a, W> {
         }
     }
 
-    /// An outbox that goes on where another over the same writer, whose writes had failed so, was left.
+    /// Makes an outbox that goes on where another on the same writer stopped, with the fault of that one's writes.
     pub(crate) fn resumed(alloc: Global, writer: &'a mut W, fault: Option<WriteFault>) -> Self
         ensures same_writer { result.writer.ghost_name ≡ writer.entry.ghost_name }
         ensures unwritten { result.writer.now ≡ writer.old }
@@ -48,7 +48,7 @@ impl<'a, W: Write> FrameOutbox<'a, W> {
         }
     }
 
-    /// The fault that closed the outbox.
+    /// Returns the fault that closed the outbox.
     pub fn fault(&self) -> Option<WriteFault>
         ensures { result ≡ self.now.fault }
     {
@@ -97,7 +97,8 @@ impl<'a, W: Write> FrameOutbox<'a, W> {
     ghost use Rattle.lsp_session.specs.Boxes.{handed_back};
     ghost use Rattle.lsp_session.specs.FrameBoxes.{FrameOutboxSends};
 
-    /// Sends a response whose result waits as text, as `send_text` does, and adds the bytes that the writer takes to the account.
+    /// Sends a response whose result is text already, as `send_text` does, and adds the bytes that the writer takes to
+    /// the account.
     pub(crate) fn send_text_telling(
         &mut self,
         id: RequestId,

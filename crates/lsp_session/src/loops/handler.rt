@@ -20,41 +20,43 @@ use std::alloc::{AllocError, Global};
 pub enum SessionEnd {
     /// The client asked for `shutdown`, and then sent `exit`.
     ShutDown,
-    /// From `initialized` on, the client sent `exit` without a `shutdown`, or no more messages came.
+    /// From `initialized` on, the client sent `exit` without a `shutdown`, or the messages ended.
     Closed,
 }
 
 /// What a server does with the requests and the notifications of a session.
 ///
-/// The ghost members say what a handler promises. If an `impl` leaves one out, it promises nothing there: the method may do anything.
+/// The ghost members say what a handler promises. If an `impl` leaves one out, it promises nothing there: the method
+/// may do anything.
 pub trait Handler {
     ghost use Rattle.serde_json.specs.Data.{Data};
     ghost use Rattle.std.specs.Prelude.{ℕ, Result, ⊤};
     ghost use Rattle.lsp_message.specs.Id.{Id};
     ghost use Rattle.lsp_message.specs.Message.{ErrorObject};
 
-    /// A request with this id, method and params may have this outcome, and change the handler so.
+    /// A request with this id, method and params may have this outcome, and change the handler in this manner.
     ghost answers: { Self → Id → List ℕ → Data → Result Data ErrorObject → Self → Type 0 } = { λ _ _ _ _ _ _. ⊤ };
 
-    /// A notification with this method and these params may change the handler so.
+    /// A notification with this method and these params may change the handler in this manner.
     ghost notes: { Self → List ℕ → Data → Self → Type 0 } = { λ _ _ _ _. ⊤ };
 
-    /// What came of a request: its result, or an error (JSON-RPC 2.0, section 5). The session sends it under the
-    /// request's id. An outer `Err` says that an allocation failed, and ends the session.
+    /// Answers a request with its result or an error (JSON-RPC 2.0, section 5). The session sends the reply under the
+    /// request's id. An outer `Err` means that an allocation failed, and ends the session.
     fn answer(&mut self, request: &Request) -> Result<Result<Value, ResponseError>, AllocError>
         ensures { IfOk result (λ outcome.
             answers self.old request.now.id (string_bytes request.now.method)
             (view request.now.params) (outcome_view outcome) self.new) };
 
-    /// Takes notice of a notification (JSON-RPC 2.0, section 4.1). An `Err` says that an allocation failed, and ends the
+    /// Handles a notification (JSON-RPC 2.0, section 4.1). An `Err` means that an allocation failed, and ends the
     /// session.
     fn note(&mut self, notification: &Notification) -> Result<(), AllocError>
         ensures { IfOk result (λ _.
             notes self.old (string_bytes notification.now.method) (view notification.now.params)
             self.new) };
 
-    /// The reply to a request that is given to keep: under its id, with an outcome that `answer` may give. The session calls
-    /// this method, which calls `answer`. A handler that gives the params back writes it as well, and moves them.
+    /// Answers a request that is passed by value: it returns the reply under the request's id, with an outcome that
+    /// `answer` may have. The session calls this method, which calls `answer`. A handler that returns the params in its
+    /// result writes this method too, and moves them.
     fn respond(&mut self, request: Request) -> Result<Response, AllocError>
         ensures id { IfOk result (λ response. response.id ≡ request.id) }
         ensures outcome { IfOk result (λ response.
@@ -71,13 +73,14 @@ pub trait Handler {
 
 /// Runs a session of a server: the handshake, the handler's answers, and the shutdown (LSP 3.17, "Server lifecycle").
 ///
-/// `initialize` is answered with `{"capabilities":<capabilities>}`. From `initialized` on each request is answered, in
-/// order, with what the handler gives, and each notification is told to it; a response is dropped. `shutdown` is answered
-/// with null, and `exit` then gives `ShutDown`. `Closed` comes if, from `initialized` on, `exit` comes without a
-/// `shutdown` or no more messages come. What comes at the wrong time is in the table of `lifecycle`.
+/// `initialize` is answered with `{"capabilities":<capabilities>}`. From `initialized` on, each request is answered by
+/// the handler, in order. The handler is notified of each notification, and responses are dropped. `shutdown` is
+/// answered with null, and `exit` then gives `ShutDown`. The result is `Closed` if, from `initialized` on, `exit`
+/// arrives without a `shutdown`, or the messages end. For a message at the wrong time see the table of `lifecycle`.
 ///
-/// An outbox that is closed to a reply ends the session with `disconnected channel`, and an allocation that fails with
-/// `out of memory`; that this reply could not be sent is ignored. After 2^64 - 1 events it ends as if no more messages came.
+/// An outbox that is closed to a reply ends the session with `disconnected channel`, and a failed allocation ends it
+/// with `out of memory`. A reply to `shutdown` that could not be sent is ignored. After 2^64 - 1 events the session
+/// ends as if the messages had ended.
 pub fn serve<I: Inbox, O: Outbox, H: Handler>(
     alloc: Global,
     inbox: &mut I,
@@ -95,7 +98,7 @@ pub fn serve<I: Inbox, O: Outbox, H: Handler>(
     serve_replies(alloc, &mut unwoken, outbox, &mut service).answer
 }
 
-/// The result of `initialize`: `{"capabilities":<capabilities>}`. An `Err` is a failed allocation.
+/// Makes the result of `initialize`: `{"capabilities":<capabilities>}`. An `Err` means that an allocation failed.
 pub fn initialize_result(alloc: Global, capabilities: Value) -> Result<Value, AllocError>
     ensures { IfOk result (λ value. view value ≡ initialize_result_spec (view capabilities)) }
 {

@@ -16,19 +16,20 @@ use serde_json::Value;
 use std::alloc::{AllocError, Global};
 use std::mem;
 
-/// A handler with the capabilities of its server: `initialize` is answered with `{"capabilities":<capabilities>}`, and each other request with what
-/// the handler answers. A session takes the capabilities out, so each client needs an application of its own.
+/// A handler with the capabilities of its server. `initialize` is answered with `{"capabilities":<capabilities>}`, and
+/// each other request by the handler. A session takes the capabilities out, so each client needs an application of its
+/// own.
 #[derive(Drop)]
 pub struct HandlerApplication<H> {
     alloc: Global,
     /// What the server can do (LSP 3.17, "Initialize Request").
     pub capabilities: Value,
-    /// It answers the requests, and takes notice of the notifications.
+    /// The handler, which answers the requests and handles the notifications.
     pub handler: H,
 }
 
 impl<H: Handler> HandlerApplication<H> {
-    /// An application over a handler. It takes no memory.
+    /// Makes an application of a handler. It does not allocate.
     pub fn new(alloc: Global, capabilities: Value, handler: H) -> Self
         ensures capabilities { result.capabilities ≡ capabilities }
         ensures handler { result.handler ≡ handler }

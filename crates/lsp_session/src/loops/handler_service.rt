@@ -9,8 +9,8 @@ use serde_json::Value;
 use std::alloc::{AllocError, Global};
 use std::mem;
 
-/// A handler as a service: it gives the handler's answers, and answers `initialize` with the capabilities, which it takes out of their
-/// place.
+/// A handler as a service. It returns the handler's answers, and answers `initialize` with the capabilities, which it
+/// takes out of the value that it borrows.
 #[derive(Drop)]
 pub struct HandlerService<'a, H> {
     alloc: Global,
@@ -19,7 +19,7 @@ pub struct HandlerService<'a, H> {
 }
 
 impl<'a, H: Handler> HandlerService<'a, H> {
-    /// A service over a handler. It takes no memory.
+    /// Makes a service of a handler. It does not allocate.
     pub fn new(alloc: Global, capabilities: &'a mut Value, handler: &'a mut H) -> Self
         ensures same_handler { result.handler.ghost_name ≡ handler.entry.ghost_name }
         ensures unchanged { result.handler.now ≡ handler.old }

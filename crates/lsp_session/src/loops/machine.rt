@@ -29,9 +29,9 @@ pub enum Stage {
     Starting,
     /// `initialize` has its result, and the session awaits `initialized`.
     Replied,
-    /// `initialized` came. Each message goes to the service.
+    /// `initialized` arrived. Each message goes to the service.
     Serving,
-    /// `shutdown` came under this id, and the session awaits `exit`.
+    /// `shutdown` arrived under this id, and the session waits for `exit`.
     Asked(RequestId),
     /// The session ended with this outcome.
     Ended(SessionOutcome),
@@ -40,18 +40,18 @@ pub enum Stage {
 /// An event that a session takes.
 #[derive(Debug, Drop)]
 pub enum Came {
-    /// A message came.
+    /// A message arrived.
     Message(Message),
     /// Something that the service waits for is ready.
     Woken,
-    /// No message came within 30 seconds, while the session awaited `exit`.
+    /// No message arrived within 30 seconds, while the session waited for `exit`.
     Timeout,
-    /// No more messages come.
+    /// No more messages will arrive.
     Closed,
 }
 
 impl Came {
-    /// Makes a session's event of what `Inbox::receive` or `Inbox::receive_for` gave.
+    /// Makes a session's event from the result of `Inbox::receive` or `Inbox::receive_for`.
     pub fn from_event(event: Event) -> Came
         ensures { came_view result ≡ event_view event }
     {
@@ -62,7 +62,7 @@ impl Came {
         }
     }
 
-    /// Makes a session's event of what `WakingInbox::receive_or_woken` gave.
+    /// Makes a session's event from the result of `WakingInbox::receive_or_woken`.
     pub fn from_arrival(arrival: Arrival) -> Came
         ensures { came_view result ≡ arrival_view arrival }
     {
@@ -79,7 +79,7 @@ impl Came {
 pub enum Awaits {
     /// A message, however long it takes.
     Message,
-    /// A message or a wake, however long it takes.
+    /// A message or a wake-up, however long it takes.
     MessageOrWake,
     /// A message within 30 seconds. If none comes, the session takes `Came::Timeout`.
     Exit,
@@ -92,18 +92,19 @@ pub enum Awaits {
 pub enum TurnOutput<T> {
     /// No message.
     Nothing,
-    /// One message of the session's own.
+    /// One message that the session makes itself.
     One(Message),
-    /// What the service gave.
+    /// The messages that the service returned.
     Given(T),
 }
 
-/// What the caller is to send for an event. `T` is the output of the service.
+/// The messages that the caller is to send for an event. `T` is the output of the service.
 #[derive(Debug, Drop)]
 pub struct Turn<T> {
     /// Send these messages first, in order. If one is refused, send nothing more, and call `SessionCore::refused`.
     pub output: TurnOutput<T>,
-    /// Then send the reply to `shutdown`: null, under this id. If it is refused, the session awaits `exit` all the same.
+    /// Then send the reply to `shutdown`: null, under this id. If it is refused, the session awaits `exit` all the
+    /// same.
     pub reply: Option<RequestId>,
 }
 
@@ -115,14 +116,14 @@ struct Moved<T> {
 }
 
 impl<T> Moved<T> {
-    /// This stage, with nothing to send.
+    /// Returns this stage, with nothing to send.
     fn silent(stage: Stage) -> Moved<T>
         ensures { result ≡ record { stage = stage; turn = record { output = Nothing; reply = None } } }
     {
         Moved::sending(stage, TurnOutput::Nothing)
     }
 
-    /// This stage, with this output.
+    /// Returns this stage, with this output.
     fn sending(stage: Stage, output: TurnOutput<T>) -> Moved<T>
         ensures { result ≡ record { stage = stage; turn = record { output = output; reply = None } } }
     {
@@ -136,11 +137,11 @@ impl<T> Moved<T> {
     }
 }
 
-/// A session of a server as a state machine: the handshake, what the service gives for each message, and the shutdown. It does no IO.
-/// The caller waits for what `awaits` says, hands the event to `advance`, and sends the `Turn` that it gets, until the session awaits
-/// nothing. `serve_transport` says what a session answers to each message.
+/// A session of a server as a state machine: the handshake, the messages that the service returns, and the shutdown. It
+/// does no IO. The caller waits for what `awaits` says, passes the event to `advance`, and sends the `Turn` that this
+/// returns, until the session waits for nothing. `serve_transport` says what a session answers to each message.
 ///
-/// The service stays with the caller. Each call of `advance` is to get the same one.
+/// The service stays with the caller. Pass the same one to each call of `advance`.
 #[derive(Debug, Drop)]
 pub struct SessionCore {
     alloc: Global,
@@ -148,8 +149,8 @@ pub struct SessionCore {
 }
 
 impl SessionCore {
-    /// A session that awaits `initialize`. This allocates nothing. The session allocates in `alloc` what it makes itself, such as the error
-    /// reply to an early request.
+    /// Makes a session that waits for `initialize`. It does not allocate. The session allocates in `alloc` what it
+    /// makes itself, such as the error reply to an early request.
     pub fn new(alloc: Global) -> SessionCore
         ensures { result.stage ≡ stage.Starting }
     {
@@ -159,7 +160,7 @@ impl SessionCore {
         }
     }
 
-    /// What the session waits for.
+    /// Returns what the session waits for.
     pub fn awaits(&self) -> Awaits
         ensures { result ≡ awaited_in self.now.stage }
     {
@@ -171,7 +172,8 @@ impl SessionCore {
         }
     }
 
-    /// Whether the session takes this event now. Drop an event that it does not take, such as a wake before `initialized`.
+    /// Returns whether the session takes this event now. Drop an event that it does not take, such as a wake-up before
+    /// `initialized`.
     pub fn takes(&self, came: &Came) -> bool
         ensures takes { IsTrue result → IsAwaited self.now.stage (came_view came.now) }
         ensures drops { IsAwaited self.now.stage (came_view came.now) → IsTrue result }
@@ -184,10 +186,10 @@ impl SessionCore {
         }
     }
 
-    /// Takes an event, and gives what to send for it.
+    /// Takes an event, and returns what to send for it.
     ///
-    /// The session goes on or ends as the tables of a session say (LSP 3.17, "Server lifecycle"). If an allocation fails, nothing is sent,
-    /// and the session ends with `out of memory`.
+    /// The session goes on or ends as the tables of a session say (LSP 3.17, "Server lifecycle"). If an allocation
+    /// fails, nothing is sent, and the session ends with `out of memory`.
     pub fn advance<S: Service>(&mut self, service: &mut S, came: Came) -> Turn<S::Output>
         requires { IsAwaited self.old.stage (came_view came) }
         ensures advances { Advances S.behavior (self.old.stage, service.old) (came_view came) (turn_sends S.Output.shows result)
@@ -217,8 +219,8 @@ impl SessionCore {
         self.stage = Stage::Ended(SessionOutcome::failed(error));
     }
 
-    /// How the session ended. A session that has not ended yet ends as if no more messages came. If it awaits `exit`, it ends as if memory
-    /// ran out.
+    /// Returns how the session ended. A session that has not ended yet ends as if the messages had ended. If it waits
+    /// for `exit`, it ends as if memory ran out.
     pub fn into_outcome(self) -> SessionOutcome
         ensures { result ≡ outcome_of self.stage }
     {
@@ -285,7 +287,7 @@ fn start<S: Service>(
     }
 }
 
-/// The fault that shows a message in the place of `initialize`.
+/// Returns the fault that shows a message in the place of `initialize`.
 fn unexpected(alloc: Global, message: Message) -> ProtocolError
     ensures { Shows expected_initialize result ⊎ (result ≡ out_of_memory) }
 {
@@ -315,7 +317,7 @@ fn start_request<S: Service>(
     }
 }
 
-/// Takes the message that comes after the result of `initialize`.
+/// Takes the message that follows the result of `initialize`.
 fn open<S: Service>(
     alloc: Global,
     service: &mut S,
@@ -391,14 +393,14 @@ fn leave<S: Service>(
     Ok(Moved::silent(Stage::Ended(SessionOutcome::shut_down())))
 }
 
-/// Takes a wake from `initialized` up to `shutdown`.
+/// Takes a wake-up from `initialized` up to `shutdown`.
 fn wake<S: Service>(service: &mut S) -> Result<Moved<S::Output>, ProtocolError>
     ensures { Moves S.behavior S.Output.shows stage.Serving service.old woken result service.new }
 {
     Ok(Moved::sending(Stage::Serving, TurnOutput::Given(service.woken()?)))
 }
 
-/// Whether the message is a response, and those are skipped.
+/// Returns whether the message is a response, and responses are skipped.
 fn is_passed_over(passes_late: bool, message: &Message) -> bool
     ensures { result ≡ (passes_late && is_reply (message_view message.now)) }
 {
@@ -408,7 +410,7 @@ fn is_passed_over(passes_late: bool, message: &Message) -> bool
     }
 }
 
-/// The reply with this error.
+/// Makes the reply with this error.
 fn error_reply(id: RequestId, error: ResponseError) -> Message
     ensures { message_view result ≡ response id (Err (error_view error)) }
 {

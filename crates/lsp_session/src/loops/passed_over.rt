@@ -5,19 +5,19 @@ use std::alloc::{AllocError, Global};
 use std::sync::Arc;
 use std::sync::atomic::{AtomicBool, Ordering};
 
-/// A policy that passes over each content part that is no message, and remembers it until somebody asks.
+/// A policy that skips each content part which is no message, and remembers it until somebody asks.
 ///
-/// What stood in such a part is lost; perhaps it was a change of a document. So give your server a `share`, and let it ask `take` first in
-/// `Server::notification` and `Server::request`: if that is true, it can't be sure any more of what it holds of its client
-/// (`lsp_documents::TextDocuments::invalidate_all`). On one thread, in threads and with jobs the next message that your server gets finds it
-/// true; that is tested.
+/// The content of such a part is lost. It may have been a change of a document. So give your server a `share`, and call
+/// `take` on it first in `Server::notification` and `Server::request`. If that returns true, the server can no longer
+/// rely on what it knows about its client (`lsp_documents::TextDocuments::invalidate_all`). On one thread, in threads
+/// and with jobs, `take` is true from the next message that your server gets. That is tested, not proved.
 #[derive(Drop)]
 pub struct PassedOver {
     happened: Arc<AtomicBool, Global>,
 }
 
 impl PassedOver {
-    /// Nothing was passed over yet. The error means that an allocation failed.
+    /// Makes a policy that has skipped nothing yet. The error means that an allocation failed.
     pub fn new(alloc: Global) -> Result<PassedOver, AllocError> {
         match Arc::new(alloc, AtomicBool::new(false)) {
             Ok(happened) => Ok(PassedOver { happened }),
@@ -25,19 +25,20 @@ impl PassedOver {
         }
     }
 
-    /// The same, for another owner: one for the session, one for its server.
+    /// Makes a second owner of the same state. Give one to the session and one to its server. The error means that an
+    /// allocation failed.
     pub fn share(&self) -> Result<PassedOver, AllocError> {
         Ok(PassedOver {
             happened: Arc::try_clone(&self.happened)?,
         })
     }
 
-    /// Whether a content part was passed over since `take` was last called.
+    /// Returns whether a content part was skipped since `take` was last called.
     pub fn has_happened(&self) -> bool {
         self.happened.load(Ordering::SeqCst)
     }
 
-    /// The same, and from now on it is false until the next one is passed over.
+    /// Returns the same, and sets it to false until the next content part is skipped.
     pub fn take(&self) -> bool {
         self.happened.swap(false, Ordering::SeqCst)
     }

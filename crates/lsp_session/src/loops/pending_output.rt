@@ -11,7 +11,8 @@ use crate::loops::service::{Sendable, send_message};
 use lsp_message::{Message, RequestId, ResultText};
 use std::alloc::{AllocError, Global};
 
-/// An outbox that keeps the frames of its messages until they are sent. If memory runs out, it keeps nothing of that message.
+/// An outbox that keeps the frames of its messages until they are sent. If memory runs out, it keeps nothing of that
+/// message.
 #[derive(Drop)]
 pub(crate) struct PendingOutput {
     alloc: Global,
@@ -23,7 +24,7 @@ pub(crate) struct PendingOutput {
 impl PendingOutput {
     ghost use Rattle.lsp_session.specs.PendingOutput.{waiting, AddsFrame};
 
-    /// An output of nothing. It takes no memory.
+    /// Makes an empty output. It does not allocate.
     pub(crate) fn new(alloc: Global) -> PendingOutput
         ensures { waiting result ≡ [] }
     {
@@ -34,14 +35,14 @@ impl PendingOutput {
         }
     }
 
-    /// The bytes that were not sent yet.
+    /// Returns the bytes that were not sent yet.
     pub(crate) fn as_slice(&self) -> &[u8]
         ensures { result.now ≡ waiting self.now }
     {
         &self.bytes.as_slice()[self.sent..]
     }
 
-    /// Drops so many bytes from the front. The bytes behind them are moved only when at least as many were sent.
+    /// Drops `count` bytes from the front. The bytes after them are moved only when at least as many were sent.
     pub(crate) fn sent(&mut self, count: usize)
         requires { count ≤ length (waiting self.old) }
         ensures { waiting self.new ≡ drop_front count (waiting self.old) }
@@ -71,7 +72,8 @@ impl PendingOutput {
         self.add(frame.as_str())
     }
 
-    /// Adds the frame of the response with this id and this text as its result. The error means that an allocation failed.
+    /// Adds the frame of the response with this id and this text as its result. The error means that an allocation
+    /// failed.
     fn add_text(&mut self, id: &RequestId, text: ResultText) -> Result<(), AllocError>
         ensures { AddsFrame (response id.now (Ok (view text))) (waiting self.old) result (waiting self.new) }
     {
@@ -84,7 +86,7 @@ impl PendingOutput {
     ghost use Rattle.lsp_session.specs.Machine.{sends_of, turn_sends};
     ghost use Rattle.lsp_session.specs.PendingOutput.{waiting, AddsFrames};
 
-    /// Adds the frames of what a turn sends, in order, up to one for which memory runs out.
+    /// Adds the frames of a turn's messages, in order, up to one for which memory runs out.
     pub(crate) fn add_turn<T: Sendable>(&mut self, turn: Turn<T>) -> Result<(), ProtocolError>
         ensures { AddsFrames (waiting self.old) (turn_sends T.shows turn) result (waiting self.new) }
     {

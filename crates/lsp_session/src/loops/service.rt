@@ -16,22 +16,22 @@ use std::alloc::AllocError;
 pub enum Output {
     /// No message.
     Nothing,
-    /// One message. It takes no memory.
+    /// One message. This does not allocate.
     One(Message),
-    /// As many as there are.
+    /// Any number of messages.
     Several(Vec<ToSend>),
 }
 
-/// What a session is to send.
+/// A message that a session is to send.
 #[derive(Debug, Drop)]
 pub enum ToSend {
     /// A message.
     Message(Message),
-    /// The response with this id, whose result waits as text.
+    /// The response with this id, whose result is text already.
     Text(RequestId, ResultText),
 }
 
-/// What a service gives for a session to send: messages, in order.
+/// The messages that a service returns for a session to send, in order.
 pub trait Sendable {
     ghost use Rattle.std.specs.Prelude.{List};
     ghost use Rattle.lsp_message.specs.Message as plain;
@@ -56,7 +56,7 @@ impl Sendable for Output {
     }
 }
 
-/// One message, or none. It needs no memory, and no outbox that takes texts.
+/// One message, or none. It does not allocate, and needs no outbox that takes texts.
 impl Sendable for Option<Message> {
     ghost shows = { reply_view };
 
@@ -65,7 +65,7 @@ impl Sendable for Option<Message> {
     }
 }
 
-/// How a session sends on its outbox what its service gives.
+/// How a session sends the messages of its service on its outbox.
 pub(crate) trait Sending<O: Outbox, T: Sendable> {
     /// Sends the messages of an output in order, up to the first that is refused.
     fn send_output(outbox: &mut O, output: T) -> Result<(), ProtocolError>
@@ -110,7 +110,7 @@ fn send_all<O: TextOutbox>(outbox: &mut O, messages: Vec<ToSend>) -> Result<(), 
     Ok(())
 }
 
-/// Sends a message, or a response whose result waits as text.
+/// Sends a message, or a response whose result is text already.
 fn send_one<O: TextOutbox>(outbox: &mut O, message: ToSend) -> Result<(), SendFault>
     ensures { O.sends outbox.old (to_send_view message) result outbox.new }
 {
@@ -120,61 +120,65 @@ fn send_one<O: TextOutbox>(outbox: &mut O, message: ToSend) -> Result<(), SendFa
     }
 }
 
-/// What a session runs: it answers `initialize`, speaks first after `initialized`, and gives messages to send for each message
-/// after that, and for each wake. An outer `Err` is a failed allocation, and ends the session; nothing is sent for that message.
+/// The logic of a session, one level below `Server` and `Handler`. A service answers `initialize`, may send first after
+/// `initialized`, and returns the messages to send for each later message and each wake-up. An outer `Err` means that
+/// an allocation failed, and ends the session. Nothing is sent for that message.
 pub trait Service {
     ghost use Rattle.lsp_session.specs.Session.{Behavior};
 
-    /// What it gives to be sent: an `Output`, or an `Option<Message>` if it gives one message at most. A session of the second needs an
-    /// `Outbox` alone, one of the first a `TextOutbox`.
+    /// The type of its messages: an `Output`, or an `Option<Message>` if it returns at most one message. A session with
+    /// the second needs only an `Outbox`, one with the first a `TextOutbox`.
     type Output: Sendable + Drop;
 
-    /// What it may give, and how it may change.
+    /// Which messages it may return, and how it may change.
     ghost behavior: { Behavior Self };
 
-    /// What comes of `initialize` (LSP 3.17, "Initialize Request"): the result, with the capabilities, the server's name and
-    /// version; or an error, which is sent as the reply, and the session goes on waiting for another `initialize`.
+    /// Answers `initialize` (LSP 3.17, "Initialize Request"). The result has the capabilities, and the server's name
+    /// and version. An error is sent as the reply, and the session waits for another `initialize`.
     fn initialize(&mut self, params: Value) -> Result<Result<Value, ResponseError>, AllocError>
         ensures outcome { IfOk result (λ outcome.
             behavior.initializes self.old (view params) (outcome_view outcome) self.new) }
         ensures err { OnErr result (behavior.after_memory_fault self.old self.new) };
 
-    /// What it sends when `initialized` came, before the next message: all messages, in order.
+    /// Returns all messages to send when `initialized` arrived, in order. They are sent before the next message is
+    /// read.
     fn initialized(&mut self) -> Result<Self::Output, AllocError>
         ensures output { IfOk result (λ output.
             behavior.at_initialized self.old (Self.Output.shows output) self.new) }
         ensures err { OnErr result (behavior.after_memory_fault self.old self.new) };
 
-    /// What comes of a request: all messages that the session is to send for it, in order.
+    /// Returns all messages to send for a request, in order.
     fn request(&mut self, request: Request) -> Result<Self::Output, AllocError>
         ensures { IfOk result (λ output.
             behavior.outputs self.old (request_view request) (Self.Output.shows output) self.new) };
 
-    /// The same of a notification.
+    /// Returns all messages to send for a notification, in order.
     fn notification(&mut self, notification: Notification) -> Result<Self::Output, AllocError>
         ensures { IfOk result (λ output.
             behavior.outputs self.old (notification_view notification) (Self.Output.shows output)
             self.new) };
 
-    /// The same of a response.
+    /// Returns all messages to send for a response, in order.
     fn response(&mut self, response: Response) -> Result<Self::Output, AllocError>
         ensures { IfOk result (λ output.
             behavior.outputs self.old (response_view response) (Self.Output.shows output) self.new) };
 
-    /// What comes of a wake: something that it waits for is ready, and the inbox told so. It comes from `initialized` up to
-    /// `shutdown`, and nowhere else. A service that waits for nothing gives nothing to send.
+    /// Returns all messages to send at a wake-up, in order. The inbox gives a wake-up when something is ready for which
+    /// the service waits. The session calls this from `initialized` up to `shutdown`, and nowhere else. A service that
+    /// waits for nothing returns no messages.
     fn woken(&mut self) -> Result<Self::Output, AllocError>
         ensures { IfOk result (λ output. behavior.wakes self.old (Self.Output.shows output) self.new) };
 
-    /// What comes of `shutdown`, which came under this id (LSP 3.17, "Shutdown Request"): all messages that the session is to send before
-    /// the reply, in order. The session sends the reply itself. It comes once, and only `passes_late` is called after it.
+    /// Returns all messages to send before the reply to `shutdown`, in order (LSP 3.17, "Shutdown Request"). The
+    /// request has this id. The session sends the reply itself. It calls this once, and after it only `passes_late`.
     fn shutdown(&mut self, id: &RequestId) -> Result<Self::Output, AllocError>
         ensures { IfOk result (λ output.
             behavior.at_shutdown self.old id.now (Self.Output.shows output) self.new) };
 
-    /// Whether a response that comes after `shutdown` is passed over, and `exit` is awaited on. A service that sends requests says yes,
-    /// since an answer may cross the `shutdown` of its client; LSP 3.17 ("Shutdown Request") forbids only requests and notifications there.
-    /// If not, a response ends the session, as any other message but `exit`.
+    /// Returns whether the session skips a response that arrives after `shutdown`, and goes on waiting for `exit`. A
+    /// service that sends requests returns true, since a response may cross the `shutdown` of its client; LSP 3.17
+    /// ("Shutdown Request") forbids only requests and notifications there. If it returns false, a response ends the
+    /// session, as any other message except `exit` does.
     fn passes_late(&self) -> bool
         ensures { result ≡ behavior.passes_late };
 }

@@ -7,14 +7,14 @@ ghost use Rattle.lsp_session.specs.declared.loops.session_outcome.StopReason.The
 use crate::error::ProtocolError;
 use crate::loops::handler::SessionEnd;
 
-/// Why a session used no further message.
+/// Why a session took no further message.
 #[derive(Clone, Copy, Debug, PartialEq, Eq)]
 pub enum StopReason {
     /// The last message decided: `exit`, or one that the lifecycle does not allow.
     Decided,
-    /// No more messages came, or 2^64 - 1 events were all.
+    /// The messages ended, or there were 2^64 - 1 events.
     NoMore,
-    /// After `shutdown` nothing came in time.
+    /// After `shutdown` no message arrived in time.
     TimedOut,
     /// The outbox refused a message.
     Refused,
@@ -25,9 +25,9 @@ pub enum StopReason {
 /// How a session ended, and why.
 #[derive(Debug, Drop)]
 pub struct SessionOutcome {
-    /// How it ended, as `serve` answers it.
+    /// How it ended, as `serve` returns it.
     pub answer: Result<SessionEnd, ProtocolError>,
-    /// Why it used no further message.
+    /// Why it took no further message.
     pub stop: StopReason,
 }
 
@@ -52,7 +52,7 @@ impl SessionOutcome {
         }
     }
 
-    /// The session ended with this error, which tells the reason.
+    /// The session ended with this error, which says why.
     pub(crate) fn failed(error: ProtocolError) -> SessionOutcome
         ensures { result ≡ record { answer = Err error; stop = reason_of_fault error } }
     {

@@ -10,8 +10,9 @@ use lsp_message::{Limits, Passed};
 use std::alloc::Global;
 use std::io::BufRead;
 
-/// Gives a reader's messages (LSP 3.17, "Base Protocol"). It is closed after an `exit`, at the end of the input and after
-/// a fault, keeps which of them it was, and reads nothing more. It has no timeouts: a receive waits as the reader does.
+/// Reads a reader's messages (LSP 3.17, "Base Protocol"). It is closed after an `exit`, at the end of the input and
+/// after a fault. It keeps which of them it was, and reads nothing more. It has no timeouts: a receive waits as long as
+/// the reader does.
 #[derive(Debug, Drop)]
 pub struct StreamInbox<'a, R> {
     alloc: Global,
@@ -21,7 +22,7 @@ pub struct StreamInbox<'a, R> {
 }
 
 impl<'a, R: BufRead> StreamInbox<'a, R> {
-    /// An inbox over a reader. It takes no memory.
+    /// Makes an inbox on a reader. It does not allocate.
     pub fn new(alloc: Global, reader: &'a mut R) -> Self
         ensures same_reader { result.reader.ghost_name ≡ reader.entry.ghost_name }
         ensures unread { result.reader.now ≡ reader.old }
@@ -31,8 +32,9 @@ impl<'a, R: BufRead> StreamInbox<'a, R> {
         StreamInbox::within(alloc, reader, u64::MAX)
     }
 
-    /// An inbox over a reader, for messages whose content part has at most `limit` bytes. A longer one ends the messages
-    /// with `ReadFault::TooLong`. It takes no memory. A header part is not bounded; a `TolerantInbox` bounds it too.
+    /// Makes an inbox on a reader, for messages whose content part has at most `limit` bytes. A longer one ends the
+    /// messages with `ReadFault::TooLong`. A header part is not bounded; a `TolerantInbox` bounds it too. It does not
+    /// allocate.
     pub fn within(alloc: Global, reader: &'a mut R, limit: u64) -> Self
         ensures same_reader { result.reader.ghost_name ≡ reader.entry.ghost_name }
         ensures unread { result.reader.now ≡ reader.old }
@@ -50,7 +52,7 @@ impl<'a, R: BufRead> StreamInbox<'a, R> {
         }
     }
 
-    /// What ended the messages: `Exit`, `End` or `Fault`.
+    /// Returns what ended the messages: `Exit`, `End` or `Fault`. Before the end it returns `None`.
     pub fn end(&self) -> Option<ReadEnd>
         ensures { result ≡ self.now.end }
     {

@@ -20,13 +20,14 @@ use std::error::Error;
 use std::fmt;
 use std::io::{BufRead, ErrorKind, Write};
 
-/// Why a session over a reader and a writer failed. If several fit, it is the first of `Write`, `Memory`, `Read` and
-/// `Protocol`.
+/// Why a session on a reader and a writer failed. If several faults fit, it is the first of `Write`, `Memory`, `Read`
+/// and `Protocol`.
 ///
-/// It prints the text of the fault inside, and `out of memory` for `Memory`. To tell a person more, match on the variant.
+/// It prints the text of the fault inside, and `out of memory` for `Memory`. To show a person more, match on the
+/// variant.
 #[derive(Debug, Drop)]
 pub enum SessionFault {
-    /// 1: the lifecycle does not allow what came, or the messages ended too early.
+    /// 1: the lifecycle does not allow the last message, or the messages ended too early.
     Protocol(ProtocolError),
     /// 2: a message was not read, and all output for those before it was written. After 2^64 - 1 messages it is `Input`
     /// of kind `Other`.
@@ -54,14 +55,17 @@ impl fmt::Display for SessionFault {
 
 impl Error for SessionFault {}
 
-/// Runs a session of a server over a reader's messages, and writes its output as frames: `serve` from bytes to bytes
-/// (LSP 3.17, "Base Protocol" and "Server lifecycle").
+/// Runs a session of a server on a reader's messages, and writes its output as frames: it is `serve` from bytes to
+/// bytes (LSP 3.17, "Base Protocol" and "Server lifecycle").
 ///
-/// What follows the last message that the session used is left in the reader: what comes after the `exit` of a session
-/// that was shut down, for one. After a failed write that holds too, and all of the output but its last message was written,
-/// and a beginning of that one. If memory ran out, the output's first messages were written, each whole. There, and where
-/// the reply to `shutdown` was not written, the next message may have been taken too. Each reply is written, and the writer
-/// flushed, before the next message is read: that is tested, and no part of the contract.
+/// The bytes after the last message that the session used stay in the reader, for example those after the `exit` of a
+/// session that was shut down. This holds after a failed write too. Then all messages of the output except the last
+/// were written, and a prefix of the last. If memory ran out, the first messages of the output were written, each
+/// whole. In that case, and if the reply to `shutdown` was not written, the next message may have been taken from the
+/// reader too.
+///
+/// Each reply is written, and the writer flushed, before the next message is read. This is tested, and not part of the
+/// contract.
 pub fn session<R: BufRead, W: Write, H: Handler>(
     alloc: Global,
     reader: &mut R,
@@ -77,8 +81,9 @@ pub fn session<R: BufRead, W: Write, H: Handler>(
     session_within(alloc, reader, writer, capabilities, handler, u64::MAX)
 }
 
-/// Runs a session of a server, as `session` does, over messages whose content part has at most `limit` bytes. A longer one
-/// is `SessionFault::Read` of `ReadFault::TooLong`, and is unread. A header part is not bounded; the limits of a `StreamTransport` bound it too.
+/// Runs a session of a server, as `session` does, with messages whose content part has at most `limit` bytes. A longer
+/// one gives `SessionFault::Read` with `ReadFault::TooLong`, and stays unread. A header part is not bounded; the limits
+/// of a `StreamTransport` bound it too.
 pub fn session_within<R: BufRead, W: Write, H: Handler>(
     alloc: Global,
     reader: &mut R,
@@ -112,8 +117,8 @@ pub fn session_within<R: BufRead, W: Write, H: Handler>(
     transport.serve(&mut application)
 }
 
-/// The answer of a session that was served so, whose messages ended so, and whose output failed so: of several
-/// faults that fit it is the first of `Write`, `Memory`, `Read` and `Protocol`. A session in threads asks it too.
+/// Returns the result of a session with this outcome, this end of its messages and this fault of its output. If several
+/// faults fit, it is the first of `Write`, `Memory`, `Read` and `Protocol`. A session in threads calls it too.
 pub fn session_answer(
     served: SessionOutcome,
     end: Option<ReadEnd>,

@@ -16,12 +16,13 @@ use std::alloc::Global;
 use std::io::{BufRead, Write};
 use std::snapshot::Snapshot;
 
-/// Gives a reader's messages, as a `TolerantInbox` does, and writes messages to a writer, as a `FrameOutbox` does (LSP 3.17, "Base
-/// Protocol"). It adds what was read and what was written to a transcript, which clauses alone see.
+/// Reads a reader's messages, as a `TolerantInbox` does, and writes messages to a writer, as a `FrameOutbox` does (LSP
+/// 3.17, "Base Protocol"). It adds the bytes that were read and written to a transcript, which only clauses see.
 ///
-/// `serve` runs a session over it. A transport that a program's function was lent can't get other ends there, and code outside of `lsp_session`
-/// can't add to its transcript. A proof by hand could, since it may give ghost data any value: `tools/by_hand` lists the proofs by hand, and fails
-/// at any other. While it passes, a clause with the transcript in it is about the bytes of this reader and this writer.
+/// `serve` runs a session on it. A function that is lent a transport can't replace its reader or its writer, and code
+/// outside of `lsp_session` can't add to its transcript. A proof by hand could, since it may give ghost data any value.
+/// `tools/by_hand` lists the proofs by hand, and fails at any other. While it passes, a clause with the transcript in
+/// it is about the bytes of this reader and this writer.
 #[derive(Drop)]
 pub struct StreamTransport<'a, R, W, L> {
     alloc: Global,
@@ -35,9 +36,9 @@ pub struct StreamTransport<'a, R, W, L> {
 }
 
 impl<'a, R: BufRead, W: Write, L: BadContentPolicy> StreamTransport<'a, R, W, L> {
-    /// A transport over a reader and a writer, for messages within limits. A longer header part or content part ends the messages with
-    /// `ReadFault::HeaderTooLong` or `TooLong`. The policy is asked as by a `TolerantInbox`; with `EndSession` no content part is passed over. It takes
-    /// no memory.
+    /// Makes a transport on a reader and a writer, for messages within `limits`. A longer header part or content part
+    /// ends the messages with `ReadFault::HeaderTooLong` or `TooLong`. The policy is asked as by a `TolerantInbox`;
+    /// with `EndSession` no content part is skipped. It does not allocate.
     pub fn within(
         alloc: Global,
         reader: &'a mut R,
@@ -70,40 +71,42 @@ impl<'a, R: BufRead, W: Write, L: BadContentPolicy> StreamTransport<'a, R, W, L>
         }
     }
 
-    /// What ended the messages: `Exit`, `End` or `Fault`.
+    /// Returns what ended the messages: `Exit`, `End` or `Fault`. Before the end it returns `None`.
     pub fn end(&self) -> Option<ReadEnd>
         ensures { result ≡ self.now.end }
     {
         self.end
     }
 
-    /// The fault of the write that failed. Nothing is written after it.
+    /// Returns the fault of the write that failed. Nothing is written after it.
     pub fn fault(&self) -> Option<WriteFault>
         ensures { result ≡ self.now.fault }
     {
         self.fault
     }
 
-    /// The answer of a session over this transport, if `serve_transport` gave this: of several faults that fit it is the first of `Write`,
-    /// `Memory`, `Read` and `Protocol`.
+    /// Returns the result of a session on this transport, from the outcome that `serve_transport` returned. If several
+    /// faults fit, it is the first of `Write`, `Memory`, `Read` and `Protocol`.
     pub fn answer(&self, served: SessionOutcome) -> Result<SessionEnd, SessionFault>
         ensures { result ≡ session_answer_spec served.stop served.answer self.now.end self.now.fault }
     {
         session_answer(served, self.end, self.fault)
     }
 
-    /// Runs a session of an application over this transport, which was not used yet, on the caller's thread, and gives its answer (LSP 3.17, "Base
-    /// Protocol" and "Server lifecycle"). Call this for a server over standard input and output, or over a socket. `run_in_threads` of
-    /// `lsp_threads` does the same with threads that read and write.
+    /// Runs a session of an application on this transport, which must be unused, on the caller's thread, and returns
+    /// its result (LSP 3.17, "Base Protocol" and "Server lifecycle"). Call this for a server on standard input and
+    /// output, or on a socket. `run_in_threads` of `lsp_threads` does the same with threads that read and write.
     ///
-    /// A content part that is no message ends the session with `SessionFault::Read`, unless the policy says to read on: it is asked from `initialized`
-    /// up to `shutdown`. If it reads on, nothing is answered, and the next message is taken. Each other fault of reading ends the session at any
-    /// time. What follows the last message that the session used is left in the reader.
+    /// A content part that is no message ends the session with `SessionFault::Read`, unless the policy says to read on.
+    /// The policy is asked from `initialized` up to `shutdown`. If it says to read on, nothing is answered, and the
+    /// next message is taken. Each other fault of reading ends the session at any time. The bytes after the last
+    /// message that the session used stay in the reader.
     ///
-    /// `serves` and `passed` hold for every reader and writer, also for those that do not say which bytes they have, such as standard input and
-    /// output. The transcript tells which bytes were taken for each message, which were given for each, and in which order. It tells which content
-    /// parts were skipped, and the policy allowed each: with `EndSession` none is skipped (`laws::policies::nothing_is_skipped`). `known` says
-    /// more where the reader's bytes are known, as a slice's are.
+    /// `serves` and `passed` hold for every reader and writer, also for those that do not say which bytes they have,
+    /// such as standard input and output. The transcript says which bytes were taken for each message, which were given
+    /// for each, and in which order. It also says which content parts were skipped, and that the policy allowed each.
+    /// With `EndSession` none is skipped (`laws::policies::nothing_is_skipped`). `known` says more if the reader's
+    /// bytes are known, as those of a slice are.
     pub fn serve<A: Application>(&mut self, application: &mut A) -> Result<SessionEnd, SessionFault>
         requires { IsUnused self.old }
         ensures serves { Serves L.passes (A.session application.old application.new) self.old result self.new }
@@ -114,7 +117,7 @@ impl<'a, R: BufRead, W: Write, L: BadContentPolicy> StreamTransport<'a, R, W, L>
         self.answer(outcome)
     }
 
-    /// What one wait gives that gives no wakes.
+    /// Does one wait that gives no wake-ups.
     fn next_event(&mut self) -> Event
         ensures { StreamTransportGives R.remaining L.passes self.old (event_view result) self.new }
     {
@@ -133,7 +136,7 @@ impl<'a, R: BufRead, W: Write, L: BadContentPolicy> StreamTransport<'a, R, W, L>
         event
     }
 
-    /// What one wait gives that also gives wakes.
+    /// Does one wait that also gives wake-ups.
     fn next_arrival(&mut self) -> Arrival
         ensures gives { StreamTransportGives R.remaining L.passes self.old (arrival_view result)
             self.new }

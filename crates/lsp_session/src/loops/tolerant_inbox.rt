@@ -12,8 +12,8 @@ use lsp_message::{Limits, Message, Passed, ReadFault};
 use std::alloc::Global;
 use std::io::BufRead;
 
-/// Whether the fault is of a content part that was read to its end: it is not UTF-8, no JSON, no message, or a batch. The next
-/// frame follows it (LSP 3.17, "Base Protocol").
+/// Returns whether the fault belongs to a content part that was read to its end: it is not UTF-8, no JSON, no message,
+/// or a batch. The next frame follows it (LSP 3.17, "Base Protocol").
 pub fn is_of_content(fault: ReadFault) -> bool
     ensures { result ≡ is_of_content_spec fault }
 {
@@ -23,9 +23,10 @@ pub fn is_of_content(fault: ReadFault) -> bool
     )
 }
 
-/// Gives a reader's messages (LSP 3.17, "Base Protocol"), as `StreamInbox` does, but asks a policy at a content part that is no message
-/// (`is_of_content`) if a wake can tell of it: `receive_or_woken` passes over it and gives `Arrival::Woken`, or ends the messages. In the
-/// other calls there is no wake, and such a part ends the messages, as each other fault does everywhere.
+/// Reads a reader's messages (LSP 3.17, "Base Protocol"), as `StreamInbox` does, but may skip a content part that is no
+/// message (`is_of_content`). It asks a policy in `receive_or_woken`, where a wake-up can report the skip. That call
+/// then skips the part and returns `Arrival::Woken`, or ends the messages. In the other calls there is no wake-up, and
+/// such a part ends the messages. Any other fault ends the messages in each call.
 #[derive(Debug, Drop)]
 pub struct TolerantInbox<'a, R, L> {
     alloc: Global,
@@ -36,8 +37,8 @@ pub struct TolerantInbox<'a, R, L> {
 }
 
 impl<'a, R: BufRead, L: BadContentPolicy> TolerantInbox<'a, R, L> {
-    /// An inbox over a reader, for messages within limits. A longer header part or content part ends the messages with
-    /// `ReadFault::HeaderTooLong` or `TooLong`. It takes no memory.
+    /// Makes an inbox on a reader, for messages within `limits`. A longer header part or content part ends the messages
+    /// with `ReadFault::HeaderTooLong` or `TooLong`. It does not allocate.
     pub fn within(alloc: Global, reader: &'a mut R, policy: &'a mut L, limits: Limits) -> Self
         ensures same_reader { result.reader.ghost_name ≡ reader.entry.ghost_name }
         ensures unread { result.reader.now ≡ reader.old }
@@ -55,7 +56,7 @@ impl<'a, R: BufRead, L: BadContentPolicy> TolerantInbox<'a, R, L> {
         }
     }
 
-    /// An inbox that goes on where another over the same reader, whose messages this ended, was left.
+    /// Makes an inbox that goes on where another on the same reader stopped, with the end of that one's messages.
     pub(crate) fn resumed(
         alloc: Global,
         reader: &'a mut R,
@@ -78,14 +79,14 @@ impl<'a, R: BufRead, L: BadContentPolicy> TolerantInbox<'a, R, L> {
         }
     }
 
-    /// What ended the messages: `Exit`, `End` or `Fault`.
+    /// Returns what ended the messages: `Exit`, `End` or `Fault`. Before the end it returns `None`.
     pub fn end(&self) -> Option<ReadEnd>
         ensures { result ≡ self.now.end }
     {
         self.end
     }
 
-    /// Reads on: a message, or none if no more come. A fault has not ended the messages yet.
+    /// Reads a message, or `None` if the messages ended. A fault has not ended the messages yet.
     fn read_next(&mut self, taken: &mut Passed) -> Result<Option<Message>, ReadFault>
         ensures read { ReadsNext R.remaining self.old result self.new }
         ensures reads_on { NeverEndsAtContent self.old self.new }
@@ -109,7 +110,8 @@ impl<'a, R: BufRead, L: BadContentPolicy> TolerantInbox<'a, R, L> {
         }
     }
 
-    /// What one wait gives that also gives wakes. At a content part that is no message the policy is asked whether to read on.
+    /// Does one wait that also gives wake-ups. At a content part that is no message it asks the policy whether to read
+    /// on.
     pub(crate) fn next_arrival(&mut self, taken: &mut Passed) -> Arrival
         ensures gives { TolerantInboxGives R.remaining L.passes self.old (arrival_view result)
             self.new }
@@ -131,7 +133,7 @@ impl<'a, R: BufRead, L: BadContentPolicy> TolerantInbox<'a, R, L> {
         }
     }
 
-    /// What one wait gives that gives no wakes.
+    /// Does one wait that gives no wake-ups.
     pub(crate) fn next_event(&mut self, taken: &mut Passed) -> Event
         ensures gives { TolerantInboxGives R.remaining L.passes self.old (event_view result) self.new }
         ensures told { Told (TakenFor self.old.limits L.passes (self.old.end, self.old.policy.now) (event_view result)

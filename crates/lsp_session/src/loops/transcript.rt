@@ -11,20 +11,20 @@ use crate::loops::account::Account;
 use lsp_message::{Message, Passed, RequestId, ResultText};
 use std::snapshot::Snapshot;
 
-/// An act of a transport, with the bytes that passed in it.
+/// An act of a transport, with the bytes that were read or written in it.
 #[derive(Drop)]
 pub(crate) enum Noted {
-    /// The transport gave this event.
+    /// The transport returned this event.
     Gave(Snapshot<Event>, Passed),
-    /// It gave this, if it could be a wake.
+    /// The transport returned this in a wait that may also give a wake-up.
     Came(Snapshot<Arrival>, Passed),
-    /// It took this message.
+    /// The transport took this message.
     Took(Snapshot<Message>, Passed),
-    /// It refused this message.
+    /// The transport refused this message.
     Lost(Snapshot<Message>, Passed),
-    /// It took the response with this id, whose result waited as this text.
+    /// The transport took the response with this id, whose result was this text.
     TookText(Snapshot<RequestId>, Snapshot<ResultText>, Passed),
-    /// It refused this response.
+    /// The transport refused this response.
     LostText(Snapshot<RequestId>, Snapshot<ResultText>, Passed),
 }
 
@@ -59,15 +59,15 @@ impl Noted {
     }
 }
 
-/// What a transport read and wrote, act after act in one order, each with its bytes. Clauses alone see it: of it one byte is left when a
-/// program runs.
+/// The reads and writes of a transport, act after act in one order, each with its bytes. Only clauses see it: when a
+/// program runs, it is one byte.
 #[derive(Drop)]
 pub struct Transcript {
     acts: Account<Noted>,
 }
 
 impl Transcript {
-    /// A transcript of nothing.
+    /// Makes an empty transcript.
     pub fn new() -> Self
         ensures { notes_of result ≡ [] }
     {

@@ -16,31 +16,36 @@ use crate::loops::session_outcome::SessionOutcome;
 use serde_json::Value;
 use std::alloc::Global;
 
-/// Runs a session of a server: the handshake, what the service gives for each message, and the shutdown (LSP 3.17,
+/// Runs a session of a server: the handshake, the messages that the service returns, and the shutdown (LSP 3.17,
 /// "Server lifecycle").
 ///
-/// Before `initialize` each request is answered with `ServerNotInitialized`, and each notification but `exit` is dropped.
-/// `initialize` is answered with the service's result. If the service gives an error, that is the reply, and the session
-/// goes on as before `initialize`: a client may send it again (LSP 3.17, "Initialize Request", `retry`). When `initialized`
-/// came, what the service gives for it is sent. From then on each message goes to the service, a reply too, and each wake of the inbox,
-/// up to `shutdown`. What it gives is sent in order.
-/// `shutdown` is answered with null, after what the service gives for it (`Service::shutdown`), and nothing follows it; `exit` then gives
-/// `ShutDown`. `Closed` comes if, from `initialized` on, `exit` comes without a `shutdown` or no more messages come. What comes at the wrong
-/// time is in the table of `lifecycle`, but that after `shutdown` responses are passed over where the service says so
-/// (`Service::passes_late`).
+/// Before `initialize`, each request is answered with `ServerNotInitialized`, and each notification except `exit` is
+/// dropped. `initialize` is answered with the service's result. If the service returns an error, that is the reply, and
+/// the session goes on as before `initialize`: the client may send it again (LSP 3.17, "Initialize Request", `retry`).
+/// When `initialized` arrives, the session sends what the service returns for it. From then on, up to `shutdown`, the
+/// service gets each message, including responses, and each wake-up of the inbox. Its messages are sent in order.
 ///
-/// A transport that is closed to a message ends the session with `disconnected channel`, and a failed allocation with
-/// `out of memory`; what was to follow for that message is not sent. That this reply could not be sent is ignored. After
-/// 2^64 - 1 events it ends as if no more messages came.
+/// `shutdown` is answered with null, after the messages that the service returns for it (`Service::shutdown`). Nothing
+/// follows this reply, and `exit` then gives `ShutDown`. The result is `Closed` if, from `initialized` on, `exit`
+/// arrives without a `shutdown`, or the messages end. For a message at the wrong time see the table of `lifecycle`.
+/// This has one exception: after `shutdown`, responses are skipped if the service says so (`Service::passes_late`).
 ///
-/// From `initialized` up to `shutdown` each wait is one of `WakingInbox::receive_or_woken`, so what the transport says of such a wait (`listens`)
-/// holds of each. Where it says there that no wake is passed over, the service is told of every wake.
+/// A transport that is closed to a message ends the session with `disconnected channel`, and a failed allocation ends
+/// it with `out of memory`. The remaining messages of that turn are not sent. A reply to `shutdown` that could not be
+/// sent is ignored. After 2^64 - 1 events the session ends as if the messages had ended.
 ///
-/// All that is to be sent for a message or a wake is sent before anything else is awaited: the result of `initialize` before `initialized`, and
-/// the reply to `shutdown` before `exit`. So a client may wait for it before it sends on. That this is the reply to a request is so of all that comes up
-/// to `initialized`, and of `shutdown`; in between a service may reply to it later, unless it answers at once, as a handler does
-/// (`laws::sessions::session_answers_requests`). After a message that the transport refuses nothing is awaited, but that events are
-/// received after the reply to `shutdown` in any case: responses that are passed over, and one more.
+/// From `initialized` up to `shutdown` each wait is a call of `WakingInbox::receive_or_woken`, so what the transport
+/// promises about such a wait (`listens`) holds for each. If it promises there that no wake-up is lost, the service
+/// gets every wake-up.
+///
+/// Everything that is to be sent for a message or a wake-up is sent before the session waits for anything else: the
+/// result of `initialize` before `initialized`, and the reply to `shutdown` before `exit`. So a client may wait for it
+/// before it sends more. For each request up to `initialized`, and for `shutdown`, this includes the reply. In between,
+/// a service may reply later, unless it answers at once, as a handler does
+/// (`laws::sessions::session_answers_requests`).
+///
+/// After a message that the transport refuses, the session waits for nothing. This has one exception: after the reply
+/// to `shutdown`, refused or not, it receives events: the responses that it skips, and one more.
 pub fn serve_transport<L: WakingInbox + TextOutbox, S: Service>(
     alloc: Global,
     transport: &mut L,
@@ -53,7 +58,7 @@ pub fn serve_transport<L: WakingInbox + TextOutbox, S: Service>(
     serve_by::<L, S, WithTexts>(alloc, transport, service)
 }
 
-/// The same, over a value that takes what this way of sending needs.
+/// Does what `serve_transport` does, with a value that takes what this kind of sending needs.
 pub(crate) fn serve_by<L: WakingInbox + Outbox, S: Service, W: Sending<L, S::Output>>(
     alloc: Global,
     transport: &mut L,
@@ -76,7 +81,8 @@ pub(crate) fn serve_by<L: WakingInbox + Outbox, S: Service, W: Sending<L, S::Out
     session.into_outcome()
 }
 
-/// How a session ends that took 2^64 - 1 events and awaits `exit`, by the event that comes then. A message ends it as if memory ran out.
+/// Returns how a session ends that took 2^64 - 1 events and waits for `exit`, by the event that arrives then. A message
+/// ends it as if memory ran out.
 fn spent(came: Came) -> SessionOutcome
     ensures { result ≡ spent_at (came_view came) }
 {
@@ -87,7 +93,7 @@ fn spent(came: Came) -> SessionOutcome
     })
 }
 
-/// Waits once, hands the event to the session, and sends the messages that the session gives for it.
+/// Waits once, passes the event to the session, and sends the messages that the session returns for it.
 fn take_turn<L: WakingInbox + Outbox, S: Service, W: Sending<L, S::Output>>(
     transport: &mut L,
     session: &mut SessionCore,
@@ -109,7 +115,7 @@ fn take_turn<L: WakingInbox + Outbox, S: Service, W: Sending<L, S::Output>>(
     }
 }
 
-/// Waits for what the session awaits.
+/// Waits for the event that the session needs next.
 fn wait<L: WakingInbox>(transport: &mut L, session: &SessionCore) -> Came
     requires { IsOver session.now.stage → ⊥ }
     ensures awaits { AwaitsIn L.receives L.listens session.now.stage transport.old (came_view result) transport.new }

@@ -4,14 +4,14 @@ ghost use Rattle.std.specs.Prelude.{◌≡◌};
 
 use crate::lifecycle::{Arrival, Event, Inbox, WakingInbox};
 
-/// An inbox that was lent, as one that may also give wakes: it gives none.
+/// An inbox that was lent, as one that may also give wake-ups: it gives none.
 #[derive(Drop)]
 pub(crate) struct Unwoken<'a, I> {
     inbox: &'a mut I,
 }
 
 impl<'a, I: Inbox> Unwoken<'a, I> {
-    /// The inbox as one that may also give wakes.
+    /// Makes an inbox that may also give wake-ups from one that gives none.
     pub(crate) fn new(inbox: &'a mut I) -> Self
         ensures same_inbox { result.inbox.ghost_name ≡ inbox.entry.ghost_name }
         ensures unchanged { result.inbox.now ≡ inbox.old }

@@ -18,10 +18,11 @@ pub enum WriteEnd {
     Fault(WriteFault),
 }
 
-/// Writes an inbox's messages as frames (LSP 3.17, "Base Protocol"), in order, until the inbox is closed or a write fails.
+/// Writes an inbox's messages as frames (LSP 3.17, "Base Protocol"), in order, until the inbox is closed or a write
+/// fails.
 ///
-/// Each message is offered to `done` when its write has ended, in whatever way, and what `done` answers is ignored. After
-/// a fault nothing more is received or written. Timeouts of the inbox are passed over.
+/// Each message is offered to `done` when its write has ended, whether it succeeded or failed, and the result of `done`
+/// is ignored. After a fault nothing more is received or written. Timeouts of the inbox are ignored.
 pub fn write_loop<I: Inbox, W: Write, O: Outbox>(
     alloc: Global,
     inbox: &mut I,
