@@ -13,13 +13,13 @@ use serde_json::{Map, Value, put};
 use std::alloc::{AllocError, Global};
 
 impl<P: Drop + PartialEq> Act<P> {
-    /// Has the client show what is wrong with a document, in place of what it showed of it before: `textDocument/publishDiagnostics`
-    /// (LSP 3.17, "PublishDiagnostics Notification"). `version` is that of the text that was looked at, if it is known. No diagnostics
-    /// take away what was shown. They are of any type that `serde` writes; `publish` of
-    /// `lsp_methods` takes those of `lsp_types`.
+    /// Makes the notification that shows the diagnostics of a document: `textDocument/publishDiagnostics` (LSP 3.17,
+    /// "PublishDiagnostics Notification"). They replace those that the client shows for this document; an empty list
+    /// removes them. `version` is the version of the text that was analysed, if it is known. The diagnostics may have
+    /// any type that `serde` writes; `publish` of `lsp_methods` takes those of `lsp_types`.
     ///
-    /// Where one nests more than 127 levels, or its type refuses to be written, the act writes an error into the client's log in
-    /// its place, as of `tell`. `Err` means that an allocation failed.
+    /// If a diagnostic nests more than 127 levels, or its type refuses to be written, the act writes an error into the
+    /// client's log instead, as `tell` does. `Err` means that an allocation failed.
     pub fn publish<T: Serialize>(
         alloc: Global,
         uri: &str,
@@ -41,7 +41,7 @@ impl<P: Drop + PartialEq> Act<P> {
     }
 }
 
-/// The list of what values are written as, or the error of the first that can't be written.
+/// Writes values into a list. The error is that of the first value that can't be written.
 fn written<T: Serialize>(
     alloc: Global,
     values: &[T],
@@ -58,7 +58,7 @@ fn written<T: Serialize>(
     Ok(Ok(Value::Array(trees)))
 }
 
-/// The params of the notification.
+/// Makes the params of the notification.
 fn publish_params(
     alloc: Global,
     uri: &str,

@@ -12,7 +12,7 @@ use serde::{DeserializeOwned, Serialize};
 use std::alloc::{AllocError, Global};
 
 impl<P: Drop + PartialEq> Act<P> {
-    /// A list of this act alone.
+    /// Makes a list with this act alone.
     ///
     /// `Err` means that an allocation failed.
     pub fn one(alloc: Global, act: Act<P>) -> Result<Vec<Act<P>>, AllocError>
@@ -23,11 +23,12 @@ impl<P: Drop + PartialEq> Act<P> {
         Ok(acts)
     }
 
-    /// Answers a request: reads its params as a type of your own, and replies with what `answer` gives for them. Params that do not
-    /// fit are refused with the error -32602, whose text names a key that is missing, as `#[serde(rename = "..")]` spells it; of a value
-    /// of a wrong type it says that alone. A result that can't be written is answered with the error -32603 (JSON-RPC 2.0, section 5.1).
+    /// Answers a request: reads its params as a type of your own, and replies with the result that `answer` returns for
+    /// them. Params that do not fit are refused with the error -32602. Its text names a missing key, as `#[serde(rename
+    /// = "..")]` spells it; about a value of a wrong type it says only that. A result that can't be written is answered
+    /// with the error -32603 (JSON-RPC 2.0, section 5.1).
     ///
-    /// Look at the method first. `Err` means that an allocation failed. Which params fit, no contract says: test it.
+    /// Check the method first. `Err` means that an allocation failed. No contract says which params fit, so test it.
     pub fn answer<T, R, F>(
         alloc: Global,
         request: Request,
@@ -53,7 +54,7 @@ impl<P: Drop + PartialEq> Act<P> {
         }
     }
 
-    /// Answers a request as `answer` does, if `answer` may also give an error to reply with.
+    /// Answers a request as `answer` does, with an `answer` that may also return an error, which is the reply then.
     pub fn try_answer<T, R, F>(
         alloc: Global,
         request: Request,
@@ -77,11 +78,12 @@ impl<P: Drop + PartialEq> Act<P> {
         }
     }
 
-    /// Reads a request's params as a type of your own, and gives the acts that `act` gives for the id and the params: for a request
-    /// that is answered later, or with more than its reply. Params that do not fit are refused with the error -32602, as by `answer`.
+    /// Reads a request's params as a type of your own, and returns the acts that `act` returns for the id and the
+    /// params. Use it for a request that is answered later, or with more than its reply. Params that do not fit are
+    /// refused with the error -32602, as by `answer`.
     ///
-    /// `Err` means that an allocation failed. What `act` changes through what it captures, no contract says: if your server promises
-    /// something of that, call `Request::params_as`.
+    /// `Err` means that an allocation failed. No contract says what `act` changes through its captures. If your server
+    /// promises something about that, call `Request::params_as`.
     pub fn of_request<T, F>(
         alloc: Global,
         request: Request,
@@ -102,11 +104,12 @@ impl<P: Drop + PartialEq> Act<P> {
         }
     }
 
-    /// Reads a notification's params as a type of your own, and gives the acts that `act` gives for them. Params that do not fit give
-    /// one act, an error in the client's log (`window/logMessage`): the method, and why not, as `answer` says it to a client.
+    /// Reads a notification's params as a type of your own, and returns the acts that `act` returns for them. Params
+    /// that do not fit give one act, an error in the client's log (`window/logMessage`) with the method and the reason,
+    /// in the words of the error that `answer` sends.
     ///
-    /// `Err` means that an allocation failed. What `act` changes through what it captures, no contract says: if your server promises
-    /// something of that, call `Notification::params_as`.
+    /// `Err` means that an allocation failed. No contract says what `act` changes through its captures. If your server
+    /// promises something about that, call `Notification::params_as`.
     pub fn of_notification<T, F>(
         alloc: Global,
         notification: Notification,
@@ -132,7 +135,7 @@ impl<P: Drop + PartialEq> Act<P> {
     }
 }
 
-/// The answer to the request with this id: what was found, or an error.
+/// Makes the answer to the request with this id: a result, or an error.
 fn answered<P: Drop + PartialEq, R: Serialize + Drop>(
     alloc: Global,
     id: RequestId,

@@ -15,10 +15,11 @@ use serde::Serialize;
 use std::alloc::{AllocError, Global};
 
 impl<P: Drop + PartialEq> Act<P> {
-    /// A notification with params of a type of your own. Where they nest more than 127 levels, or their type refuses to be written,
-    /// the act writes an error into the client's log in its place (`window/logMessage`): the method, and why it was not sent.
+    /// Makes a notification with params of a type of your own. If they nest more than 127 levels, or their type refuses
+    /// to be written, the act writes an error into the client's log instead (`window/logMessage`), with the method and
+    /// the reason.
     ///
-    /// `Err` means that an allocation failed. Which values can't be written, no contract says.
+    /// `Err` means that an allocation failed. No contract says which values can't be written.
     pub fn tell<T: Serialize>(alloc: Global, method: &str, params: &T) -> Result<Act<P>, AllocError>
         ensures { IfOk result (λ act. Notifies (T.writes params.now) method.now (act_view P.eq act)) }
     {
@@ -31,8 +32,9 @@ impl<P: Drop + PartialEq> Act<P> {
         }
     }
 
-    /// A request of the server's own with params of a type of your own, which keeps `payload` for the reply. Params that nest more
-    /// than 127 levels, or whose type refuses to be written, give no act: the error -32603 says why, and the session goes on.
+    /// Makes a request of the server with params of a type of your own. `payload` is kept for the reply. Params that
+    /// nest more than 127 levels, or whose type refuses to be written, give no act: the error -32603 says why, and the
+    /// session goes on.
     ///
     /// `Err(AllocError)` means that an allocation failed.
     pub fn ask<T: Serialize>(
@@ -53,8 +55,9 @@ impl<P: Drop + PartialEq> Act<P> {
         }
     }
 
-    /// The answer to the client's request with this id: a result of a type of your own. One that nests more than 127 levels, or
-    /// whose type refuses to be written, is answered with the error -32603, which says why (JSON-RPC 2.0, section 5.1).
+    /// Makes the answer to the client's request with this id: a result of a type of your own. A result that nests more
+    /// than 127 levels, or whose type refuses to be written, is answered with the error -32603, which says why
+    /// (JSON-RPC 2.0, section 5.1).
     ///
     /// `Err` means that an allocation failed.
     pub fn reply<T: Serialize>(
@@ -69,8 +72,8 @@ impl<P: Drop + PartialEq> Act<P> {
         Ok(Act::Reply(id, outcome))
     }
 
-    /// The answer to the client's request with this id: an error with a code that the standards define, a short text for people,
-    /// and no data (JSON-RPC 2.0, section 5.1).
+    /// Makes the answer to the client's request with this id: an error with a code that the standards define, a short
+    /// text for people, and no data (JSON-RPC 2.0, section 5.1).
     ///
     /// `Err` means that an allocation failed.
     pub fn refuse(
@@ -87,8 +90,8 @@ impl<P: Drop + PartialEq> Act<P> {
         Ok(Act::Reply(id, Err(error)))
     }
 
-    /// The answer to a request whose method the server does not have: the error -32601, `method not found` (JSON-RPC 2.0,
-    /// section 5.1).
+    /// Makes the answer to a request whose method the server does not have: the error -32601, `method not found`
+    /// (JSON-RPC 2.0, section 5.1).
     ///
     /// `Err` means that an allocation failed.
     pub fn method_not_found(alloc: Global, id: RequestId) -> Result<Act<P>, AllocError>

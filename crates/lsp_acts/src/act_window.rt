@@ -12,8 +12,9 @@ use serde_json::{Map, Value, put};
 use std::alloc::{AllocError, Global};
 
 impl<P: Drop + PartialEq> Act<P> {
-    /// Has the client write a line into its log: `window/logMessage` (LSP 3.17, "LogMessage Notification"). `kind` says how important
-    /// it is: 1 is an error, 2 a warning, 3 something to know, 4 a line of a log, as `MessageType` of `lsp_types` has them.
+    /// Makes the notification that writes a line into the client's log: `window/logMessage` (LSP 3.17, "LogMessage
+    /// Notification"). `kind` says how important the line is: 1 is an error, 2 a warning, 3 information, 4 a log
+    /// message. `MessageType` of `lsp_types` has these numbers.
     ///
     /// `Err` means that an allocation failed.
     pub fn log<K: Into<u32>>(alloc: Global, kind: K, message: &str) -> Result<Act<P>, AllocError>
@@ -23,7 +24,8 @@ impl<P: Drop + PartialEq> Act<P> {
         told(alloc, "window/logMessage", kind.into(), message)
     }
 
-    /// Has the client show a text to its user: `window/showMessage` (LSP 3.17, "ShowMessage Notification"). `kind` is as for `log`.
+    /// Makes the notification that shows a text to the user: `window/showMessage` (LSP 3.17, "ShowMessage
+    /// Notification"). `kind` is as for `log`.
     ///
     /// `Err` means that an allocation failed.
     pub fn show<K: Into<u32>>(alloc: Global, kind: K, message: &str) -> Result<Act<P>, AllocError>
@@ -50,7 +52,7 @@ impl<P: Drop + PartialEq> Act<P> {
     }
 }
 
-/// A notification with a text for the user.
+/// Makes a notification with a text for the user.
 fn told<P: Drop + PartialEq>(
     alloc: Global,
     method: &str,
@@ -65,7 +67,7 @@ fn told<P: Drop + PartialEq>(
     Ok(Act::Tell(Notification { method, params }))
 }
 
-/// The params of both notifications.
+/// Makes the params of both notifications.
 fn message_params(alloc: Global, kind: u32, message: &str) -> Result<Value, AllocError>
     ensures { IfOk result (λ params. view params ≡ message_params_spec kind message.now) }
 {

@@ -1,5 +1,5 @@
-//! Servers that give acts, each an application beside its queues of requests (`QueuedServer`). The session itself, which runs any
-//! `Application`, is in `lsp_session`.
+//! Servers that return acts. Each becomes an application with its queues of requests (`QueuedServer`). The session
+//! itself, which runs any `Application`, is in `lsp_session`.
 #![tactic(auto)]
 
 mod act_diagnostics;

@@ -25,7 +25,8 @@ use serde_json::{Map, Value, put};
 use std::alloc::{AllocError, Global};
 use std::mem;
 
-/// What a server sends by. The session sends it when the server's method returns, in order.
+/// The queues of a server: the requests that it holds, those that it sent, and the messages to send. The session sends
+/// these in order when the server's method returns.
 #[derive(Drop)]
 pub(crate) struct Queues<P> {
     alloc: Global,
@@ -34,7 +35,7 @@ pub(crate) struct Queues<P> {
 }
 
 impl<P: Drop + PartialEq> Queues<P> {
-    /// Nothing is held, asked or to be sent. It takes no memory.
+    /// Makes empty queues. It does not allocate.
     pub(crate) fn new(alloc: Global) -> Queues<P>
         ensures { queues_of result ≡ empty_queues }
     {
@@ -54,7 +55,7 @@ impl<P: Drop + PartialEq> Queues<P> {
         self.send(Message::Notification(Notification { method, params }))
     }
 
-    /// Sends a request of the server's own. Its reply brings the payload back. Where no id is left it comes back at once.
+    /// Sends a request of the server. Its reply returns the payload. If no id is left, the payload is returned at once.
     fn ask(&mut self, method: String, params: Value, payload: P) -> Result<Option<P>, AllocError>
         ensures queues { IfOk result (λ _.
             queues_of self.new
@@ -97,7 +98,7 @@ impl<P: Drop + PartialEq> Queues<P> {
         }))
     }
 
-    /// The same with a result that waits as text.
+    /// Answers a request that is held, with a result that is text already.
     fn reply_text(&mut self, id: RequestId, text: ResultText) -> Result<(), AllocError>
         ensures { IfOk result (λ _.
             queues_of self.new ≡ does (queues_of self.old) (replies id (Ok (view text)))) }
@@ -109,7 +110,7 @@ impl<P: Drop + PartialEq> Queues<P> {
         self.push(ToSend::Text(id, text))
     }
 
-    /// Cancels each request of the server's own that keeps such a payload.
+    /// Cancels each request of the server that keeps a payload equal to this one.
     fn cancel(&mut self, payload: P) -> Result<(), AllocError>
         ensures { IfOk result (λ _. queues_of self.new
             ≡ does (queues_of self.old) (cancels (λ kept. P.eq kept «payload»))) }
@@ -174,7 +175,7 @@ impl<P: Drop + PartialEq> Queues<P> {
         }
     }
 
-    /// Does an act. What it was to keep for a request that found no id comes back.
+    /// Performs an act. It returns the payload of a request for which no id was left.
     fn perform(&mut self, act: Act<P>) -> Result<Option<P>, AllocError>
         ensures queues { IfOk result (λ _.
             queues_of self.new ≡ does (queues_of self.old) (act_view P.eq act)) }
@@ -199,7 +200,7 @@ impl<P: Drop + PartialEq> Queues<P> {
     }
 }
 
-/// The notification that cancels a request (LSP 3.17, "Cancellation Support").
+/// Makes the notification that cancels a request (LSP 3.17, "Cancellation Support").
 fn cancellation(alloc: Global, id: RequestId) -> Result<Notification, AllocError>
     ensures { IfOk result (λ n.
         notification_view n ≡ notification cancel_method (cancel_params_spec id)) }
@@ -209,7 +210,7 @@ fn cancellation(alloc: Global, id: RequestId) -> Result<Notification, AllocError
     Ok(Notification { method, params })
 }
 
-/// The outcome of a request that was cancelled, with this text.
+/// Makes the outcome of a request that was cancelled, with this text.
 fn canceled_outcome(
     alloc: Global,
     message: &str,
@@ -230,7 +231,7 @@ fn cancel_params(alloc: Global, id: RequestId) -> Result<Value, AllocError>
     Ok(Value::Object(members))
 }
 
-/// The id as a message has it.
+/// Returns the id as a value.
 fn id_value(alloc: Global, id: RequestId) -> Result<Value, AllocError>
     ensures { IfOk result (λ value. view value ≡ id_tree id) }
 {
@@ -243,7 +244,7 @@ fn id_value(alloc: Global, id: RequestId) -> Result<Value, AllocError>
     copy_of_id(&tree)
 }
 
-/// The member `id`.
+/// Copies the member `id`.
 fn copy_of_id(tree: &Value) -> Result<Value, AllocError>
     requires { IsSome (get (codes "id") (view tree.now)) }
     ensures { IfOk result (λ id. get (codes "id") (view tree.now) ≡ Some (view id)) }
@@ -254,7 +255,8 @@ fn copy_of_id(tree: &Value) -> Result<Value, AllocError>
     }
 }
 
-/// The request that a notification cancels (LSP 3.17, "Cancellation Support").
+/// Returns the id of the request that a notification cancels (LSP 3.17, "Cancellation Support"). It is `None` if the
+/// notification cancels none. The error means that an allocation failed.
 pub fn cancelled_id(notification: &Notification) -> Result<Option<RequestId>, AllocError>
     ensures { IfOk result (λ id.
         id ≡ cancelled_by (string_bytes notification.now.method) (view notification.now.params)) }
@@ -265,16 +267,16 @@ pub fn cancelled_id(notification: &Notification) -> Result<Option<RequestId>, Al
     id_to_cancel(&notification.params)
 }
 
-/// A server beside its queues, as a service that a session runs.
+/// A server with its queues, as a service that a session runs.
 #[derive(Drop)]
 pub struct QueuedServer<S, P> {
-    /// What you wrote. A session leaves it as it ended.
+    /// Your server. It stays in the state in which the session ended.
     pub server: S,
     queues: Queues<P>,
 }
 
 impl<S: Server> QueuedServer<S, S::Payload> {
-    /// A server beside empty queues. It takes no memory.
+    /// Makes a service of a server, with empty queues. It does not allocate.
     pub fn new(alloc: Global, server: S) -> Self
         ensures server { result.server ≡ server }
         ensures queues { seen result ≡ (server, empty_queues) }
@@ -285,7 +287,7 @@ impl<S: Server> QueuedServer<S, S::Payload> {
         }
     }
 
-    /// The server, without its queues. What it still held, where no `shutdown` came, gets no reply.
+    /// Returns the server without its queues. If no `shutdown` arrived, the requests that are still held get no reply.
     pub fn into_server(self) -> S
         ensures { result ≡ self.server }
     {
@@ -302,7 +304,7 @@ impl<S: Server> QueuedServer<S, S::Payload> {
         self.perform_all(acts)
     }
 
-    /// Does acts, in order.
+    /// Performs acts, in order.
     fn perform_all(&mut self, acts: Vec<Act<S::Payload>>) -> Result<(), AllocError>
         ensures queues { IfOk result (λ _.
             queues_of self.new.queues
@@ -319,7 +321,7 @@ impl<S: Server> QueuedServer<S, S::Payload> {
         Ok(())
     }
 
-    /// Does an act. What it was to keep for a request that found no id goes back to the server.
+    /// Performs an act. The payload of a request for which no id was left goes back to the server.
     fn perform(&mut self, act: Act<S::Payload>) -> Result<(), AllocError>
         ensures queues { IfOk result (λ _.
             queues_of self.new.queues
@@ -335,7 +337,7 @@ impl<S: Server> QueuedServer<S, S::Payload> {
         }
     }
 
-    /// Does the last acts of the server, and answers what it leaves. `shutdown` came under this id.
+    /// Performs the last acts of the server, and answers the requests that it leaves. `shutdown` has this id.
     fn on_shutdown(&mut self, id: &RequestId) -> Result<(), AllocError>
         ensures { IfOk result (λ _.
             Parts S.Server (seen self.old) id.now (seen self.new)) }
@@ -428,7 +430,7 @@ impl<S: Server> Service for QueuedServer<S, S::Payload> {
         Ok(Output::Several(self.queues.take_sent()))
     }
 
-    /// A reply to a request of the server's own may cross the `shutdown` of its client.
+    /// Returns true: a reply to a request of the server may cross the `shutdown` of its client.
     fn passes_late(&self) -> bool {
         true
     }
@@ -439,7 +441,7 @@ impl<S: Server> Application for QueuedServer<S, S::Payload> {
 
     ghost session = { λ old new. ServerSession S.Server old.server new.server };
 
-    /// A session begins with empty queues: no request of the client before is owed to this one.
+    /// Starts a session with empty queues. No request of an earlier client belongs to this one.
     fn run<T: WakingInbox + TextOutbox>(
         &mut self,
         alloc: Global,

@@ -9,28 +9,30 @@ use lsp_message::{Notification, Request, RequestId, ResponseError, ResultText};
 use serde_json::Value;
 use std::alloc::{AllocError, Global};
 
-/// What a server does.
+/// A message that a server sends, or a cancellation.
 #[derive(Drop)]
 pub enum Act<P> {
-    /// It sends a notification.
+    /// Sends a notification.
     Tell(Notification),
-    /// It sends a request of its own with this method and these params, and keeps this for the reply. The id is the next of
-    /// 0, 1, 2, .. 2147483647. If all of them were given out nothing is sent, and the server takes back what it was to keep.
+    /// Sends a request with this method and these params, and keeps the payload for the reply. The id is the next of 0,
+    /// 1, 2, .. 2147483647. If all of them were used, nothing is sent, and `Server::unsent` gets the payload back.
     Ask(String, Value, P),
-    /// It answers the client's request with this id, now or later. If no request is held under it, nothing is sent.
+    /// Answers the client's request with this id, now or later. If no request is held under it, nothing is sent.
     Reply(RequestId, Result<Value, ResponseError>),
-    /// The same with a result that waits as text: a large one takes less memory so until it is sent.
+    /// Does the same with a result that is text already. A large result needs less memory in this form until it is
+    /// sent.
     ReplyText(RequestId, ResultText),
-    /// It cancels each request of its own that keeps what equals this, if the reply did not come: the oldest first. The
-    /// replies still come, with what was kept for them (LSP 3.17, "Cancellation Support").
+    /// Cancels each request of the server whose payload equals this one and whose reply has not arrived, the oldest
+    /// first. The replies still arrive, with their payloads (LSP 3.17, "Cancellation Support").
     Cancel(P),
 }
 
-/// A server that speaks. What each method gives are acts, which are done in order when it returns. An `Err` is a failed
-/// allocation, and ends the session; nothing is sent for that message.
+/// A server that may send first. Its methods return acts, which are performed in order after the method returned. An
+/// `Err` means that an allocation failed, and ends the session. Nothing is sent for that message.
 ///
-/// The ghost members say what a server promises. If an `impl` leaves one out, it promises nothing there: the method may do anything. Only
-/// `wakes` is another: an `impl` that leaves it out promises that a wake changes nothing.
+/// The ghost members say what a server promises. If an `impl` leaves one out, it promises nothing there: the method may
+/// do anything. `wakes` is the exception: an `impl` that leaves it out promises that a wake-up changes nothing and
+/// sends nothing.
 pub trait Server {
     ghost use Rattle.serde_json.specs.Data.{Data};
     ghost use Rattle.std.specs.Prelude.{ℕ, Result, ⊤};
@@ -41,51 +43,52 @@ pub trait Server {
     /// What the server keeps for the reply to a request of its own. `Act::Cancel` finds requests by it.
     type Payload: Drop + PartialEq;
 
-    /// For these params of `initialize` it may give this outcome, and change so.
+    /// For these params of `initialize` it may return this outcome, and change in this manner.
     ghost initializes: { Self → Data → Result Data ErrorObject → Self → Type 0 } = { λ _ _ _ _. ⊤ };
 
-    /// At `initialized` it may do this, and change so.
+    /// At `initialized` it may return these acts, and change in this manner.
     ghost at_initialized: { Self → List (PlainAct Self.Payload) → Self → Type 0 } = { λ _ _ _. ⊤ };
 
-    /// At a request with this id, method and params it may do this, and change so.
+    /// At a request with this id, method and params it may return these acts, and change in this manner.
     ghost requested: { Self → Id → List ℕ → Data → List (PlainAct Self.Payload) → Self → Type 0 } = { λ _ _ _ _ _ _. ⊤ };
 
-    /// At a notification with this method and these params it may do this, and change so.
+    /// At a notification with this method and these params it may return these acts, and change in this manner.
     ghost notified: { Self → List ℕ → Data → List (PlainAct Self.Payload) → Self → Type 0 } = { λ _ _ _ _ _. ⊤ };
 
-    /// At a reply to a request of its own it may do this, and change so.
+    /// At a reply to a request of its own, with this payload and this outcome, it may return these acts, and change in
+    /// this manner.
     ghost replied: { Self → Self.Payload → Result Data ErrorObject → List (PlainAct Self.Payload)
         → Self → Type 0 } = { λ _ _ _ _ _. ⊤ };
 
-    /// At a wake it may do this, and change so. A server that waits for nothing but messages does nothing then.
+    /// At a wake-up it may return these acts, and change in this manner. By default it returns none and stays as it is.
     ghost wakes: { Self → List (PlainAct Self.Payload) → Self → Type 0 } = { stays };
 
-    /// At `shutdown` it may do this last, and change so.
+    /// At `shutdown` it may return these last acts, and change in this manner.
     ghost at_shutdown: { Self → List (PlainAct Self.Payload) → Self → Type 0 } = { λ _ _ _. ⊤ };
 
-    /// It may take this back, and change so.
+    /// It may get this payload back, and change in this manner.
     ghost takes_back: { Self → Self.Payload → Self → Type 0 } = { λ _ _ _. ⊤ };
 
-    /// What comes of `initialize` (LSP 3.17, "Initialize Request"): the result, with the capabilities, the server's name and
-    /// version; or an error, which is sent as the reply, and the session goes on waiting for another `initialize`.
+    /// Answers `initialize` (LSP 3.17, "Initialize Request"). The result has the capabilities, and the server's name
+    /// and version. An error is sent as the reply, and the session waits for another `initialize`.
     fn initialize(&mut self, params: Value) -> Result<Result<Value, ResponseError>, AllocError>
         ensures { IfOk result (λ outcome.
             initializes self.old (view params) (outcome_view outcome) self.new) };
 
-    /// What it does first: `initialized` came, and from now on it may send.
+    /// Returns the server's first acts: `initialized` arrived, and from now on it may send.
     fn initialized(&mut self) -> Result<Vec<Act<Self::Payload>>, AllocError>
         ensures { IfOk result (λ acts.
             at_initialized self.old (map (act_view Self.Payload.eq) acts.items) self.new) };
 
-    /// Is given a request to keep, which is held until `Act::Reply` answers it, now or later. A client that uses an id again
-    /// while it is held gets one reply under it.
+    /// Handles a request. The request is held until `Act::Reply` answers it, now or later. A client that uses an id
+    /// again while a request is held under it gets one reply under this id.
     fn request(&mut self, request: Request) -> Result<Vec<Act<Self::Payload>>, AllocError>
         ensures { IfOk result (λ acts.
             requested self.old request.id (string_bytes request.method) (view request.params)
             (map (act_view Self.Payload.eq) acts.items) self.new) };
 
-    /// Takes notice of a notification. At `$/cancelRequest` it may answer the request that is cancelled; where it leaves it,
-    /// the reply is the error -32800, `canceled by client` (LSP 3.17, "Cancellation Support").
+    /// Handles a notification. At `$/cancelRequest` it may answer the request that is cancelled. Otherwise the session
+    /// replies to that request with the error -32800, `canceled by client` (LSP 3.17, "Cancellation Support").
     fn notification(
         &mut self,
         notification: Notification,
@@ -94,7 +97,8 @@ pub trait Server {
             notified self.old (string_bytes notification.method) (view notification.params)
             (map (act_view Self.Payload.eq) acts.items) self.new) };
 
-    /// Takes the reply to a request of its own, with what it kept for it. One that comes after `shutdown` is passed over, and comes to nobody.
+    /// Handles the reply to a request of the server, with the payload that was kept for it. A reply that arrives after
+    /// `shutdown` is skipped.
     fn response(
         &mut self,
         payload: Self::Payload,
@@ -103,21 +107,23 @@ pub trait Server {
         ensures { IfOk result (λ acts.
             replied self.old «payload» (outcome_view outcome) (map (act_view Self.Payload.eq) acts.items) self.new) };
 
-    /// Something that the server waits for is ready, and the inbox told so (`WakingInbox::receive_or_woken`); or the session skipped a content
-    /// part that is no message, as its policy wants (`BadContentPolicy`). A wake comes after `initialized` and before `shutdown`, and nowhere
-    /// else. What it gives are acts, as at a message. A server that waits for nothing but messages gives an empty vector.
+    /// Handles a wake-up. It means that something is ready for which the server waits
+    /// (`WakingInbox::receive_or_woken`), or that the session skipped a content part that is no message, as its policy
+    /// allows (`BadContentPolicy`). The session calls it after `initialized` and before `shutdown`, and nowhere else.
+    /// Its acts are performed as those of a message. A server that waits only for messages returns an empty vector.
     fn woken(&mut self, alloc: Global) -> Result<Vec<Act<Self::Payload>>, AllocError>
         ensures { IfOk result (λ acts. wakes self.old (map (act_view Self.Payload.eq) acts.items) self.new) };
 
-    /// What it does last: `shutdown` came (LSP 3.17, "Shutdown Request"). After these acts each request that it still holds gets the error
-    /// -32800, `canceled by shutdown`, and then `shutdown` its null. Nothing comes to it after that, so a request that it sends now gets no
-    /// reply. A server with nothing to do gives an empty vector.
+    /// Returns the server's last acts: `shutdown` arrived (LSP 3.17, "Shutdown Request"). After these acts each request
+    /// that is still held gets the error -32800, `canceled by shutdown`, and then `shutdown` gets null. The server
+    /// receives nothing after that, so a request that it sends now gets no reply. A server with nothing to do returns
+    /// an empty vector.
     fn shutdown(&mut self, alloc: Global) -> Result<Vec<Act<Self::Payload>>, AllocError>
         ensures { IfOk result (λ acts.
             at_shutdown self.old (map (act_view Self.Payload.eq) acts.items) self.new) };
 
-    /// Takes back what an `Act::Ask` was to keep, since no id was left for the request, and it was not sent. It comes only after
-    /// 2147483648 requests of the session; all else goes on.
+    /// Gets back the payload of an `Act::Ask` for which no id was left, and which was not sent. This happens only after
+    /// 2147483648 requests in a session. The session goes on.
     fn unsent(&mut self, payload: Self::Payload) -> Result<(), AllocError>
         ensures { IfOk result (λ _. takes_back self.old «payload» self.new) };
 }
