@@ -11,7 +11,7 @@ use std::time::Duration;
 /// Who sent a request to the client. It is kept for the reply.
 #[derive(Drop)]
 pub enum RequestOrigin<P> {
-    /// The server, which kept this for the reply.
+    /// The server, which kept this payload for the reply.
     ByServer(P),
     /// A job, which waits for the reply under this number.
     ByJob(u64),
@@ -39,21 +39,22 @@ impl<P: PartialEq> PartialEq for RequestOrigin<P> {
     }
 }
 
-/// What the client replied.
+/// The client's reply.
 pub(crate) type Reply = Result<Value, ResponseError>;
 
-/// A job that asked the client.
+/// A job that sent a request to the client.
 #[derive(Drop)]
 struct Waiter {
     token: CancellationToken,
-    /// Where the reply goes. `None` means that the job waits no more.
+    /// Where the reply goes. `None` means that the job no longer waits.
     reply: Option<Sender<Reply>>,
     /// Whether the request was taken, to be sent to the client.
     is_taken: bool,
 }
 
 impl Waiter {
-    /// A job that is to end goes on without a reply. False if its request need not be cancelled at the client: it was not taken, and never is.
+    /// Lets a job that is to end go on without a reply. Returns false if its request need not be cancelled at the
+    /// client: it was not taken, and never will be.
     fn let_go(&mut self) -> bool {
         if !self.token.is_cancelled() {
             return true;
@@ -62,7 +63,7 @@ impl Waiter {
         self.is_taken || self.token.is_wanted()
     }
 
-    /// The reply came. If the job waits no more, it is dropped.
+    /// Passes the reply to the job. If the job no longer waits, the reply is dropped.
     fn give<T: Wait>(self, rt: &T, reply: Reply) {
         let Waiter { reply: sender, .. } = self;
         match sender {
@@ -71,7 +72,7 @@ impl Waiter {
         }
     }
 
-    /// Whether the request is to be cancelled at the client.
+    /// Returns whether the request is to be cancelled at the client.
     fn is_unneeded(&self) -> bool {
         self.is_taken && self.reply.is_none()
     }
@@ -84,7 +85,8 @@ struct Shown {
     token: CancellationToken,
 }
 
-/// The jobs that asked the client, each under the number of its request, and those that show progress, each under the progress's token.
+/// The jobs that asked the client, each under the number of its request, and those that show progress, each under the
+/// progress's token.
 #[derive(Drop)]
 struct Waiters {
     waiting: BTreeMap<u64, Waiter>,
@@ -92,8 +94,8 @@ struct Waiters {
     shown: BTreeMap<RequestId, Shown>,
 }
 
-/// The jobs of a pool that asked the client. Each has a channel of its own, whose end here is dropped when the job is to end: so it goes on.
-/// It stays here until its request is cancelled at the client.
+/// The jobs of a pool that sent a request to the client. Each has a channel of its own. Its end here is dropped when
+/// the job is to end, so the job goes on. The job stays here until its request is cancelled at the client.
 #[derive(Drop)]
 pub(crate) struct Replies {
     alloc: Global,
@@ -105,14 +107,14 @@ pub(crate) struct Replies {
 pub(crate) struct Asker {
     replies: Replies,
     token: CancellationToken,
-    /// The job's.
+    /// The job's ticket.
     ticket: u64,
-    /// Whether it shows progress that its client may cancel.
+    /// Whether the job shows progress that its client may cancel.
     is_shown: bool,
 }
 
 impl Waiters {
-    /// The number of the first request that is to be cancelled at the client.
+    /// Returns the number of the first request that is to be cancelled at the client.
     fn unneeded(&self) -> Option<u64> {
         for (number, waiter) in self.waiting.iter() {
             if waiter.is_unneeded() {
@@ -122,7 +124,7 @@ impl Waiters {
         None
     }
 
-    /// Adds a job, and gives the number of its request.
+    /// Adds a job, and returns the number of its request.
     fn add(&mut self, waiter: Waiter) -> Result<u64, AllocError> {
         let number = self.next;
         match self.waiting.insert(number, waiter) {
@@ -136,7 +138,7 @@ impl Waiters {
 }
 
 impl Replies {
-    /// No job waits. The error means that an allocation failed.
+    /// Starts with no waiting job. The error means that an allocation failed.
     pub fn new(alloc: Global) -> Result<Replies, AllocError> {
         let none = Waiters {
             waiting: BTreeMap::new(alloc),
@@ -149,7 +151,7 @@ impl Replies {
         }
     }
 
-    /// What the job with this ticket and this token needs to wait. The error means that an allocation failed.
+    /// Makes what the job with this ticket and this token needs to wait. The error means that an allocation failed.
     pub fn asker(&self, ticket: u64, token: CancellationToken) -> Result<Asker, AllocError> {
         let replies = Replies {
             alloc: self.alloc,
@@ -163,7 +165,7 @@ impl Replies {
         })
     }
 
-    /// Hands a reply to the job that waits under this number. If none does, the reply is dropped.
+    /// Passes a reply to the job that waits under this number. If none does, the reply is dropped.
     pub fn hand<T: Wait>(&self, rt: &T, number: u64, reply: Reply) {
         match self.remove(rt, number) {
             Some(waiter) => waiter.give(rt, reply),
@@ -171,14 +173,14 @@ impl Replies {
         }
     }
 
-    /// The request with this number was taken, to be sent to the client.
+    /// Records that the request with this number was taken, to be sent to the client.
     pub fn was_taken<T: Wait>(&self, rt: &T, number: u64) {
         if let Some(waiter) = self.waiters.lock(rt).waiting.get_mut(&number) {
             waiter.is_taken = true;
         }
     }
 
-    /// The number of a request to cancel at the client, once: its job waits no more, and no reply came.
+    /// Returns, once, the number of a request to cancel at the client: its job no longer waits, and no reply arrived.
     pub fn take_unneeded<T: Wait>(&self, rt: &T) -> Option<u64> {
         let mut waiters = self.waiters.lock(rt);
         let number = waiters.unneeded()?;
@@ -187,13 +189,14 @@ impl Replies {
         Some(number)
     }
 
-    /// No reply comes under this number: the job that waits goes on without one.
+    /// Lets the job that waits under this number go on without a reply.
     pub fn give_up<T: Wait>(&self, rt: &T, number: u64) {
         let waiter = self.remove(rt, number);
         drop(waiter);
     }
 
-    /// The client cancelled the progress with this token: the job that shows it is to end. If none does, nothing is done.
+    /// Makes the job end that shows the progress with this token, which the client cancelled. If no job shows it,
+    /// nothing is done.
     pub fn cancel_shown<T: Wait>(&self, rt: &T, token: &RequestId) {
         let waiters = self.waiters.lock(rt);
         if let Some(shown) = waiters.shown.get(token) {
@@ -203,7 +206,7 @@ impl Replies {
         self.let_cancelled_go(rt);
     }
 
-    /// Jobs whose token was cancelled go on without a reply.
+    /// Lets jobs whose token was cancelled go on without a reply.
     pub fn let_cancelled_go<T: Wait>(&self, rt: &T) {
         let mut waiters = self.waiters.lock(rt);
         waiters.waiting.retain(|_, waiter| waiter.let_go());
@@ -215,15 +218,17 @@ impl Replies {
 }
 
 impl Asker {
-    /// The allocator of the pool.
+    /// Returns the allocator of the pool.
     pub fn alloc(&self) -> Global {
         self.replies.alloc
     }
 
-    /// The job will wait for a reply: gives the number of its request, and the end of a channel on which the reply comes. If the channel is
-    /// disconnected, none comes. `None` means that nobody waits for the job any more. The error means that an allocation failed.
+    /// Prepares a job to wait for a reply. It returns the number of the request, and the end of a channel for the
+    /// reply. If the channel is disconnected, no reply will arrive. `None` means that nobody waits for the job any
+    /// longer. The error means that an allocation failed.
     ///
-    /// The token is looked at under the lock. So whoever cancels it and then calls `let_cancelled_go` finds the job, or the job sees that.
+    /// The token is checked under the lock. So whoever cancels it and then calls `let_cancelled_go` finds the job, or
+    /// the job sees that it was cancelled.
     pub fn begin<T: Wait>(&self, rt: &T) -> Result<Option<(u64, Receiver<Reply>)>, AllocError> {
         let (sender, receiver) = bounded(self.replies.alloc, 1)?;
         let waiter = Waiter {
@@ -239,7 +244,7 @@ impl Asker {
         Ok(Some((number, receiver)))
     }
 
-    /// Whether the job is to end.
+    /// Returns whether the job is to end.
     pub fn is_cancelled(&self) -> bool {
         self.token.is_cancelled()
     }
@@ -249,7 +254,8 @@ impl Asker {
         self.token.rest(rt, time);
     }
 
-    /// The job shows progress with this token, which its client may cancel. The error means that an allocation failed.
+    /// Records that the job shows progress with this token, which its client may cancel. The error means that an
+    /// allocation failed.
     pub fn show<T: Wait>(&mut self, rt: &T, token: RequestId) -> Result<(), AllocError> {
         let shown = Shown {
             ticket: self.ticket,
@@ -262,7 +268,7 @@ impl Asker {
         }
     }
 
-    /// The job ended: it shows no progress any more.
+    /// Records that the job ended, so it shows no progress.
     pub fn leave<T: Wait>(self, rt: &T) {
         if self.is_shown {
             let ticket = self.ticket;
@@ -271,7 +277,7 @@ impl Asker {
         }
     }
 
-    /// The request was not sent: the job waits no more.
+    /// Records that the request was not sent, so the job no longer waits.
     pub fn end<T: Wait>(&self, rt: &T, number: u64) {
         self.replies.give_up(rt, number);
     }

@@ -5,8 +5,8 @@ use std::sync::atomic::{AtomicBool, Ordering};
 use std::sync::{Arc, Wait};
 use std::time::Duration;
 
-/// Tells a job that it is to end: nobody waits for its outcome any more (LSP 3.17, "Cancellation Support"), or its client cancelled the
-/// progress that it shows.
+/// Says whether a job is to end: nobody waits for its outcome any longer (LSP 3.17, "Cancellation Support"), or its
+/// client cancelled the progress that it shows.
 #[derive(Drop)]
 pub(crate) struct CancellationToken {
     request: UntakenMessages,
@@ -14,7 +14,7 @@ pub(crate) struct CancellationToken {
 }
 
 impl CancellationToken {
-    /// A token that is not cancelled. The error means that an allocation failed.
+    /// Makes a token that is not cancelled. The error means that an allocation failed.
     pub fn new(alloc: Global) -> Result<CancellationToken, AllocError> {
         let Ok(pool) = Arc::new(alloc, AtomicBool::new(false)) else {
             return Err(AllocError);
@@ -25,7 +25,7 @@ impl CancellationToken {
         })
     }
 
-    /// The token of another job of the same pool.
+    /// Makes the token of another job of the same pool.
     pub fn of_pool(&self, alloc: Global) -> Result<CancellationToken, AllocError> {
         Ok(CancellationToken {
             request: UntakenMessages::new(alloc)?,
@@ -33,7 +33,7 @@ impl CancellationToken {
         })
     }
 
-    /// The same token, for another thread.
+    /// Makes a second owner of the token, for another thread.
     pub fn share(&self) -> Result<CancellationToken, AllocError> {
         Ok(CancellationToken {
             request: self.request.share()?,
@@ -41,23 +41,23 @@ impl CancellationToken {
         })
     }
 
-    /// Whether the job is to end.
+    /// Returns whether the job is to end.
     pub fn is_cancelled(&self) -> bool {
         self.request.is_stopped() || self.pool.load(Ordering::SeqCst)
     }
 
-    /// Whether somebody waits for the job.
+    /// Returns whether somebody waits for the job.
     pub fn is_wanted(&self) -> bool {
         !self.request.is_cancelled()
     }
 
-    /// Nobody waits for the job any more.
+    /// Records that nobody waits for the job any longer.
     pub fn cancel(&self) {
         self.request.cancel();
         self.stop();
     }
 
-    /// The job is to end. Somebody waits for it.
+    /// Makes the job end, while somebody still waits for it.
     pub fn stop(&self) {
         self.request.stop();
     }
@@ -69,12 +69,12 @@ impl CancellationToken {
         }
     }
 
-    /// The count of the messages of this job, for another thread.
+    /// Returns the count of the job's messages, for another thread.
     pub fn untaken(&self) -> Result<UntakenMessages, AllocError> {
         self.request.share()
     }
 
-    /// A message of this job was taken.
+    /// Records that a message of this job was taken.
     pub fn took(&self) {
         self.request.remove();
     }

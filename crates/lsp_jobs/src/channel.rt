@@ -25,18 +25,18 @@ use std::snapshot::Snapshot;
 use std::sync::Wait;
 use std::time::Duration;
 
-/// What a worker does, and what may come of it.
+/// The work of a worker, and its possible results.
 pub(crate) trait AnyJob<R>: Drop {
     ghost use Rattle.serde_json.specs.Data.{Data};
     ghost use Rattle.std.specs.Prelude.{ℕ, List};
 
-    /// It may come to this.
+    /// It may have this result.
     ghost comes_to: { Self → R → Type 0 };
 
     /// It may report this.
     ghost reports: { Self → List ℕ → Data → Type 0 };
 
-    /// It may ask the client this.
+    /// It may send this request to the client.
     ghost asks: { Self → List ℕ → Data → Type 0 };
 
     fn perform<C: JobContext>(self, alloc: Global, context: &mut C) -> R
@@ -47,18 +47,18 @@ pub(crate) trait AnyJob<R>: Drop {
         ensures { comes_to «self» result };
 }
 
-/// What a job says.
+/// A message of a job.
 #[derive(Drop)]
 pub(crate) enum WorkerMessage<R> {
-    /// How far it is.
+    /// A notification about its progress.
     Report(Notification),
     /// A request to the client with this method and these params. The job waits for the reply under this number.
     Ask(String, Value, u64),
-    /// What it came to.
+    /// The job's result.
     Ran(R),
 }
 
-/// What goes through the channel: the ticket of a job, its name, and what it says.
+/// An item of the channel: the ticket of a job, its name, and its message.
 #[derive(Drop)]
 pub(crate) struct Item<R> {
     pub(crate) ticket: u64,
@@ -205,7 +205,8 @@ pub(crate) struct JobSender<J: AnyJob<R>, R: Drop> {
         × IsSeatAt (sends_on report_sender) report_pass × (knows report_pass ≡ One ticket job) },
 }
 
-/// Gives the next ticket, which has this number, to a job. The error means that an allocation failed, and nothing changed.
+/// Gives the next ticket, which has this number, to a job. The error means that an allocation failed, and nothing
+/// changed.
 pub(crate) fn sender_for<J: AnyJob<R>, R: Drop>(
     sender: &ItemSender<J, R>,
     pass: &mut ItemPass<J, R>,
@@ -237,13 +238,13 @@ pub(crate) fn sender_for<J: AnyJob<R>, R: Drop>(
 }
 
 impl<J: AnyJob<R>, R: Drop> JobSender<J, R> {
-    /// Whether the job is in a slot.
+    /// Returns whether the job is in a slot.
     pub fn is_in_slot(&self) -> bool {
         self.name.is_slot()
     }
 
-    /// Performs the job, and sends what it says. Once its work is done it counts no more among those that run. It waits while there is no
-    /// room for the outcome; nothing is sent if nobody waits for it any more.
+    /// Performs the job, and sends its messages. When its work is done, it no longer counts as running. It waits while
+    /// there is no room for the outcome. Nothing is sent if nobody waits for it any longer.
     pub fn perform<T: Wait + Copy + Drop, N: Notifier>(
         self,
         rt: T,
@@ -280,7 +281,7 @@ impl<J: AnyJob<R>, R: Drop> JobSender<J, R> {
     }
 }
 
-/// Whether it was sent. What was not is dropped.
+/// Returns whether it was sent. A message that was not is dropped.
 fn was_sent<E: Drop>(sent: Result<(), E>) -> bool {
     sent.is_ok()
 }
@@ -390,14 +391,14 @@ impl<W: Reportable, J: AnyJob<R>, R: Drop> Model for Reports<W, J, R> {
 }
 
 impl<W: Reportable, J: AnyJob<R>, R: Drop> Reports<W, J, R> {
-    /// This is sent when the job ends, in place of what was to be sent then.
+    /// Keeps a notification that is sent when the job ends, in place of the one that was kept before.
     fn keep_last(&mut self, last: Option<Notification>)
         requires { IfSome last (λ told. W.what (string_bytes told.method) (view told.params)) }
     {
         self.last = last;
     }
 
-    /// What is to be sent when the job ends.
+    /// Takes the notification that is sent when the job ends.
     fn take_last(&mut self) -> Option<Notification>
         ensures { IfSome result (λ told. W.what (string_bytes told.method) (view told.params)) }
     {
@@ -419,7 +420,7 @@ impl<W: Reportable, J: AnyJob<R>, R: Drop> Reports<W, J, R> {
         )
     }
 
-    /// Sends a notification, and waits for room. False if nobody takes it any more.
+    /// Sends a notification, and waits for room. Returns false if nobody takes it any longer.
     fn send<T: Wait>(&mut self, rt: &T, name: JobName, notification: Notification) -> bool
         requires { W.what (string_bytes notification.method) (view notification.params) }
     {
@@ -433,7 +434,7 @@ impl<W: Reportable, J: AnyJob<R>, R: Drop> Reports<W, J, R> {
 }
 
 impl<W: Reportable, J: AnyJob<R>, R: Drop> Reports<W, J, R> {
-    /// Sends a request to the client, and waits for room. False if nobody takes it any more.
+    /// Sends a request to the client, and waits for room. Returns false if nobody takes it any longer.
     fn ask<T: Wait>(
         &mut self,
         rt: &T,
@@ -453,7 +454,7 @@ impl<W: Reportable, J: AnyJob<R>, R: Drop> Reports<W, J, R> {
     }
 }
 
-/// Tells how far a job is while it is performed, and asks the client.
+/// The context of a job while it is performed: it sends the job's reports and its requests to the client.
 #[derive(Drop)]
 struct Reporter<W: Reportable, T: Wait + Drop, J: AnyJob<R>, R: Drop, N: Notifier> {
     rt: T,
@@ -465,14 +466,14 @@ struct Reporter<W: Reportable, T: Wait + Drop, J: AnyJob<R>, R: Drop, N: Notifie
 }
 
 impl<W: Reportable, T: Wait + Drop, J: AnyJob<R>, R: Drop, N: Notifier> Reporter<W, T, J, R, N> {
-    /// Sends what is to be sent when the job ends.
+    /// Sends the notification that was kept for the job's end.
     fn send_last(&mut self) {
         if let Some(last) = self.reports.take_last() {
             self.send(last);
         }
     }
 
-    /// No reply came. If the job is to end, its request may be cancelled at the client.
+    /// Handles that no reply arrived. If the job is to end, its request may be cancelled at the client.
     fn tell_unneeded(&mut self) {
         if self.asker.is_cancelled() {
             self.notifier.notify(&self.rt);

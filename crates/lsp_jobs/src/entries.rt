@@ -9,7 +9,7 @@ use lsp_message::RequestId;
 use lsp_queue::{Incoming, ReqQueue};
 use std::alloc::{AllocError, Global};
 
-/// What is kept under the names of jobs. Contracts see the name's entry, for each name.
+/// The entries that are kept under the names of jobs. Contracts see the entry of each name.
 #[derive(Drop)]
 pub(crate) struct Entries<E: Drop> {
     requests: Incoming<E>,
@@ -17,7 +17,7 @@ pub(crate) struct Entries<E: Drop> {
 }
 
 impl<E: Drop> Entries<E> {
-    /// Nothing is kept. It takes no memory.
+    /// Makes an empty set of entries. It does not allocate.
     pub fn new(alloc: Global) -> Entries<E>
         ensures { entry_of result ≡ no_jobs }
     {
@@ -29,7 +29,8 @@ impl<E: Drop> Entries<E> {
         }
     }
 
-    /// Keeps an entry. One that was under the name is dropped. The error means that an allocation failed, and nothing changed.
+    /// Keeps an entry. One that was under the name is dropped. The error means that an allocation failed, and nothing
+    /// changed.
     pub fn add(&mut self, name: JobName, entry: E) -> Result<(), AllocError>
         ensures ok { OnOk result (entry_of self.new ≡ with_job name «entry» (entry_of self.old)) }
         ensures err { OnErr result (entry_of self.new ≡ entry_of self.old) }
@@ -56,7 +57,7 @@ impl<E: Drop> Entries<E> {
         done(self.slots.register(slot.into_key(), entry))
     }
 
-    /// The entry under a name.
+    /// Returns the entry under a name.
     pub fn get(&self, name: &JobName) -> Option<&E>
         ensures { option_copied result ≡ entry_of self.now name.now }
     {
@@ -66,7 +67,7 @@ impl<E: Drop> Entries<E> {
         }
     }
 
-    /// Takes the entry under a name out.
+    /// Takes out the entry under a name.
     pub fn remove(&mut self, name: &JobName) -> Option<E>
         ensures value { result ≡ entry_of self.old name.now }
         ensures removed { entry_of self.new ≡ without name.now (entry_of self.old) }
@@ -78,7 +79,7 @@ impl<E: Drop> Entries<E> {
     }
 }
 
-/// Whether it was done. What is given back is dropped.
+/// Returns whether it was registered. A value that was not is dropped.
 fn done<F: Drop>(registered: Result<(), F>) -> Result<(), AllocError>
     ensures { is_ok result ≡ is_ok registered }
 {

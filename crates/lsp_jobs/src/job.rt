@@ -11,20 +11,20 @@ use std::time::Duration;
 
 /// The work of one request or slot, with all that it needs. It runs in a thread of a `JobPool`.
 ///
-/// The ghost members say what a job is for, what comes of it, what it reports, and what it asks the client. If an `impl` leaves one
-/// out, that may be anything.
+/// The ghost members say what a job is for, what its results are, what it reports, and what it asks the client. If an
+/// `impl` leaves one out, that may be anything.
 pub trait Job: Drop {
     ghost use Rattle.serde_json.specs.Data.{Data};
     ghost use Rattle.std.specs.Prelude.{ℕ, List, Option, ⊤};
     ghost use Rattle.lsp_jobs.specs.Ends.{Outcome};
 
-    /// What a job finds for its server: a type of your own, `()` if that is nothing.
+    /// The type of the result that a job returns to its server. Take `()` if there is none.
     type Found: Drop;
 
     /// The job is for a request with this method and these params.
     ghost is_for: { Self → List ℕ → Data → Type 0 } = { λ _ _ _. ⊤ };
 
-    /// The job may come to this: the reply to its request, and what its server gets.
+    /// The job may have this result: the reply to its request, and the result for its server.
     ghost comes_to: { Self → Option Outcome → Option Self.Found → Type 0 } = { λ _ _ _. ⊤ };
 
     /// The job may send a notification with this method and these params while it runs.
@@ -33,8 +33,8 @@ pub trait Job: Drop {
     /// The job may send the client a request with this method and these params while it runs.
     ghost asks: { Self → List ℕ → Data → Type 0 } = { λ _ _ _. ⊤ };
 
-    /// Does the work. A job that takes long calls `JobContext::check` now and then, and so ends soon after nobody waits for it any more. By
-    /// its context it tells how far it is, too.
+    /// Does the work. A job that takes long calls `JobContext::check` now and then, so that it ends soon after nobody
+    /// waits for it any longer. It also reports its progress with the context.
     fn run<C: JobContext>(self, context: &mut C) -> Result<JobResult<Self::Found>, Interrupted>
         requires reporting { (method : List ℕ) (params : Data) → reports «self» method params
             → C.may method params }
@@ -44,17 +44,18 @@ pub trait Job: Drop {
             comes_to «self» (option_map outcome_view done.reply) done.found) };
 }
 
-/// What a job came to.
+/// The result of a job.
 #[derive(Debug, Drop)]
 pub struct JobResult<F> {
-    /// The reply to its request. If it has none, the request gets the error -32603, `no result`. A job in a slot needs none.
+    /// The reply to its request. If it has none, the request gets the error -32603, `no result`. A job in a slot needs
+    /// none.
     pub reply: Option<Result<Value, ResponseError>>,
-    /// What its server gets: see `Slots::found`.
+    /// The result for its server: see `Slots::found`.
     pub found: Option<F>,
 }
 
 impl<F: Drop> JobResult<F> {
-    /// The reply to its request.
+    /// Makes a result that is the reply to the job's request.
     pub fn reply(outcome: Result<Value, ResponseError>) -> JobResult<F>
         ensures { (option_map outcome_view result.reply ≡ Some (outcome_view outcome)) × (result.found ≡ None) }
     {
@@ -64,7 +65,7 @@ impl<F: Drop> JobResult<F> {
         }
     }
 
-    /// What its server gets.
+    /// Makes a result for the job's server.
     pub fn found(found: F) -> JobResult<F>
         ensures { (result.reply ≡ None) × (result.found ≡ Some «found») }
     {
@@ -75,11 +76,11 @@ impl<F: Drop> JobResult<F> {
     }
 }
 
-/// Why a job ends before its work is done. `?` gives it.
+/// Why a job ends before its work is done. `?` returns it from the job.
 #[derive(Clone, Copy, Debug, PartialEq, Eq)]
 pub enum Interrupted {
-    /// Nobody waits for the job any more, or its client cancelled the progress that it shows. If its request still has no reply, it gets
-    /// the error -32800, `canceled by client`.
+    /// Nobody waits for the job any longer, or its client cancelled the progress that it shows. If its request still
+    /// has no reply, it gets the error -32800, `canceled by client`.
     Cancelled,
     /// An allocation failed. The request gets the error -32603, `out of memory`.
     Memory,
@@ -99,9 +100,10 @@ impl<T: Drop> From<AllocFailed<T>> for Interrupted {
     }
 }
 
-/// What a job does beside its work: it sees whether somebody waits for it, rests, tells the client how far it is, and asks it.
+/// What a job may do beside its work: it checks whether it is to end, sleeps, reports its progress to the client, and
+/// sends it requests.
 ///
-/// A context for tests of a job of yours has `is_cancelled`, `report` and `send`.
+/// A context for tests of your job has to implement `is_cancelled`, `report` and `send`.
 pub trait JobContext {
     ghost use Rattle.serde_json.specs.Data.{Data};
     ghost use Rattle.std.specs.Prelude.{ℕ, List, ⊤};
@@ -112,10 +114,11 @@ pub trait JobContext {
     /// A request with this method and these params may be sent.
     ghost may_ask: { List ℕ → Data → Type 0 } = { λ _ _. ⊤ };
 
-    /// Whether the job is to end: nobody waits for it any more, or its client cancelled the progress that it shows.
+    /// Returns whether the job is to end: nobody waits for it any longer, or its client cancelled the progress that it
+    /// shows.
     fn is_cancelled(&self) -> bool;
 
-    /// `Err(Interrupted::Cancelled)` if the job is to end.
+    /// Returns `Err(Interrupted::Cancelled)` if the job is to end.
     fn check(&self) -> Result<(), Interrupted> {
         if self.is_cancelled() {
             return Err(Interrupted::Cancelled);
@@ -123,32 +126,34 @@ pub trait JobContext {
         Ok(())
     }
 
-    /// Sleeps for this time. If the job is to end, it is woken, and gets `Err(Interrupted::Cancelled)`. A job that begins with a rest does
-    /// nothing where another takes its place soon.
+    /// Sleeps for this time. If the job is to end, it is woken, and gets `Err(Interrupted::Cancelled)`. A job that
+    /// sleeps first does no work if another soon replaces it.
     fn rest(&mut self, time: Duration) -> Result<(), Interrupted> {
         let _ = time;
         self.check()
     }
 
-    /// Sends a notification while the job runs, such as `$/progress` (LSP 3.17, "Work Done Progress"), if there is room for it. False
-    /// means that it was not sent: nobody waits for the job any more, 15 of its notifications or 256 of all jobs wait to be taken, or
-    /// an allocation failed. The job goes on.
+    /// Sends a notification while the job runs, such as `$/progress` (LSP 3.17, "Work Done Progress"), if there is room
+    /// for it. False means that it was not sent: nobody waits for the job any longer, 15 of its notifications or 256 of
+    /// all jobs wait to be taken, or an allocation failed. The job goes on.
     fn report(&mut self, notification: Notification) -> bool
         requires { may (string_bytes notification.method) (view notification.params) };
 
-    /// Sends a notification that is not to be dropped. It waits while there is no room for it. False means that it was not sent,
-    /// since nobody waits for the job any more: its request was cancelled or answered otherwise, or the pool ended.
+    /// Sends a notification that must not be dropped. It waits while there is no room for it. False means that it was
+    /// not sent, since nobody waits for the job any longer: its request was cancelled or answered otherwise, or the
+    /// pool ended.
     fn send(&mut self, notification: Notification) -> bool
         requires { may (string_bytes notification.method) (view notification.params) };
 
-    /// Sends the client a request, such as `workspace/configuration` or `workspace/applyEdit`, and waits for its reply: the result or the
-    /// error that the client sent. The job's thread runs nothing else meanwhile.
+    /// Sends the client a request, such as `workspace/configuration` or `workspace/applyEdit`, and waits for its reply:
+    /// the result or the error that the client sent. The job's thread runs nothing else meanwhile.
     ///
-    /// `None` means that no reply comes. The job is to end, and goes on at once. Or the session has given out all of its ids. A client
-    /// that never replies keeps the job waiting until then. A request to which no reply came is cancelled at the client (LSP 3.17,
-    /// "Cancellation Support") if the job is to end, and a reply that still comes is dropped.
+    /// `None` means that no reply will arrive. Either the job is to end, and goes on at once, or the session has used
+    /// all of its ids. Until then a client that never replies keeps the job waiting. If the job is to end before the
+    /// reply arrived, its request is cancelled at the client (LSP 3.17, "Cancellation Support"), and a later reply is
+    /// dropped.
     ///
-    /// The error means that an allocation failed, and nothing was sent. By itself it gives `None`.
+    /// The error means that an allocation failed, and nothing was sent. The default body returns `None`.
     fn ask(
         &mut self,
         method: String,
@@ -160,32 +165,33 @@ pub trait JobContext {
         Ok(None)
     }
 
-    /// Has this sent when the job ends, in place of what was to be sent then: so progress that began has an end. By itself it does
-    /// nothing.
+    /// Keeps this notification, which is sent when the job ends, in place of the one that was kept before. So progress
+    /// that began has an end. The default body does nothing.
     fn at_end(&mut self, last: Option<Notification>)
         requires { IfSome last (λ told. may (string_bytes told.method) (view told.params)) }
     {
         drop(last);
     }
 
-    /// From now on the job is to end if its client cancels the progress with this token: a text, or an integer of 32 bits (LSP 3.17,
-    /// "Canceling Work Done Progress"). The error means that an allocation failed. By itself it does nothing.
+    /// Makes the job end if its client cancels the progress with this token, which is a text or an integer of 32 bits
+    /// (LSP 3.17, "Canceling Work Done Progress"). The error means that an allocation failed. The default body does
+    /// nothing.
     fn cancelled_with(&mut self, token: &Value) -> Result<(), AllocError> {
         let _ = token;
         Ok(())
     }
 }
 
-/// What a job came to, as it waits for its server.
+/// The result of a job while it waits for the server.
 #[derive(Debug, Drop)]
 pub struct DoneJob<F> {
     /// The reply to its request, with its result as text.
     pub reply: Option<Result<ResultText, ResponseError>>,
-    /// What its server gets.
+    /// The result for its server.
     pub found: Option<F>,
 }
 
-/// What a job came to, or why it came to nothing.
+/// The result of a job, or why it has none.
 pub(crate) type Ran<F> = Result<DoneJob<F>, Interrupted>;
 
 impl<J: Job> AnyJob<Ran<J::Found>> for J {
@@ -207,7 +213,7 @@ impl<J: Job> AnyJob<Ran<J::Found>> for J {
     }
 }
 
-/// What a job came to, with the text of its result. If an allocation fails, the job ends so.
+/// Returns the result of a job with its reply as text. If an allocation fails, the job ends with `Interrupted::Memory`.
 fn with_text<F: Drop>(alloc: Global, done: JobResult<F>) -> Ran<F>
     ensures { IfOk result (λ kept. (option_map outcome_view kept.reply ≡ option_map outcome_view done.reply)
         × (kept.found ≡ done.found)) }
@@ -225,7 +231,7 @@ fn with_text<F: Drop>(alloc: Global, done: JobResult<F>) -> Ran<F>
     }
 }
 
-/// An outcome, with its result as text.
+/// Returns an outcome with its result as text.
 fn outcome_with_text(
     alloc: Global,
     outcome: Result<Value, ResponseError>,

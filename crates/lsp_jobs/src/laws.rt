@@ -1,4 +1,4 @@
-//! What a session of a server with jobs does, in its user's words.
+//! Laws about the session of a server with jobs, in terms of what a user sees.
 ghost use Rattle.std.specs.Prelude.{◌≡◌, ◌⊎◌, ◌∷◌, ◌++◌, true, None, Some, ℕ, List, Option, Result};
 ghost use Rattle.lsp_message.specs.Id.{Id};
 ghost use Rattle.lsp_message.specs.Message.{Message, response};
@@ -24,12 +24,18 @@ use crate::job_server::{JobServer, Slots};
 use lsp_session::BadContentPolicy;
 use std::sync::Wait;
 
-/// A session that was run by `run_jobs`, with a limit or without one, and that passes over nothing. At each exchange since the result of
-/// `initialize` the server took a turn. At each wake nothing is sent, or one notification or request of a pending job, or what is done at
-/// its outcome, or the request of one job is cancelled. A job that is pending for a request is the one that was given for it, one in a slot
-/// the last that was started there: see `AnswersByJobs`. And it keeps the laws of
-/// `lsp_acts::laws::server_keeps_laws`: under no id more replies than requests, whatever jobs come to and when; one reply for the last
-/// request under an id, unless it is still held or the session ended at it, and one for each that was cancelled; and before `initialized` nothing but errors and the result of `initialize`, nothing after the reply to `shutdown`.
+/// What holds for a session that `run_jobs` ran, with a limit or without one, and that skips nothing. At each exchange
+/// since the result of `initialize` the server took a turn. At each wake-up the session sends nothing, or one
+/// notification or request of a pending job, or the messages at its outcome, or the cancellation of one job's request.
+/// A job that is pending for a request is the one that was given for it; one in a slot is the last that was started
+/// there (see `AnswersByJobs`).
+///
+/// The session also keeps the laws of `lsp_acts::laws::server_keeps_laws`, whatever jobs return and when:
+///
+/// - Under no id there are more replies than requests.
+/// - The last request under an id has one reply, unless it is still held or the session ended at it. Each request that
+///   was cancelled has one.
+/// - Before `initialized` only errors and the result of `initialize` are sent. Nothing follows the reply to `shutdown`.
 pub fn session_with_jobs_keeps_laws<T: Wait + Drop, S: JobServer<J>, J: Job>()
     ensures exchanges { (first last : S) (exchanges : List Exchange) (stop : Stop)
         (shutdown_reply : Option Message) (answer : SessionAnswer)
@@ -45,9 +51,9 @@ pub fn session_with_jobs_keeps_laws<T: Wait + Drop, S: JobServer<J>, J: Job>()
         text before after answer }
 {}
 
-/// `session_with_jobs_keeps_laws` of a session with a policy: a fact of each session that was run by `run_jobs`. At a wake for a content
-/// part that was passed over the laws say what they say of each wake. With a policy that passes over nothing, such as `EndSession`, each
-/// frame is a message (`nothing_passed`).
+/// States `session_with_jobs_keeps_laws` for a session with a policy. It applies to each session that `run_jobs` ran.
+/// At a wake-up for a content part that was skipped, the laws say the same as at each other wake-up. With a policy that
+/// never skips anything, such as `EndSession`, each frame is a message (`nothing_passed`).
 pub fn session_with_jobs_that_asks_keeps_laws<
     T: Wait + Drop,
     S: JobServer<J>,
@@ -72,12 +78,17 @@ pub fn session_with_jobs_that_asks_keeps_laws<
         before after answer }
 {}
 
-/// Of each reply that is sent at a wake, in a session that began in the state `first`. The last request under its id came before, and since
-/// then no reply under the id was sent and no cancellation of it came. The exchanges before the request had taken the server to a state in
-/// which it called the request long and gave a job for it (`gives`). The outcome is one that this job may come to; or one of three errors: it
-/// gave no reply, an allocation failed, or it ended by `Interrupted::Cancelled`, for whatever reason. Or the server saw at this wake how a job
-/// ended, and then answered the request by itself. That is a job which stands there (see `slots_hear_their_last_jobs`), or one in a slot that the
-/// server changes at this wake. A server that does nothing at the end of a job, as by `NoSlots`, never answers so.
+/// Says where each reply comes from that is sent at a wake-up, in a session that began in the state `first`. The last
+/// request under its id arrived before. Since then no reply under the id was sent, and no cancellation of it arrived.
+/// The reply is one of two:
+///
+/// - A job's. The exchanges before the request had taken the server to a state in which it called the request long and
+///   gave a job for it (`gives`). The outcome is one that this job may have, or one of three errors: the job gave no
+///   reply, an allocation failed, or it ended with `Interrupted::Cancelled`, for whatever reason.
+/// - The server's own. At this wake-up the server was notified how a job ended, and then answered the request itself.
+///   That job is one that stands there (see `slots_hear_their_last_jobs`), or one in a slot that the server changes at
+///   this wake-up. A server that does nothing at the end of a job, such as one with `NoSlots`, never answers in this
+///   manner.
 pub fn requests_are_answered_by_their_jobs<S: JobServer<J>, J: Job>()
     ensures { (first : S) (stop : Stop) (exchanges : List Exchange)
         → AnswersByJobs S.Server (stated_jobs S.JobServer.own ⟦<S::Slots as Slots<S, J>>⟧ J.Job) first stop exchanges
@@ -88,15 +99,23 @@ pub fn requests_are_answered_by_their_jobs<S: JobServer<J>, J: Job>()
         ⊎ RepliesItself S.Server (stated_jobs S.JobServer.own ⟦<S::Slots as Slots<S, J>>⟧ J.Job) first earlier x.sent id outcome }
 {}
 
-/// Of the jobs that a server starts, from the state at the result of `initialize` on (`GoesOn` in `lsp_acts::laws`). Its turns are what
-/// it did at `initialized` and at its calls, each from the state that the one before left. At a request that it calls long, the server
-/// stays as it is. Nothing is sent, since it gave a job for the request; or one reply: what it knows (`knows`), or the error -32803,
-/// `too many requests are waiting`, or -32603, `out of memory`. At each wake the server stays as it is and nothing is done, or what a job
-/// asked is cancelled, or one pending job reports, asks or came to what it may find. The server changes at a wake only by what it hears of that
-/// job. If that is a job in a slot, it is the last that was started there: in an earlier turn, and since then the slot was not changed, and the
-/// job did not end. So what is found of an earlier text never comes after the start for a later one. In each slot starts and ends take turns
-/// (`once`): the server hears or sees one end at most of each job, and none of a job that was not started.
-/// A job for a request is one that the server may give for the last request under the id, which is long, was not cancelled and has no reply.
+/// Describes the turns of a server with jobs, from its state at the result of `initialize` on (`GoesOn` in
+/// `lsp_acts::laws`). Its turns are `initialized` and its calls, each from the state that the one before left.
+///
+/// - At a request that it calls long, the server stays as it is. Nothing is sent, since it gave a job for the request;
+///   or one reply is sent: what it knows (`knows`), the error -32803, `too many requests are waiting`, or the error
+///   -32603, `out of memory`.
+/// - At each wake-up one of three things happens. The server stays as it is and nothing is done; or a request of a job
+///   is cancelled; or one pending job reports, sends a request, or ends with a result that it may have. The server
+///   changes at a wake-up only by being notified about that job.
+/// - If that job is in a slot, it is the last that was started there: it was started in an earlier turn, and since then
+///   the slot was not changed and the job did not end. So the result for an earlier text never arrives after the start
+///   for a later one.
+/// - In each slot, starts and ends alternate (`once`): the server is notified of at most one end of each job, and of
+///   none of a job that was not started.
+/// - A job for a request is one that the server may give for the last request under the id. This request is long, was
+///   not cancelled, and has no reply.
+///
 /// Up to the result of `initialize` no job is pending (`first`).
 pub fn slots_hear_their_last_jobs<T: Wait + Drop, S: JobServer<J>, J: Job>()
     ensures turns { (start last : Pooled T S J J.Found) (opening : Exchange)

@@ -1,4 +1,4 @@
-//! Long requests, and a server's own work, as jobs, which run in threads of their own: while a job runs, the loop of the server goes on.
+//! Long requests, and a server's own work, as jobs. Jobs run in threads of their own, and the server goes on meanwhile.
 #![tactic(auto)]
 
 mod asking;

@@ -6,8 +6,8 @@ use std::alloc::AllocError;
 use std::fmt;
 use std::marker::Model;
 
-/// A place for one job that answers no request, such as the analysis of a document. It is named by a text or a number, as the document's
-/// URI, and is no request's id, whatever ids a client uses. Make one by `Slot::from`.
+/// A place for one job that answers no request, such as the analysis of a document. Its name is a text or a number, for
+/// example the document's URI. No slot is a request's id, whatever ids a client uses. Make one with `Slot::from`.
 #[derive(Debug, Drop)]
 pub struct Slot {
     name: RequestId,
@@ -60,7 +60,7 @@ impl fmt::Display for Slot {
 }
 
 impl Slot {
-    /// The same slot. The error means that an allocation failed.
+    /// Copies the slot. The error means that an allocation failed.
     pub fn clone(&self) -> Result<Slot, AllocError>
         ensures { IfOk result (λ slot. slot ≡ self.now) }
     {
@@ -69,14 +69,14 @@ impl Slot {
         })
     }
 
-    /// Its name, as a key.
+    /// Returns its name as a key.
     pub(crate) fn key(&self) -> &RequestId
         ensures { result.now ≡ self.now }
     {
         &self.name
     }
 
-    /// Its name, as a key.
+    /// Returns its name as a key.
     pub(crate) fn into_key(self) -> RequestId
         ensures { result ≡ «self» }
     {
@@ -84,22 +84,22 @@ impl Slot {
     }
 }
 
-/// What a job is called.
+/// The name of a job.
 #[derive(Debug, Drop)]
 pub enum JobName {
-    /// By the id of the request that it answers.
+    /// The id of the request that the job answers.
     Request(RequestId),
-    /// By its slot. It answers no request.
+    /// The job's slot. The job answers no request.
     Slot(Slot),
 }
 
 impl JobName {
-    /// Whether it is a slot.
+    /// Returns whether it is a slot.
     pub(crate) fn is_slot(&self) -> bool {
         matches!(self, JobName::Slot(_))
     }
 
-    /// The same name. The error means that an allocation failed.
+    /// Copies the name. The error means that an allocation failed.
     pub fn clone(&self) -> Result<JobName, AllocError>
         ensures { IfOk result (λ name. name ≡ self.now) }
     {

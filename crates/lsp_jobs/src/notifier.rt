@@ -5,17 +5,17 @@ use lsp_threads::{Contents, ContentsPlan};
 use std::alloc::AllocError;
 use std::sync::Wait;
 
-/// Tells whoever waits for jobs that one said something. A worker is started for any such type, since the check finds that it may own one
-/// only if it need not look into its type.
+/// Notifies whoever waits for jobs that a job has a message. A worker is started for any such type, since the check
+/// finds that it may own one only if it need not look into its type.
 pub(crate) trait Notifier: Drop {
-    /// A notifier for another thread. The error means that an allocation failed.
+    /// Makes a notifier for another thread. The error means that an allocation failed.
     fn another(&mut self) -> Result<Self, AllocError>;
 
-    /// Says that a job said something, behind what it said. It waits for room for a wake.
+    /// Reports that a job has a message, after that message was sent. It waits for room for a wake-up.
     fn notify<T: Wait>(&mut self, rt: &T);
 }
 
-/// By a wake of the relay at which it waits, for each message.
+/// Notifies by one wake-up of the relay for each message.
 impl Notifier for RelayWaker<Contents, ContentsPlan> {
     fn another(&mut self) -> Result<RelayWaker<Contents, ContentsPlan>, AllocError> {
         RelayWaker::another(self)
@@ -26,7 +26,7 @@ impl Notifier for RelayWaker<Contents, ContentsPlan> {
     }
 }
 
-/// By a signal in a channel that has room for one, which stands for all messages since it was last taken.
+/// Notifies by a signal in a channel that has room for one. The signal stands for all messages since it was last taken.
 impl Notifier for Sender<()> {
     fn another(&mut self) -> Result<Sender<()>, AllocError> {
         self.clone()

@@ -1,4 +1,4 @@
-//! The pool: threads that run jobs, and the jobs that are pending.
+//! The pool: the threads that run jobs, and the jobs that are pending.
 ghost use Rattle.std.specs.Prelude.{◌≡◌, Some, IfOk, IfNone, IfSome, OnErr, OnOk};
 ghost use Rattle.std.specs.Option.{is_some};
 ghost use Rattle.lsp_jobs.specs.PendingJobs.{no_jobs, without, with_job, Tells};
@@ -21,31 +21,33 @@ use std::alloc::{AllocError, Global};
 use std::sync::Wait;
 use std::thread::{Builder, JoinHandle, Threads};
 
-/// How many jobs run, and how many may wait for a thread. Jobs of requests go before jobs in slots.
+/// How many jobs run, and how many may wait for a thread. Jobs of requests run before jobs in slots.
 #[derive(Clone, Copy, Debug, PartialEq, Eq)]
 pub struct PoolSize {
-    /// How many threads run jobs: at least one. If there are two or more, jobs in slots leave one of them to requests, so that none waits
-    /// for jobs in slots alone. One thread runs both: a request then waits until the job in a slot that it runs has ended.
+    /// How many threads run jobs, at least one. If there are two or more, jobs in slots leave one of them to requests,
+    /// so that no request waits for jobs in slots alone. One thread runs both kinds: a request then waits until the
+    /// running job in a slot has ended.
     pub workers: usize,
-    /// How many jobs may wait for a thread while all threads run one: at least one. A job that is forgotten or replaced waits no more,
-    /// whether a thread is free or not. `None` sets no bound.
+    /// How many jobs may wait for a thread while all threads run one, at least one. A job that is forgotten or replaced
+    /// no longer waits, whether a thread is free or not. `None` sets no bound.
     pub waiting: Option<usize>,
-    /// How many bytes the stack of each thread has. `None` leaves that to the system.
+    /// The size in bytes of each thread's stack. `None` leaves that to the system.
     pub stack: Option<usize>,
 }
 
 impl PoolSize {
-    /// How many threads run jobs.
+    /// Returns how many threads run jobs.
     pub(crate) fn threads(&self) -> usize {
         self.workers.max(1)
     }
 
-    /// How many of them may run jobs in slots at once.
+    /// Returns how many of them may run jobs in slots at the same time.
     pub(crate) fn threads_for_slots(&self) -> usize {
         self.workers.saturating_sub(1).max(1)
     }
 
-    /// Whether one more job may run or wait, where so many do, and so many threads may run them.
+    /// Returns whether one more job may run or wait, beside `jobs` jobs that do, with `threads` threads that may run
+    /// them.
     pub(crate) fn has_room(&self, threads: usize, jobs: u64) -> bool {
         match self.waiting {
             Some(waiting) => jobs < threads.saturating_add(waiting.max(1)) as u64,
@@ -65,7 +67,7 @@ impl PoolSize {
 impl From<usize> for PoolSize {
     ghost use Rattle.std.specs.Prelude.{◌≡◌, None};
 
-    /// So many threads, and no bound on the jobs that wait.
+    /// Makes a size of this many threads, with no bound on the jobs that wait.
     fn from(workers: usize) -> PoolSize {
         PoolSize {
             workers,
@@ -78,27 +80,27 @@ impl From<usize> for PoolSize {
 /// Why a job was not submitted.
 #[derive(Clone, Copy, Debug, PartialEq, Eq)]
 pub enum SubmitFault {
-    /// 1: as many jobs wait and run as may.
+    /// 1: the pool is full. As many jobs run and wait as may.
     Full,
     /// 2: an allocation failed.
     Memory,
 }
 
-/// What a job says.
+/// A message of a job.
 #[derive(Debug, Drop)]
 pub enum JobMessage<F> {
     /// A notification to send while it runs.
     Report(Notification),
-    /// A request to send to the client, with this method and these params. The job waits until `JobPool::reply` gets the reply with this
-    /// number.
+    /// A request to send to the client, with this method and these params. The job waits until `JobPool::reply` gets
+    /// the reply with this number.
     Ask(String, Value, u64),
-    /// What it came to.
+    /// The job's result.
     Ran(Result<DoneJob<F>, Interrupted>),
 }
 
-/// Threads that run jobs, and the jobs that are pending. Contracts see these: under the name of each, the job.
+/// Threads that run jobs, and the jobs that are pending. Contracts see the pending jobs: under each name, the job.
 ///
-/// No clause says that a job runs or comes to its end, nor that it sees that it is to end.
+/// No clause says that a job runs or ends, or that it notices that it is to end.
 #[derive(Drop)]
 pub struct JobPool<T: Wait + Drop, J: Job> {
     rt: T,
@@ -116,9 +118,10 @@ where
     J: Job + Send + 'static,
     J::Found: Send + 'static,
 {
-    /// Starts threads that run jobs. It gives the pool, with no job, and the end of a channel on which a signal comes when jobs said
-    /// something: then ask `take_message` until it gives `None`. One signal may stand for several messages. Up to 256 messages wait for
-    /// your loop, and a job that has one more to say waits. A report is dropped then.
+    /// Starts threads that run jobs. It returns the pool, with no job, and the end of a channel. A signal on this
+    /// channel means that jobs have messages: call `take_message` then until it returns `None`. One signal may stand
+    /// for several messages. Up to 256 messages wait for your loop. A job that has one more waits, but a report is
+    /// dropped.
     ///
     /// After a fault no thread is left.
     pub fn start(
@@ -137,9 +140,10 @@ where
         }
     }
 
-    /// Has all jobs end, and waits until each thread has ended: a job that runs then goes on until it sees that it is to end, and one
-    /// that has not begun never does. One that waits for a reply of the client goes on without. A pool that is only dropped cancels its jobs
-    /// too, and waits for no thread; a job that waits for a reply then waits for ever.
+    /// Makes all jobs end, and waits until each thread has ended. A job that runs goes on until it notices that it is
+    /// to end, and one that has not begun never does. A job that waits for a reply of the client goes on without it. A
+    /// pool that is only dropped cancels its jobs too, and waits for no thread; a job that waits for a reply then waits
+    /// for ever.
     pub fn end(self) {
         let JobPool {
             rt,
@@ -159,7 +163,7 @@ where
     }
 }
 
-/// `JobPool::start`, with a notifier.
+/// Does what `JobPool::start` does, with a notifier.
 pub(crate) fn start_pool<T, J, N>(
     rt: &T,
     alloc: Global,
@@ -187,7 +191,7 @@ where
     }
 }
 
-/// A pool for so many jobs, and the end of its queue at which workers take them.
+/// Makes a pool for this many jobs, and the end of its queue where workers take them.
 fn pool_without_workers<T: Wait + Drop, J: Job>(
     rt: T,
     alloc: Global,
@@ -212,13 +216,14 @@ fn pool_without_workers<T: Wait + Drop, J: Job>(
 }
 
 impl<T: Wait + Drop, J: Job> JobPool<T, J> {
-    /// Whether there is room for the job of one more request. That stays so until a job is submitted.
+    /// Returns whether there is room for the job of one more request. A true result stays true until a job is
+    /// submitted.
     pub fn has_room(&self) -> bool {
         self.waiting.has_room(&self.rt, false)
     }
 
-    /// Gives a job to the threads; it never waits for one. An earlier job with the name is forgotten. After a fault no job has the name, and
-    /// this one never runs.
+    /// Passes a job to the threads. It never waits for one. An earlier job with the name is forgotten. After a fault no
+    /// job has the name, and this one never runs.
     pub fn submit(&mut self, name: JobName, job: J) -> Result<(), SubmitFault>
         ensures ok { OnOk result
             (pending_jobs self.new ≡ with_job name «job» (pending_jobs self.old)) }
@@ -235,8 +240,8 @@ impl<T: Wait + Drop, J: Job> JobPool<T, J> {
         }
     }
 
-    /// Gives a job to the threads, whether there is room for it or not. The error means that an allocation failed: no job has the name then,
-    /// and this one never runs.
+    /// Passes a job to the threads, whether there is room for it or not. The error means that an allocation failed.
+    /// Then no job has the name, and this one never runs.
     pub(crate) fn hand_over(&mut self, name: &JobName, job: J) -> Result<(), AllocError>
         ensures ok { OnOk result
             (pending_jobs self.new ≡ with_job name.now «job» (pending_jobs self.old)) }
@@ -252,7 +257,7 @@ impl<T: Wait + Drop, J: Job> JobPool<T, J> {
         }
     }
 
-    /// Keeps a job, and gives it to the workers. After a fault it may be kept.
+    /// Keeps a job, and passes it to the workers. After a fault it may be kept.
     fn keep(&mut self, name: &JobName, job: J) -> Result<(), AllocError>
         ensures ok { OnOk result
             (pending_jobs self.new ≡ with_job name.now «job» (pending_jobs self.old)) }
@@ -268,16 +273,16 @@ impl<T: Wait + Drop, J: Job> JobPool<T, J> {
         self.waiting.add(&self.rt, ticket, queued, is_in_slot)
     }
 
-    /// Whether a job with this name is pending.
+    /// Returns whether a job with this name is pending.
     pub fn is_waiting(&self, name: &JobName) -> bool
         ensures { result ≡ is_some (pending_jobs self.now name.now) }
     {
         self.table.is_waiting(name)
     }
 
-    /// Nobody needs what the job with this name comes to any more: its request was cancelled or answered otherwise, or its slot is needed.
-    /// The job is to end, and what it says is dropped. A job that still waits for a thread is dropped at once, and another may wait
-    /// in its place. It says whether one was pending.
+    /// Makes the job with this name end, because nobody needs its result: its request was cancelled or answered
+    /// otherwise, or its slot is needed. Its messages are dropped. A job that still waits for a thread is dropped at
+    /// once, and another may wait in its place. Returns whether a job was pending.
     pub fn forget(&mut self, name: &JobName) -> bool
         ensures pending { pending_jobs self.new ≡ without name.now (pending_jobs self.old) }
         ensures was { result ≡ is_some (pending_jobs self.old name.now) }
@@ -291,7 +296,7 @@ impl<T: Wait + Drop, J: Job> JobPool<T, J> {
         true
     }
 
-    /// Nobody needs what jobs come to any more, since the client shuts the session down: `forget`, of each.
+    /// Makes all jobs end, as `forget` does for one, for example because the client shuts the session down.
     pub fn forget_all(&mut self)
         ensures { pending_jobs self.new ≡ no_jobs }
     {
@@ -300,31 +305,34 @@ impl<T: Wait + Drop, J: Job> JobPool<T, J> {
         self.replies.let_cancelled_go(&self.rt);
     }
 
-    /// The client replied to a request of a job: hands the reply to the job that waits under this number. If it waits no more, the reply is
+    /// Passes the client's reply to the job that waits under this number. If the job no longer waits, the reply is
     /// dropped.
     pub fn reply(&self, number: u64, outcome: Result<Value, ResponseError>) {
         self.replies.hand(&self.rt, number, outcome);
     }
 
-    /// No reply comes to a request of a job: the job that waits under this number goes on without one.
+    /// Reports that no reply will arrive to a request of a job. The job that waits under this number goes on without
+    /// one.
     pub fn give_up(&self, number: u64) {
         self.replies.give_up(&self.rt, number);
     }
 
-    /// The number of a request of a job to cancel at the client, if there is one: the job is to end, and waits no more, and the client did not
-    /// reply yet (LSP 3.17, "Cancellation Support"). Each is given once, and a signal comes for it too.
+    /// Returns the number of a job's request to cancel at the client, if there is one: the job is to end, no longer
+    /// waits, and the client has not replied (LSP 3.17, "Cancellation Support"). Each number is returned once, and a
+    /// signal is sent for it too.
     pub fn take_unneeded(&self) -> Option<u64> {
         self.replies.take_unneeded(&self.rt)
     }
 
-    /// The client cancelled the progress with this token (LSP 3.17, "Canceling Work Done Progress"): the job that shows it is to end. What it
-    /// comes to is still awaited.
+    /// Makes the job end that shows the progress with this token, because the client cancelled that progress (LSP 3.17,
+    /// "Canceling Work Done Progress"). Its result is still awaited.
     pub fn cancel_progress(&self, token: &RequestId) {
         self.replies.cancel_shown(&self.rt, token);
     }
 
-    /// What a pending job said next, with its name: a report or a request to the client, and the job goes on; or what it came to, and it is
-    /// pending no more. `None` means that no pending job said anything new. It doesn't wait.
+    /// Takes the next message of a pending job, with the job's name: a report or a request to the client, after which
+    /// the job goes on; or its result, after which the job is no longer pending. `None` means that no pending job has a
+    /// new message. It doesn't wait.
     pub fn take_message(&mut self) -> Option<(JobName, JobMessage<J::Found>)>
         ensures some { IfSome result (λ said.
             Tells J.Job said.0 (pending_jobs self.old) (job_message_view said.1)

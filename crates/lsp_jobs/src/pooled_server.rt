@@ -29,7 +29,7 @@ use serde_json::Value;
 use std::alloc::{AllocError, Global};
 use std::sync::Wait;
 
-/// A server with the pool that runs its jobs. Contracts see the server, and under the name of each pending job, this job.
+/// A server with the pool that runs its jobs. Contracts see the server, and the pending job under each name.
 #[derive(Drop)]
 pub struct PooledServer<T: Wait + Drop, S: Drop, J: Job> {
     alloc: Global,
@@ -38,7 +38,7 @@ pub struct PooledServer<T: Wait + Drop, S: Drop, J: Job> {
 }
 
 impl<T: Wait + Drop, S: Drop, J: Job> PooledServer<T, S, J> {
-    /// A server with a pool that was started.
+    /// Makes a server with a pool that was started.
     pub(crate) fn new(alloc: Global, server: S, pool: JobPool<T, J>) -> Self
         ensures { seen result ≡ (server, pending_jobs pool) }
     {
@@ -49,7 +49,7 @@ impl<T: Wait + Drop, S: Drop, J: Job> PooledServer<T, S, J> {
         }
     }
 
-    /// The server, and its pool.
+    /// Returns the server and its pool.
     pub(crate) fn into_parts(self) -> (S, JobPool<T, J>)
         ensures { result.0 ≡ self.server }
     {
@@ -57,7 +57,7 @@ impl<T: Wait + Drop, S: Drop, J: Job> PooledServer<T, S, J> {
         (server, pool)
     }
 
-    /// A request that a notification cancels needs no job any more.
+    /// Forgets the job of a request that a notification cancels.
     fn forget_cancelled(&mut self, notification: &Notification) -> Result<(), AllocError>
         ensures { IfOk result (λ _. seen self.new ≡ (
           self.old.server,
@@ -72,7 +72,8 @@ impl<T: Wait + Drop, S: Drop, J: Job> PooledServer<T, S, J> {
         Ok(())
     }
 
-    /// A job is to end whose progress a notification cancels (LSP 3.17, "Canceling Work Done Progress"). The job decides what comes of it.
+    /// Makes the job end whose progress a notification cancels (LSP 3.17, "Canceling Work Done Progress"). The job
+    /// decides its result.
     fn stop_progress(&self, notification: &Notification) -> Result<(), AllocError> {
         if notification.method.as_str() != "window/workDoneProgress/cancel" {
             return Ok(());
@@ -85,7 +86,7 @@ impl<T: Wait + Drop, S: Drop, J: Job> PooledServer<T, S, J> {
         Ok(())
     }
 
-    /// A request that the server answers by itself needs no job any more.
+    /// Forgets the jobs of requests that the server answers itself.
     fn forget_answered<P: Drop + PartialEq>(&mut self, acts: &[Act<P>]) -> Result<(), AllocError>
         ensures { IfOk result (λ _. seen self.new ≡ (
           self.old.server,
@@ -98,7 +99,7 @@ impl<T: Wait + Drop, S: Drop, J: Job> PooledServer<T, S, J> {
         Ok(())
     }
 
-    /// The same of one act.
+    /// Forgets the job of a request that this act answers.
     fn forget_if_answered<P: Drop + PartialEq>(&mut self, act: &Act<P>) -> Result<(), AllocError>
         ensures { IfOk result (λ _. seen self.new
             ≡ (self.old.server, unanswered (act_view P.eq act.now ∷ []) (pending_jobs self.old.pool))) }
@@ -110,7 +111,7 @@ impl<T: Wait + Drop, S: Drop, J: Job> PooledServer<T, S, J> {
         }
     }
 
-    /// The request with this id needs no job any more.
+    /// Forgets the job of the request with this id.
     fn forget_request(&mut self, id: &RequestId) -> Result<(), AllocError>
         ensures { IfOk result (λ _. seen self.new
             ≡ (self.old.server, without (OfRequest id.now) (pending_jobs self.old.pool))) }
@@ -126,7 +127,8 @@ where
     S: JobServer<J> + Drop,
     J: Job,
 {
-    /// The job with this name came to this. If it is for a request, that is answered after what the server does when it sees the end.
+    /// Ends the job with this name, which has this result. If it is for a request, that is answered after the acts of
+    /// the server at the job's end.
     fn end_run(
         &mut self,
         name: JobName,
@@ -146,7 +148,7 @@ where
         Ok(acts)
     }
 
-    /// The job with this name ended so, behind these acts.
+    /// Ends the job with this name, after these acts.
     fn end_then(
         &mut self,
         name: &JobName,
@@ -162,7 +164,7 @@ where
         acts.append(&mut more)
     }
 
-    /// Has a job answer a long request, or answers it at once.
+    /// Starts the job of a long request, or answers it at once.
     fn take_long(
         &mut self,
         request: Request,
@@ -179,7 +181,8 @@ where
         }
     }
 
-    /// What answers a long request, if there is room for a job and memory to make it. The reply says it if not.
+    /// Returns how a long request is answered, if there is room for a job and memory to make it. Otherwise the reply
+    /// says which is missing.
     fn answer_to(&self, request: Request) -> Result<AnsweredBy<J>, AllocError>
         ensures { IfOk result (λ by. AnsweredSo by
             (λ job. J.is_for job (string_bytes request.method) (view request.params)
@@ -198,7 +201,7 @@ where
         }
     }
 
-    /// Starts the job of a request. If an allocation fails, that is the reply.
+    /// Starts the job of a request. If an allocation fails, the reply says so.
     fn start_for(
         &mut self,
         id: RequestId,
@@ -221,7 +224,7 @@ where
         }
     }
 
-    /// What the server did, and then does with its slots: `change_slots`, as acts of the server.
+    /// Returns the acts of the server, and after them those of `change_slots`.
     fn acts_with_changes(
         &mut self,
         acts: Vec<Act<S::Payload>>,
@@ -234,7 +237,7 @@ where
         acts_by_server(self.alloc, all)
     }
 
-    /// Changes the slots that the server changes now, after it did these acts. What is done at the end of a job follows them.
+    /// Changes the slots that the server changes now, after these acts. The acts at the end of a job follow them.
     fn change_slots(
         &mut self,
         acts: Vec<Act<S::Payload>>,
@@ -286,7 +289,7 @@ where
         }
     }
 
-    /// If a job has this name, it ends so.
+    /// Ends the job with this name, if there is one.
     fn free(
         &mut self,
         name: &JobName,
@@ -323,7 +326,7 @@ where
     }
 }
 
-/// The reply to the request of a job that came to this, what it found, and how it ended if it found nothing.
+/// Returns the reply to the request of a job with this result, what it found, and how it ended if it found nothing.
 fn parts_of<F: Drop>(
     alloc: Global,
     ran: Ran<F>,
@@ -365,7 +368,7 @@ fn push_reply<P: Drop + PartialEq>(
     }
 }
 
-/// The reply to this request.
+/// Makes the reply to this request.
 fn reply_act<P: Drop + PartialEq>(
     id: RequestId,
     outcome: Result<ResultText, ResponseError>,
@@ -378,7 +381,7 @@ fn reply_act<P: Drop + PartialEq>(
     }
 }
 
-/// The error for a request for whose job there is no room.
+/// Makes the error for a request for whose job there is no room.
 fn refusal(alloc: Global) -> Result<ResponseError, AllocError>
     ensures { IfOk result (λ error. error_view error ≡ too_many) }
 {
@@ -389,14 +392,14 @@ fn refusal(alloc: Global) -> Result<ResponseError, AllocError>
     )
 }
 
-/// The error for a request where an allocation failed.
+/// Makes the error for a request where an allocation failed.
 fn out_of_memory(alloc: Global) -> Result<ResponseError, AllocError>
     ensures { IfOk result (λ error. error_view error ≡ no_memory) }
 {
     internal_error(alloc, "out of memory")
 }
 
-/// An error of the server's own.
+/// Makes an internal error of the server.
 fn internal_error(alloc: Global, message: &str) -> Result<ResponseError, AllocError>
     ensures { IfOk result (λ error. error_view error
         ≡ record { code = number_of CodeOfInternal; message = message.now; details = None }) }
@@ -404,14 +407,14 @@ fn internal_error(alloc: Global, message: &str) -> Result<ResponseError, AllocEr
     ResponseError::new(alloc, ErrorCode::InternalError, message)
 }
 
-/// The error for a request that its client cancelled.
+/// Makes the error for a request that its client cancelled.
 fn canceled_error(alloc: Global) -> Result<ResponseError, AllocError>
     ensures { IfOk result (λ error. error_view error ≡ canceled) }
 {
     ResponseError::new(alloc, ErrorCode::RequestCanceled, "canceled by client")
 }
 
-/// Acts of the server, which keeps its own for the replies.
+/// Turns acts of the server into acts of the session, which keeps the server's payloads for the replies.
 fn acts_by_server<P: Drop + PartialEq>(
     alloc: Global,
     acts: Vec<Act<P>>,
@@ -441,7 +444,7 @@ fn push_by_server<P: Drop + PartialEq>(
     }
 }
 
-/// An act of the server.
+/// Turns an act of the server into one of the session.
 fn act_by_server<P: Drop + PartialEq>(act: Act<P>) -> Act<RequestOrigin<P>>
     ensures { act_view (same_origin P.eq) result ≡ by_server (act_view P.eq «act») }
 {
@@ -458,7 +461,7 @@ fn act_by_server<P: Drop + PartialEq>(act: Act<P>) -> Act<RequestOrigin<P>>
     }
 }
 
-/// The one act.
+/// Makes a list with this act alone.
 fn one_act<P: Drop + PartialEq>(alloc: Global, act: Act<P>) -> Result<Vec<Act<P>>, AllocError>
     ensures { IfOk result (λ acts. map (act_view P.eq) acts.items ≡ act_view P.eq act ∷ []) }
 {

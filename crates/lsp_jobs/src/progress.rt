@@ -12,11 +12,12 @@ use serde_json::{Value, json, put};
 use std::alloc::{AllocError, Global};
 use std::marker::Model;
 
-/// Tells the client how far a job is, if its request gave a `workDoneToken`, or the client agreed to a token of the job's own (LSP 3.17,
-/// "Work Done Progress"). Send one `begin`, any reports, and one `end`, which takes the value.
+/// Reports the progress of a job to the client, if its request has a `workDoneToken`, or the client agreed to a token
+/// of the job (LSP 3.17, "Work Done Progress"). Send one `begin`, any number of reports, and one `end`, which takes the
+/// value.
 ///
-/// A client whose request is cancelled, answered otherwise or replaced gets no `end`: nobody waits for the job then. It has the reply to
-/// the request, which ends the progress too. Contracts see the token, if there is one.
+/// A client whose request is cancelled, answered otherwise or replaced gets no `end`, since nobody waits for the job
+/// then. It has the reply to the request, which ends the progress too. Contracts see the token, if there is one.
 #[derive(Drop)]
 pub struct WorkDone {
     alloc: Global,
@@ -37,8 +38,8 @@ impl Model for WorkDone {
 }
 
 impl WorkDone {
-    /// Reads the token from the params of a request: a text, or an integer of 32 bits. Without such a token nothing is ever sent.
-    /// The error means that an allocation failed.
+    /// Reads the token from the params of a request: a text, or an integer of 32 bits. Without such a token nothing is
+    /// ever sent. The error means that an allocation failed.
     pub fn of(alloc: Global, params: &Value) -> Result<WorkDone, AllocError>
         ensures { IfOk result (λ work.
             option_map view work ≡ token_of (codes "workDoneToken") (view params.now)) }
@@ -49,9 +50,10 @@ impl WorkDone {
         })
     }
 
-    /// Asks the client to show progress under this token, which no request of its own gave: a text, or an integer of 32 bits, that is used
-    /// once (LSP 3.17, "Creating Work Done Progress"). It waits for the reply. If that is an error, or none comes, nothing is ever
-    /// sent. Only a client with the capability `window.workDoneProgress` may be asked. The error means that an allocation failed.
+    /// Asks the client to show progress under this token, which none of its requests has: a text, or an integer of 32
+    /// bits, that is used once (LSP 3.17, "Creating Work Done Progress"). It waits for the reply. If the reply is an
+    /// error, or there is none, nothing is ever sent. Only a client with the capability `window.workDoneProgress` may
+    /// be asked. The error means that an allocation failed.
     pub fn create<C: JobContext>(
         alloc: Global,
         context: &mut C,
@@ -68,9 +70,9 @@ impl WorkDone {
         Ok(WorkDone { alloc, token })
     }
 
-    /// Begins, with a title. `percentage` is from 0 to 100; without it here, leave it out in reports too. It waits while there is no room
-    /// to send, and is dropped only if nobody waits for the job any more. If the job ends without `end`, an end is sent then. The error
-    /// means that an allocation failed.
+    /// Begins the progress, with a title. `percentage` is from 0 to 100. If it is `None` here, leave it out in reports
+    /// too. The call waits while there is no room to send. The notification is dropped only if nobody waits for the job
+    /// any longer. If the job ends without `end`, an end is sent for it. The error means that an allocation failed.
     pub fn begin<C: JobContext>(
         &self,
         context: &mut C,
@@ -86,8 +88,8 @@ impl WorkDone {
         self.begin_with(context, value)
     }
 
-    /// Begins as `begin` does, and the client may cancel it by `window/workDoneProgress/cancel`: the job is to end then, as
-    /// `JobContext::check` tells it (LSP 3.17, "Canceling Work Done Progress").
+    /// Begins the progress as `begin` does, and lets the client cancel it with `window/workDoneProgress/cancel`. The
+    /// job is to end then, and `JobContext::check` reports it (LSP 3.17, "Canceling Work Done Progress").
     pub fn begin_cancellable<C: JobContext>(
         &self,
         context: &mut C,
@@ -107,7 +109,7 @@ impl WorkDone {
         self.begin_with(context, value)
     }
 
-    /// Sends what begins, and has an end sent when the job ends.
+    /// Sends the begin, and keeps an end that is sent when the job ends.
     fn begin_with<C: JobContext>(&self, context: &mut C, value: Value) -> Result<(), AllocError>
         requires { IfSome (option_map view self.now) (λ token. (value : Data)
             → C.may progress_method (progress_params token value)) }
@@ -118,8 +120,8 @@ impl WorkDone {
         send(self.alloc, &self.token, context, value)
     }
 
-    /// Says how far the job is. It is dropped if there is no room to send: see `JobContext::report`. The error means that an allocation
-    /// failed.
+    /// Reports the progress of the job. The report is dropped if there is no room to send: see `JobContext::report`.
+    /// The error means that an allocation failed.
     pub fn report<C: JobContext>(
         &self,
         context: &mut C,
@@ -137,8 +139,8 @@ impl WorkDone {
         Ok(())
     }
 
-    /// Ends. It waits while there is no room to send, and is dropped only if nobody waits for the job any more. The error means that
-    /// an allocation failed.
+    /// Ends the progress. The call waits while there is no room to send. The notification is dropped only if nobody
+    /// waits for the job any longer. The error means that an allocation failed.
     pub fn end<C: JobContext>(
         self,
         context: &mut C,
@@ -154,8 +156,8 @@ impl WorkDone {
     }
 }
 
-/// Sends parts of a result, if the request gave a `partialResultToken` (LSP 3.17, "Partial Result Progress"). The final result is then
-/// empty: the parts are all of it. Contracts see the token, if there is one.
+/// Sends parts of a result, if the request has a `partialResultToken` (LSP 3.17, "Partial Result Progress"). The final
+/// result is then empty: the parts are the whole result. Contracts see the token, if there is one.
 #[derive(Drop)]
 pub struct PartialResults {
     alloc: Global,
@@ -176,8 +178,8 @@ impl Model for PartialResults {
 }
 
 impl PartialResults {
-    /// Reads the token from the params of a request: a text, or an integer of 32 bits. Without such a token nothing is ever sent.
-    /// The error means that an allocation failed.
+    /// Reads the token from the params of a request: a text, or an integer of 32 bits. Without such a token nothing is
+    /// ever sent. The error means that an allocation failed.
     pub fn of(alloc: Global, params: &Value) -> Result<PartialResults, AllocError>
         ensures { IfOk result (λ parts.
             option_map view parts ≡ token_of (codes "partialResultToken") (view params.now)) }
@@ -188,13 +190,13 @@ impl PartialResults {
         })
     }
 
-    /// Whether the request gave a token: if not, all goes into the final result.
+    /// Returns whether the request has a token. If not, put everything into the final result.
     pub fn are_wanted(&self) -> bool {
         self.token.is_some()
     }
 
-    /// Sends a part. It waits while there is no room to send, and is dropped only if nobody waits for the job any more. The error
-    /// means that an allocation failed.
+    /// Sends a part. The call waits while there is no room to send. The part is dropped only if nobody waits for the
+    /// job any longer. The error means that an allocation failed.
     pub fn send<C: JobContext>(&self, context: &mut C, value: Value) -> Result<(), AllocError>
         requires { IfSome (option_map view self.now) (λ token. (value : Data)
             → C.may progress_method (progress_params token value)) }
@@ -203,7 +205,7 @@ impl PartialResults {
     }
 }
 
-/// Puts the members in that a begin, a report and an end may have.
+/// Adds the members that a begin, a report and an end may have.
 fn put_both(
     alloc: Global,
     value: &mut Value,
@@ -223,7 +225,7 @@ fn put_both(
     Ok(())
 }
 
-/// The token that is a member of params: a text or an integer of 32 bits.
+/// Returns the token that is a member of params: a text or an integer of 32 bits.
 fn token_in(params: &Value, name: &str) -> Result<Option<Value>, AllocError>
     ensures { IfOk result (λ token.
         option_map view token ≡ token_of name.now (view params.now)) }
@@ -234,7 +236,7 @@ fn token_in(params: &Value, name: &str) -> Result<Option<Value>, AllocError>
     }
 }
 
-/// The value, if it may be a token (LSP 3.17, `ProgressToken`).
+/// Returns the value, if it may be a token (LSP 3.17, `ProgressToken`).
 fn if_token(value: &Value) -> Result<Option<Value>, AllocError>
     ensures { IfOk result (λ token. option_map view token ≡ if_token_spec (view value.now)) }
 {
@@ -263,7 +265,7 @@ fn send<C: JobContext>(
     Ok(())
 }
 
-/// The method and the params of the request that creates progress under this token.
+/// Makes the method and the params of the request that creates progress under this token.
 fn creation_of(alloc: Global, token: &Value) -> Result<(String, Value), AllocError>
     ensures { IfOk result (λ asked. (string_bytes asked.0 ≡ create_method)
         × (view asked.1 ≡ create_params (view token.now))) }

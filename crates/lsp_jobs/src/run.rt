@@ -21,21 +21,23 @@ use std::io::{BufRead, Write};
 use std::sync::Wait;
 use std::thread::Threads;
 
-/// How many parcels of messages that were read, and wakes, may wait for the session. It changes speed and memory only, and no answer.
+/// How many parcels of read messages, and wake-ups, may wait for the session. It changes speed and memory only, and no
+/// answer.
 const ROOM: usize = 256;
 
-/// How a session with jobs runs. But for `threads.limits`, and for the requests and jobs that find no room, it changes speed and memory
-/// only, and no answer.
+/// How a session with jobs runs. Two things change its answers: `threads.limits`, and requests and jobs that find no
+/// room. The rest changes only speed and memory.
 #[derive(Drop)]
 pub struct JobOptions {
     /// How many threads run jobs, and how many jobs may wait for one.
     pub pool: PoolSize,
-    /// The threads that read and write, how far they go ahead, and how long a message may be.
+    /// The threads that read and write: how far they go ahead, and how long a message may be.
     pub threads: ThreadOptions,
 }
 
 impl JobOptions {
-    /// This pool. The threads that read and write are those of `ThreadOptions::new`, with no limit on the length of a message.
+    /// Makes options with this pool. The threads that read and write are those of `ThreadOptions::new`, with no limit
+    /// on the length of a message.
     pub fn new(pool: PoolSize) -> JobOptions
         ensures pool { result.pool ≡ «pool» }
         ensures limits { result.threads.limits ≡ no_limit }
@@ -49,28 +51,33 @@ impl JobOptions {
     }
 }
 
-/// Runs a session of a server whose long requests are jobs, and gives the server back: threads of a pool run jobs, one thread reads, one
-/// writes, and the server is on the caller's thread, which goes on while jobs run.
+/// Runs a session of a server whose long requests are jobs, and returns the server. The threads of a pool run jobs, one
+/// thread reads, one writes, and the server is on the caller's thread, which goes on while jobs run.
 ///
-/// Starts, faults and the end are those of `run_in_threads`: the outer fault means that a thread was not started, or that an
-/// allocation failed. Nothing was read or written then, and the server and the policy are as they were.
+/// Starts, faults and the end are those of `run_in_threads`. The outer fault means that a thread was not started, or
+/// that an allocation failed. Then nothing was read or written, and the server and the policy are as they were.
 ///
-/// - A `$/cancelRequest` for a request that waits for its job is answered at once, with what the server does at it or else with the
-///   error -32800. The job is to end, and what it comes to is dropped (LSP 3.17, "Cancellation Support").
-/// - A long request for whose job there is no room gets the error -32803, `too many requests are waiting`, and its job is not asked for.
-/// - If an allocation fails in a job, or as it is made or started, its request gets the error -32603, `out of memory`, and all else goes
-///   on. Only if memory for that text is missing too, the session ends.
-/// - At `window/workDoneProgress/cancel` the job that shows this progress is to end, if it began it by `WorkDone::begin_cancellable`. If it
-///   ends as `JobContext::check` tells it, its request gets the error -32800, `canceled by client`, and the server is told.
-/// - Reports and outcomes are sent up to `shutdown`. There all jobs are cancelled: what they say later is dropped, and their requests get the
-///   error -32800, `canceled by shutdown`, before the reply to `shutdown`.
-/// - At a content part that is no message (see `lsp_session::is_of_content`) `policy` is asked, at once and on your thread,
-///   from `initialized` up to `shutdown`. If it reads on, nothing is answered, the server is not told, and the next frame follows. Where
-///   it ends the session, and before and after in any case, such a part is `SessionFault::Read`.
-/// - At the end all jobs are to end, and all threads are joined: it returns only when the jobs that run do.
+/// - A `$/cancelRequest` for a request that waits for its job is answered at once: by the server's acts at it,
+///   otherwise with the error -32800. The job is to end, and its result is dropped (LSP 3.17, "Cancellation Support").
+/// - A long request for whose job there is no room gets the error -32803, `too many requests are waiting`, and
+///   `JobServer::job` is not called.
+/// - If an allocation fails in a job, or while it is made or started, its request gets the error -32603, `out of
+///   memory`, and the session goes on. It ends only if memory for that text is missing too.
+/// - `window/workDoneProgress/cancel` makes the job end that shows this progress, if it began it with
+///   `WorkDone::begin_cancellable`. If the job ends as `JobContext::check` tells it to, its request gets the error
+///   -32800, `canceled by client`, and the server is notified.
+/// - Reports and outcomes are sent up to `shutdown`. At `shutdown` all jobs are cancelled: their later messages are
+///   dropped, and their requests get the error -32800, `canceled by shutdown`, before the reply to `shutdown`.
+/// - At a content part that is no message (see `lsp_session::is_of_content`) `policy` is asked, at once and on your
+///   thread, from `initialized` up to `shutdown`. If it says to read on, nothing is answered, the server is not
+///   notified, and the next frame follows. If it ends the session, such a part is `SessionFault::Read`. Before
+///   `initialized` and after `shutdown` it is so in any case.
+/// - At the end all jobs are to end, and all threads are joined. So the call returns only when the running jobs have
+///   ended.
 ///
-/// `told` is of whatever reader and writer, also of standard input and output or a socket. It says of the bytes that the session took, with
-/// whatever follows them, and of those that were given, what `session` says where the reader's bytes are known.
+/// `told` holds for every reader and writer, also for standard input and output or a socket. It is about the bytes that
+/// the session took, with any bytes after them, and about those that it gave. It says about them what `session` says if
+/// the reader's bytes are known.
 pub fn run_jobs<T, R, W, S, J, L>(
     rt: &T,
     alloc: Global,

@@ -20,7 +20,7 @@ use std::mem;
 use std::snapshot::Snapshot;
 use std::sync::Wait;
 
-/// Somebody waits for a job. When this goes, the job's token is cancelled.
+/// A mark that somebody waits for a job. When it is dropped, the job's token is cancelled.
 pub(crate) struct Wanted {
     token: CancellationToken,
 }
@@ -41,7 +41,7 @@ pub(crate) struct Entry<J> {
 }
 
 impl<J> Entry<J> {
-    /// Nobody waits for it any more: its ticket.
+    /// Cancels the job, and returns its ticket.
     pub fn cancel(self) -> u64 {
         let Entry { ticket, wanted, .. } = self;
         drop(wanted);
@@ -49,7 +49,7 @@ impl<J> Entry<J> {
     }
 }
 
-/// The jobs that are pending, each with its ticket, and the end of the channel at which what jobs say is taken.
+/// The jobs that are pending, each with its ticket, and the end of the channel where the messages of jobs are taken.
 #[derive(Drop)]
 pub(crate) struct JobTable<J: Job> {
     sender: ItemSender<J, Ran<J::Found>>,
@@ -63,7 +63,7 @@ pub(crate) struct JobTable<J: Job> {
 }
 
 impl<J: Job> JobTable<J> {
-    /// No job is pending. The error means that an allocation failed.
+    /// Makes a table with no job. The error means that an allocation failed.
     pub fn new(alloc: Global) -> Result<JobTable<J>, AllocError>
         ensures { IfOk result (λ table. pending_of table.jobs ≡ no_jobs) }
     {
@@ -77,12 +77,12 @@ impl<J: Job> JobTable<J> {
         })
     }
 
-    /// The ticket that the next job gets.
+    /// Returns the ticket that the next job gets.
     pub fn next_ticket(&self) -> u64 {
         self.next
     }
 
-    /// This job is pending, and gets the next ticket. The error means that an allocation failed.
+    /// Adds this job, which gets the next ticket. The error means that an allocation failed.
     pub fn enter(
         &mut self,
         name: JobName,
@@ -112,14 +112,14 @@ impl<J: Job> JobTable<J> {
         }
     }
 
-    /// Whether a job with this name is pending.
+    /// Returns whether a job with this name is pending.
     pub fn is_waiting(&self, name: &JobName) -> bool
         ensures { result ≡ is_some (pending_of self.now.jobs name.now) }
     {
         self.jobs.get(name).is_some()
     }
 
-    /// The job with this name is pending no more.
+    /// Takes out the job with this name, which is no longer pending.
     pub fn complete(&mut self, name: &JobName) -> Option<Entry<J>>
         ensures value { result ≡ entry_of self.old.jobs name.now }
         ensures removed { pending_of self.new.jobs ≡ without name.now (pending_of self.old.jobs) }
@@ -127,7 +127,7 @@ impl<J: Job> JobTable<J> {
         self.jobs.remove(name)
     }
 
-    /// No job is pending any more.
+    /// Takes out all jobs.
     pub fn complete_all(&mut self, alloc: Global)
         ensures { pending_of self.new.jobs ≡ no_jobs }
     {
@@ -147,7 +147,8 @@ impl<J: Job> JobTable<J> {
         }
     }
 
-    /// Whether the job that this item names is pending with the item's ticket. Then one message of that job is taken.
+    /// Returns whether the job that this item names is pending with the item's ticket. If so, one message of that job
+    /// counts as taken.
     fn is_awaited(&self, item: &Item<Ran<J::Found>>) -> bool
         ensures { IsTrue result → (entry : Entry J)
             × (entry_of self.now.jobs item.now.name ≡ Some entry) × (entry.ticket ≡ item.now.ticket) }
@@ -161,7 +162,7 @@ impl<J: Job> JobTable<J> {
         }
     }
 
-    /// Takes what a pending job said next, with that job's name. What others said is dropped.
+    /// Takes the next message of a pending job, with that job's name. Messages of others are dropped.
     pub fn take<T: Wait>(&mut self, rt: &T) -> Option<(JobName, WorkerMessage<Ran<J::Found>>)>
         ensures same { self.new.jobs ≡ self.old.jobs }
         ensures said { IfSome result (λ said.

@@ -9,15 +9,15 @@ use std::time::Duration;
 /// How many messages of a job may wait to be taken.
 const MESSAGES: u64 = 16;
 
-/// How many of them may be reports that can be dropped: one place is kept for what can't.
+/// How many of them may be reports that can be dropped. One place is kept for a message that can't.
 const REPORTS: u64 = 15;
 
-/// It is added when nobody waits for the job any more.
+/// Is added when nobody waits for the job any longer.
 const CANCELLED: u64 = 0x8000_0000;
 
-/// Counts the messages of a job that were sent and not taken. It is counted up before one is sent and down after one is taken: so there
-/// are never more of them than it says. The same word says whether nobody waits for the job any more: so the thread of the job
-/// sleeps at this word alone.
+/// Counts the messages of a job that were sent and not taken. The count goes up before one is sent and down after one
+/// is taken, so there are never more of them than it says. The same word says whether nobody waits for the job any
+/// longer, so the job's thread sleeps at this word alone.
 #[derive(Drop)]
 pub(crate) struct UntakenMessages {
     words: Arc<Words, Global>,
@@ -26,14 +26,14 @@ pub(crate) struct UntakenMessages {
 /// What the threads of a job and of its pool share.
 #[derive(Drop)]
 struct Words {
-    /// How many messages were sent and not taken, and whether nobody waits for the job any more.
+    /// How many messages were sent and not taken, and whether nobody waits for the job any longer.
     untaken: AtomicU64,
-    /// 1, if the job is to end. Its thread rests at this word.
+    /// 1 if the job is to end. Its thread sleeps at this word.
     ends: AtomicU64,
 }
 
 impl UntakenMessages {
-    /// None was sent. The error means that an allocation failed.
+    /// Starts at no message. The error means that an allocation failed.
     pub fn new(alloc: Global) -> Result<UntakenMessages, AllocError> {
         let none = Words {
             untaken: AtomicU64::new(0),
@@ -45,14 +45,15 @@ impl UntakenMessages {
         }
     }
 
-    /// The same count, for another thread.
+    /// Makes a second owner of the count, for another thread.
     pub fn share(&self) -> Result<UntakenMessages, AllocError> {
         Ok(UntakenMessages {
             words: Arc::try_clone(&self.words)?,
         })
     }
 
-    /// One more report is about to be sent. False if there is no room for it, or nobody waits for the job.
+    /// Counts one more report that is about to be sent. Returns false if there is no room for it, or nobody waits for
+    /// the job.
     pub fn try_add(&self) -> bool {
         let has_room = self.words.untaken.load(Ordering::SeqCst) < REPORTS;
         if has_room {
@@ -61,7 +62,8 @@ impl UntakenMessages {
         has_room
     }
 
-    /// One more message is about to be sent, once there is room for it. False if nobody waits for the job.
+    /// Counts one more message that is about to be sent, once there is room for it. Returns false if nobody waits for
+    /// the job.
     pub fn add<T: Wait>(&self, rt: &T) -> bool {
         for _ in rt.forever() {
             let seen = self.words.untaken.load(Ordering::SeqCst);
@@ -77,7 +79,8 @@ impl UntakenMessages {
         unreachable!()
     }
 
-    /// A copy of the name of a job. While memory for it is missing, it waits until there is some, or nobody waits for the job.
+    /// Copies the name of a job. While memory for it is missing, it waits until there is some, or until nobody waits
+    /// for the job.
     pub fn copy_of<T: Wait>(&self, rt: &T, name: &JobName) -> Option<JobName> {
         for _ in rt.forever() {
             if let Ok(copy) = name.clone() {
@@ -91,14 +94,14 @@ impl UntakenMessages {
         unreachable!()
     }
 
-    /// One was taken, or was not sent.
+    /// Counts a message that was taken, or was not sent.
     pub fn remove(&self) {
         if self.words.untaken.fetch_sub(1, Ordering::SeqCst) >= MESSAGES {
             self.words.untaken.wake_all();
         }
     }
 
-    /// Nobody waits for the job any more.
+    /// Records that nobody waits for the job any longer.
     pub fn cancel(&self) {
         if self.is_cancelled() {
             return;
@@ -109,18 +112,18 @@ impl UntakenMessages {
         }
     }
 
-    /// Whether nobody waits for the job any more.
+    /// Returns whether nobody waits for the job any longer.
     pub fn is_cancelled(&self) -> bool {
         self.words.untaken.load(Ordering::SeqCst) >= CANCELLED
     }
 
-    /// The job is to end.
+    /// Makes the job end.
     pub fn stop(&self) {
         self.words.ends.store(1, Ordering::SeqCst);
         self.words.ends.wake_all();
     }
 
-    /// Whether the job is to end.
+    /// Returns whether the job is to end.
     pub fn is_stopped(&self) -> bool {
         self.words.ends.load(Ordering::SeqCst) != 0
     }

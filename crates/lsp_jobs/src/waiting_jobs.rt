@@ -5,7 +5,7 @@ use std::collections::BTreeMap;
 use std::sync::atomic::{AtomicBool, AtomicU64, Ordering};
 use std::sync::{Arc, Mutex, Wait};
 
-/// What is counted without the lock.
+/// The counts that need no lock.
 #[derive(Drop)]
 struct Counts {
     /// The jobs that run.
@@ -17,15 +17,15 @@ struct Counts {
     is_closed: AtomicBool,
 }
 
-/// Counts the jobs that run. A worker counts one under the lock of the queue as it takes it, and no more once its work is done: before
-/// what it came to is sent, so that whoever hears of that finds the room.
+/// Counts the jobs that run. A worker counts one under the lock of the queue when it takes it. It stops counting the
+/// job when its work is done, before the result is sent, so that whoever receives the result finds the room.
 #[derive(Drop)]
 pub(crate) struct RunningJobs {
     counts: Arc<Counts, Global>,
 }
 
 impl RunningJobs {
-    /// None runs. The error means that an allocation failed.
+    /// Starts at no job. The error means that an allocation failed.
     fn new(alloc: Global) -> Result<RunningJobs, AllocError> {
         let counts = Counts {
             all: AtomicU64::new(0),
@@ -39,7 +39,7 @@ impl RunningJobs {
         }
     }
 
-    /// The same count, for another thread.
+    /// Makes a second owner of the count, for another thread.
     fn share(&self) -> Result<RunningJobs, AllocError> {
         Ok(RunningJobs {
             counts: Arc::try_clone(&self.counts)?,
@@ -53,7 +53,7 @@ impl RunningJobs {
         }
     }
 
-    /// The work of one is done. If it was in a slot, another may begin.
+    /// Counts that the work of one is done. If it was in a slot, another may begin.
     pub fn end(&self, is_in_slot: bool) {
         let _ = self.counts.all.fetch_sub(1, Ordering::SeqCst);
         if is_in_slot {
@@ -69,7 +69,7 @@ impl RunningJobs {
     }
 }
 
-/// The queue is open. When this goes, each worker ends.
+/// A mark that the queue is open. When it is dropped, each worker ends.
 struct Open {
     running: RunningJobs,
 }
@@ -126,7 +126,7 @@ pub(crate) struct JobSource<E: Drop> {
     slots: u64,
 }
 
-/// A queue of so many jobs.
+/// Makes a queue of this many jobs.
 pub(crate) fn queue_of_jobs<E: Drop>(
     alloc: Global,
     size: PoolSize,
@@ -149,7 +149,7 @@ pub(crate) fn queue_of_jobs<E: Drop>(
 }
 
 impl<E: Drop> WaitingJobs<E> {
-    /// Whether one more job may wait or run. A job that waits for an idle worker takes that worker's room.
+    /// Returns whether one more job may wait or run. A job that waits for an idle worker takes that worker's room.
     pub fn has_room<T: Wait>(&self, rt: &T, is_in_slot: bool) -> bool {
         let counts = &self.open.running.counts;
         let rows = self.rows.lock(rt);
@@ -167,8 +167,8 @@ impl<E: Drop> WaitingJobs<E> {
         self.size.has_room(self.size.threads(), all)
     }
 
-    /// Adds a job behind all others of its kind, whose tickets are smaller. The error means that an allocation failed, and the job is
-    /// dropped.
+    /// Adds a job after all others of its kind, whose tickets are smaller. The error means that an allocation failed,
+    /// and the job is dropped.
     pub fn add<T: Wait>(
         &self,
         rt: &T,
@@ -210,7 +210,7 @@ impl<E: Drop> WaitingJobs<E> {
 }
 
 impl<E: Drop> JobSource<E> {
-    /// The same, for another worker. The error means that an allocation failed.
+    /// Makes an end for another worker. The error means that an allocation failed.
     pub fn another(&self) -> Result<JobSource<E>, AllocError> {
         Ok(JobSource {
             rows: Arc::try_clone(&self.rows)?,
@@ -219,12 +219,13 @@ impl<E: Drop> JobSource<E> {
         })
     }
 
-    /// The count of the jobs that run.
+    /// Returns the count of the jobs that run.
     pub fn running(&self) -> &RunningJobs {
         &self.running
     }
 
-    /// The oldest job of a request. If none waits, the oldest in a slot, but if as many of those run as may. It runs from now on.
+    /// Takes the oldest job of a request. If none waits, it takes the oldest in a slot, unless as many of those run as
+    /// may. The job counts as running from now on.
     fn take<T: Wait>(&self, rt: &T) -> Option<E> {
         let mut rows = self.rows.lock(rt);
         if let Some((_, job)) = rows.requests.pop_first() {
@@ -239,7 +240,7 @@ impl<E: Drop> JobSource<E> {
         Some(job)
     }
 
-    /// Waits for a job. `None` means that no more come.
+    /// Waits for a job. `None` means that no further job will be added.
     pub fn next<T: Wait>(&self, rt: &T) -> Option<E> {
         let counts = &self.running.counts;
         for _ in rt.forever() {

@@ -10,15 +10,15 @@ use lsp_threads::StartFault;
 use std::sync::Wait;
 use std::thread::{Builder, JoinHandle, Threads};
 
-/// What a worker is given.
+/// The work for a worker.
 pub(crate) trait Work: Drop {
-    /// Whether somebody waits for what comes of it.
+    /// Returns whether somebody waits for the result.
     fn is_wanted(&self) -> bool;
 
-    /// Nobody waits for it: it is dropped, and counts no more among those that run.
+    /// Drops the work, since nobody waits for it. It no longer counts as running.
     fn end(self, running: &RunningJobs);
 
-    /// Runs it to its end, and tells the notifier whenever it said something. It is counted among those that run until its work is done.
+    /// Runs the work to its end, and notifies at each of its messages. It counts as running until its work is done.
     fn run<T: Wait + Copy + Drop, N: Notifier>(
         self,
         rt: T,
@@ -55,7 +55,7 @@ impl<J: AnyJob<R>, R: Drop> Work for QueuedJob<J, R> {
     }
 }
 
-/// Runs jobs until no more come.
+/// Runs jobs until no further job will be added.
 fn run_queued<T: Wait + Copy + Drop, E: Work, N: Notifier>(rt: T, jobs: JobSource<E>, notifier: N) {
     let mut notifier = notifier;
     for _ in rt.forever() {
@@ -95,8 +95,8 @@ where
     }
 }
 
-/// Starts as many workers as the size says. Those that were started before a fault are left in `workers`, which has room for all before the first
-/// starts.
+/// Starts as many workers as the size says. Workers that were started before a fault stay in `workers`, which has room
+/// for all before the first starts.
 pub(crate) fn start_workers<T, E, N>(
     rt: &T,
     size: PoolSize,
@@ -122,7 +122,7 @@ where
     Ok(())
 }
 
-/// The same, of jobs.
+/// Starts workers for jobs.
 pub(crate) fn start_job_workers<T, J, N>(
     rt: &T,
     size: PoolSize,
