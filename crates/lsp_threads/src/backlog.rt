@@ -1,12 +1,14 @@
-//! How many bytes may wait between two threads: that were read and not taken yet, or that are not written yet. It bounds memory, and changes
-//! no answer. And whether a thread that reads goes on after a content part behind which it waits.
+//! How many bytes may wait between two threads: bytes that were read and not taken, or that were sent and not written.
+//! This bounds memory, and changes no answer. It also says whether a reading thread goes on after a content part at
+//! which it waits.
 
 use crossbeam_channel::{Receiver, Sender, bounded};
 use std::alloc::{AllocError, Global};
 use std::sync::atomic::{AtomicU64, Ordering};
 use std::sync::{Arc, Wait};
 
-/// Makes the two ends of an account of what waits, which should not pass `bound`. The error means that an allocation failed.
+/// Makes the two ends of an account of the waiting bytes, which should be at most `bound`. The error means that an
+/// allocation failed.
 pub fn bounded_backlog(alloc: Global, bound: u64) -> Result<(Backlog, Takes), AllocError> {
     let (ring, bell) = bounded(alloc, 1)?;
     let (verdict, verdicts) = bounded(alloc, 1)?;
@@ -32,20 +34,21 @@ pub fn bounded_backlog(alloc: Global, bound: u64) -> Result<(Backlog, Takes), Al
 /// The end of the thread that sends.
 #[derive(Drop)]
 pub struct Backlog {
-    /// How many bytes were taken, in all.
+    /// How many bytes were taken in all.
     taken: Arc<AtomicU64, Global>,
     /// Rings after bytes were taken.
     bell: Receiver<()>,
-    /// Has a message once the other end goes on after a content part behind which this one waits.
+    /// Has a message once the other end goes on after a content part at which this end waits.
     verdicts: Receiver<()>,
     bound: u64,
-    /// How many bytes were sent, in all.
+    /// How many bytes were sent in all.
     sent: u64,
 }
 
 impl Backlog {
-    /// Counts a parcel, before it is sent. While it would pass the bound together with what waits, it waits, so that a parcel above the
-    /// bound passes alone. If the other end is gone, it never waits.
+    /// Counts a parcel of `weight` bytes before it is sent. It waits while the parcel and the waiting bytes together
+    /// are above the bound. So a parcel that is itself above the bound passes alone. If the other end is gone, it never
+    /// waits.
     pub fn add<R: Wait>(&mut self, rt: &R, weight: u64) {
         for _ in rt.forever() {
             if self.has_room(weight) || self.bell.recv(rt).is_err() {
@@ -60,13 +63,13 @@ impl Backlog {
         waiting == 0 || weight <= self.bound.saturating_sub(waiting)
     }
 
-    /// Waits until the other end goes on after the last content part. False: it is gone.
+    /// Waits until the other end goes on after the last content part. Returns false if the other end is gone.
     pub fn may_go_on<R: Wait>(&self, rt: &R) -> bool {
         self.verdicts.recv(rt).is_ok()
     }
 }
 
-/// The end of the thread that takes, or that writes.
+/// The end of the thread that takes or writes.
 #[derive(Drop)]
 pub struct Takes {
     taken: Arc<AtomicU64, Global>,
@@ -75,7 +78,8 @@ pub struct Takes {
 }
 
 impl Takes {
-    /// Tells that so many bytes wait no more. It doesn't wait: if the bell rings already, the other end will look anew.
+    /// Reports that `weight` bytes no longer wait. It doesn't wait: if the bell rings already, the other end will look
+    /// again.
     pub fn took<R: Wait>(&self, rt: &R, weight: u64) {
         if weight == 0 {
             return;
@@ -84,7 +88,8 @@ impl Takes {
         let _ = self.ring.try_send(rt, ());
     }
 
-    /// Goes on after a content part behind which the other end waits. It doesn't wait: that awaits one such word for each.
+    /// Goes on after a content part at which the other end waits. It doesn't wait, since the other end waits for one
+    /// such signal at each.
     pub fn go_on<R: Wait>(&self, rt: &R) {
         let _ = self.verdict.try_send(rt, ());
     }

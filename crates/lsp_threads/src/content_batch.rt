@@ -1,4 +1,4 @@
-//! Content parts of messages that were read, gathered for the relay that carries them.
+//! Content parts that were read, gathered for the relay that carries them.
 ghost use Rattle.std.specs.Prelude.{◌≡◌, ◌++◌, ◌∷◌, [], false, true, List, OnErr, OnOk};
 ghost use Rattle.lsp_relay.specs.Relay.{ended, has_end, IsOpen};
 ghost use Rattle.lsp_threads.specs.Contents.{Contents as Carried, BeginsAny, Stays, bytes_of, contents_of};
@@ -11,20 +11,22 @@ use std::marker::Model;
 use std::mem;
 use std::sync::Wait;
 
-/// What a parcel of a session's relay carries: the content parts of some messages, in order (LSP 3.17, "Content Part"), an account of all
-/// bytes that were taken from the reader up to their end, and whether the thread that reads waits behind the last.
+/// What a parcel of a session's relay carries: the content parts of some messages, in order (LSP 3.17, "Content Part");
+/// an account of all bytes that were taken from the reader up to their end; and whether the reading thread waits after
+/// the last of them.
 #[derive(Drop)]
 pub struct Contents {
     pub(crate) parts: Vec<Vec<u8>>,
     pub(crate) taken: Passed,
-    /// Whether nothing more is read until the session goes on after the last content part.
+    /// Whether nothing is read until the session goes on after the last content part.
     pub(crate) waits: bool,
 }
 
-/// How many bytes of content parts go into one parcel. A longer one is a parcel of its own. It changes speed and memory only.
+/// How many bytes of content parts go into one parcel. A longer content part is a parcel by itself. It changes speed
+/// and memory only.
 const FULL_PARCEL: usize = 65536;
 
-/// What may be sent on a session's relay: content parts that the bytes are which were taken up to their end.
+/// What may be sent on a session's relay: the content parts in the bytes that were taken up to their end.
 pub struct ContentsPlan;
 
 impl Plan<Contents> for ContentsPlan {
@@ -39,8 +41,8 @@ pub type ContentsTx = RelayTx<Contents, ContentsPlan>;
 /// The receiver's end of a session's relay.
 pub type ContentsRx = RelayRx<Contents, ContentsPlan>;
 
-/// The sender's end of a relay of content parts. It gathers them until they are handed over. None is copied. It is closed once the
-/// receiver's end is gone, and sends nothing from then on.
+/// The sender's end of a relay of content parts. It gathers content parts until they are passed on, and copies none. It
+/// is closed once the receiver's end is gone, and sends nothing from then on.
 #[derive(Drop)]
 pub struct ContentBatch<R: Wait + Drop> {
     rt: R,
@@ -48,9 +50,9 @@ pub struct ContentBatch<R: Wait + Drop> {
     tx: ContentsTx,
     backlog: Backlog,
     pending: Vec<Vec<u8>>,
-    /// What was taken up to the end of the last content part.
+    /// The bytes that were taken up to the end of the last content part.
     taken: Passed,
-    /// How many bytes wait to be handed over.
+    /// How many bytes wait to be passed on.
     size: usize,
     closed: bool,
 }
@@ -97,15 +99,15 @@ impl<R: Wait + Drop> ContentBatch<R> {
         }
     }
 
-    /// Whether the receiver's end was gone when something was sent.
+    /// Returns whether the receiver's end was gone at an earlier send.
     pub fn is_closed(&self) -> bool
         ensures { result ≡ self.now.closed }
     {
         self.closed
     }
 
-    /// Adds a content part, of the bytes that were taken up to its end. What would not fit into one parcel with it is handed over first. The
-    /// error means that an allocation failed.
+    /// Adds a content part, of the bytes that were taken up to its end. If it does not fit into one parcel with the
+    /// content parts that wait, those are passed on first. The error means that an allocation failed.
     pub fn add(&mut self, content: Vec<u8>, taken: &Passed) -> Result<(), AllocError>
         requires { self.old.closed ≡ false
             → BeginsAny self.old.relay.1 (self.old.contents ++ content.items ∷ []) taken.now.parts }
@@ -133,8 +135,8 @@ impl<R: Wait + Drop> ContentBatch<R> {
         Ok(())
     }
 
-    /// Sends what waits, as one parcel, and tells the session whether the thread that reads then waits. It waits while too many bytes are
-    /// unread.
+    /// Sends the content parts that wait as one parcel, and says in it whether the reading thread waits after them. It
+    /// waits while too many bytes are unread.
     fn hand_over(&mut self, waits: bool)
         ensures { Stays self.old self.old.contents self.new }
     {
@@ -153,7 +155,7 @@ impl<R: Wait + Drop> ContentBatch<R> {
         self.closed = !deliver_contents(&self.rt, &mut self.tx, contents);
     }
 
-    /// Sends what waits, unless the next message is at hand and the parcel not full.
+    /// Sends the content parts that wait, unless the next message is available and the parcel is not full.
     pub fn go_on(&mut self, has_next: bool)
         ensures { Stays self.old self.old.contents self.new }
     {
@@ -162,7 +164,8 @@ impl<R: Wait + Drop> ContentBatch<R> {
         }
     }
 
-    /// Sends what waits, and then waits until the session goes on after the last content part. False: it does not.
+    /// Sends the content parts that wait, and then waits until the session goes on after the last of them. Returns
+    /// false if the session does not go on.
     pub fn waits_to_go_on(&mut self) -> bool
         ensures { Stays self.old self.old.contents self.new }
     {
@@ -170,7 +173,7 @@ impl<R: Wait + Drop> ContentBatch<R> {
         self.backlog.may_go_on(&self.rt)
     }
 
-    /// Sends what waits and then End, unless the receiver's end is gone, and gives the relay's end back.
+    /// Sends the content parts that wait and then End, unless the receiver's end is gone, and returns the relay's end.
     pub fn finish(self) -> ContentsTx
         ensures relay { (result.relay, result.source) ≡ self.relay }
         ensures ended { has_end result.sent ≡ true
@@ -205,7 +208,7 @@ impl<R: Wait + Drop> ContentBatch<R> {
     }
 }
 
-/// How many bytes the content parts have.
+/// Returns how many bytes the content parts have.
 pub fn weight(parts: &Vec<Vec<u8>>) -> u64 {
     let mut bytes: u64 = 0;
     for content in parts {
@@ -214,7 +217,7 @@ pub fn weight(parts: &Vec<Vec<u8>>) -> u64 {
     bytes
 }
 
-/// Sends content parts as one parcel, unless there are none. False: the receiver's end is gone.
+/// Sends content parts as one parcel, unless there are none. Returns false if the receiver's end is gone.
 fn deliver_contents<R: Wait>(rt: &R, tx: &mut ContentsTx, contents: Contents) -> bool
     requires open { IsOpen tx.old.sent }
     requires begins { BeginsAny tx.old.source (contents_of tx.old.sent ++ bytes_of contents.parts.items)

@@ -1,4 +1,5 @@
-//! The receiver's end of a relay of content parts, which come several in one parcel: it gives them one after another.
+//! The receiver's end of a relay of content parts, several of which arrive in one parcel. It returns them one after
+//! another.
 ghost use Rattle.std.specs.Prelude.{◌≡◌, [], false};
 ghost use Rattle.lsp_relay.specs.Relay.{has_end};
 ghost use Rattle.lsp_threads.specs.Contents.{bytes_of, parts_of, NextIs};
@@ -13,31 +14,31 @@ use std::collections::VecDeque;
 use std::marker::Model;
 use std::sync::Wait;
 
-/// How many content parts have to be at hand behind the next one for replies to be gathered. So the few that a client sends in one go are
-/// answered one by one, and no reply to them waits for a slow one.
+/// How many content parts have to be available after the next one for replies to be gathered. So replies to the few
+/// requests that a client sends together go out one by one, and none waits for a slow one.
 const MANY: usize = 16;
 
-/// What comes next from a relay of content parts.
+/// The next item of a relay of content parts.
 #[derive(Drop)]
 pub enum Next {
     /// A content part.
     Content(Vec<u8>),
-    /// A wake.
+    /// A wake-up.
     Wake,
-    /// No more content parts come.
+    /// The content parts ended.
     End,
 }
 
-/// The receiver's end of a relay of content parts, with those that were taken and not given yet.
+/// The receiver's end of a relay of content parts, with those that were taken and not returned yet.
 #[derive(Drop)]
 pub struct ContentParts<R: Wait + Drop> {
     rt: R,
     rx: ContentsRx,
     takes: Takes,
     waiting: VecDeque<Vec<u8>>,
-    /// What was taken from the reader up to the end of the last parcel.
+    /// The bytes that were taken from the reader up to the end of the last parcel.
     taken: Passed,
-    /// Whether the thread that reads waits behind the last parcel.
+    /// Whether the reading thread waits after the last parcel.
     is_awaited: bool,
     drained: bool,
 }
@@ -82,21 +83,21 @@ impl<R: Wait + Drop> ContentParts<R> {
         }
     }
 
-    /// Whether End was taken.
+    /// Returns whether End was taken.
     pub fn is_drained(&self) -> bool
         ensures { result ≡ has_end self.now.taken }
     {
         self.drained
     }
 
-    /// Whether so many content parts are at hand that replies are gathered. Then a take does not wait.
+    /// Returns whether so many content parts are available that replies are gathered. A take does not wait then.
     pub fn is_at_hand(&self) -> bool
         ensures { self.now.waiting ≡ [] → result ≡ false }
     {
         self.waiting.len() > MANY
     }
 
-    /// What it waits with.
+    /// Returns the runtime with which it waits.
     pub fn handle(&self) -> R
     where
         R: Copy,
@@ -104,7 +105,7 @@ impl<R: Wait + Drop> ContentParts<R> {
         self.rt
     }
 
-    /// Takes the next content part, or a wake. It waits for it.
+    /// Takes the next content part or a wake-up, and waits for it.
     pub fn take_next(&mut self) -> Next
         requires { has_end self.old.taken ≡ false }
         ensures relay { self.new.relay ≡ self.old.relay }
@@ -130,15 +131,16 @@ impl<R: Wait + Drop> ContentParts<R> {
         }
     }
 
-    /// Tells the thread that reads that the session goes on after the content part that was given last, if that thread waits behind it.
+    /// Reports to the reading thread that the session goes on after the last content part, if that thread waits for it.
     pub fn go_on(&self) {
         if self.is_awaited && self.waiting.is_empty() {
             self.takes.go_on(&self.rt);
         }
     }
 
-    /// Takes no more, and gives the relay's end back, with an account of what was taken from the reader up to the end of the last parcel. From
-    /// then on the thread that reads waits no more for what is unread, nor for a session that might go on.
+    /// Takes no further content part, and returns the relay's end, with an account of the bytes that were taken from
+    /// the reader up to the end of the last parcel. From then on the reading thread waits neither for unread bytes nor
+    /// for the session to go on.
     pub fn leave(self) -> (ContentsRx, Passed)
         ensures relay { (result.0.relay, result.0.source, result.0.wakeable) ≡ self.relay }
         ensures taken { result.0.taken ≡ self.taken }
@@ -159,7 +161,8 @@ impl<R: Wait + Drop> ContentParts<R> {
     }
 }
 
-/// Takes the next content part, or a wake. Before those that wait are used up, no parcel is taken, and no wake.
+/// Takes the next content part or a wake-up. While content parts are left that were taken, no parcel and no wake-up is
+/// taken.
 fn next_content<R: Wait>(
     rt: &R,
     rx: &mut ContentsRx,

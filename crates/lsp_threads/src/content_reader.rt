@@ -1,4 +1,4 @@
-//! The thread that reads: it hands on the content parts of a reader's messages as bytes.
+//! The thread that reads. It passes on the content parts of a reader's messages as bytes.
 ghost use Rattle.std.specs.Prelude.{◌≡◌, [], false, Some};
 ghost use Rattle.lsp_threads.specs.Contents.{ReadsContents, ReadsFor, TellsContents, source_of};
 ghost use Rattle.lsp_threads.specs.Passing.{OfTaken, TakenFrom};
@@ -16,9 +16,9 @@ use std::alloc::Global;
 use std::io::{BufRead, ErrorKind};
 use std::sync::Wait;
 
-/// Adds a reader's content parts to an outbox that has none. What was added is handed over before a read that may wait. After a content
-/// part that may be `exit`, or no message, it waits until the session goes on, and ends if it does not. It ends too once the session takes
-/// no more. The bytes that it takes are noted.
+/// Adds a reader's content parts to an outbox that has none. They are passed on before a read that may wait. After a
+/// content part that may be `exit`, or no message, it waits until the session goes on, and ends if the session does
+/// not. It also ends once the session takes no further content part. It records the bytes that it takes.
 fn read_contents<R: Wait + Drop, S: BufRead>(
     alloc: Global,
     reader: &mut PeekingReader<S>,

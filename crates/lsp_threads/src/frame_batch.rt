@@ -1,4 +1,4 @@
-//! The ends of a relay of texts: frames that are made and gathered, and a loop that writes them.
+//! The ends of a relay of texts: one makes frames and gathers them, and a loop writes them.
 ghost use Rattle.std.specs.Bool.{MatchBool};
 ghost use Rattle.std.specs.Prelude.{◌≡◌, ◌∷◌, ◌++◌, [], None, Ok, IfNone, IfSome, OnErr, OnOk, OnSome, string_bytes};
 ghost use Rattle.lsp_message.specs.View.{message_view};
@@ -16,11 +16,12 @@ use std::marker::Model;
 use std::mem;
 use std::sync::Wait;
 
-/// From how many bytes on a text of frames is sent, though more frames could join it, and how many bytes of texts are written together.
-/// It changes speed and memory only.
+/// From how many bytes on a text of frames is sent, although more frames could join it, and how many bytes of texts are
+/// written together. It changes speed and memory only.
 const FULL_PARCEL: usize = 65536;
 
-/// The sender's end of a relay of texts. It makes the frame of each message, and gathers frames until they are handed over.
+/// The sender's end of a relay of texts. It makes the frame of each message, and gathers frames until they are passed
+/// on.
 #[derive(Drop)]
 pub struct FrameBatch<R: Wait + Drop> {
     rt: R,
@@ -57,7 +58,7 @@ impl<R: Wait + Drop> FrameBatch<R> {
         }
     }
 
-    /// Adds the frame of a message. The error means that an allocation failed.
+    /// Adds the frame of a message. The error means that an allocation failed. Then nothing changed.
     pub fn add(&mut self, message: &Message) -> Result<(), AllocError>
         ensures ok { OnOk result
             (FramingSends self.old (message_view message.now) (Ok tt) self.new) }
@@ -80,7 +81,7 @@ impl<R: Wait + Drop> FrameBatch<R> {
         self.pending.push_str(frame.as_str())
     }
 
-    /// Sends what was gathered, as one parcel. It waits while too much is not written.
+    /// Sends the gathered frames as one parcel. It waits while too many bytes are not written.
     fn hand_over(&mut self)
         ensures { self.new ≡ self.old }
     {
@@ -89,7 +90,7 @@ impl<R: Wait + Drop> FrameBatch<R> {
         deliver_text(&self.rt, &mut self.tx, text);
     }
 
-    /// Sends what was gathered, unless the next message is at hand and the parcel not full.
+    /// Sends the gathered frames, unless the next message is available and the parcel is not full.
     pub fn go_on(&mut self, has_next: bool)
         ensures { self.new ≡ self.old }
     {
@@ -98,7 +99,7 @@ impl<R: Wait + Drop> FrameBatch<R> {
         }
     }
 
-    /// Sends what was gathered and then End, and gives the relay's end back.
+    /// Sends the gathered frames and then End, and returns the relay's end.
     pub fn finish(self) -> RelayTx<String>
         ensures relay { result.relay ≡ self.relay }
         ensures bytes { parcel_bytes result.sent ≡ self.bytes }
@@ -130,9 +131,9 @@ pub fn deliver_text<R: Wait>(rt: &R, tx: &mut RelayTx<String>, text: String)
     }
 }
 
-/// Writes each text up to End, and those that wait together as one: it waits for a text only if it has written all that it took. After
-/// a fault it writes nothing more, and drops the texts. What the writer takes is noted, and of what was written or dropped it tells that it
-/// waits no more.
+/// Writes each text up to End. Texts that wait together are one write, and it waits for a text only when it has written
+/// all that it took. After a fault it writes nothing more, and drops the texts. It records the bytes that the writer
+/// takes, and reports which bytes, written or dropped, no longer wait.
 pub fn write_texts<R: Wait, W: Write>(
     rt: &R,
     alloc: Global,
@@ -169,7 +170,7 @@ pub fn write_texts<R: Wait, W: Write>(
     unreachable!()
 }
 
-/// Takes the next parcel. If none is there, it waits for one or gives `None`, as you ask. Wakes are passed over.
+/// Takes the next parcel. If there is none, it waits for one or returns `None`, as `waits` says. Wake-ups are ignored.
 fn next_parcel<R: Wait, M: Drop>(rt: &R, rx: &mut RelayRx<M>, waits: bool) -> Option<Parcel<M>>
     ensures relay { rx.new.relay ≡ rx.old.relay }
     ensures some { IfSome result (λ parcel. rx.new.taken ≡ rx.old.taken ++ parcel ∷ []) }
@@ -184,8 +185,8 @@ fn next_parcel<R: Wait, M: Drop>(rt: &R, rx: &mut RelayRx<M>, waits: bool) -> Op
     }
 }
 
-/// Puts a text behind those that are not written. If it can't join them, the others are written first, unless a write failed before.
-/// Gives what is left, and the first fault.
+/// Adds a text after those that are not written. If it can't join them, the others are written first, unless a write
+/// failed before. Returns the texts that are left, and the first fault.
 fn gather<W: Write>(
     before: Option<WriteFault>,
     pending: String,
@@ -205,8 +206,8 @@ fn gather<W: Write>(
     (text, fault)
 }
 
-/// Adds a text to those that are not written. False means that it was not added: there are none, they have no room together, or an
-/// allocation failed.
+/// Adds a text to those that are not written. False means that it was not added: there are none, they have no room
+/// together, or an allocation failed.
 pub fn joins(pending: &mut String, text: &str) -> bool
     ensures { MatchBool result (string_bytes pending.new ≡ string_bytes pending.old ++ text.now)
         (string_bytes pending.new ≡ string_bytes pending.old) }
@@ -220,7 +221,7 @@ pub fn joins(pending: &mut String, text: &str) -> bool
     }
 }
 
-/// Writes a text, unless a write failed before. The answer is the first fault.
+/// Writes a text, unless a write failed before. Returns the first fault.
 fn write_after<W: Write>(
     before: Option<WriteFault>,
     text: &str,

@@ -1,12 +1,13 @@
-//! Messages that were written, on their way back to a thread that drops them. Two threads that allocate and free in one arena of the C
-//! library wait for its lock, so the thread that allocated a message should drop it.
+//! Messages that were written, which go back to a thread that drops them. Two threads that allocate and free in one
+//! arena of the C library wait for its lock, so the thread that allocated a message should drop it.
 ghost use Rattle.std.specs.Prelude.{◌≡◌, IfSome};
 
 use crossbeam_channel::{Receiver, Sender, bounded};
 use std::alloc::{AllocError, Global};
 use std::sync::Wait;
 
-/// Makes the two ends of a way back, with room for so many messages. The error means that an allocation failed.
+/// Makes the two ends of a channel for messages that go back, with room for `room` messages. The error means that an
+/// allocation failed.
 pub fn way_back<M: Drop>(
     alloc: Global,
     room: usize,
@@ -22,7 +23,7 @@ pub struct GiveBack<M: Drop> {
 }
 
 impl<M: Drop> GiveBack<M> {
-    /// Gives a message back, and doesn't wait. If there is no room, or nobody takes it, it is the caller's again.
+    /// Passes a message back, and doesn't wait. If there is no room, or nobody takes it, it returns the message.
     pub fn give<R: Wait>(&self, rt: &R, message: M) -> Option<M>
         ensures { IfSome result (λ refused. refused ≡ message) }
     {
@@ -32,12 +33,12 @@ impl<M: Drop> GiveBack<M> {
         }
     }
 
-    /// Gives a message back, or drops it if there is no room.
+    /// Passes a message back, or drops it if there is no room.
     pub fn give_or_drop<R: Wait>(&self, rt: &R, message: M) {
         let _ = self.give(rt, message);
     }
 
-    /// Whether no message waits to be dropped.
+    /// Returns whether no message waits to be dropped.
     pub fn is_empty(&self) -> bool {
         self.sender.is_empty()
     }

@@ -1,4 +1,4 @@
-//! A quick look at a content part, which makes no tree: whether it surely is not `exit`.
+//! A quick look at a content part, which makes no tree: whether it is surely not `exit`.
 ghost use Rattle.std.specs.Prelude.{◌≡◌, Ok, length, true};
 ghost use Rattle.lsp_threads.specs.GoesOn.{BeginsNoExit, IsNoExit, ObjectNoExit, PassesOther, PassesValue};
 
@@ -6,13 +6,14 @@ use json::{Invalid, Reader, Scratch, Token};
 use std::alloc::Global;
 use std::str;
 
-/// How deep the value of a member may nest: a message nests at most 127 levels.
+/// How deep the value of a member may nest. A message nests at most 127 levels.
 const DEEPEST: usize = 126;
-/// Of how many bytes a text may be that is looked at in memory that is kept.
+/// The most bytes of a text for which memory is kept.
 const MOST_KEPT: usize = 65536;
 
-/// Whether the content part surely is not `exit`, whatever message it is. True comes of an object with a `method` other than `exit`, or with
-/// an `id` and a `result` or an `error`, which nearly all messages are (JSON-RPC 2.0, sections 4 and 5). False says nothing.
+/// Returns whether the content part is surely not `exit`, whatever message it is. It is true for an object with a
+/// `method` other than `exit`, or with an `id` and a `result` or an `error`. Nearly all messages are such objects
+/// (JSON-RPC 2.0, sections 4 and 5). False says nothing.
 pub fn surely_goes_on(alloc: Global, content: &[u8], kept: &mut Scratch) -> bool
     ensures { result ≡ true → IsNoExit content.now }
 {
@@ -23,7 +24,7 @@ pub fn surely_goes_on(alloc: Global, content: &[u8], kept: &mut Scratch) -> bool
     }
 }
 
-/// The same of a text.
+/// Returns the same for a text.
 fn text_goes_on(text: &str, scratch: &mut Scratch) -> bool
     ensures { result ≡ true → IsNoExit text.now }
 {
@@ -33,7 +34,7 @@ fn text_goes_on(text: &str, scratch: &mut Scratch) -> bool
     }
 }
 
-/// Whether an object comes next that surely is not `exit`.
+/// Returns whether an object comes next that is surely not `exit`.
 fn object_goes_on(reader: &mut Reader<'_>) -> bool
     ensures { result ≡ true → ObjectNoExit reader.old }
 {
@@ -66,7 +67,7 @@ impl Found {
     }
 }
 
-/// Whether the members of an object, which come next, are those of a message that surely is not `exit`.
+/// Returns whether the members of an object, which come next, are those of a message that is surely not `exit`.
 fn members_go_on(reader: &mut Reader<'_>) -> Result<bool, Invalid>
     ensures { result ≡ Ok true → BeginsNoExit (length reader.old) reader.old }
 {
@@ -84,7 +85,7 @@ fn members_go_on(reader: &mut Reader<'_>) -> Result<bool, Invalid>
     Ok(found.is_message())
 }
 
-/// Passes over the value of a member. False: it may be the method `exit`.
+/// Skips the value of a member. Returns false if it may be the method `exit`.
 fn passes_value(reader: &mut Reader<'_>, name: &str) -> Result<bool, Invalid>
     ensures { result ≡ Ok true → PassesValue name.now reader.old reader.new }
 {
@@ -95,7 +96,7 @@ fn passes_value(reader: &mut Reader<'_>, name: &str) -> Result<bool, Invalid>
     Ok(true)
 }
 
-/// Takes the next token. Whether it is a text other than `exit`.
+/// Takes the next token. Returns whether it is a text other than `exit`.
 fn passes_other(reader: &mut Reader<'_>) -> bool
     ensures { result ≡ true → PassesOther reader.old reader.new }
 {

@@ -1,4 +1,4 @@
-//! What a session in threads keeps, as implications.
+//! Laws about a session in threads, as implications.
 ghost use Rattle.std.specs.Prelude.{Bool, ℕ, List, Option, Result};
 ghost use Rattle.lsp_session.specs.declared.loops.handler.SessionEnd.{SessionEnd as EndOfSession};
 ghost use Rattle.lsp_session.specs.declared.loops.stream_session.SessionFault.{SessionFault as FaultOfSession};
@@ -8,11 +8,12 @@ ghost use Rattle.lsp_message.specs.declared.frame.limits.Limits.{Limits};
 
 use lsp_session::{Application, BadContentPolicy};
 
-/// With a policy that passes over nothing, such as `EndSession`, a session of `run_in_threads_over` is one in which each frame is a
-/// message, and in which each wake is one of the relay's wakers: what `run_threads` says of its session is so of this one.
+/// With a policy that never skips anything, such as `EndSession`, each frame of a session of `run_in_threads_over` is a
+/// message, and each wake-up was sent by one of the relay's wakers. So what the contract of `run_threads` says about
+/// its session also applies to this one.
 ///
-/// The laws of `lsp_session` on the exchanges of a session, such as `session_answers_requests`, hold of it in threads too: by `over_as` of
-/// `lsp_session`, file `proofs/Forms`.
+/// The laws of `lsp_session` about the exchanges of a session, such as `session_answers_requests`, apply to it in
+/// threads too.
 pub fn nothing_is_passed_over_in_threads<L: BadContentPolicy, A: Application>()
     ensures { (old new : A) (wakeable : Bool) (limit : Limits) (text : List ℕ) (first last : L)
         (before after : Option (List ℕ)) (answer : Result EndOfSession FaultOfSession)

@@ -1,5 +1,5 @@
-//! Messages passed on, and sessions, with a reader and a writer in threads of their own: the boxes over the ends of their relays,
-//! the threads, `pump` and `run_threads`. `lsp_server` gives the public items on under the same names.
+//! Pumps and sessions with a thread that reads and a thread that writes: the inbox and the outbox on the ends of their
+//! relays, the threads, `pump` and `run_threads`. `lsp_server` exports the public items under the same names.
 #![tactic(auto)]
 
 mod backlog;

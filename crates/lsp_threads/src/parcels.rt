@@ -1,11 +1,11 @@
-//! Parcels that are sent and taken, however often that has to be tried.
+//! Sends and takes parcels, and tries again as often as needed.
 ghost use Rattle.std.specs.Prelude.{◌≡◌, ◌≤◌, ◌+◌, ◌++◌, ◌∷◌, [], IfNone, IfSome};
 ghost use Rattle.lsp_relay.specs.Relay.{IsOpen};
 
 use lsp_relay::{Parcel, Plan, RelayRx, RelayTx, Taken};
 use std::sync::Wait;
 
-/// Sends a parcel, however often it has to be tried.
+/// Sends a parcel, and tries again as often as needed.
 pub fn deliver<R: Wait, M: Drop>(rt: &R, tx: &mut RelayTx<M>, parcel: Parcel<M>)
     requires { IsOpen tx.old.sent }
     ensures relay { tx.new.relay ≡ tx.old.relay }
@@ -22,7 +22,7 @@ pub fn deliver<R: Wait, M: Drop>(rt: &R, tx: &mut RelayTx<M>, parcel: Parcel<M>)
     unreachable!()
 }
 
-/// Takes a parcel, however often it has to be tried. Wakes are passed over.
+/// Takes a parcel, and tries again as often as needed. Wake-ups are ignored.
 pub fn collect<R: Wait, M: Drop>(rt: &R, rx: &mut RelayRx<M>) -> Parcel<M>
     ensures relay { rx.new.relay ≡ rx.old.relay }
     ensures taken { rx.new.taken ≡ rx.old.taken ++ result ∷ [] }
@@ -36,7 +36,7 @@ pub fn collect<R: Wait, M: Drop>(rt: &R, rx: &mut RelayRx<M>) -> Parcel<M>
     unreachable!()
 }
 
-/// Takes a parcel, or a wake, which is `None`, however often it has to be tried.
+/// Takes a parcel, or a wake-up, which is `None`, and tries again as often as needed.
 pub fn collect_or_wake<R: Wait, M: Drop, P: Plan<M>>(
     rt: &R,
     rx: &mut RelayRx<M, P>,

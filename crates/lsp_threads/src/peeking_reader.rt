@@ -1,4 +1,4 @@
-//! A reader that knows how many of the bytes that it showed are left.
+//! A reader that knows how many of the bytes it showed are left.
 ghost use Rattle.std.specs.Io.KnownBytes.{Keeps};
 
 use lsp_message::{Front, front};
@@ -11,14 +11,14 @@ pub struct PeekingReader<R> {
     inner: R,
     /// How many bytes the reader shows without reading more.
     left: usize,
-    /// A fault that came when it was asked for those, for the next read.
+    /// A fault of looking for these bytes, which the next read returns.
     fault: Option<io::Error>,
 }
 
 impl<R: BufRead> PeekingReader<R> {
     ghost use Rattle.std.specs.Prelude.{◌≡◌, [], IfSome, OnOk};
 
-    /// Nothing was shown yet.
+    /// Makes a reader that has shown no bytes yet.
     pub fn new(inner: R) -> PeekingReader<R>
         ensures { result.inner ≡ inner }
     {
@@ -29,7 +29,7 @@ impl<R: BufRead> PeekingReader<R> {
         }
     }
 
-    /// Whether the next message can be read from bytes that were shown, so that no read waits for it.
+    /// Returns whether the next message can be read from bytes that were shown, so that no read waits for it.
     pub fn shows_frame(&mut self) -> bool
         ensures { Keeps (R.remaining self.old.inner) (R.remaining self.new.inner) }
     {
@@ -46,7 +46,7 @@ impl<R: BufRead> PeekingReader<R> {
         }
     }
 
-    /// Finds out how many bytes the reader shows: none at its end.
+    /// Finds out how many bytes the reader shows. At its end there are none.
     fn look(&mut self) -> io::Result<()>
         ensures kept { Keeps (R.remaining self.old.inner) (R.remaining self.new.inner) }
         ensures end { OnOk result (self.new.left ≡ 0
@@ -60,7 +60,7 @@ impl<R: BufRead> PeekingReader<R> {
     }
 }
 
-/// Whether a whole frame stands at the front of the bytes.
+/// Returns whether a whole frame is at the front of the bytes.
 fn is_whole(shown: &[u8]) -> bool {
     matches!(front(shown), Front::Whole(_))
 }

@@ -1,4 +1,4 @@
-//! Frames of a reader's messages, made in the thread that reads: several of them in one parcel.
+//! Frames of a reader's messages, made in the reading thread, several of them in one parcel.
 ghost use Rattle.std.specs.Prelude.{◌≡◌, []};
 ghost use Rattle.lsp_threads.specs.Framing.{HandsSome, TellsFrames};
 ghost use Rattle.lsp_threads.specs.Passing.{OfTaken, TakenFrom};
@@ -14,8 +14,8 @@ use std::alloc::Global;
 use std::io::{BufRead, ErrorKind};
 use std::sync::Wait;
 
-/// Makes the frames of a reader's messages, up to and with the first `exit`, as `read_loop_within` hands on messages. What was
-/// made is sent before a read that may wait. The bytes that it takes are noted.
+/// Makes the frames of a reader's messages, up to and including the first `exit`, as `read_loop_within` passes on
+/// messages. The frames are sent before a read that may wait. It records the bytes that it takes.
 fn read_frames<R: Wait + Drop, S: BufRead>(
     alloc: Global,
     reader: &mut PeekingReader<S>,

@@ -1,4 +1,4 @@
-//! Messages passed on from a reader, in a thread of its own, to a writer.
+//! Passes on messages from a reader, in a thread of its own, to a writer.
 ghost use Rattle.std.specs.Prelude.{◌≡◌, [], IfSome, Option, Some};
 ghost use Rattle.lsp_message.specs.Frame.{no_limit, of_content};
 ghost use Rattle.lsp_threads.specs.Passing.{GivenTo, OfTaken, TakenFrom, noted};
@@ -25,7 +25,7 @@ const UNWRITTEN: u64 = 1_048_576;
 
 /// Why not all messages were passed on. If several faults fit, it is the one with the greatest number.
 ///
-/// It prints the text of the fault inside. To tell a person more, match on the variant.
+/// It prints the text of the fault inside. To show a person more, match on the variant.
 #[derive(Clone, Copy, Debug, PartialEq, Eq)]
 pub enum PumpFault {
     /// 1: a message was not read. Those before it were written.
@@ -52,18 +52,19 @@ impl fmt::Display for PumpFault {
 
 impl Error for PumpFault {}
 
-/// Writes each message of a reader again, as a frame, up to and with the first `exit` (LSP 3.17, "Base Protocol"). A thread
-/// reads and makes the frames, and the caller writes them. The messages are the same, but not their bytes: spaces go, and members
-/// change their order.
+/// Passes on the messages of a reader to a writer, as frames, up to and including the first `exit` (LSP 3.17, "Base
+/// Protocol"). A thread reads and makes the frames, and the caller writes them. The messages stay the same, but not
+/// their bytes: spaces are dropped, and members change their order.
 ///
-/// Frames whose messages the reader showed together are written and flushed together, as soon as they have 65,536 bytes or no
-/// more were shown. None is kept back while the reader waits for more, if its `fill_buf` doesn't wait while it has bytes left to
-/// show.
+/// Frames whose messages the reader showed together are written and flushed together, when they have 65,536 bytes or
+/// the reader showed no further message. No frame is kept back while the reader waits for more bytes, if its `fill_buf`
+/// doesn't wait while it has bytes left to show.
 ///
-/// `Ok` means that the messages ended with `exit` or with the input. After a failed write nothing more is written, and the rest of
-/// the messages is read and dropped, so the call returns only when the reader comes to its end. If no memory is left for a frame,
-/// the fault is `PumpFault::Write` with `WriteFault::Memory`, and nothing more is read. The clause speaks of a reader whose bytes are
-/// known; `pump_telling` says the same of every reader, standard input and a socket among them.
+/// `Ok` means that the messages ended with `exit` or with the input. After a failed write nothing more is written, and
+/// the remaining messages are read and dropped. So the call returns only when the reader is at its end. If no memory is
+/// left for a frame, the fault is `PumpFault::Write` with `WriteFault::Memory`, and nothing more is read. The clause
+/// applies to a reader whose bytes are known. `pump_telling` says the same for every reader, including standard input
+/// and a socket.
 pub fn pump<T, R, W>(rt: &T, alloc: Global, reader: R, writer: &mut W) -> Result<(), PumpFault>
 where
     T: Threads + Wait + Copy + Drop + Send + 'static,
@@ -75,8 +76,8 @@ where
     pump_within(rt, alloc, reader, writer, u64::MAX)
 }
 
-/// As `pump`, with a limit on what is read. If a content part is longer than `limit` bytes, the fault is `PumpFault::Read` with
-/// `ReadFault::TooLong`. A header part is not bounded; `pump_by` bounds it too.
+/// Does what `pump` does, with a limit on a content part. If one is longer than `limit` bytes, the fault is
+/// `PumpFault::Read` with `ReadFault::TooLong`. A header part is not bounded; `pump_by` bounds it too.
 pub fn pump_within<T, R, W>(
     rt: &T,
     alloc: Global,
@@ -98,8 +99,9 @@ where
     pump_by(rt, Builder::new(), alloc, reader, writer, limits)
 }
 
-/// As `pump_within`, within limits on both parts of a frame, and with a builder for the thread that reads, which can set the size of its
-/// stack. After a header part that is too long the fault is `PumpFault::Read` with `ReadFault::HeaderTooLong`.
+/// Does what `pump_within` does, with limits on both parts of a frame, and with a builder for the reading thread, which
+/// can set the size of its stack. After a header part that is too long the fault is `PumpFault::Read` with
+/// `ReadFault::HeaderTooLong`.
 pub fn pump_by<T, R, W>(
     rt: &T,
     builder: Builder,
@@ -118,7 +120,7 @@ where
     pump_telling(rt, builder, alloc, reader, writer, limits).answer
 }
 
-/// What a pump did: its answer, and accounts of the bytes that it took and gave, which clauses alone see.
+/// The result of a pump, and accounts of the bytes that it took and gave, which only clauses see.
 #[derive(Drop)]
 #[derive_where(Debug)]
 pub struct PumpOutcome {
@@ -128,13 +130,14 @@ pub struct PumpOutcome {
     /// The bytes that the writer took.
     #[derive_where(skip)]
     pub given: Passed,
-    /// What `pump_by` answers.
+    /// The result that `pump_by` returns.
     pub answer: Result<(), PumpFault>,
 }
 
-/// As `pump_by`, of whatever reader and writer, standard input and a socket among them. The clause `told` is that of `pump` for each text
-/// that begins with the bytes that were taken, and for a writer that began empty. The clauses `taken` and `given` say that these are the
-/// bytes that passed, if they are known. In which order bytes were taken and given is not said.
+/// Does what `pump_by` does, and says more about it for every reader and writer, including standard input and a socket.
+/// The clause `told` is that of `pump`, for each text that begins with the bytes that were taken, and for a writer that
+/// began empty. The clauses `taken` and `given` say that these are the bytes that were read and written, if they are
+/// known. No clause says in which order bytes were taken and given.
 pub fn pump_telling<T, R, W>(
     rt: &T,
     builder: Builder,
@@ -175,7 +178,7 @@ where
     }
 }
 
-/// Nothing was read or written.
+/// Makes the result of a pump that read and wrote nothing.
 fn not_started(fault: StartFault) -> PumpOutcome
     ensures answer { result.answer ≡ Err (PumpFault.Start fault) }
     ensures nothing { (result.taken.parts ≡ []) × (result.given.parts ≡ []) }
@@ -187,7 +190,7 @@ fn not_started(fault: StartFault) -> PumpOutcome
     }
 }
 
-/// What comes of reading that ended so, and of this fault of writing.
+/// Returns the result of a pump whose reading ended like this, with this fault of writing.
 fn answer_of(end: ReadEnd, unwritten: Option<WriteFault>) -> Result<(), PumpFault>
     ensures { result ≡ pump_answer end unwritten }
 {

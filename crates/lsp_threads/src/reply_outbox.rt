@@ -1,4 +1,4 @@
-//! The outbox of a session whose writer has a thread of its own: it makes frames, gathers them, and hands them over as texts.
+//! The outbox of a session with a writing thread. It makes frames, gathers them, and passes them on as texts.
 ghost use Rattle.std.specs.Prelude.{◌≡◌, ◌++◌, [], false, Ok, IfErr, IfOk, string_bytes};
 ghost use Rattle.serde_json.specs.Data.{null};
 ghost use Rattle.serde_json.specs.View.{view};
@@ -21,20 +21,21 @@ use std::marker::Model;
 use std::mem;
 use std::sync::Wait;
 
-/// From how many bytes on gathered frames are handed over, though more could join them. It changes speed and memory only.
+/// From how many bytes on gathered frames are passed on, although more could join them. It changes speed and memory
+/// only.
 const FULL_TEXT: usize = 8192;
 
-/// The sender's end of a relay of texts. It makes the frame of each message, and hands it over at once, or gathers it while more content
-/// parts are at hand. It waits until there is room, and while too much is not written.
+/// The sender's end of a relay of texts. It makes the frame of each message, and passes it on at once. While more
+/// content parts are available, it gathers frames instead. It waits for room, and while too many bytes are not written.
 ///
-/// If no memory is left for a frame, or a write has failed, that message is refused, and all after it.
+/// If no memory is left for a frame, or a write has failed, that message and all after it are refused.
 #[derive(Drop)]
 pub struct ReplyOutbox<R: Wait + Drop> {
     rt: R,
     alloc: Global,
     tx: RelayTx<String>,
     unwritten: Backlog,
-    /// Frames that were gathered and not handed over yet.
+    /// Frames that were gathered and not passed on yet.
     held: String,
     /// Whether the next frame is gathered.
     gathers: bool,
@@ -90,7 +91,7 @@ impl<R: Wait + Drop> ReplyOutbox<R> {
         }
     }
 
-    /// Sends a message. The fault means that it was refused, and gives it back.
+    /// Sends a message. The fault means that it was refused, and returns it.
     pub fn send(&mut self, message: Message) -> Result<(), SendFault>
         ensures sends { RepliesSend self.old.replies (message_view message) result self.new.replies }
         ensures handed_back { IfErr result (λ fault. handed_back fault ≡ message) }
@@ -111,7 +112,8 @@ impl<R: Wait + Drop> ReplyOutbox<R> {
         }
     }
 
-    /// Sends a response whose result waits as text: its frame is made of the text. The fault means that it was refused.
+    /// Sends a response whose result is text already. The fault means that it was refused, and returns the response
+    /// with null as its result.
     pub fn send_text(&mut self, id: RequestId, text: ResultText) -> Result<(), SendFault>
         ensures sends { RepliesSend self.old.replies (response id (Ok (view text))) result self.new.replies }
         ensures handed_back { IfErr result (λ fault. message_view (handed_back fault) ≡ response id (Ok null)) }
@@ -134,7 +136,8 @@ impl<R: Wait + Drop> ReplyOutbox<R> {
         }
     }
 
-    /// Puts a frame behind those that are held. What would not fit is handed over before, and all of it unless frames are gathered.
+    /// Adds a frame after those that wait. Frames that do not fit together are passed on before, and all of them unless
+    /// frames are gathered.
     fn gather(&mut self, frame: String)
         ensures { AddsBytes self.old.replies (string_bytes frame) self.new.replies }
     {
@@ -147,7 +150,7 @@ impl<R: Wait + Drop> ReplyOutbox<R> {
         }
     }
 
-    /// Hands over what is held, as one text.
+    /// Passes on the frames that wait, as one text.
     fn hand_over(&mut self)
         ensures { self.new ≡ record self.old { held = [] } }
     {
@@ -156,7 +159,8 @@ impl<R: Wait + Drop> ReplyOutbox<R> {
         deliver_text(&self.rt, &mut self.tx, text);
     }
 
-    /// From now on frames are gathered, if more content parts are at hand. Else what is held is handed over, and each frame at once.
+    /// Gathers frames from now on, if more content parts are available. Otherwise it passes on the frames that wait,
+    /// and from now on each frame at once.
     pub fn go_on(&mut self, at_hand: bool)
         ensures replies { self.new.replies ≡ self.old.replies }
         ensures ready { at_hand ≡ false → self.new.held ≡ [] }
@@ -167,7 +171,7 @@ impl<R: Wait + Drop> ReplyOutbox<R> {
         }
     }
 
-    /// Sends what is held and then End, and gives the relay's end back. It also says whether a message was refused.
+    /// Sends the frames that wait and then End, and returns the relay's end, and whether a message was refused.
     pub fn finish(self) -> (RelayTx<String>, bool)
         ensures relay { result.0.relay ≡ self.replies.relay }
         ensures bytes { parcel_bytes result.0.sent ≡ self.replies.bytes }
@@ -191,7 +195,7 @@ impl<R: Wait + Drop> ReplyOutbox<R> {
     }
 }
 
-/// The frame of a message, which is dropped. If an allocation failed, the message comes back.
+/// Makes the frame of a message, which is dropped. If an allocation failed, it returns the message.
 fn framed(alloc: Global, message: Message) -> Result<String, Message>
     ensures ok { IfOk result (λ frame. IsFrameOf (message_view message) (string_bytes frame)) }
     ensures err { IfErr result (λ back. back ≡ message) }
@@ -202,7 +206,8 @@ fn framed(alloc: Global, message: Message) -> Result<String, Message>
     }
 }
 
-/// The fault of the output: that of the thread that writes or, if it has none, of an outbox that refused a message.
+/// Returns the fault of the output: that of the writing thread or, if it has none, that of an outbox that refused a
+/// message.
 pub fn reply_fault(unwritten: Option<WriteFault>, failed: bool) -> Option<WriteFault>
     ensures { result ≡ reply_fault_spec unwritten failed }
 {

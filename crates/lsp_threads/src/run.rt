@@ -1,4 +1,4 @@
-//! Sessions whose reader and writer run in threads of their own: of a handler, and of any application.
+//! Sessions with a reading thread and a writing thread: of a handler, and of any application.
 ghost use Rattle.serde_json.specs.View.{view};
 ghost use Rattle.std.specs.Prelude.{◌≡◌, [], IfOk, IfSome, OnErr, Some};
 ghost use Rattle.lsp_message.specs.Frame.{no_limit, of_content};
@@ -22,15 +22,15 @@ use std::io::{BufRead, Write};
 use std::sync::Wait;
 use std::thread::{Builder, Threads};
 
-/// What a session in threads gives back. Clauses alone see its accounts of bytes.
+/// The result of a session in threads. Only clauses see its accounts of bytes.
 #[derive(Drop)]
 #[derive_where(Debug; W)]
 pub struct Threaded<W> {
-    /// The writer that you gave it.
+    /// The writer that you passed in.
     pub writer: W,
-    /// The bytes that were taken from the reader, up to the end of what the session took. What came to it together with its last message is
-    /// among them, up to 64 KiB; what was read behind that and dropped is not. If the session came to where reading ended, it is all that
-    /// was taken.
+    /// The bytes that were taken from the reader, up to the end of the last message that the session took. Bytes that
+    /// reached the session together with this message are included, up to 64 KiB. Bytes that were read after that and
+    /// dropped are not. If the session reached the end of reading, these are all bytes that were taken.
     #[derive_where(skip)]
     pub taken: Passed,
     /// The bytes that the writer took.
@@ -40,32 +40,33 @@ pub struct Threaded<W> {
     pub answer: Result<SessionEnd, SessionFault>,
 }
 
-/// How many bytes of content parts a session in threads reads ahead, if its options say nothing else: 1 MiB.
+/// How many bytes of content parts a session in threads reads ahead by default: 1 MiB.
 pub const UNREAD_BYTES: u64 = 1_048_576;
 
-/// How many bytes of messages of a session in threads may wait to be written, if its options say nothing else: 1 MiB.
+/// How many bytes of messages of a session in threads may wait to be written by default: 1 MiB.
 pub const UNWRITTEN_BYTES: u64 = 1_048_576;
 
-/// How a session in threads runs. But for `limits` it changes speed and memory only, and no answer.
+/// How a session in threads runs. `limits` may change its answers. The rest changes only speed and memory.
 #[derive(Drop)]
 pub struct ThreadOptions {
-    /// Starts the thread that writes. It can set the size of its stack.
+    /// Starts the writing thread. It can set the size of its stack.
     pub writer: Builder,
-    /// Starts the thread that reads. It can set the size of its stack.
+    /// Starts the reading thread. It can set the size of its stack.
     pub reader: Builder,
-    /// How many bytes a header part and a content part may have. If the session comes to a longer one, the fault is
-    /// `SessionFault::Read` with `ReadFault::HeaderTooLong` or `TooLong`.
+    /// How many bytes a header part and a content part may have. At a longer one the fault is `SessionFault::Read` with
+    /// `ReadFault::HeaderTooLong` or `TooLong`.
     pub limits: Limits,
-    /// How many bytes of content parts may be read that the session did not take yet. Above that the client waits. A longer content
-    /// part is read once nothing else is unread.
+    /// How many bytes of content parts may be read that the session has not taken. Above that the client waits. A
+    /// longer content part is read once nothing else is unread.
     pub unread: u64,
-    /// How many bytes of messages may be sent that are not written yet. Above that the session waits with the next. A longer message is
-    /// sent once nothing else is unwritten. Replies that were gathered, up to 8 KiB, count as one message.
+    /// How many bytes of messages may be sent that are not written. Above that the session waits with the next one. A
+    /// longer message is sent once nothing else is unwritten. Replies that were gathered, up to 8 KiB, count as one
+    /// message.
     pub unwritten: u64,
 }
 
 impl ThreadOptions {
-    /// Builders that set nothing, no limits, `UNREAD_BYTES` and `UNWRITTEN_BYTES`.
+    /// Makes options with builders that set nothing, no limits, `UNREAD_BYTES` and `UNWRITTEN_BYTES`.
     pub fn new() -> ThreadOptions
         ensures limits { result.limits ≡ no_limit }
         ensures unread { result.unread ≡ 1048576 }
@@ -84,23 +85,28 @@ impl ThreadOptions {
     }
 }
 
-/// Runs a session of a server (LSP 3.17, "Server lifecycle") with a thread that reads, a thread that writes and the handler on
-/// the caller's thread. In every schedule its answer and the bytes that it writes are such as a session allows.
+/// Runs a session of a server (LSP 3.17, "Server lifecycle") with a reading thread, a writing thread and the handler on
+/// the caller's thread. In every schedule its answer and the bytes that it writes are those that a session allows.
 ///
-/// - The fault means that a thread was not started, or that an allocation failed. Nothing was read or written then, and the handler is
-///   as it was.
-/// - It returns as soon as the session's answer is known and the replies are written, also if the client stays connected and silent.
-/// - The thread that reads may outlive the call, if the reader did not come to its end, to a fault or to an `exit`. It ends with its input,
-///   at the next message that it hands on, or with the program. What it read and the session did not take is dropped. A read fault counts
-///   only if the session came to it.
-/// - What the handler gives goes to the thread that writes before the session waits for the next message. It goes there at once, unless 16
-///   messages or more were read and wait behind the one that is handled. While so many wait, replies are gathered, up to 8 KiB.
-/// - A content part that is no message ends the session with `SessionFault::Read`. What was read behind it is dropped.
-/// - After a failed write nothing more is written, and the session goes on until it has something to send: so the handler may get messages
-///   that `session` would not have read. While it has nothing to send, it waits for the client.
-/// - The clause `told` holds of every reader and writer, standard input and a socket among them. It says what `session` says, of each text
-///   that begins with the bytes that were taken, and of a writer that began empty. If the reader showed its end, there is just one such
-///   text. `passed` says that these are the bytes that passed, if they are known. In which order bytes were taken and given, no clause says.
+/// - The fault means that a thread was not started, or that an allocation failed. Then nothing was read or written, and
+///   the handler is as it was.
+/// - The call returns when the session's answer is known and the replies are written, also if the client stays
+///   connected and silent.
+/// - The reading thread may outlive the call, unless the reader was at its end, at a fault or at an `exit`. It ends
+///   with its input, at the next message that it passes on, or with the program. Messages that it read and the session
+///   did not take are dropped. A read fault counts only if the session reached it.
+/// - The handler's replies go to the writing thread before the session waits for the next message. Each goes there at
+///   once, unless 16 messages or more were read and wait after the current one. While so many wait, replies are
+///   gathered, up to 8 KiB.
+/// - A content part that is no message ends the session with `SessionFault::Read`. Messages that were read after it are
+///   dropped.
+/// - After a failed write nothing more is written, and the session goes on until it has something to send. So the
+///   handler may get messages that `session` would not have read. While it has nothing to send, it waits for the
+///   client.
+/// - The clause `told` holds for every reader and writer, including standard input and a socket. It says what `session`
+///   says, for each text that begins with the bytes that were taken, and for a writer that began empty. If the reader
+///   showed its end, there is only one such text. `passed` says that these are the bytes that were read and written, if
+///   they are known. No clause says in which order bytes were taken and given.
 pub fn run_threads<T, R, W, H>(
     rt: &T,
     alloc: Global,
@@ -129,8 +135,9 @@ where
     run_threads_within(rt, alloc, reader, writer, capabilities, handler, u64::MAX)
 }
 
-/// As `run_threads`, with a limit on what is read. If the session comes to a content part longer than `limit` bytes, the fault is
-/// `SessionFault::Read` with `ReadFault::TooLong`. A header part is not bounded; `ThreadOptions` bounds it too.
+/// Does what `run_threads` does, with a limit on a content part. If the session reaches one longer than `limit` bytes,
+/// the fault is `SessionFault::Read` with `ReadFault::TooLong`. A header part is not bounded; `ThreadOptions` bounds it
+/// too.
 pub fn run_threads_within<T, R, W, H>(
     rt: &T,
     alloc: Global,
@@ -176,19 +183,21 @@ where
     )
 }
 
-/// Runs a session of an application (LSP 3.17, "Server lifecycle") with a thread that reads, a thread that writes and the application on the
-/// caller's thread, and gives its answer. Call this if your server is to read on while it works. `StreamTransport::serve` of `lsp_session` does
-/// the same on one thread, and says in which order bytes were taken and given, which no clause says here. In every schedule the answer and
-/// the bytes that are written are such as a session allows.
+/// Runs a session of an application (LSP 3.17, "Server lifecycle") with a reading thread, a writing thread and the
+/// application on the caller's thread, and returns its result. Call this if your server is to read on while it works.
+/// `StreamTransport::serve` of `lsp_session` does the same on one thread. It also says in which order bytes were taken
+/// and given, which no clause says here. In every schedule the answer and the bytes that are written are those that a
+/// session allows.
 ///
-/// Starts, faults, replies that are gathered, and the end are as in `run_threads`, but for content parts that are no messages. If a thread could
-/// not be started, or an allocation failed, it gives a `StartFault`: nothing was read or written then, and the application and the policy are
-/// as they were.
+/// The start, the faults, the gathering of replies and the end are those of `run_threads`, except for content parts
+/// that are no messages. A `StartFault` means that a thread was not started, or that an allocation failed. Then nothing
+/// was read or written, and the application and the policy are as they were.
 ///
-/// At a content part that is no message (see `lsp_session::is_of_content`) `policy` is asked, at once and on your thread. If
-/// it reads on, nothing is answered, the application is woken, and the next message follows. That is so from `initialized` up to `shutdown`, if
-/// it can be woken. If the policy ends the session, and before and after in any case, such a part is `SessionFault::Read`, and
-/// what was read after it is dropped. So is each other fault of reading at any time. With `EndSession` nothing is ever skipped
+/// At a content part that is no message (see `lsp_session::is_of_content`) `policy` is asked, at once and on your
+/// thread, from `initialized` up to `shutdown`, if the application can be woken. If it says to read on, nothing is
+/// answered, the application is woken, and the next message follows. If the policy ends the session, such a part is
+/// `SessionFault::Read`, and the messages read after it are dropped. Before `initialized` and after `shutdown` it is so
+/// in any case, and so is each other fault of reading at any time. With `EndSession` nothing is ever skipped
 /// (`laws::nothing_is_passed_over_in_threads`).
 pub fn run_in_threads<T, R, W, A, L>(
     rt: &T,
@@ -230,13 +239,14 @@ where
     )
 }
 
-/// As `run_in_threads`, over a relay that the caller made, which nothing has passed: `relay::<Contents, ContentsPlan>`. Wakers of the relay wake
-/// the application, from `initialized` up to `shutdown`; a wake before or after is passed over. If you made no waker, the application is woken
-/// only at a content part that is passed over. That a wake arrives is tested, and no part of this contract.
+/// Does what `run_in_threads` does, with a relay of the caller on which nothing was sent: `relay::<Contents,
+/// ContentsPlan>`. Wakers of the relay wake the application, from `initialized` up to `shutdown`. A wake-up before or
+/// after is ignored. If you made no waker, the application is woken only at a content part that is skipped. That a
+/// wake-up arrives is tested, and not part of this contract.
 ///
-/// Both ends of the relay are gone when this returns, also after a fault: a wake gives false from then on, and one that waits for
-/// room gives up (tested as well). `application` and `policy` run on the caller's thread, and should not wake the session themselves: the
-/// relay may be full.
+/// Both ends of the relay are gone when this returns, also after a fault: a wake-up returns false from then on, and one
+/// that waits for room gives up (tested as well). `application` and `policy` run on the caller's thread, and should not
+/// wake the session themselves: the relay may be full.
 pub fn run_in_threads_over<T, R, W, A, L>(
     rt: &T,
     alloc: Global,

@@ -48,7 +48,8 @@ pub(crate) struct Workers<R: BufRead + Drop, W: Write + Drop> {
     pub(crate) faults: WriteFaults,
 }
 
-/// Starts the thread that writes and then the one that reads. After a fault both ends of the relay, and the thread, are gone.
+/// Starts the thread that writes and then the one that reads. After a fault both ends of the relay, and the thread, are
+/// gone.
 pub(crate) fn start_both<T, R, W>(
     rt: &T,
     options: ThreadOptions,
@@ -118,7 +119,7 @@ where
     }
 }
 
-/// Lets only what this reader's content parts begin with be sent on a fresh relay.
+/// Allows only the content parts at the front of this reader's bytes to be sent on a fresh relay.
 fn plan_reading<R: BufRead, W: Source>(
     tx: &mut ContentsTx,
     rx: &mut ContentsRx,
@@ -222,11 +223,13 @@ where
     }
 }
 
-/// Takes no more from the thread that reads, and gives how its reading ended, and what was taken. If it sent End, or came to `exit`, where it
-/// ends by itself, it is joined. Else it is left to itself, and ends once it has read one message more, or with its input. If it did not
-/// send End, the answer is how a reader fails, which is no part of the session's answer.
+/// Takes no further content part from the reading thread, and returns how its reading ended, and the bytes that were
+/// taken. If the thread sent End, or reached `exit`, where it ends by itself, it is joined. Otherwise it is left to
+/// itself, and ends when it has read one more message, or with its input. If it did not send End, the answer is how a
+/// reader fails, which is not part of the session's answer.
 ///
-/// The relay's ends are gone then, but for one that a thread holds which sends no more on it. So nobody waits for room in it.
+/// After this the relay's ends are gone, except one of a thread that sends nothing more on it. So nobody waits for room
+/// in it.
 fn leave_reading<T, R>(
     rt: &T,
     parts: ContentParts<T>,
@@ -262,7 +265,7 @@ fn join_if<T: Threads + Wait, R: BufRead + Drop>(rt: &T, reading: Reading<R>, jo
     }
 }
 
-/// What ended the messages of a session.
+/// Returns what ended the messages of a session.
 fn session_end(ended: Option<ReadEnd>, drained: bool, read: ReadEnd) -> Option<ReadEnd>
     ensures { result ≡ session_end_spec ended drained read }
 {

@@ -1,4 +1,5 @@
-//! The caller's ends of a session in threads: an inbox over a relay of content parts, and the outbox of its replies, as one value.
+//! The caller's ends of a session in threads: an inbox on a relay of content parts, and the outbox of its replies, as
+//! one value.
 ghost use Rattle.std.specs.Prelude.{◌≡◌, [], None};
 ghost use Rattle.lsp_session.specs.Event.{arrival_view, event_view};
 ghost use Rattle.lsp_session.specs.SessionOutcome.{StopsBy};
@@ -18,14 +19,16 @@ use lsp_session::{
 use std::alloc::Global;
 use std::sync::Wait;
 
-/// Gives the messages that content parts are, made on the caller's thread, and waits for each. It is closed after `exit`, after a
-/// content part that is no message and was not passed over, and once End was taken. It has no timeouts.
+/// Reads messages from content parts, on the caller's thread, and waits for each. It is closed after `exit`, after a
+/// content part that is no message and was not skipped, and once End was taken. It has no timeouts.
 ///
-/// `receive_or_woken` gives each wake of the relay. It also asks the policy at a content part that is no message (`is_of_content`), and
-/// passes over it and gives `Arrival::Woken`, or ends the messages. In the other calls there is no wake: those of the relay are passed over,
-/// and such a part ends the messages, as each other fault does everywhere.
+/// `receive_or_woken` returns each wake-up of the relay. It also asks the policy at a content part that is no message
+/// (`is_of_content`). Then it skips the part and returns `Arrival::Woken`, or ends the messages. In the other calls
+/// there is no wake-up: those of the relay are ignored, and such a part ends the messages. Any other fault ends the
+/// messages in each call.
 ///
-/// What is sent is gathered while many content parts are at hand, and all of it is handed over before a wait.
+/// The messages that are sent are gathered while many content parts are available, and all of them are passed on before
+/// a wait.
 #[derive(Drop)]
 pub struct ThreadEnds<'a, R: Wait + Drop, L> {
     alloc: Global,
@@ -59,14 +62,15 @@ impl<'a, R: Wait + Copy + Drop, L: BadContentPolicy> ThreadEnds<'a, R, L> {
         }
     }
 
-    /// What ended the messages, if that was not End: `Exit` or `Fault`.
+    /// Returns what ended the messages, if that was not End: `Exit` or `Fault`.
     pub fn end(&self) -> Option<ReadEnd>
         ensures { result ≡ self.now.end }
     {
         self.end
     }
 
-    /// Hands over what was sent, unless many content parts are at hand. What is sent for the next one is gathered then.
+    /// Passes on the messages that were sent, unless many content parts are available. Then the messages for the next
+    /// one are gathered.
     fn make_ready(&mut self)
         ensures untaken { seen_of self.new ≡ seen_of self.old }
         ensures unsent { self.new.outbox.now.replies ≡ self.old.outbox.now.replies }
@@ -77,7 +81,8 @@ impl<'a, R: Wait + Copy + Drop, L: BadContentPolicy> ThreadEnds<'a, R, L> {
         self.outbox.go_on(at_hand);
     }
 
-    /// Takes what comes next: a message, a wake of the relay, or that no more come. A fault has not ended the messages yet.
+    /// Takes the next item: a message, a wake-up of the relay, or the end of the messages. A fault has not ended the
+    /// messages yet.
     fn read_next(&mut self) -> Result<Arrival, ReadFault>
         requires { IsReadyToWait self.old }
         ensures { ReadsNext self.old result self.new }
@@ -100,7 +105,8 @@ impl<'a, R: Wait + Copy + Drop, L: BadContentPolicy> ThreadEnds<'a, R, L> {
         }
     }
 
-    /// What one wait gives that also gives wakes. At a content part that is no message the policy is asked whether to read on.
+    /// Does one wait that also gives wake-ups. At a content part that is no message it asks the policy whether to read
+    /// on.
     fn next_arrival(&mut self) -> Arrival
         requires { IsReadyToWait self.old }
         ensures gives { GivesNext L.passes self.old (arrival_view result) self.new }
@@ -119,7 +125,7 @@ impl<'a, R: Wait + Copy + Drop, L: BadContentPolicy> ThreadEnds<'a, R, L> {
         }
     }
 
-    /// Gives the message of the next content part, and passes over wakes of the relay.
+    /// Returns the message of the next content part, and ignores wake-ups of the relay.
     fn next_event(&mut self) -> Event
         requires { IsReadyToWait self.old }
         ensures { GivesNext L.passes self.old (event_view result) self.new }
@@ -186,7 +192,8 @@ impl<'a, R: Wait + Copy + Drop, L: BadContentPolicy> TextOutbox for ThreadEnds<'
     }
 }
 
-/// Runs a session of an application over the caller's ends. All that is sent for a message is handed over before a wait for the next.
+/// Runs a session of an application on the caller's ends. All messages that are sent for a message are passed on before
+/// a wait for the next.
 pub fn serve_ends<R: Wait + Copy + Drop, L: BadContentPolicy, A: Application>(
     alloc: Global,
     ends: &mut ThreadEnds<'_, R, L>,

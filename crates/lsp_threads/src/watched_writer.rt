@@ -1,4 +1,4 @@
-//! A writer that others can ask whether a write has failed.
+//! A writer that says whether a write has failed.
 ghost use Rattle.std.specs.Prelude.{◌≡◌};
 
 use std::alloc::{AllocError, Global};
@@ -14,13 +14,13 @@ pub struct WatchedWriter<W> {
     faults: Arc<AtomicU64, Global>,
 }
 
-/// Knows whether a write has failed.
+/// Says whether a write has failed.
 #[derive(Drop)]
 pub struct WriteFaults {
     faults: Arc<AtomicU64, Global>,
 }
 
-/// Makes a writer watched. The error means that an allocation failed.
+/// Makes two owners of this state. The error means that an allocation failed.
 pub fn write_faults(alloc: Global) -> Result<(WriteFaults, WriteFaults), AllocError> {
     let Ok(faults) = Arc::new(alloc, AtomicU64::new(0)) else {
         return Err(AllocError);
@@ -30,12 +30,12 @@ pub fn write_faults(alloc: Global) -> Result<(WriteFaults, WriteFaults), AllocEr
 }
 
 impl WriteFaults {
-    /// Whether a write has failed.
+    /// Returns whether a write has failed.
     pub fn any(&self) -> bool {
         self.faults.load(Ordering::SeqCst) != 0
     }
 
-    /// The writer, which tells this of its faults.
+    /// Returns the writer, which records its faults here.
     pub fn watch<W>(self, inner: W) -> WatchedWriter<W>
         ensures { result.inner ≡ inner }
     {

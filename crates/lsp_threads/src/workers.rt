@@ -1,4 +1,4 @@
-//! The threads that read and write, each over an end of a relay.
+//! The threads that read and write, each on an end of a relay.
 ghost use Rattle.std.specs.List.{concat};
 ghost use Rattle.std.specs.Prelude.{◌≡◌, [], IfOk, Some};
 ghost use Rattle.lsp_threads.specs.Framing.{WritesParcels};
@@ -46,26 +46,28 @@ impl fmt::Display for StartFault {
 
 impl Error for StartFault {}
 
-/// The end of a relay on which a thread that reads sends. The thread is started for any such end, since the check finds that it may own
-/// it only if it need not look into its type.
+/// The end of a relay on which a reading thread sends. The thread is started for any such end, since the check finds
+/// that it may own it only if it need not look into its type.
 pub trait ReadsInto: Drop {
     ghost use Rattle.std.specs.Prelude.{ℕ, List, Option};
     ghost use Rattle.lsp_message.specs.Told.{Parts};
     ghost use Rattle.lsp_message.specs.declared.frame.limits.Limits.{Limits as most};
     ghost use Rattle.lsp_session.specs.declared.loops.ReadEnd.{ReadEnd as read_end};
 
-    /// Messages whose content parts have at most so many bytes were sent on this end of a relay and ended so. They are those of the bytes
-    /// that were taken, the first of these if they are known, and the end is this then.
+    /// The messages whose content parts have at most this many bytes were sent on this end of a relay, which ended like
+    /// this. They are those of the bytes that were taken, which are the first of these bytes if they are known. The end
+    /// is the last value then.
     ghost tells: { most → Option (List ℕ) → Self → read_end → Parts → Self → Type 0 };
 
     /// The two are the same end.
     ghost same_end: { Self → Self → Type 0 };
 
-    /// The end may be given to a thread that reads these bytes, if they are known, with content parts of at most so many.
+    /// The end may be given to a thread that reads these bytes, if they are known, with content parts of at most this
+    /// many bytes.
     ghost may_read: { Option (List ℕ) → most → Self → Type 0 };
 
-    /// Sends the messages of a reader, within `limits`, and then End, and accounts for what it took. It
-    /// waits while too much is sent that the other end did not take or write.
+    /// Sends the messages of a reader, within `limits`, and then End, and records the bytes that it took. It waits
+    /// while the other end has too many bytes that it did not take or write.
     fn read_into<R: Wait + Drop, S: BufRead + Drop>(
         self,
         rt: R,
@@ -79,19 +81,19 @@ pub trait ReadsInto: Drop {
         ensures told { tells limits (S.remaining reader) self result.1 result.2.parts result.0 };
 }
 
-/// What a thread that writes takes from a relay. The thread is started for any such type, for the same reason.
+/// What a writing thread takes from a relay. The thread is started for any such type, for the same reason.
 pub trait WritesFrom: Drop {
     ghost use Rattle.std.specs.Prelude.{ℕ, List, Option};
     ghost use Rattle.lsp_message.specs.declared.frame.WriteFault.{WriteFault as fault};
     ghost use Rattle.lsp_relay.specs.declared.ends.Parcel.{Parcel as parcel};
 
-    /// These parcels were taken and written, but if there is a fault, not from the failed write on. What was given is said as if the writer
-    /// began empty.
+    /// These parcels were taken and written. After a fault they were not written from the failed write on. The bytes
+    /// that were given are stated as if the writer began empty.
     ghost writes: { List (parcel Self) → Option fault → Option (List ℕ) → Option (List ℕ)
         → Type 0 };
 
-    /// Writes what it takes up to End, and accounts for what it gave. After a fault, the answer, it writes nothing more. It tells what
-    /// waits no more to be written.
+    /// Writes the parcels that it takes, up to End, and records the bytes that it gave. After a fault, which it
+    /// returns, it writes nothing more. It reports which bytes no longer wait to be written.
     fn write_out<R: Wait + Drop, W: Write + Drop>(
         rt: R,
         alloc: Global,
@@ -105,7 +107,7 @@ pub trait WritesFrom: Drop {
         ensures given { GivenTo (W.contents writer) result.3.parts (W.contents result.1) };
 }
 
-/// What the thread that reads gives back: the sender's end of the relay that it was given.
+/// What the reading thread returns: the sender's end of the relay that it was given.
 #[derive(Drop)]
 pub struct Reader<S, E> {
     pub reader: Snapshot<S>,
@@ -118,8 +120,8 @@ impl<S: BufRead, E: ReadsInto> Promise<(E, ReadEnd, Passed)> for Reader<S, E> {
         × E.tells p.limits (S.remaining p.reader.value) p.tx.value r.1 r.2.parts r.0 };
 }
 
-/// What the thread that writes gives back: the receiver's end of the relay that it was given, of which all was taken, and
-/// the writer.
+/// What the writing thread returns: the receiver's end of the relay that it was given, from which everything was taken,
+/// and the writer.
 #[derive(Drop)]
 pub struct Writer<W, M: Drop> {
     pub writer: Snapshot<W>,
@@ -137,7 +139,7 @@ impl<W: Write, M: WritesFrom> Promise<(RelayRx<M>, W, Option<WriteFault>, Passed
         × GivenTo (W.contents p.writer.value) r.3.parts (W.contents r.1) };
 }
 
-/// Starts the thread that reads.
+/// Starts the reading thread.
 pub fn start_reader<E, R, S>(
     rt: &R,
     builder: Builder,
@@ -171,7 +173,7 @@ where
     }
 }
 
-/// Starts the thread that writes.
+/// Starts the writing thread.
 pub fn start_writer<M, R, W>(
     rt: &R,
     builder: Builder,
