@@ -3,19 +3,19 @@ use crate::msg::{Notification, Request};
 use std::error::Error;
 use std::fmt;
 
-/// Why `Request::extract` or `Notification::extract` gave no params.
+/// Why `Request::extract` or `Notification::extract` returned no params.
 ///
-/// It prints `Method mismatch for request '..'` with the method, or `Invalid request`, the method and the error of
-/// `serde_json`, on three lines; for a notification it says `notification` in place of `request`.
+/// It prints `Method mismatch for request '..'` with the method; or, on three lines, `Invalid request`, the method and
+/// the error of `serde_json`. For a notification the text has `notification` in place of `request`.
 #[derive(Debug, Drop)]
 pub enum ExtractError<T> {
-    /// The message has another method. Here it is, unchanged: try the next method with it.
+    /// The message has another method. It is returned unchanged, so try the next method with it.
     MethodMismatch(T),
-    /// The params do not convert to the type that was asked for, or an allocation failed.
+    /// The params do not convert to the requested type, or an allocation failed.
     JsonError {
         /// The method of the message.
         method: String,
-        /// Why not, by `serde_json`.
+        /// The error of `serde_json`.
         error: serde_json::Error,
     },
 }

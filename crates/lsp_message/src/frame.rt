@@ -22,13 +22,14 @@ pub(crate) mod write;
 
 /// Why a message could not be read (LSP 3.17, "Base Protocol").
 ///
-/// It prints `read fault N`, where N is its `number`. To tell a person more, match on the variant, and print the kind of
-/// `Input` by `{kind:?}`.
+/// It prints `read fault N`, where N is its `number`. To show a person more, match on the variant, and print the kind
+/// of `Input` with `{kind:?}`.
 ///
-/// All but `Input` and `Memory` are facts about the bytes. What follows the bytes at fault stays unread.
+/// All faults except `Input` and `Memory` are facts about the bytes. The bytes after those at fault stay unread.
 #[derive(Clone, Copy, Debug, PartialEq, Eq)]
 pub enum ReadFault {
-    /// 1: the reader failed in this call, with this kind. Or the header part has 2^64 - 1 lines or bytes (kind `Other`).
+    /// 1: the reader failed in this call, with this kind. Or the header part has 2^64 - 1 lines or bytes (kind
+    /// `Other`).
     Input(ErrorKind),
     /// 2: a header line is not UTF-8.
     LineNotText,
@@ -44,23 +45,24 @@ pub enum ReadFault {
     ShortBody,
     /// 8: the content part is not UTF-8.
     BodyNotText,
-    /// 9: `serde_json` does not read the content part. It is not JSON, nests more than 127 levels, or has a number that is too
-    /// large. A `Content-Length` that is too short often ends here.
+    /// 9: `serde_json` does not read the content part. It is not JSON, nests more than 127 levels, or has a number that
+    /// is too large. A `Content-Length` that is too short often has this result.
     NoJson,
     /// 10: the content part is JSON, but neither a message nor a list.
     NoMessage,
     /// 11: an allocation failed. If it was the one for the content part, that part is unread.
     Memory,
-    /// 12: the content part is longer than the limit that was given. It is unread. That no memory was reserved for it is tested.
+    /// 12: the content part is longer than the limit. It is unread. That no memory was reserved for it is tested, not
+    /// proved.
     TooLong,
     /// 13: the content part is a list. JSON-RPC 2.0 makes it a batch (section 6), and batches are not supported.
     Batch,
-    /// 14: the header part is longer than the bound that was given. One byte above the bound was taken, and none after it.
+    /// 14: the header part is longer than the bound. One byte above the bound was taken, and none after it.
     HeaderTooLong,
 }
 
 impl ReadFault {
-    /// The fault's number, from 1 to 14.
+    /// Returns the fault's number, from 1 to 14.
     pub fn number(self) -> u8
         ensures { result ≡ read_fault_number self }
     {
@@ -82,8 +84,8 @@ impl ReadFault {
         }
     }
 
-    /// The fault as an `ErrorKind`: the reader's own for `Input`, `UnexpectedEof` for `ShortBody`, `OutOfMemory` for `Memory`,
-    /// and `InvalidData` for the others.
+    /// Returns the fault as an `ErrorKind`: the reader's own for `Input`, `UnexpectedEof` for `ShortBody`,
+    /// `OutOfMemory` for `Memory`, and `InvalidData` for the others.
     pub fn kind(self) -> ErrorKind
         ensures { result ≡ read_fault_kind self }
     {
@@ -128,7 +130,8 @@ impl From<AllocError> for ReadFault {
     }
 }
 
-/// After a read was interrupted, `again` tells the caller to try it again. Another failure of the reader is the fault.
+/// Returns `again` after an interrupted read, so that the caller tries it again. Another failure of the reader is the
+/// fault.
 pub(crate) fn unless_interrupted<T: Copy>(error: io::Error, again: T) -> Result<T, ReadFault>
     ensures { ((error_kind error ≡ Interrupted) × (result ≡ Ok again))
         ⊎ ((error_kind error ≢ Interrupted) × (result ≡ Err (ReadFault.Input (error_kind error)))) }
@@ -139,12 +142,14 @@ pub(crate) fn unless_interrupted<T: Copy>(error: io::Error, again: T) -> Result<
     }
 }
 
-/// How much of some bytes is their first message (LSP 3.17, "Base Protocol"). Whether the content part is JSON is not checked.
+/// How many of some bytes are their first message (LSP 3.17, "Base Protocol"). Whether the content part is JSON is not
+/// checked.
 ///
-/// `front` tells it. That function is in `scan`: in Rattle its name and the type's can't stand in one module.
+/// The function `front` returns it. It is in the module `scan`, since in Rattle its name and that of this type can't be
+/// in one module.
 #[derive(Clone, Copy, Debug, PartialEq, Eq)]
 pub enum Front {
-    /// A whole message has arrived: its header part and its content part are the first so many bytes.
+    /// A whole message has arrived. Its header part and its content part are the first bytes, this many.
     Whole(usize),
     /// A header line is bad, or the header part has no length. This is the number of the read fault, from 2 to 6.
     Fault(u8),
@@ -154,19 +159,19 @@ pub enum Front {
 
 /// Why a message could not be written (LSP 3.17, "Base Protocol").
 ///
-/// It prints `write fault N`, where N is its `number`. To tell a person more, match on the variant, and print the kind of
-/// `Output` by `{kind:?}`.
+/// It prints `write fault N`, where N is its `number`. To show a person more, match on the variant, and print the kind
+/// of `Output` with `{kind:?}`.
 #[derive(Clone, Copy, Debug, PartialEq, Eq)]
 pub enum WriteFault {
-    /// 1: the writer failed in this call, with this kind, or took no byte (kind `WriteZero`). It got a beginning of the frame;
-    /// all of it if only the flush failed.
+    /// 1: the writer failed in this call, with this kind, or took no byte (kind `WriteZero`). It got a prefix of the
+    /// frame, or all of it if only the flush failed.
     Output(ErrorKind),
     /// 2: an allocation failed. The writer is as it was.
     Memory,
 }
 
 impl WriteFault {
-    /// The fault's number, 1 or 2.
+    /// Returns the fault's number, 1 or 2.
     pub fn number(self) -> u8
         ensures { result ≡ write_fault_number self }
     {

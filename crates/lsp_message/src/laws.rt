@@ -1,4 +1,4 @@
-//! Laws of messages, ids and frames. Each is the contract of a function, so the proofs of callers can use it.
+//! Laws of messages, ids and frames. Each is the contract of a function, which the proofs of callers can use.
 ghost use Rattle.std.specs.Prelude.{◌≡◌, ◌≢◌, ◌++◌, ◌<◌, ◌^◌, ℕ, List, length, take, IfOk};
 ghost use Rattle.lsp_message.specs.Floats.{HasNoFloat};
 ghost use Rattle.lsp_message.specs.Front.{front_of};
@@ -48,7 +48,7 @@ pub fn clone_of_message(message: &Message) -> Result<Message, AllocError>
     message.clone()
 }
 
-/// An id that is a number and an id that is an ASCII text never print the same. What other texts print is not stated.
+/// An id that is a number and an id that is an ASCII text never print the same. Nothing is stated about other texts.
 pub fn kinds_print_apart(number: i32, text: &str)
     ensures { printed (number_id number) ≢ printed (text_id text.now) }
 {
@@ -56,7 +56,8 @@ pub fn kinds_print_apart(number: i32, text: &str)
     let _text = text;
 }
 
-/// A message that holds no float has one text and one content part: `member_text` and `body_text` are exact to the byte there.
+/// A message without floats has one text and one content part: `member_text` and `body_text` are exact to the byte for
+/// it.
 pub fn one_text_without_floats()
     ensures member { (m : plain.Message) (t u : List ℕ) → HasNoFloat m → IsMemberText m t
         → IsMemberText m u → t ≡ u }
@@ -64,7 +65,7 @@ pub fn one_text_without_floats()
         → t ≡ u }
 {}
 
-/// `front` finds a whole frame whatever follows it, and answers `More` to any proper part of a frame.
+/// `front` finds a whole frame, whatever follows it, and returns `More` for any proper prefix of a frame.
 pub fn front_of_frame()
     ensures whole { (body rest : List ℕ) → length body < 2 ^ 64
         → front_of (frame_text body ++ rest) ≡ Front.Whole (length (frame_text body)) }
@@ -72,9 +73,9 @@ pub fn front_of_frame()
         → count < length (frame_text body) → front_of (take count (frame_text body)) ≡ Front.More }
 {}
 
-/// Who reads frames gets the messages that were written, in order, whatever follows the frames (LSP 3.17, "Base Protocol"), up to the
-/// first message that nests more than 127 levels. The data of an error comes back as absent if it is null. The frames are shorter than 2^64
-/// bytes in all.
+/// Whoever reads frames gets the messages that were written, in order, whatever follows the frames (LSP 3.17, "Base
+/// Protocol"), up to the first message that nests more than 127 levels. An error's data of null is read back as absent.
+/// The frames have fewer than 2^64 bytes in all.
 pub fn frames_are_read_back()
     ensures { (sent : List plain.Message) (frames behind : List ℕ) → AreFramesOf sent frames
         → length frames < 2 ^ 64 → AreReadBack sent (frames ++ behind) }

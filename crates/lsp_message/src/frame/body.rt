@@ -12,7 +12,7 @@ use crate::frame::{ReadFault, unless_interrupted};
 use std::alloc::Global;
 use std::io::{BufRead, ErrorKind};
 
-/// The content part, of so many bytes. Its room is reserved before the first of them is taken.
+/// Reads the content part, which has this many bytes. Room for it is reserved before its first byte is taken.
 pub(crate) fn read_body<R: BufRead>(
     alloc: Global,
     reader: &mut R,
@@ -41,7 +41,7 @@ pub(crate) fn read_body<R: BufRead>(
     Err(ReadFault::Input(ErrorKind::Other))
 }
 
-/// Takes what the reader shows of the missing bytes. Is false if the input ended.
+/// Takes the missing bytes that the reader shows. Returns false if the input ended.
 fn take_part<R: BufRead>(
     reader: &mut R,
     missing: usize,

@@ -13,11 +13,11 @@ use crate::frame::read::read_header_within;
 use std::alloc::Global;
 use std::io::BufRead;
 
-/// Reads the content part of one message, and the header part before it, within limits (LSP 3.17, "Base Protocol"). `Ok(None)`
-/// means that the input ended at the start of a header line.
+/// Reads the content part of one message, and the header part before it, within `limits` (LSP 3.17, "Base Protocol").
+/// `Ok(None)` means that the input ended at the start of a header line.
 ///
-/// The faults are those of `Message::read_telling`, but for those of what the content part means: `Message::from_content` finds
-/// that out. After `Memory` none of the content part was taken.
+/// The faults are those of `Message::read_telling`, except those about the meaning of the content part, which
+/// `Message::from_content` finds. After `Memory` none of the content part was taken.
 pub fn read_content_within<R: BufRead>(
     alloc: Global,
     reader: &mut R,
@@ -33,7 +33,8 @@ pub fn read_content_within<R: BufRead>(
     read_content_telling(alloc, reader, limits, &mut Passed::new())
 }
 
-/// Reads the content part of one message, as `read_content_within` does, and adds the bytes that it takes to the account.
+/// Reads the content part of one message, as `read_content_within` does, and adds the bytes that it takes to the
+/// account.
 pub fn read_content_telling<R: BufRead>(
     alloc: Global,
     reader: &mut R,

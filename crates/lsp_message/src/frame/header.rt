@@ -16,7 +16,7 @@ pub enum HeaderLine {
     Other,
 }
 
-/// What a line of the header part is, with its end.
+/// Returns what a line of the header part is. The line includes its end.
 pub(crate) fn header_line(line: &[u8]) -> Result<HeaderLine, ReadFault>
     ensures { result ≡ line_spec line.now }
 {
@@ -29,7 +29,7 @@ pub(crate) fn header_line(line: &[u8]) -> Result<HeaderLine, ReadFault>
     header_text(&line[..line.len() - 2])
 }
 
-/// What a line of the header part is, by the text before its end.
+/// Returns what a line of the header part is, by the text before its end.
 fn header_text(text: &[u8]) -> Result<HeaderLine, ReadFault>
     ensures { result ≡ text_spec text.now }
 {
@@ -54,7 +54,7 @@ fn field(name: &[u8], value: &[u8]) -> Result<HeaderLine, ReadFault>
     }
 }
 
-/// The number that the value of a field is: digits, after a `+` or none.
+/// Returns the number in the value of a field: digits, with or without a `+` before them.
 pub(crate) fn number(value: &[u8]) -> Option<u64>
     ensures { result ≡ number_spec value.now }
 {

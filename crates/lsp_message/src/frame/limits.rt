@@ -2,21 +2,22 @@
 ghost use Rattle.std.specs.Prelude.{◌≡◌, Some};
 ghost use Rattle.lsp_message.specs.Limits.{of_content as of_content_spec, no_limit as no_limit_spec};
 
-/// The most bytes that are read of a header part and of a content part (LSP 3.17, "Base Protocol").
+/// The most bytes of a header part and of a content part that are read (LSP 3.17, "Base Protocol").
 #[derive(Clone, Copy, Debug, PartialEq, Eq)]
 pub struct Limits {
-    /// The most bytes of a header part, with its blank line. A longer one is `ReadFault::HeaderTooLong`. `None`: it is not bounded,
-    /// and a peer that sends no line end makes the reader gather all that it sends.
+    /// The most bytes of a header part, with its blank line. A longer one is `ReadFault::HeaderTooLong`. With `None` it
+    /// is not bounded, and the reader gathers everything from a peer that sends no line end.
     pub header: Option<u64>,
     /// The most bytes of a content part. A longer one is `ReadFault::TooLong`.
     pub content: u64,
 }
 
 impl Limits {
-    /// The most bytes of a header part that suits a reader of strangers: 64 KiB. A header part that a client sends has some forty.
+    /// A bound on the header part that suits a reader of strangers: 64 KiB. The header part of a usual client has some
+    /// forty bytes.
     pub const HEADER_BYTES: u64 = 65536;
 
-    /// A bound on the header part, and one on the content part.
+    /// Makes limits from a bound on the header part and one on the content part, in bytes.
     pub fn new(header: u64, content: u64) -> Limits
         ensures header { result.header ≡ Some header }
         ensures content { result.content ≡ content }
@@ -27,7 +28,7 @@ impl Limits {
         }
     }
 
-    /// A content part of at most `limit` bytes, and a header part of any length.
+    /// Makes limits of a content part of at most `limit` bytes, and a header part of any length.
     pub fn of_content(limit: u64) -> Limits
         ensures { result ≡ of_content_spec limit }
     {
@@ -37,7 +38,7 @@ impl Limits {
         }
     }
 
-    /// Parts of any length.
+    /// Makes limits that allow parts of any length.
     pub fn none() -> Limits
         ensures { result ≡ no_limit_spec }
     {

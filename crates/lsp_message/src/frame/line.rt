@@ -9,7 +9,7 @@ use crate::frame::{ReadFault, unless_interrupted};
 use memchr::memchr;
 use std::io::{BufRead, ErrorKind};
 
-/// Gathers what the input has of its first line, up to and with the line feed, or to the end of the input.
+/// Gathers the first line of the input, up to and including the line feed, or up to the end of the input.
 pub(crate) fn gather_line<R: BufRead>(
     reader: &mut R,
     line: &mut Vec<u8>,
@@ -35,8 +35,8 @@ pub(crate) fn gather_line<R: BufRead>(
     Err(ReadFault::Input(ErrorKind::Other))
 }
 
-/// Takes what the reader shows of the line, as far as there is room, and says whether the line is at its end. With no room it
-/// fails.
+/// Takes the part of the line that the reader shows, as far as there is room, and returns whether the line is at its
+/// end. It fails if there is no room.
 fn gather_some<R: BufRead>(
     reader: &mut R,
     line: &mut Vec<u8>,

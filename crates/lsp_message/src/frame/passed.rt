@@ -4,8 +4,8 @@ ghost use Rattle.std.specs.Borrow.{ftrue};
 
 use std::marker::{Model, PhantomData};
 
-/// An account of the bytes that were taken from a reader or given to a writer, part after part. Clauses alone see it: nothing of it is left
-/// when a program runs. An empty part that was taken says that the reader showed its end.
+/// An account of the bytes that were taken from a reader or given to a writer, part after part. Only clauses see it.
+/// Nothing of it is left when a program runs. An empty part that was taken says that the reader showed its end.
 #[derive(Drop)]
 pub struct Passed {
     marker: PhantomData<u8>,
@@ -20,7 +20,7 @@ impl Model for Passed {
 unsafe impl Send for Passed {}
 
 impl Passed {
-    /// An account of nothing.
+    /// Makes an empty account.
     pub fn new() -> Passed
         ensures { result.parts ≡ [] }
     {
@@ -29,7 +29,7 @@ impl Passed {
         }
     }
 
-    /// The same account, as it is now.
+    /// Copies the account as it is now.
     pub fn so_far(&self) -> Passed
         ensures { result.parts ≡ self.now.parts }
     {

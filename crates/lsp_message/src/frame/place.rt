@@ -22,7 +22,7 @@ pub(crate) enum InPlace {
     AtEnd,
 }
 
-/// The next line, if the reader shows it whole, and there is room for it. Otherwise nothing is taken.
+/// Takes the next line, if the reader shows it whole and there is room for it. Otherwise nothing is taken.
 pub(crate) fn line_in_place<R: BufRead>(
     reader: &mut R,
     room: &mut u64,

@@ -15,8 +15,8 @@ use crate::frame::place::{InPlace, line_in_place};
 use std::alloc::Global;
 use std::io::{BufRead, ErrorKind};
 
-/// The length of the content part, or nothing where the input ends at the start of a header line. A header part that is longer
-/// than the bound, if there is one, is a fault.
+/// Returns the length of the content part, or `None` if the input ends at the start of a header line. A header part
+/// that is longer than the bound, if there is one, is a fault.
 pub(crate) fn read_header_within<R: BufRead>(
     alloc: Global,
     reader: &mut R,
@@ -38,7 +38,8 @@ pub(crate) fn read_header_within<R: BufRead>(
     }
 }
 
-/// The same of a header part that has at most so many bytes. One byte more is taken of a longer one, and no other.
+/// Returns the same for a header part that has at most this many bytes. One byte more is taken of a longer one, and no
+/// other.
 fn read_bounded_header<R: BufRead>(
     alloc: Global,
     reader: &mut R,
@@ -61,7 +62,7 @@ fn read_bounded_header<R: BufRead>(
     answer
 }
 
-/// The header part, as far as there is room for it. Where there is no more room, it fails.
+/// Reads the header part, as far as there is room for it. It fails if there is no room left.
 fn read_header<R: BufRead>(
     alloc: Global,
     reader: &mut R,
@@ -91,7 +92,7 @@ fn read_header<R: BufRead>(
     Err(ReadFault::Input(ErrorKind::Other))
 }
 
-/// What the blank line makes of the last length before it.
+/// Returns the result at the blank line, from the last length before it.
 fn at_blank_line(length: Option<u64>) -> Result<Option<u64>, ReadFault>
     ensures { result ≡ at_last_line length (Ok HeaderLine.Blank) }
 {
@@ -101,7 +102,8 @@ fn at_blank_line(length: Option<u64>) -> Result<Option<u64>, ReadFault>
     }
 }
 
-/// The next line, or nothing where the input ends at its start. A line that the reader doesn't show whole is gathered.
+/// Reads the next line, or returns `None` if the input ends at its start. A line that the reader doesn't show whole is
+/// gathered.
 fn read_line<R: BufRead>(
     reader: &mut R,
     gathered: &mut Vec<u8>,
@@ -122,7 +124,7 @@ fn read_line<R: BufRead>(
     }
 }
 
-/// The next line, gathered, as the reader doesn't show it whole.
+/// Gathers the next line, which the reader doesn't show whole.
 fn gathered_line<R: BufRead>(
     reader: &mut R,
     gathered: &mut Vec<u8>,

@@ -7,9 +7,11 @@ use crate::frame::header::{HeaderLine, header_line};
 use crate::frame::{Front, ReadFault};
 use memchr::memchr;
 
-/// Finds out how much of the bytes that have arrived is their first message (LSP 3.17, "Base Protocol"). It does not allocate.
+/// Returns how many of the bytes that have arrived are their first message (LSP 3.17, "Base Protocol"). It does not
+/// allocate.
 ///
-/// Use it to read from a source that must not block: call it after each piece, and `Message::read` once it answers `Whole`.
+/// Use it to read from a source that must not block. Call it after each piece, and call `Message::read` once it returns
+/// `Whole`.
 pub fn front(bytes: &[u8]) -> Front
     ensures value { result ≡ front_of bytes.now }
     ensures within { (count : ℕ) → result ≡ Front.Whole count → count ≤ length bytes.now }
@@ -18,7 +20,7 @@ pub fn front(bytes: &[u8]) -> Front
     scanned(bytes)
 }
 
-/// The front of the bytes, by a scan of their lines.
+/// Returns the front of the bytes, by a scan of their lines.
 fn scanned(bytes: &[u8]) -> Front
     ensures { result ≡ front_of bytes.now }
 {
@@ -37,7 +39,7 @@ fn scanned(bytes: &[u8]) -> Front
     Front::More
 }
 
-/// The front after the blank line, with so many of all the bytes left.
+/// Returns the front after the blank line, with `left` of `all` bytes left.
 fn after_blank_line(all: usize, length: Option<u64>, left: usize) -> Front
     requires { left ≤ all }
     ensures { result ≡ at_header_end all (at_last_line length (Ok HeaderLine.Blank)) left }

@@ -33,9 +33,10 @@ pub(crate) fn write_body<W: Write>(
     write_frames_telling(writer, frame.as_str(), given)
 }
 
-/// Writes a text of whole frames, as `Message::to_frame` gives them (LSP 3.17, "Base Protocol"), and flushes the writer once.
+/// Writes a text of whole frames, as `Message::to_frame` makes them (LSP 3.17, "Base Protocol"), and flushes the writer
+/// once.
 ///
-/// The fault is `WriteFault::Output`. The writer got a beginning of the text then; all of it if only the flush failed.
+/// The fault is `WriteFault::Output`. The writer then got a prefix of the text, or all of it if only the flush failed.
 pub fn write_frames<W: Write>(writer: &mut W, frames: &str) -> Result<(), WriteFault>
     ensures ok { OnOk result (Appends (W.contents writer.old) (W.contents writer.new) frames.now) }
     ensures begun { AppendsBeginning (W.contents writer.old) (W.contents writer.new) frames.now }
@@ -63,7 +64,7 @@ pub fn write_frames_telling<W: Write>(
     }
 }
 
-/// Puts the header part before the body, in the body's own room.
+/// Adds the header part before the body, in the body's own room.
 pub(crate) fn with_header(alloc: Global, body: String) -> Result<String, AllocError>
     ensures text { IfOk result (λ frame. string_bytes frame ≡ frame_text (string_bytes body)) }
     ensures length { OnOk result (length (string_bytes body) < 2 ^ 64) }
@@ -76,7 +77,7 @@ pub(crate) fn with_header(alloc: Global, body: String) -> Result<String, AllocEr
     Ok(frame)
 }
 
-/// Writes all the bytes, or a beginning of them. An interrupted write is a fault, as every other.
+/// Writes all the bytes, or a prefix of them. An interrupted write is a fault, as any other.
 fn write_bytes<W: Write>(writer: &mut W, bytes: &[u8], given: &mut Passed) -> Result<(), WriteFault>
     ensures ok { OnOk result (Appends (W.contents writer.old) (W.contents writer.new) bytes.now) }
     ensures begun { AppendsBeginning (W.contents writer.old) (W.contents writer.new) bytes.now }

@@ -11,17 +11,18 @@ pub enum ErrorCode {
     InvalidParams,
     /// -32603: the server failed inside (JSON-RPC 2.0, section 5.1).
     InternalError,
-    /// -32099: one end of the range that JSON-RPC 2.0 (section 5.1) leaves to servers. Not an error of its own.
+    /// -32099: one end of the range that JSON-RPC 2.0 (section 5.1) leaves to servers. It is not an error itself.
     ServerErrorStart,
-    /// -32000: the other end of that range (JSON-RPC 2.0, section 5.1). Not an error of its own.
+    /// -32000: the other end of that range (JSON-RPC 2.0, section 5.1). It is not an error itself.
     ServerErrorEnd,
-    /// -32002: a request came before `initialize` (LSP 3.17, "Response Message").
+    /// -32002: a request arrived before `initialize` (LSP 3.17, "Response Message").
     ServerNotInitialized,
     /// -32001: none of the other codes fits (LSP 3.17, "Response Message").
     UnknownErrorCode,
     /// -32800: the client cancelled the request, and the server noticed it (LSP 3.17, "Response Message").
     RequestCanceled,
-    /// -32801: the content of a document changed unexpectedly, so the result would be wrong (LSP 3.17, "Response Message").
+    /// -32801: the content of a document changed unexpectedly, so the result would be wrong (LSP 3.17, "Response
+    /// Message").
     ContentModified,
     /// -32802: the server cancelled the request. Only some kinds of requests allow it (LSP 3.17, "Response Message").
     ServerCancelled,
@@ -33,7 +34,7 @@ impl ErrorCode {
     ghost use Rattle.std.specs.Prelude.{◌≡◌};
     ghost use Rattle.lsp_message.specs.ErrorCode.{number_of};
 
-    /// The number to send in a reply, as `ResponseError::code`.
+    /// Returns the number to send in a reply, for `ResponseError::code`.
     pub fn number(self) -> i32
         ensures { result ≡ number_of self }
     {

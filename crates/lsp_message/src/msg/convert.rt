@@ -11,11 +11,11 @@ use serde::{DeserializeOwned, Serialize};
 use serde_json::Value;
 use std::alloc::{AllocError, Global};
 
-/// Reads a tree as a type of your own. A tree that does not fit gives the error to reply with: -32602, with the reason as its
-/// text (JSON-RPC 2.0, section 5.1).
+/// Reads a tree as a type of your own. A tree that does not fit gives the error to reply with: -32602, with the reason
+/// as its text (JSON-RPC 2.0, section 5.1).
 ///
-/// `Err(AllocError)` means that an allocation failed. What the type takes from the tree, no contract says: test it. A tree that does
-/// not fit is written out and read again, so that the reason is that of its compact text.
+/// `Err(AllocError)` means that an allocation failed. No contract says what the type takes from the tree, so test it. A
+/// tree that does not fit is written out and read again, so that the reason is that of its compact text.
 pub fn read_as<P: DeserializeOwned>(
     alloc: Global,
     value: Value,
@@ -28,10 +28,10 @@ pub fn read_as<P: DeserializeOwned>(
     }
 }
 
-/// Writes a value of your own as a tree: an outcome to reply with. A value that nests more than 127 levels, or whose type refuses
-/// to be written, gives the error -32603, with the reason as its text (JSON-RPC 2.0, section 5.1).
+/// Writes a value of your own as a tree, which is an outcome to reply with. A value that nests more than 127 levels, or
+/// whose type refuses to be written, gives the error -32603, with the reason as its text (JSON-RPC 2.0, section 5.1).
 ///
-/// `Err(AllocError)` means that an allocation failed. The value goes through its compact text.
+/// `Err(AllocError)` means that an allocation failed. The value is converted by way of its compact text.
 pub fn write_as<T: Serialize>(
     alloc: Global,
     value: &T,
@@ -44,7 +44,7 @@ pub fn write_as<T: Serialize>(
     }
 }
 
-/// The error to reply with if a conversion failed.
+/// Makes the error to reply with after a conversion failed.
 fn fault(
     alloc: Global,
     code: ErrorCode,
@@ -64,7 +64,8 @@ impl ResponseError {
     ghost use Rattle.lsp_message.specs.Converted.{method_not_found};
     ghost use Rattle.lsp_message.specs.ErrorCode.{number_of};
 
-    /// An error with a code that the standards define, a short text for people, and no data (JSON-RPC 2.0, section 5.1).
+    /// Makes an error with a code that the standards define, a short text for people, and no data (JSON-RPC 2.0,
+    /// section 5.1).
     ///
     /// `Err` means that an allocation failed.
     pub fn new(alloc: Global, code: ErrorCode, message: &str) -> Result<ResponseError, AllocError>
@@ -83,7 +84,8 @@ impl ResponseError {
         })
     }
 
-    /// The error of a request whose method the server does not have: -32601, `method not found` (JSON-RPC 2.0, section 5.1).
+    /// Makes the error for a request whose method the server does not have: -32601, `method not found` (JSON-RPC 2.0,
+    /// section 5.1).
     ///
     /// `Err` means that an allocation failed.
     pub fn method_not_found(alloc: Global) -> Result<ResponseError, AllocError>
@@ -103,8 +105,8 @@ impl Request {
 
     /// Makes a request with params of any type that `serde_json` writes (JSON-RPC 2.0, section 4).
     ///
-    /// `Err` means that `serde_json` could not convert the params, that they nest more than 127 levels, or that an allocation
-    /// failed. The params go through their compact text.
+    /// `Err` means that `serde_json` could not convert the params, that they nest more than 127 levels, or that an
+    /// allocation failed. The params are converted by way of their compact text.
     pub fn new<P: Serialize + Drop>(
         alloc: Global,
         id: RequestId,
@@ -120,9 +122,9 @@ impl Request {
         Ok(Request { id, method, params })
     }
 
-    /// Gives the id, and the params as a type of your own, if the request has this method.
+    /// Returns the id, and the params as a type of your own, if the request has this method.
     ///
-    /// If it has another one, `ExtractError::MethodMismatch` gives the request back. If the params do not convert, or an
+    /// If it has another one, `ExtractError::MethodMismatch` returns the request. If the params do not convert, or an
     /// allocation fails, the error is `ExtractError::JsonError`.
     pub fn extract<P: DeserializeOwned>(
         self,
@@ -141,8 +143,8 @@ impl Request {
         }
     }
 
-    /// Gives the id, and beside it the params as a type of your own. Params that do not fit give the error to reply with under
-    /// that id: -32602, with the reason as its text (JSON-RPC 2.0, section 5.1). Look at the method first.
+    /// Returns the id, and the params as a type of your own. Params that do not fit give the error to reply with under
+    /// that id: -32602, with the reason as its text (JSON-RPC 2.0, section 5.1). Check the method first.
     ///
     /// `Err(AllocError)` means that an allocation failed.
     pub fn params_as<P: DeserializeOwned>(
@@ -168,8 +170,8 @@ impl Notification {
 
     /// Makes a notification with params of any type that `serde_json` writes (JSON-RPC 2.0, section 4.1).
     ///
-    /// `Err` means that `serde_json` could not convert the params, that they nest more than 127 levels, or that an allocation
-    /// failed. The params go through their compact text.
+    /// `Err` means that `serde_json` could not convert the params, that they nest more than 127 levels, or that an
+    /// allocation failed. The params are converted by way of their compact text.
     pub fn new<P: Serialize + Drop>(
         alloc: Global,
         method: String,
@@ -183,7 +185,8 @@ impl Notification {
         Ok(Notification { method, params })
     }
 
-    /// Gives the params as a type of your own, if the notification has this method. It fails as `Request::extract` does.
+    /// Returns the params as a type of your own, if the notification has this method. It fails as `Request::extract`
+    /// does.
     pub fn extract<P: DeserializeOwned>(
         self,
         alloc: Global,
@@ -201,8 +204,8 @@ impl Notification {
         }
     }
 
-    /// Gives the params as a type of your own. Params that do not fit give an error that says why. A notification has no reply, so
-    /// log it or drop it (JSON-RPC 2.0, section 4.1). Look at the method first.
+    /// Returns the params as a type of your own. Params that do not fit give an error that says why. A notification has
+    /// no reply, so log the error or drop it (JSON-RPC 2.0, section 4.1). Check the method first.
     ///
     /// `Err(AllocError)` means that an allocation failed.
     pub fn params_as<P: DeserializeOwned>(
@@ -226,8 +229,8 @@ impl Response {
 
     /// Makes a reply with a result of any type that `serde_json` writes (JSON-RPC 2.0, section 5).
     ///
-    /// `Err` means that `serde_json` could not convert the result, that it nests more than 127 levels, or that an allocation
-    /// failed. The result goes through its compact text.
+    /// `Err` means that `serde_json` could not convert the result, that it nests more than 127 levels, or that an
+    /// allocation failed. The result is converted by way of its compact text.
     pub fn new_ok<R: Serialize + Drop>(
         alloc: Global,
         id: RequestId,
@@ -246,8 +249,8 @@ impl Response {
         })
     }
 
-    /// Makes the reply to a request whose method the server does not have: the error -32601, `method not found` (JSON-RPC 2.0,
-    /// section 5.1).
+    /// Makes the reply to a request whose method the server does not have: the error -32601, `method not found`
+    /// (JSON-RPC 2.0, section 5.1).
     ///
     /// `Err` means that an allocation failed.
     pub fn method_not_found(alloc: Global, id: RequestId) -> Result<Response, AllocError>
@@ -260,8 +263,8 @@ impl Response {
         })
     }
 
-    /// Makes a reply with an error and no data (JSON-RPC 2.0, section 5.1). It does not allocate. For `code` take the `number` of
-    /// an `ErrorCode`.
+    /// Makes a reply with an error and no data (JSON-RPC 2.0, section 5.1). It does not allocate. For `code` take the
+    /// `number` of an `ErrorCode`.
     pub fn new_err(id: RequestId, code: i32, message: String) -> Response
         ensures { result
             ≡ record {

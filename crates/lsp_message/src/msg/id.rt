@@ -16,10 +16,10 @@ enum IdRepr {
     String(String),
 }
 
-/// The id of a request (JSON-RPC 2.0, section 4): an `i32` or a text. Make one by `RequestId::from`.
+/// The id of a request (JSON-RPC 2.0, section 4): an `i32` or a text. Make one with `RequestId::from`.
 ///
-/// It prints a number in decimal and a text in quotes, as `{:?}` does, so that 92 and "92" look different. Ids are ordered:
-/// numbers before texts, numbers by value, texts by their bytes.
+/// It prints a number in decimal and a text in quotes, as `{:?}` does, so that 92 and "92" look different. Ids are
+/// ordered: numbers before texts, numbers by value, texts by their bytes.
 #[derive(Debug, Drop)]
 pub struct RequestId(IdRepr);
 
@@ -53,7 +53,7 @@ impl From<String> for RequestId {
 }
 
 impl RequestId {
-    /// The same id. A text is copied; `Err` means that this allocation failed.
+    /// Copies the id. `Err` means that the allocation for a text failed.
     pub fn clone(&self) -> Result<RequestId, AllocError>
         ensures { IfOk result (λ id. id ≡ self.now) }
     {

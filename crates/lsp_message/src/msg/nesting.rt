@@ -5,7 +5,8 @@ ghost use Rattle.serde_json.specs.View.{view, items_view, members_view};
 
 use serde_json::{Map, Value};
 
-/// Whether arrays and objects nest no more than so many levels. `serde_json` reads a text back that nests at most 127.
+/// Returns whether arrays and objects nest at most `levels` levels. `serde_json` reads a text back that nests at most
+/// 127.
 #[cycle(nests_within)]
 pub fn nests_within(value: &Value, levels: u32) -> bool
     ensures { result ≡ nat_le (depth (view value.now)) levels }

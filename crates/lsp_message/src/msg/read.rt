@@ -24,13 +24,15 @@ use std::alloc::{AllocError, Global};
 use std::io::{BufRead, Write};
 
 impl Message {
-    /// Reads one message (LSP 3.17, "Base Protocol"). `Ok(None)` means that the input ended at the start of a header line.
+    /// Reads one message (LSP 3.17, "Base Protocol"). `Ok(None)` means that the input ended at the start of a header
+    /// line.
     ///
-    /// `ReadFault` says when each fault comes. What follows the message, or the bytes at fault, stays unread. After `Input` and
-    /// `Memory` no byte behind the message was taken; after `Memory` none of the content part was taken, or all of it.
+    /// `ReadFault` describes each fault. The bytes after the message, or after those at fault, stay unread. After
+    /// `Input` and `Memory` no byte after the message was taken. After `Memory` either none of the content part was
+    /// taken, or all of it.
     ///
-    /// The content part may have any length, and memory for all of it is reserved before its first byte is read. To set a limit,
-    /// use `read_within`.
+    /// The content part may have any length, and memory for all of it is reserved before its first byte is read. To set
+    /// a limit, use `read_within`.
     pub fn read<R: BufRead>(alloc: Global, reader: &mut R) -> Result<Option<Message>, ReadFault>
         ensures exact { IfSome (R.remaining reader.old) (λ text.
             Answers message_view result (R.remaining reader.new) (reading_of text)) }
@@ -44,10 +46,10 @@ impl Message {
 
     /// Reads one message whose content part has at most `limit` bytes, as `read` does (LSP 3.17, "Base Protocol").
     ///
-    /// If the length is above the limit, the answer is `TooLong`, and the content part stays unread. The answer is never that no
-    /// memory was left for it. That none is reserved for it is tested, and no part of the contract. If there are several lines
-    /// with `Content-Length`, the last one counts. The header part is not bounded: of a peer that sends no line end, all is gathered.
-    /// `read_telling` bounds it.
+    /// If the length is above the limit, the fault is `TooLong`, and the content part stays unread. The fault is then
+    /// never that no memory was left for it. That none is reserved for it is tested, and not part of the contract. If
+    /// there are several lines with `Content-Length`, the last one counts. The header part is not bounded: the reader
+    /// gathers everything from a peer that sends no line end. `read_telling` bounds it.
     pub fn read_within<R: BufRead>(
         alloc: Global,
         reader: &mut R,
@@ -66,12 +68,13 @@ impl Message {
         Message::read_telling(alloc, reader, limits, &mut Passed::new())
     }
 
-    /// Reads one message within limits, as `read_within` does, and adds the bytes that it takes to the account.
+    /// Reads one message within `limits`, as `read_within` does, and adds the bytes that it takes to the account.
     ///
-    /// A header part that is longer than its bound is the fault `HeaderTooLong`. Just one byte above the bound was taken then. A bad line
-    /// below the bound has its own fault.
+    /// A header part that is longer than its bound is the fault `HeaderTooLong`. Exactly one byte above the bound was
+    /// taken then. A bad line below the bound has its own fault.
     ///
-    /// What the account has is known of any reader, also of one that does not say which bytes it has left, as standard input.
+    /// The account is known for every reader, also for one that does not say which bytes it has left, such as standard
+    /// input.
     pub fn read_telling<R: BufRead>(
         alloc: Global,
         reader: &mut R,
@@ -93,7 +96,7 @@ impl Message {
         Ok(Some(Message::from_content(alloc, &content)?))
     }
 
-    /// The message that a content part holds (LSP 3.17, "Content Part"), as `read_content_within` gives one.
+    /// Reads the message in a content part (LSP 3.17, "Content Part"), which `read_content_within` returns.
     ///
     /// The fault is `BodyNotText`, `NoJson`, `NoMessage` or `Batch`, or `Memory` if an allocation failed.
     pub fn from_content(alloc: Global, content: &[u8]) -> Result<Message, ReadFault>
@@ -107,8 +110,8 @@ impl Message {
 
     /// Writes one message as a frame (LSP 3.17, "Base Protocol"), and flushes the writer once.
     ///
-    /// After `WriteFault::Output` the writer got a beginning of the frame, after `WriteFault::Memory` nothing. If the message
-    /// nests at most 127 levels, `Message::read` gives it back from its frame, whatever follows the frame.
+    /// After `WriteFault::Output` the writer got a prefix of the frame, after `WriteFault::Memory` nothing. If the
+    /// message nests at most 127 levels, `Message::read` reads it back from its frame, whatever follows the frame.
     pub fn write<W: Write>(&self, alloc: Global, writer: &mut W) -> Result<(), WriteFault>
         ensures frame { Writes (message_view self.now) (W.contents writer.old) result
             (W.contents writer.new) }
@@ -140,10 +143,10 @@ impl Message {
         write_body(alloc, writer, body, given)
     }
 
-    /// The frame of the message: the bytes that `write` writes (LSP 3.17, "Base Protocol"). The error means that an allocation
-    /// failed.
+    /// Makes the frame of the message: the bytes that `write` writes (LSP 3.17, "Base Protocol"). The error means that
+    /// an allocation failed.
     ///
-    /// `write_frames` writes it, alone or with others before and behind it.
+    /// `write_frames` writes it, alone or together with others.
     pub fn to_frame(&self, alloc: Global) -> Result<String, AllocError>
         ensures { IfOk result (λ frame. IsFrameOf (message_view self.now) (string_bytes frame)) }
     {
@@ -152,7 +155,7 @@ impl Message {
     }
 }
 
-/// The message that a text is, in JSON. An empty text needs no memory.
+/// Reads the message in a JSON text. An empty text does not allocate.
 fn message_in_text(alloc: Global, text: &str) -> Result<Message, ReadFault>
     ensures means { Decodes message_view result (tree_means (read_json text.now)) }
     ensures some { result ≡ Err ReadFault.Memory → 0 < length text.now }
@@ -168,7 +171,7 @@ fn message_in_text(alloc: Global, text: &str) -> Result<Message, ReadFault>
     }
 }
 
-/// The message that a tree is. One that is none is a fault: a list is a batch.
+/// Makes a message from a tree. A tree that is no message is a fault; a list is a batch.
 fn message_in_tree(tree: Value) -> Result<Message, ReadFault>
     ensures { result_map_both message_view (λ fault. fault) result ≡ tree_means (Some (view tree)) }
 {

@@ -23,11 +23,12 @@ use std::io::Write;
 use std::marker::Model;
 use std::snapshot::Snapshot;
 
-/// `serde_json` reads no text that nests more.
+/// The most levels of a text that `serde_json` reads.
 const MAX_LEVELS: u32 = 127;
 
-/// The result of a request while it waits to be sent (JSON-RPC 2.0, section 5): its JSON text. A tree takes some twenty times the memory of
-/// its text. One that nests more than 127 levels waits as the tree, since `serde_json` would not read its text.
+/// The result of a request while it waits to be sent (JSON-RPC 2.0, section 5), as its JSON text. A tree takes some
+/// twenty times the memory of its text. A result that nests more than 127 levels is kept as the tree, since
+/// `serde_json` would not read its text.
 ///
 /// Contracts see the tree.
 #[derive(Drop)]
@@ -35,12 +36,12 @@ pub struct ResultText {
     kept: Kept,
 }
 
-/// What is kept of a result.
+/// The form in which a result is kept.
 #[derive(Drop)]
 pub(crate) enum Kept {
-    /// Its text. Clauses alone see the tree.
+    /// Its text. Only clauses see the tree.
     Text(String, Snapshot<Value>),
-    /// Itself.
+    /// The tree itself.
     Tree(Value),
 }
 
@@ -88,7 +89,7 @@ impl ResultText {
         })
     }
 
-    /// The result as a tree again, read from its text. The error means that an allocation failed.
+    /// Returns the result as a tree again, read from its text. The error means that an allocation failed.
     pub fn into_value(self, alloc: Global) -> Result<Value, AllocError>
         ensures { IfOk result (λ tree. view tree ≡ view self) }
     {
@@ -98,7 +99,8 @@ impl ResultText {
         }
     }
 
-    /// The response with this id and this result as a message, read from the text. The error means that an allocation failed.
+    /// Makes the response with this id and this result, read from the text, as a message. The error means that an
+    /// allocation failed.
     pub fn into_message(self, alloc: Global, id: &RequestId) -> Result<Message, AllocError>
         ensures { IfOk result (λ message. message_view message ≡ response id.now (Ok (view self))) }
     {
@@ -110,8 +112,8 @@ impl ResultText {
         }))
     }
 
-    /// The frame of the response with this id and this result: the bytes that `Message::to_frame` gives for it (LSP 3.17, "Base
-    /// Protocol"). The text is copied, and not read. The error means that an allocation failed.
+    /// Makes the frame of the response with this id and this result: the bytes that `Message::to_frame` makes for it
+    /// (LSP 3.17, "Base Protocol"). The text is copied, and not read. The error means that an allocation failed.
     pub fn into_frame(self, alloc: Global, id: &RequestId) -> Result<String, AllocError>
         ensures { IfOk result (λ frame. IsFrameOf (response id.now (Ok (view self))) (string_bytes frame)) }
     {
@@ -119,8 +121,8 @@ impl ResultText {
         with_header(alloc, body)
     }
 
-    /// Writes the response with this id and this result, as `Message::write_telling` does, and adds the bytes that the writer takes to the
-    /// account.
+    /// Writes the response with this id and this result, as `Message::write_telling` does, and adds the bytes that the
+    /// writer takes to the account.
     pub fn write_telling<W: Write>(
         self,
         alloc: Global,
@@ -141,7 +143,7 @@ impl ResultText {
         write_body(alloc, writer, body, given)
     }
 
-    /// The content part of the response with this id and this result.
+    /// Makes the content part of the response with this id and this result.
     fn into_body(self, alloc: Global, id: &RequestId) -> Result<String, AllocError>
         ensures text { IfOk result (λ body.
             IsBodyOf (response id.now (Ok (view self))) (string_bytes body)) }
@@ -155,7 +157,7 @@ impl ResultText {
     }
 }
 
-/// The tree that this text is read as.
+/// Reads this text back as a tree.
 fn read_back(alloc: Global, text: &str, seen: Snapshot<Value>) -> Result<Value, AllocError>
     requires text { IsValueText (view seen.value) text.now }
     requires nests { depth (view seen.value) ≤ max_depth }
@@ -171,7 +173,7 @@ fn read_back(alloc: Global, text: &str, seen: Snapshot<Value>) -> Result<Value, 
     }
 }
 
-/// The content part of the response with this tree as its result.
+/// Makes the content part of the response with this tree as its result.
 fn body_of_tree(alloc: Global, id: &RequestId, tree: Value) -> Result<String, AllocError>
     ensures text { IfOk result (λ body.
         IsBodyOf (response id.now (Ok (view tree))) (string_bytes body)) }

@@ -261,16 +261,17 @@ fn push_failure(
 }
 
 impl Message {
-    /// The message as JSON without spaces and without `jsonrpc` (JSON-RPC 2.0, sections 4 and 5). The members stand in the order
-    /// `id`, `method`, `params`, or `id` and then `result` or `error`. Null params are left out, a null result is written.
+    /// Returns the message as JSON without spaces and without `jsonrpc` (JSON-RPC 2.0, sections 4 and 5). The members
+    /// are in the order `id`, `method`, `params`, or `id` and then `result` or `error`. Null params are left out, and a
+    /// null result is written. The error means that an allocation failed.
     pub fn member_text(&self, alloc: Global) -> Result<String, AllocError>
         ensures { IfOk result (λ s. IsMemberText (message_view self.now) (string_bytes s)) }
     {
         self.text_from(alloc, "{")
     }
 
-    /// The content part of the message's frame (LSP 3.17, "Content Part"): as `member_text`, with `jsonrpc` as its first member.
-    /// Print it to log a message.
+    /// Returns the content part of the message's frame (LSP 3.17, "Content Part"): the text of `member_text` with
+    /// `jsonrpc` as its first member. Print it to log a message. The error means that an allocation failed.
     pub fn body_text(&self, alloc: Global) -> Result<String, AllocError>
         ensures text { IfOk result (λ s. IsBodyOf (message_view self.now) (string_bytes s)) }
         ensures reads_back { IfOk result (λ s. nesting (message_view self.now) ≤ max_depth

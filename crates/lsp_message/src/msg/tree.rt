@@ -170,11 +170,11 @@ fn object_message(mut members: Map<String, Value>) -> Option<Message>
 }
 
 impl RequestId {
-    /// Reads an id from a JSON value: a text, or a whole number that fits an `i32` (JSON-RPC 2.0, section 4). `Ok(None)` means
-    /// that the value is no such id.
+    /// Reads an id from a JSON value: a text, or a whole number that fits an `i32` (JSON-RPC 2.0, section 4).
+    /// `Ok(None)` means that the value is no such id.
     ///
-    /// Use it for an id that stands in params, as in those of `$/cancelRequest`. A text is copied; `Err` means that this
-    /// allocation failed.
+    /// Use it for an id in params, such as those of `$/cancelRequest`. `Err` means that the allocation for a text
+    /// failed.
     pub fn from_value(value: &Value) -> Result<Option<RequestId>, AllocError>
         ensures { IfOk result (λ id. id ≡ as_id (view value.now)) }
     {
@@ -187,13 +187,13 @@ impl RequestId {
 }
 
 impl Message {
-    /// Makes a message of a JSON value, or gives `None` if the value is no message (JSON-RPC 2.0, sections 4 and 5). It moves the
-    /// value's parts, so it does not allocate.
+    /// Makes a message from a JSON value, or returns `None` if the value is no message (JSON-RPC 2.0, sections 4 and
+    /// 5). It moves the value's parts, so it does not allocate.
     ///
     /// - A good id is a text, or a whole number that fits an `i32`.
-    /// - A readable error is an object with `code` (a whole number that fits an `i32`), `message` (a text) and perhaps `data`; or
-    ///   a list of these two or three. `data` that is null is read as `None`.
-    /// - Other members are ignored, `jsonrpc` among them.
+    /// - A readable error is an object with `code` (a whole number that fits an `i32`), `message` (a text) and perhaps
+    ///   `data`; or a list of these two or three. `data` that is null is read as `None`.
+    /// - Other members are ignored, including `jsonrpc`.
     ///
     /// | Tree | Message |
     /// |---|---|
@@ -213,7 +213,7 @@ impl Message {
         }
     }
 
-    /// As `from_tree`, for a value that you keep: it is cloned. `Err` means that this allocation failed.
+    /// Does what `from_tree` does with a copy of the value. `Err` means that the allocation for the copy failed.
     pub fn from_value(alloc: Global, value: &Value) -> Result<Option<Message>, AllocError>
         ensures { IfOk result (λ m. option_map message_view m ≡ meaning (view value.now)) }
     {

@@ -104,8 +104,8 @@ fn response_tree(alloc: Global, response: &Response) -> Result<Value, AllocError
 }
 
 impl Message {
-    /// The message as a JSON value, without `jsonrpc` (JSON-RPC 2.0, sections 4 and 5). Null params are left out, and `data` is
-    /// there exactly if it is `Some`. `Err` means that an allocation failed.
+    /// Returns the message as a JSON value, without `jsonrpc` (JSON-RPC 2.0, sections 4 and 5). Null params are left
+    /// out, and `data` is there exactly if it is `Some`. `Err` means that an allocation failed.
     pub fn to_value(&self, alloc: Global) -> Result<Value, AllocError>
         ensures tree { IfOk result (λ v. view v ≡ tree_of (message_view self.now)) }
 
