@@ -13,11 +13,11 @@ use serde_json::{Map, Value, json, put};
 use std::alloc::{AllocError, Global};
 use std::mem;
 
-/// What a server and its client agreed on for documents: in which units characters are counted, and whether a save comes with the text.
-/// Of the rest the author says how it is read: `with_options`.
+/// What a server and its client agreed on about documents: in which units characters are counted, and whether a save
+/// comes with the text. How the rest is read is the author's choice: `with_options`.
 ///
-/// Only a call that announces it gives another encoding than UTF-16, or asks for texts. So no server counts in units of which its
-/// client does not know.
+/// Only a call that announces it returns another encoding than UTF-16, or asks for texts. So no server counts in units
+/// that its client does not know.
 #[derive(Clone, Copy, Drop)]
 pub struct Agreed {
     encoding: PositionEncoding,
@@ -26,7 +26,8 @@ pub struct Agreed {
 }
 
 impl Agreed {
-    /// What holds if nothing is announced: UTF-16, and no text is asked for (LSP 3.17, "PositionEncodingKind", "SaveOptions").
+    /// Returns what holds if nothing is announced: UTF-16, and no texts with saves (LSP 3.17, "PositionEncodingKind",
+    /// "SaveOptions").
     pub fn unannounced() -> Agreed
         ensures { result ≡ record {
           encoding = Utf16;
@@ -41,10 +42,11 @@ impl Agreed {
         }
     }
 
-    /// Agrees on an encoding with the client that sent these params of `initialize`, as `position_encoding` does, and announces it
-    /// in the server's capabilities, which become an object if they are none (LSP 3.17, "ServerCapabilities"). In
-    /// `textDocumentSync` the client is asked to tell of opening, closing, the parts that changed and saving, with the text if
-    /// `include_text` says so. `Err` means that an allocation failed.
+    /// Agrees on an encoding with the client that sent these params of `initialize`, as `position_encoding` does, and
+    /// announces it in the server's capabilities, which become an object if they are none (LSP 3.17,
+    /// "ServerCapabilities"). Its `textDocumentSync` asks the client to notify the server when a document is opened,
+    /// closed, changed (with the parts that changed) and saved, with the text if `include_text` is true. `Err` means
+    /// that an allocation failed.
     pub fn announced(
         alloc: Global,
         params: &Value,
@@ -100,8 +102,8 @@ impl Agreed {
         )
     }
 
-    /// `announced` by types, of a client with these capabilities (`InitializeParams::capabilities`). What else the server can do goes into
-    /// the other fields.
+    /// Does what `announced` does with types, for a client with these capabilities (`InitializeParams::capabilities`).
+    /// Set the other fields of the result to what else the server can do.
     pub fn with_capabilities(
         alloc: Global,
         client: &Value,
@@ -126,7 +128,7 @@ impl Agreed {
         Ok((agreed, capabilities))
     }
 
-    /// The same, read in another way.
+    /// Returns the same agreement with other options.
     pub fn with_options(self, options: DocumentOptions) -> Agreed
         ensures { result ≡ record {
           encoding = self.encoding;
@@ -137,21 +139,21 @@ impl Agreed {
         Agreed { options, ..self }
     }
 
-    /// How what the client tells is read.
+    /// Returns how the client's notifications are read.
     pub fn options(self) -> DocumentOptions
         ensures { result ≡ self.options }
     {
         self.options
     }
 
-    /// The encoding that was agreed on.
+    /// Returns the encoding that was agreed on.
     pub fn encoding(self) -> PositionEncoding
         ensures { result ≡ self.encoding }
     {
         self.encoding
     }
 
-    /// Whether the client was asked for the text with a save.
+    /// Returns whether the client was asked for the text with a save.
     pub fn include_text(self) -> bool
         ensures { result ≡ self.include_text }
     {
@@ -159,7 +161,7 @@ impl Agreed {
     }
 }
 
-/// What the client is to tell of its documents (LSP 3.17, "TextDocumentSyncOptions"), by types.
+/// Returns which notifications about documents the client is to send (LSP 3.17, "TextDocumentSyncOptions"), as a type.
 fn sync_options(include_text: bool) -> TextDocumentSyncOptions
     ensures { result ≡ options_of include_text }
 {
@@ -170,7 +172,7 @@ fn sync_options(include_text: bool) -> TextDocumentSyncOptions
     options
 }
 
-/// The same in a tree.
+/// Returns the same as a tree.
 fn sync(alloc: Global, include_text: bool) -> Result<Value, AllocError>
     ensures { IfOk result (λ sync. view sync ≡ sync_of include_text) }
 {

@@ -5,14 +5,14 @@ ghost use Rattle.lsp_documents.specs.Notices.{has_whole as has_whole_text, since
 use crate::fault::Remark;
 use lsp_text::ContentChange;
 
-/// Whether one of the changes is of the whole text.
+/// Returns whether one of the changes is a whole text.
 pub fn has_whole(changes: &[ContentChange]) -> bool
     ensures { result ≡ has_whole_text changes.now }
 {
     changes.iter().any(|change| change.range.is_none())
 }
 
-/// The changes that decide: those from the last whole text on, or all if there is none.
+/// Returns the changes that decide: those from the last whole text on, or all if there is none.
 pub fn since_whole(changes: &[ContentChange]) -> &[ContentChange]
     ensures { result.now ≡ since_whole_text changes.now }
 {
@@ -25,7 +25,7 @@ pub fn since_whole(changes: &[ContentChange]) -> &[ContentChange]
     &changes[from..]
 }
 
-/// Whether a version is the one before, or below it.
+/// Returns whether a version equals the one before, or is below it.
 pub fn is_not_higher(version: Option<i32>, before: Option<i32>) -> bool
     ensures { result ≡ is_below version before }
 {
@@ -35,7 +35,8 @@ pub fn is_not_higher(version: Option<i32>, before: Option<i32>) -> bool
     }
 }
 
-/// What is said of changes that were applied: whether a position is past an end, what is doubtful, and whether the version is not higher.
+/// Returns the remark about changes that were applied, from three facts: whether a position is past an end, what is
+/// doubtful, and whether the version is not higher. The first that applies decides.
 pub fn change_remark(past: bool, doubt: Option<Remark>, not_higher: bool) -> Option<Remark>
     ensures { result ≡ remark_of_change past doubt not_higher }
 {

@@ -33,11 +33,12 @@ use std::collections::BTreeMap;
 use std::collections::btree_map::Iter;
 use std::{mem, ops};
 
-/// The documents that a client has opened, by their URIs. Two URIs are the same if they are the same text. If something that
-/// the client told of a document was missed, its text is lost, and not to be had until the client tells it whole. Contracts see
-/// what was agreed on, and what is kept of each URI.
+/// The documents that a client has opened, by their URIs. Two URIs are the same if they are the same text.
 ///
-/// A call that fails by `Memory` has missed what it was told. Don't make it again: the document is lost already.
+/// If a notification about a document was missed, its text is *lost*: no call returns it until the client sends it
+/// whole. Contracts see what was agreed on, and what is kept for each URI.
+///
+/// A call that fails with `Memory` has missed its notification. Don't call it again: the text is lost already.
 #[derive(Drop)]
 pub struct TextDocuments {
     alloc: Global,
@@ -46,7 +47,7 @@ pub struct TextDocuments {
 }
 
 impl TextDocuments {
-    /// No document, of a client with which this was agreed on.
+    /// Makes documents of a client with which this was agreed on. None is open.
     pub fn new(alloc: Global, agreed: Agreed) -> TextDocuments
         ensures agreed { result.agreed ≡ agreed }
         ensures none { (uri : List ℕ) → (documents_of result).held uri ≡ None }
@@ -58,21 +59,21 @@ impl TextDocuments {
         }
     }
 
-    /// What was agreed on with the client.
+    /// Returns what was agreed on with the client.
     pub fn agreed(&self) -> Agreed
         ensures { result ≡ self.now.agreed }
     {
         self.agreed
     }
 
-    /// The encoding that was agreed on.
+    /// Returns the encoding that was agreed on.
     pub fn encoding(&self) -> PositionEncoding
         ensures { result ≡ self.now.agreed.encoding }
     {
         self.agreed.encoding()
     }
 
-    /// The document of a URI, if it is open and its text is known.
+    /// Returns the document of a URI, if it is open and its text is known.
     pub fn get(&self, uri: &str) -> Option<&TextDocument>
         ensures { option_copied result
             ≡ option_and_then shown ((documents_of self.now).held uri.now) }
@@ -80,29 +81,30 @@ impl TextDocuments {
         self.documents.get(uri)?.document()
     }
 
-    /// Whether a document of the URI is open, its text known or lost.
+    /// Returns whether a document of the URI is open, whether its text is known or lost.
     pub fn is_open(&self, uri: &str) -> bool
         ensures { result ≡ is_some ((documents_of self.now).held uri.now) }
     {
         self.documents.contains_key(uri)
     }
 
-    /// What is kept of each document that is open, beside its URI, in the order of these.
+    /// Goes over all open documents in the order of their URIs: the URI, and what is kept of the document.
     pub fn iter(&self) -> Iter<'_, String, Open>
         ensures { result ≡ self.now.documents.entries }
     {
         self.documents.iter()
     }
 
-    /// The documents whose text is known, each beside its URI, in the order of these.
+    /// Goes over the documents whose text is known in the order of their URIs: the URI and the document.
     pub fn known(&self) -> KnownDocuments<'_>
         ensures { result ≡ known_of self.now }
     {
         KnownDocuments { open: self.iter() }
     }
 
-    /// The document of a path, if its text is known: the first, in the order of the URIs, whose URI names the path, as
-    /// `lsp_types::names_path` says. Editors spell the URI of a path in several ways, so `get(uri_of_path(path))` misses some.
+    /// Returns the document of a path, if its text is known: the first, in the order of the URIs, whose URI names the
+    /// path, as `lsp_types::names_path` decides. Editors spell the URI of a path in several ways, so
+    /// `get(uri_of_path(path))` misses some.
     pub fn at_path(&self, path: &str) -> Option<(&str, &TextDocument)>
         ensures { MatchOption result (NoneNames path.now (known_of self.now))
             (λ found. IsFirstOf path.now (known_of self.now) (found.0.now, found.1.now)) }
@@ -115,8 +117,9 @@ impl TextDocuments {
         None
     }
 
-    /// A copy of each document whose text is known, with its URI, in the order of these: for a job, which goes on while the documents
-    /// change. The texts are shared: a document's next change copies its text, if the copy still lives then.
+    /// Copies each document whose text is known, with its URI, in the order of the URIs. Use it for a job, which goes
+    /// on while the documents change. The texts are shared: a document's next change copies its text, if the copy still
+    /// exists then.
     pub fn snapshot(&self) -> Result<Vec<OpenText>, AllocError>
         ensures texts { IfOk result (λ texts. copied texts.items ≡ texts_of self.now) }
         ensures whole { IfOk result (λ texts. copied_whole texts.items ≡ known_of self.now) }
@@ -128,8 +131,9 @@ impl TextDocuments {
         Ok(texts)
     }
 
-    /// The document of a URI, if its text is known, and where a position is in the text, in bytes of UTF-8, by the encoding that
-    /// was agreed on. A position past an end counts as `Text::offset_at` says.
+    /// Returns the document of a URI, if its text is known, and the offset of a position in its text, in bytes of
+    /// UTF-8. The position is in the encoding that was agreed on. A position past an end counts as `Text::offset_at`
+    /// says.
     pub fn place(&self, uri: &str, position: Position) -> Option<(&TextDocument, usize)>
         ensures document { option_map (λ found. found.0.now) result
             ≡ option_and_then shown ((documents_of self.now).held uri.now) }
@@ -144,8 +148,8 @@ impl TextDocuments {
         ))
     }
 
-    /// The range of a part of a text, which is given in bytes of UTF-8, by the encoding that was agreed on. An end past the text's
-    /// counts as that.
+    /// Returns the range of a part of a text. The part is given in bytes of UTF-8, and the range is in the encoding
+    /// that was agreed on. An end past the end of the text counts as that end.
     pub fn range_of(&self, text: &Text, part: ops::Range<usize>) -> Range
         ensures start { result.start ≡ position_of self.now.agreed.encoding text.now part.start }
         ensures end { result.end ≡ position_of self.now.agreed.encoding text.now part.end }
@@ -162,8 +166,9 @@ impl TextDocuments {
         }
     }
 
-    /// The positions of several places of a text, which are given in bytes of UTF-8, by the encoding that was agreed on. In ascending
-    /// order each line is passed over once, as `Text::positions_at` says.
+    /// Returns the positions of several places of a text. The places are given in bytes of UTF-8, and the positions are
+    /// in the encoding that was agreed on. If the places are in ascending order, each line is read once, as
+    /// `Text::positions_at` says.
     pub fn positions_of(&self, text: &Text, offsets: &[usize]) -> Result<Vec<Position>, AllocError>
         ensures { IfOk result (λ found.
             found.items ≡ map (position_of self.now.agreed.encoding text.now) offsets.now) }
@@ -171,7 +176,8 @@ impl TextDocuments {
         text.positions_at(self.alloc, offsets, self.encoding())
     }
 
-    /// Whether the text of a URI is known and doubtful: a save brought it back, and no whole text came since.
+    /// Returns whether the text of a URI is known and doubtful: a save brought it back, and the client has not sent it
+    /// whole since.
     pub fn is_doubtful(&self, uri: &str) -> bool
         ensures { result ≡ has_doubt ((documents_of self.now).held uri.now) }
     {
@@ -181,14 +187,14 @@ impl TextDocuments {
         }
     }
 
-    /// Whether the text of a URI is known.
+    /// Returns whether the text of a URI is known.
     fn knows(&self, uri: &str) -> bool
         ensures { result ≡ is_known (documents_of self.now) uri.now }
     {
         self.get(uri).is_some()
     }
 
-    /// Whether the text of a document is known.
+    /// Returns whether the text of some document is known.
     fn knows_any(&self) -> bool
         ensures { result ≡ has_known self.now }
     {
@@ -197,8 +203,8 @@ impl TextDocuments {
             .any(|open| open.document().is_some())
     }
 
-    /// Opens a document. If the URI has one already, this one takes its place, and the remark is `OpenAlready`. If memory
-    /// runs out, the text of the one that it had is lost.
+    /// Opens a document. If the URI has one already, this one replaces it, and the remark is `OpenAlready`. If memory
+    /// runs out, the fault is `Memory`, and the text of the old document is lost.
     pub fn open(
         &mut self,
         uri: &str,
@@ -227,7 +233,7 @@ impl TextDocuments {
         }
     }
 
-    /// Puts the document of a URI in. If memory runs out, nothing is changed.
+    /// Inserts the document of a URI. If memory runs out, nothing is changed.
     fn insert(
         &mut self,
         uri: &str,
@@ -254,7 +260,7 @@ impl TextDocuments {
         self.put(uri, document)
     }
 
-    /// Puts a document in that changes open, of which one is of the whole text. If memory runs out, nothing is changed.
+    /// Inserts a document that changes open, one of which is a whole text. If memory runs out, nothing is changed.
     fn insert_changed(
         &mut self,
         uri: &str,
@@ -273,7 +279,7 @@ impl TextDocuments {
         self.put(uri, document)
     }
 
-    /// Puts a document in under a URI. If memory runs out, nothing is changed.
+    /// Inserts a document under a URI. If memory runs out, nothing is changed.
     fn put(&mut self, uri: &str, document: TextDocument) -> Result<(), AllocError>
         ensures own { OnOk result ((documents_of self.new).held uri.now ≡ Some (told_whole document)) }
         ensures others { OnOk result ((q : List ℕ) → bytes_eq q uri.now ≡ false
@@ -288,7 +294,7 @@ impl TextDocuments {
         Ok(())
     }
 
-    /// Why changes to a version of a document can't be made, where a whole text is among them or not.
+    /// Returns why changes to a version of a document are refused. `whole` says whether a whole text is among them.
     fn refusal(&self, uri: &str, version: Option<i32>, whole: bool) -> Option<DocumentFault>
         ensures { result
             ≡ change_fault self.now.agreed ((documents_of self.now).held uri.now) version whole }
@@ -303,7 +309,7 @@ impl TextDocuments {
         }
     }
 
-    /// Leaves what a refusal of changes leaves: those that come late leave the text lost.
+    /// Does what a refusal of changes does to a document: changes that come late make its text lost.
     fn refuse(&mut self, uri: &str, fault: DocumentFault)
         ensures own { (documents_of self.new).held uri.now
             ≡ left_by fault ((documents_of self.old).held uri.now) }
@@ -319,15 +325,26 @@ impl TextDocuments {
         }
     }
 
-    /// Makes the changes of one notification in a document, each in the text that the one before it left. A whole text takes the place
-    /// of all that stands before it. If a position of a change behind it lies past its line's end, or past the place behind the last
-    /// line, the remark is `PastEnd`; else, if the version is the document's or a lower one, it is `VersionNotHigher`. Without a
-    /// document of the URI a change of the whole text opens one, with the remark `WasNotOpen`.
+    /// Applies the changes of one notification to a document, each to the text that the one before it left. A whole
+    /// text replaces everything before it.
     ///
-    /// If no change is of the whole text, the fault is `NotOpen` without a document, and `OutOfStep` if its text is lost: nothing is
-    /// changed then. If also the version is lower than the document's, the fault is `OutOfOrder`, and the text is lost, unless the
-    /// author chose to make late changes (`DocumentOptions`). If memory runs out, the text is lost. Without a change no memory is
-    /// needed.
+    /// The remark is the first of these that applies:
+    ///
+    /// - `WasNotOpen`: there was no document of the URI, and a change of the whole text opened it.
+    /// - `PastEnd`: a position of a change after the last whole text is past its line's end, or past the place after
+    ///   the last line.
+    /// - `BroughtBackBySave`, `SavedTextDiffers`: no change is a whole text, and a save before them left a doubt
+    ///   (`save`).
+    /// - `VersionNotHigher`: the version is the document's or a lower one.
+    ///
+    /// If no change is a whole text, the fault is the first of these that applies:
+    ///
+    /// - `NotOpen`: there is no document of the URI. Nothing is changed.
+    /// - `OutOfOrder`: the version is lower than the document's, and the author did not choose to apply late changes
+    ///   (`DocumentOptions`). The text is lost.
+    /// - `OutOfStep`: the text is lost. Nothing is changed.
+    ///
+    /// If memory runs out, the fault is `Memory`, and the text is lost. An empty list of changes needs no memory.
     pub fn change(
         &mut self,
         uri: &str,
@@ -352,8 +369,8 @@ impl TextDocuments {
         Ok(self.edit(uri, version, changes)?)
     }
 
-    /// Makes changes in the document of a URI, if there is one: in the text that is known, or from the whole text on that is among
-    /// them. It gives what is said of them.
+    /// Applies changes to the document of a URI, if there is one: to the text that is known, or from the whole text on
+    /// that is among them. It returns the remark about them.
     fn edit(
         &mut self,
         uri: &str,
@@ -380,8 +397,8 @@ impl TextDocuments {
         }
     }
 
-    /// Makes the text of the document of a URI unknown, if there is one: something that the client told of it was missed. It comes
-    /// back by a `didOpen`, by a change of the whole text, or by the text of a `didSave`.
+    /// Makes the text of a URI's document lost, if there is one, because a notification about it was missed. A
+    /// `didOpen`, a change of the whole text or the text of a `didSave` brings it back.
     pub fn invalidate(&mut self, uri: &str)
         ensures own { (documents_of self.new).held uri.now
             ≡ missed ((documents_of self.old).held uri.now) }
@@ -394,9 +411,9 @@ impl TextDocuments {
         }
     }
 
-    /// Makes the text of each document unknown: something was missed that the client may have told of any of them. In a session that
-    /// reads on after a body which is no message, the server is woken for each such body, and its `woken` calls this: nobody knows
-    /// which document the body named.
+    /// Makes the text of each document lost, because a notification was missed that may have been about any of them. In
+    /// a session that reads on after a content part which is no message, the server is woken for each such part, and
+    /// its `woken` calls this: nobody knows which document that part named.
     pub fn invalidate_all(&mut self)
         ensures held { (q : List ℕ)
             → (documents_of self.new).held q ≡ missed ((documents_of self.old).held q) }
@@ -409,15 +426,16 @@ impl TextDocuments {
         });
     }
 
-    /// Hears that a document was saved. A text that is given is looked at only if the client was asked for it (`Agreed`), since some
-    /// send a part of it unasked. It is taken if the document's own is lost, and stays doubtful (`is_doubtful`).
+    /// Notes that a document was saved. A text is used only if the client was asked for it (`Agreed`), since some
+    /// clients send a part of it unasked. It replaces a text that is lost, and is doubtful then (`is_doubtful`).
     ///
-    /// If it differs from the one that is known, it is compared again after the next notification of the document: some clients save
-    /// before they tell their last changes. If the two still differ then, the remark of that notification is `SavedTextDiffers`. This has
-    /// three exceptions: changes with a whole text among them, a save with the same text again, and a second `didOpen`. At a
-    /// `didClose` the text is forgotten.
+    /// If it differs from a text that is known, the two are compared again after the next notification about the
+    /// document: some clients save before they send their last changes. If they still differ then, the remark of that
+    /// notification is `SavedTextDiffers`. This has three exceptions: changes with a whole text among them, a save with
+    /// the same text again, and a second `didOpen`. A `didClose` drops the saved text.
     ///
-    /// Without a document of the URI the fault is `NotOpen`, and nothing is changed. If memory runs out, nothing is changed either.
+    /// Without a document of the URI the fault is `NotOpen`. If memory runs out, the fault is `Memory`. Nothing is
+    /// changed in either case.
     pub fn save(&mut self, uri: &str, text: Option<&str>) -> Result<Option<Remark>, DocumentFault>
         ensures ok { IfOk result (λ remark.
             Took (documents_of self.old) (saves uri.now (option_map (λ s. s.now) text.entry)) remark
@@ -440,7 +458,8 @@ impl TextDocuments {
         Ok(remark)
     }
 
-    /// Puts a text into the document of a URI, if there is one whose text is lost. One that is known is to be compared with it.
+    /// Puts a text into the document of a URI, if there is one whose text is lost. A text that is known is to be
+    /// compared with it.
     fn renew(&mut self, uri: &str, text: &str) -> Result<(), AllocError>
         ensures own { OnOk result ((documents_of self.new).held uri.now
             ≡ option_map (λ o. saved_in self.old.agreed o text.now)
@@ -459,7 +478,7 @@ impl TextDocuments {
         Ok(())
     }
 
-    /// Closes a document. Without one of the URI the fault is `NotOpen`.
+    /// Closes a document. Without one of the URI the fault is `NotOpen`, and nothing is changed.
     pub fn close(&mut self, uri: &str) -> Result<(), DocumentFault>
         ensures ok { OnOk result
             (Took (documents_of self.old) (closes uri.now) None (documents_of self.new)) }
@@ -472,7 +491,7 @@ impl TextDocuments {
         }
     }
 
-    /// Takes the document of a URI out.
+    /// Takes out the document of a URI.
     fn remove(&mut self, uri: &str) -> Option<Open>
         ensures value { result ≡ (documents_of self.old).held uri.now }
         ensures own { (documents_of self.new).held uri.now ≡ None }
@@ -483,8 +502,8 @@ impl TextDocuments {
         self.documents.remove(uri)
     }
 
-    /// Applies a notification of a document: `did_open`, `did_change`, `did_save` or `did_close` by its method
-    /// (`textDocument/didOpen` and so on). One of another method gives `None`, and nothing is changed.
+    /// Applies a notification about a document: `did_open`, `did_change`, `did_save` or `did_close`, as its method says
+    /// (`textDocument/didOpen` and so on). For another method it returns `None`, and nothing is changed.
     pub fn apply<'v>(
         &mut self,
         notification: &'v Notification,
@@ -514,9 +533,9 @@ impl TextDocuments {
         }
     }
 
-    /// Opens the document that the params of `textDocument/didOpen` tell of (LSP 3.17, `DidOpenTextDocumentParams`), as `open` does.
-    /// If they are of another shape the fault is `Params`, and the text of the URI that they name is lost. If they name none
-    /// that is each text.
+    /// Opens the document in the params of `textDocument/didOpen` (LSP 3.17, `DidOpenTextDocumentParams`), as `open`
+    /// does. If the params have another shape, the fault is `Params`, and the text of the URI that they name is lost.
+    /// If they name none, each text is lost.
     pub fn did_open<'v>(&mut self, params: &'v Value) -> Result<DocumentUpdate<'v>, UpdateFault<'v>>
         ensures ok { IfOk result (λ m.
             IsSomeAnd (did_open_in (view params.now)) (λ n. (m.uri.now ≡ n.uri)
@@ -542,9 +561,9 @@ impl TextDocuments {
         }
     }
 
-    /// Makes the changes that the params of `textDocument/didChange` tell of (LSP 3.17, `DidChangeTextDocumentParams`), as `change`
-    /// does. If they are of another shape the fault is `Params`, and the text of the URI that they name is lost. If they name
-    /// none that is each text.
+    /// Applies the changes in the params of `textDocument/didChange` (LSP 3.17, `DidChangeTextDocumentParams`), as
+    /// `change` does. If the params have another shape, the fault is `Params`, and the text of the URI that they name
+    /// is lost. If they name none, each text is lost.
     pub fn did_change<'v>(
         &mut self,
         params: &'v Value,
@@ -582,9 +601,9 @@ impl TextDocuments {
         }
     }
 
-    /// Notes that the document was saved that the params of `textDocument/didSave` tell of (LSP 3.17,
-    /// `DidSaveTextDocumentParams`), as `save` does. A text that is no string is none. If the params name no URI the fault is
-    /// `Params`, and nothing is changed: a save changes no text.
+    /// Notes that the document in the params of `textDocument/didSave` was saved (LSP 3.17,
+    /// `DidSaveTextDocumentParams`), as `save` does. A text that is no string counts as missing. If the params name no
+    /// URI, the fault is `Params`, and nothing is changed, since a save changes no text.
     pub fn did_save<'v>(&mut self, params: &'v Value) -> Result<DocumentUpdate<'v>, UpdateFault<'v>>
         ensures ok { IfOk result (λ m.
             IsSomeAnd (did_save_in (view params.now)) (λ n. (m.uri.now ≡ n.uri)
@@ -605,8 +624,9 @@ impl TextDocuments {
         }
     }
 
-    /// Closes the document that the params of `textDocument/didClose` tell of (LSP 3.17, `DidCloseTextDocumentParams`), as `close`
-    /// does. If they name no URI the fault is `Params`, and each text is lost: one of them is closed.
+    /// Closes the document in the params of `textDocument/didClose` (LSP 3.17, `DidCloseTextDocumentParams`), as
+    /// `close` does. If the params name no URI, the fault is `Params`, and each text is lost, since one of the
+    /// documents is closed.
     pub fn did_close<'v>(
         &mut self,
         params: &'v Value,
@@ -632,7 +652,7 @@ impl TextDocuments {
         }
     }
 
-    /// Loses the text of a URI, and says why. It was known before, or not.
+    /// Makes the text of a URI lost, and returns why. `known` says whether it was known before.
     fn missed<'v>(&mut self, uri: &'v str, known: bool, fault: DocumentFault) -> UpdateFault<'v>
         requires { known ≡ is_known (documents_of self.old) uri.now }
         ensures named { option_map (λ s. s.now) result.uri ≡ Some uri.now }
@@ -648,7 +668,7 @@ impl TextDocuments {
         update_fault(Some(uri), fault, known)
     }
 
-    /// Loses each text, since params name no document.
+    /// Makes each text lost, since the params name no document.
     fn missed_all<'v>(&mut self) -> UpdateFault<'v>
         ensures named { result.uri ≡ None }
         ensures why { result.fault ≡ Params }
@@ -660,7 +680,7 @@ impl TextDocuments {
         update_fault(None, DocumentFault::Params, known)
     }
 
-    /// A notification of a document that was not applied. Its text was known before, or not.
+    /// Returns that a notification about a document was not applied. `known` says whether its text was known before.
     fn unmade<'v>(&self, uri: &'v str, known: bool, fault: DocumentFault) -> UpdateFault<'v>
         ensures named { option_map (λ s. s.now) result.uri ≡ Some uri.now }
         ensures why { result.fault ≡ fault }
@@ -670,7 +690,7 @@ impl TextDocuments {
     }
 }
 
-/// Makes the text of a document unknown, if it is not yet, and keeps this version.
+/// Makes the text of a document lost, if it is not yet, and keeps this version.
 fn lose_text(alloc: Global, kept: &mut Open, version: Option<i32>)
     ensures { kept.new ≡ lost_at version kept.old }
 {
@@ -682,7 +702,7 @@ fn lose_text(alloc: Global, kept: &mut Open, version: Option<i32>)
     *kept = before.into_lost(version);
 }
 
-/// A document that begins with changes, of which one is of the whole text.
+/// Makes a document from changes, one of which is a whole text.
 fn begun(
     alloc: Global,
     agreed: Agreed,
@@ -698,7 +718,8 @@ fn begun(
     Ok(document)
 }
 
-/// Makes changes in what is kept of a document, and gives what is said of them. If memory runs out, its text is lost.
+/// Applies changes to what is kept of a document, and returns the remark about them. If memory runs out, its text is
+/// lost.
 fn change_open(
     alloc: Global,
     kept: &mut Open,
@@ -730,8 +751,8 @@ fn change_open(
     }
 }
 
-/// Puts a text into what is kept of a document, if its own is lost. One that is known is to be compared with it. If memory runs out,
-/// nothing is changed.
+/// Puts a text into what is kept of a document, if its own is lost. A text that is known is to be compared with it. If
+/// memory runs out, nothing is changed.
 fn renew_open(alloc: Global, agreed: Agreed, kept: &mut Open, text: &str) -> Result<(), AllocError>
     ensures ok { OnOk result (kept.new ≡ saved_in agreed kept.old text.now) }
     ensures err { OnErr result (kept.new ≡ kept.old) }
@@ -748,7 +769,8 @@ fn renew_open(alloc: Global, agreed: Agreed, kept: &mut Open, text: &str) -> Res
     }
 }
 
-/// Whether changes to a version come late, behind this one, where a whole text is among them or not.
+/// Returns whether changes to a version come late: they are ranges, and the document's version is higher. `whole` says
+/// whether a whole text is among them.
 fn is_late(agreed: Agreed, version: Option<i32>, whole: bool, before: Option<i32>) -> bool
     ensures { result ≡ late agreed version whole before }
 {
@@ -760,7 +782,7 @@ fn is_late(agreed: Agreed, version: Option<i32>, whole: bool, before: Option<i32
     }
 }
 
-/// Why changes can't be made in a document, where a whole text is among them or not.
+/// Returns why changes are refused for a document. `whole` says whether a whole text is among them.
 fn step_fault(kept: &Open, whole: bool) -> Option<DocumentFault>
     ensures { result ≡ fault_in kept.now whole }
 {
@@ -770,7 +792,7 @@ fn step_fault(kept: &Open, whole: bool) -> Option<DocumentFault>
     }
 }
 
-/// What is said of the text that came with a save.
+/// Returns the remark about the text that came with a save.
 fn save_remark(kept: &Open, text: &str) -> Option<Remark>
     ensures { result ≡ remark_of_save kept.now text.now }
 {
@@ -780,7 +802,7 @@ fn save_remark(kept: &Open, text: &str) -> Option<Remark>
     }
 }
 
-/// A notification that was not applied.
+/// Makes the value for a notification that was not applied.
 fn update_fault<'v>(uri: Option<&'v str>, fault: DocumentFault, lost: bool) -> UpdateFault<'v>
     ensures named { option_map (λ s. s.now) result.uri ≡ option_map (λ s. s.now) uri.entry }
     ensures why { result.fault ≡ fault }

@@ -3,25 +3,24 @@ use std::alloc::AllocError;
 use std::error::Error;
 use std::fmt;
 
-/// Why a notification of a document was not applied.
+/// Why a notification about a document was not applied.
 ///
-/// It prints `params of another shape`, `the document is not open`, `the document is out of step`, `changes came out of order` or
-/// `out of memory`.
+/// It prints `params of another shape`, `the document is not open`, `the document is out of step`, `changes came out of
+/// order` or `out of memory`.
 #[derive(Clone, Copy, Debug, PartialEq, Eq)]
 pub enum DocumentFault {
-    /// The params lack a member that decides what comes of them, or it is of another type.
+    /// The params lack a member that is needed, or it has another type.
     Params,
-    /// No document of the URI is open, and no change is of the whole text.
+    /// No document of the URI is open, and no change is a whole text.
     NotOpen,
-    /// The document's text is lost, since something that the client told of it was missed, and none of the changes is of the whole
-    /// text.
+    /// The document's text is lost, since a notification about it was missed, and none of the changes is a whole text.
     OutOfStep,
-    /// The changes are ranges, and come behind a higher version, so the text is lost: it lacked them when those behind them were applied.
-    /// `DocumentOptions::applies_late` has them applied.
+    /// The changes are ranges, and have a lower version than the document. So the text is lost: changes with the higher
+    /// version were applied without them. With `DocumentOptions::applies_late` they are applied.
     ///
-    /// Helix 25 sends changes of a burst so, and goes on with ranges: its text comes back once it is saved, if the text is asked for
-    /// (`Agreed`), or opened anew. Neovim 0.10, Emacs 30 and the library of VS Code keep the order. Changes with a whole text among them
-    /// never come late.
+    /// Helix 25 sends the changes of a burst in this manner, and goes on with ranges. Its text comes back when it is
+    /// saved, if the text is asked for (`Agreed`), or opened again. Neovim 0.10, Emacs 30 and the library of VS Code
+    /// keep the order. Changes with a whole text among them never come late.
     OutOfOrder,
     /// An allocation failed.
     Memory,
@@ -56,28 +55,32 @@ impl From<AllocError> for DocumentFault {
     }
 }
 
-/// What is to be said of a notification that was applied: LSP 3.17 forbids it, or it shows that the client's text is another one than
-/// the text that is kept, or may be. After `PastEnd` it is another one: `TextDocuments::invalidate` keeps the server from showing it.
+/// A warning about a notification that was applied: LSP 3.17 forbids it, or it shows that the client's text differs
+/// from the text that is kept, or may differ. After `PastEnd` it differs: call `TextDocuments::invalidate` to keep the
+/// server from using it.
 ///
-/// It prints `the document was open already`, `the document was not open`, `the version is not higher`, `a position is past the end`,
-/// `the saved text is another one` or `a save brought the text back`.
+/// It prints `the document was open already`, `the document was not open`, `the version is not higher`, `a position is
+/// past the end`, `the saved text is another one` or `a save brought the text back`.
 #[derive(Clone, Copy, Debug, PartialEq, Eq)]
 pub enum Remark {
-    /// The document was open already. What was opened took its place.
+    /// The document was open already. The new one replaced it.
     OpenAlready,
-    /// The document was not open, and a change of the whole text opened it. Nobody said its language, which is the empty text.
+    /// The document was not open, and a change of the whole text opened it. Its language is not known, and is the empty
+    /// text.
     WasNotOpen,
-    /// The version is the document's, or a lower one, of changes with a whole text among them or if the author chose to apply late changes.
+    /// The version is the document's or a lower one. A lower one is applied if a whole text is among the changes, or if
+    /// the author chose to apply late changes.
     VersionNotHigher,
-    /// A position of a change lies past its line's end, or past the place behind the last line, in the text that is kept. LSP 3.17
-    /// takes it for that end (`Position`), but a client has no such place in a text that is the same and that it counts in the same
-    /// way. It may end lines elsewhere, or count in another encoding.
+    /// A position of a change is past its line's end, or past the place after the last line, in the text that is kept.
+    /// LSP 3.17 takes it for that end (`Position`). But a client with the same text that counts in the same units has
+    /// no such place. It may end lines elsewhere, or count in another encoding.
     PastEnd,
-    /// The text that came with a `didSave` differs from the one that is kept, which stays, and so it does after the next notification of
-    /// the document. It is compared then, since Kate and CodeLite save before they tell their last changes.
+    /// The text that came with a `didSave` differs from the text that is kept, and still does after the next
+    /// notification about the document. The kept text stays. The two are compared then, since Kate and CodeLite save
+    /// before they send their last changes.
     SavedTextDiffers,
-    /// This is the first change since a `didSave` brought the text back, and not of the whole text. If the client saved before it told its
-    /// last changes, the saved text has the change already, and now it is made twice.
+    /// This is the first change since a `didSave` brought the text back, and not of the whole text. If the client saved
+    /// before it sent its last changes, the saved text already has this change, and now it is made twice.
     BroughtBackBySave,
 }
 
@@ -100,12 +103,12 @@ impl fmt::Display for Remark {
 
 /// A notification that was applied.
 ///
-/// It prints its URI and the remark, as `file:///a: the version is not higher`, or the URI alone.
+/// It prints its URI and the remark, for example `file:///a: the version is not higher`, or only the URI.
 #[derive(Clone, Copy, Debug, PartialEq, Eq, Drop)]
 pub struct DocumentUpdate<'v> {
     /// The document's URI.
     pub uri: &'v str,
-    /// What is to be said of it, if anything.
+    /// The remark about it, if there is one.
     pub remark: Option<Remark>,
 }
 
@@ -125,14 +128,15 @@ impl fmt::Display for DocumentUpdate<'_> {
 
 /// A notification that was not applied.
 ///
-/// It prints its URI and the fault, as `file:///a: the document is not open`, or the fault alone if no URI is named.
+/// It prints its URI and the fault, for example `file:///a: the document is not open`, or only the fault if no URI is
+/// named.
 #[derive(Clone, Copy, Debug, PartialEq, Eq, Drop)]
 pub struct UpdateFault<'v> {
     /// The document's URI, if the params name one.
     pub uri: Option<&'v str>,
-    /// Why.
+    /// Why it was not applied.
     pub fault: DocumentFault,
-    /// Whether the text was known and is lost now. If no URI is named, that may be each document's.
+    /// Whether the text was known and is lost now. If no URI is named, this may be the text of each document.
     pub lost: bool,
 }
 
@@ -140,7 +144,8 @@ impl<'v> UpdateFault<'v> {
     ghost use Rattle.std.specs.Prelude.{◌≡◌, IfOk, OnOk, OnErr};
     ghost use Rattle.lsp_documents.specs.declared.fault.DocumentFault.TheVariants.{Memory};
 
-    /// The same, unless memory ran out: a server that writes `missed.unless_memory()?` gives up then.
+    /// Returns the same value, or an error if memory ran out. So `missed.unless_memory()?` ends the server's method
+    /// then.
     pub fn unless_memory(self) -> Result<UpdateFault<'v>, AllocError>
         ensures same { IfOk result (λ missed. missed ≡ self.entry) }
         ensures ok { OnOk result (¬ (self.entry.fault ≡ Memory)) }

@@ -12,12 +12,12 @@ use lsp_text::TextDocument;
 pub enum Open {
     /// The document, with the client's text.
     Known(KeptDocument),
-    /// What is left of one whose text is lost.
+    /// What is left of a document whose text is lost.
     Lost(LostDocument),
 }
 
 impl Open {
-    /// The document, if its text is known.
+    /// Returns the document, if its text is known.
     pub fn document(&self) -> Option<&TextDocument>
         ensures { option_copied result ≡ shown self.now }
     {
@@ -27,7 +27,7 @@ impl Open {
         }
     }
 
-    /// The language, as the client named it when it opened the document.
+    /// Returns the language, as the client named it when it opened the document.
     pub fn language_id(&self) -> &str
         ensures { result.now ≡ language_of self.now }
     {
@@ -37,7 +37,8 @@ impl Open {
         }
     }
 
-    /// The version of its text. If that is lost, it is the version before changes came out of order, or none.
+    /// Returns the version of its text. If the text is lost, it is the version before changes came out of order, or
+    /// `None`.
     pub fn version(&self) -> Option<i32>
         ensures { result ≡ version_of self.now }
     {
@@ -47,8 +48,9 @@ impl Open {
         }
     }
 
-    /// Whether its text is known and doubtful: a save brought it back, and no whole text came since. Some clients save before they tell
-    /// their last changes, so the next change may be one that the saved text has already.
+    /// Returns whether its text is known and doubtful: a save brought it back, and the client has not sent it whole
+    /// since. Some clients save before they send their last changes, so the saved text may already have the next
+    /// change.
     pub fn is_doubtful(&self) -> bool
         ensures { result ≡ has_doubt self.now }
     {
@@ -58,7 +60,8 @@ impl Open {
         }
     }
 
-    /// What is left of it if its text is lost, with this version. One that is lost already stays as it is.
+    /// Returns what is left of it if its text is lost, with this version. A document whose text is lost already stays
+    /// as it is.
     pub(crate) fn into_lost(self, version: Option<i32>) -> Open
         ensures { result ≡ lost_at version self }
     {

@@ -11,21 +11,21 @@ use lsp_text::{ContentChange, TextDocument};
 use std::alloc::{AllocError, Global};
 use std::marker::Model;
 
-/// Where a text is from.
+/// Where a text comes from.
 #[derive(Clone, Copy)]
 pub enum Origin {
-    /// The client told it whole.
+    /// The client sent it whole.
     Told,
     /// A save brought it back.
     BySave,
-    /// So it was, and the client told changes since.
+    /// A save brought it back, and the client sent changes since.
     BySaveChanged,
 }
 
 impl Origin {
     ghost use Rattle.lsp_documents.specs.declared.kept_document.Origin.TheVariants.{Told};
 
-    /// Where the text is from after changes, where a whole text is among them or not.
+    /// Returns where the text comes from after changes. `whole` says whether a whole text is among them.
     fn after(self, whole: bool) -> Origin
         ensures { result ≡ origin_after whole self }
     {
@@ -37,8 +37,8 @@ impl Origin {
     }
 }
 
-/// A document whose text is known. Contracts see the document, the text of a save that is to be compared after the next notification,
-/// and where the text is from.
+/// A document whose text is known. Contracts see the document, the text of a save that is to be compared after the next
+/// notification, and where the text comes from.
 #[derive(Drop)]
 pub struct KeptDocument {
     document: TextDocument,
@@ -59,7 +59,7 @@ impl Model for KeptDocument {
 impl KeptDocument {
     ghost use Rattle.lsp_documents.specs.declared.kept_document.Origin.TheVariants.{Told, BySave};
 
-    /// A document that the client told whole.
+    /// Makes a document that the client sent whole.
     pub(crate) fn told(document: TextDocument) -> KeptDocument
         ensures { result ≡ kept_as document None Told }
     {
@@ -70,7 +70,7 @@ impl KeptDocument {
         }
     }
 
-    /// A document whose text a save brought back.
+    /// Makes a document whose text a save brought back.
     pub(crate) fn by_save(document: TextDocument) -> KeptDocument
         ensures { result ≡ kept_as document None BySave }
     {
@@ -81,14 +81,14 @@ impl KeptDocument {
         }
     }
 
-    /// The document.
+    /// Returns the document.
     pub fn document(&self) -> &TextDocument
         ensures { result.now ≡ self.now.document }
     {
         &self.document
     }
 
-    /// Whether a save brought the text back, and no whole text came since.
+    /// Returns whether a save brought the text back, and the client has not sent it whole since.
     pub fn is_doubtful(&self) -> bool
         ensures { result ≡ is_by_save self.now.origin }
     {
@@ -98,7 +98,7 @@ impl KeptDocument {
         }
     }
 
-    /// The document, which is not needed any more as it is kept.
+    /// Returns the document, without what is kept with it.
     pub(crate) fn into_document(self) -> TextDocument
         ensures { result ≡ self.document }
     {
@@ -106,7 +106,7 @@ impl KeptDocument {
         document
     }
 
-    /// Makes changes, and gives what is said of them. If memory runs out, the language alone is as it was.
+    /// Applies changes, and returns the remark about them. If memory runs out, only the language is as it was.
     #[tactic(auto, using(crate::proofs::NoticeLemmas::since_edited, crate::proofs::NoticeLemmas::since_none))]
     pub(crate) fn change(
         &mut self,
@@ -134,7 +134,7 @@ impl KeptDocument {
         Ok(change_remark(past, doubt, not_higher))
     }
 
-    /// What is said of changes without a whole text that led to this one.
+    /// Returns the doubt about changes without a whole text.
     fn doubt(&self) -> Option<Remark>
         ensures { result ≡ doubt_in self.now.origin self.now.saved self.now.document.text }
     {
@@ -144,7 +144,7 @@ impl KeptDocument {
         }
     }
 
-    /// What is said of the saved text that is to be compared, if there is one.
+    /// Returns the remark about the saved text that is to be compared, if there is one.
     fn comparison(&self) -> Option<Remark>
         ensures { result ≡ compared self.now.saved self.now.document.text }
     {
@@ -156,7 +156,7 @@ impl KeptDocument {
         }
     }
 
-    /// What is said of the text that came with a save.
+    /// Returns the remark about the text that came with a save.
     pub(crate) fn save_remark(&self, text: &str) -> Option<Remark>
         ensures { result ≡ remark_of_save (Known self.now) text.now }
     {
@@ -166,7 +166,7 @@ impl KeptDocument {
         }
     }
 
-    /// Keeps the text that came with a save, if it is another one. If memory runs out, nothing is changed.
+    /// Keeps the text that came with a save, if it differs. If memory runs out, nothing is changed.
     pub(crate) fn save(&mut self, alloc: Global, text: &str) -> Result<(), AllocError>
         ensures ok { OnOk result (self.new ≡ kept_as self.old.document
             (to_compare self.old.document.text text.now) self.old.origin) }

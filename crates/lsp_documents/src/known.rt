@@ -8,8 +8,8 @@ use std::collections::btree_map::Iter;
 use std::marker::Model;
 use std::sync::Arc;
 
-/// Goes over the documents whose text is known, each beside its URI, in the order of these. Contracts see the list of those that
-/// are left.
+/// Goes over the documents whose text is known in the order of their URIs: the URI and the document. Contracts see the
+/// list of those that are left.
 #[derive(Drop)]
 pub struct KnownDocuments<'d> {
     pub(crate) open: Iter<'d, String, Open>,
@@ -42,7 +42,8 @@ impl<'d> Iterator for KnownDocuments<'d> {
     }
 }
 
-/// A document as it was: its URI, its language, its version and its text, which is shared with the document until that changes.
+/// A copy of a document at one time: its URI, its language, its version and its text. The text is shared with the
+/// document until that changes.
 #[derive(Drop)]
 pub struct OpenText {
     /// The document's URI.
@@ -59,7 +60,7 @@ impl OpenText {
     ghost use Rattle.std.specs.Arc.{arc_value};
     ghost use Rattle.std.specs.Prelude.{◌≡◌, IfOk, string_bytes};
 
-    /// A copy of a URI and of a document. The text is not copied.
+    /// Copies a URI and a document. The text is not copied. `Err` means that an allocation failed.
     pub fn new(alloc: Global, uri: &str, document: &TextDocument) -> Result<OpenText, AllocError>
         ensures uri { IfOk result (λ copy. string_bytes copy.uri ≡ uri.now) }
         ensures language { IfOk result (λ copy.

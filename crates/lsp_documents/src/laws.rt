@@ -1,4 +1,5 @@
-//! Laws of the documents that a client has opened. Each is the contract of a function, so the proofs of callers can use it.
+//! Laws of the documents that a client has opened. Each is the contract of a function, which the proofs of callers can
+//! use.
 ghost use Rattle.std.specs.Prelude.{◌≡◌, ℕ, ℤ, List, ◌∷◌, Option, Some, None, option_and_then, true, IsSomeAnd};
 ghost use Rattle.lsp_text.specs.Documents.{Change};
 ghost use Rattle.lsp_documents.specs.declared.fault.DocumentFault.{DocumentFault};
@@ -9,16 +10,20 @@ ghost use Rattle.lsp_documents.specs.Sessions.{AppliesAll, Arrived, HasNone, Mea
 ghost use Rattle.lsp_documents.specs.declared.documents.TextDocuments.{TextDocuments as Texts};
 ghost use Rattle.lsp_documents.specs.Notices.{Documents, Notice, kinds_in, Item, text_item, Sent, made, opens, edits, kept_by, shown, version_of, has_whole, is_late, fault_of, Keeps, Makes, TakesAll, Agrees, IsClients, sure, SavesItsText, kept_after_all, kinds_of, told_all, is_current};
 
-/// A document that may be looked at is the client's: after any list of notifications, of which some were applied, some were not,
-/// and of some nothing at all was known, each URI whose text is known has the text of the client's own document, and its
-/// version or none. A text that was asked for and comes with a save is taken for the client's. One that was not asked for may be any.
-/// A document that is not doubtful has the client's text whatever text comes with a save, as of a client that saves before it tells its
-/// last changes (`sure`).
+/// A document whose text is known is the client's. Take any list of notifications: some were applied, some were not, and of
+/// some nothing was known. Then each URI whose text is known has the text of the client's own
+/// document, and its version or none. This assumes that a text which was asked for and comes with a save is the
+/// client's. A text that was not asked for may be any.
 ///
-/// What is kept is no more and no less than the notifications make of it, one after another (`kept`). A document that was opened,
-/// of which all was made since, and none of it late, is known, and is the client's in each part (`current`). Changes with a whole text
-/// among them are made whatever their version is, and leave a text of that version (`whole`). Others that come behind a higher version
-/// leave no text to look at, unless the author chose to make them (`late`). What is refused by name changes nothing else (`refused`).
+/// - A document that is not doubtful has the client's text, whatever text comes with a save, also if a client saves
+///   before it sends its last changes (`sure`).
+/// - What is kept is exactly what the notifications make of it, one after another (`kept`).
+/// - A document that was opened is known, and is the client's in each part, if all its notifications since were applied
+///   and none came late (`current`).
+/// - Changes with a whole text among them are applied whatever their version is, and leave a text of that version
+///   (`whole`). Other changes with a lower version than the document's make its text lost, unless the author chose to
+///   apply them (`late`).
+/// - A notification that is refused with a URI changes nothing else (`refused`).
 pub fn documents_are_the_clients()
     ensures each { (before : Documents) (client : List ℕ
         → Option Item) (sent : List Sent) (now : Documents) → TakesAll before sent now

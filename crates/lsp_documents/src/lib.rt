@@ -1,4 +1,5 @@
-//! The documents that a client has opened, as its notifications tell of them (LSP 3.17, "Text Document Synchronization").
+//! The documents that a client has opened, kept up to date by its notifications (LSP 3.17, "Text Document
+//! Synchronization").
 #![tactic(auto)]
 
 mod agreed;

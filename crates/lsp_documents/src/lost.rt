@@ -5,8 +5,8 @@ ghost use Rattle.lsp_documents.specs.Remains.{Remains, remains};
 
 use std::marker::Model;
 
-/// A document whose text is not known, since something that the client told of it was missed or came out of order. Contracts see its
-/// language, and its version if changes came out of order.
+/// A document whose text is lost, since a notification about it was missed or changes came out of order. Contracts see
+/// its language, and its version if changes came out of order.
 #[derive(Drop)]
 pub struct LostDocument {
     pub(crate) language_id: String,
@@ -20,15 +20,15 @@ impl Model for LostDocument {
 }
 
 impl LostDocument {
-    /// The language, as the client named it when it opened the document.
+    /// Returns the language, as the client named it when it opened the document.
     pub fn language_id(&self) -> &str
         ensures { result.now ≡ self.now.language_id }
     {
         self.language_id.as_str()
     }
 
-    /// Its version, if changes came out of order. A whole text of any version brings the text back. Of a lower one it has the remark
-    /// `VersionNotHigher`.
+    /// Returns its version, if changes came out of order. A whole text of any version brings the text back. If the
+    /// text's version is not higher, the remark is `VersionNotHigher`.
     pub fn version(&self) -> Option<i32>
         ensures { result ≡ self.now.version }
     {

@@ -2,7 +2,7 @@
 ghost use Rattle.std.specs.Prelude.{◌≡◌};
 ghost use Rattle.lsp_documents.specs.Methods.{method_named};
 
-/// A notification of a document (LSP 3.17, "Text Document Synchronization").
+/// A notification about a document (LSP 3.17, "Text Document Synchronization").
 #[derive(Clone, Copy)]
 pub enum DocumentMethod {
     /// `textDocument/didOpen`.
@@ -16,7 +16,7 @@ pub enum DocumentMethod {
 }
 
 impl DocumentMethod {
-    /// The one of this name.
+    /// Returns the notification with this method, if it is one about a document.
     pub fn named(name: &str) -> Option<DocumentMethod>
         ensures { result ≡ method_named name.now }
     {

@@ -1,13 +1,15 @@
 // How a server reads what its client tells of documents.
 use lsp_text::LineEnds;
 
-/// How a server reads what its client tells of documents. LSP 3.17 has no words to agree on it, so the author says it.
+/// How a server reads a client's notifications about documents. LSP 3.17 has no means to agree on this, so the author
+/// chooses.
 #[derive(Clone, Copy, Drop)]
 pub struct DocumentOptions {
     /// What ends a line.
     pub line_ends: LineEnds,
-    /// Whether ranges are applied that come behind a higher version, with the remark `VersionNotHigher`. If not the text is lost, since it
-    /// lacked them when those behind them were applied. A whole text is always applied.
+    /// Whether ranges with a lower version than the document's are applied, with the remark `VersionNotHigher`. If not,
+    /// the text is lost, since changes with the higher version were applied without them. A whole text is always
+    /// applied.
     pub applies_late: bool,
 }
 
@@ -15,7 +17,7 @@ impl DocumentOptions {
     ghost use Rattle.std.specs.Prelude.{◌≡◌};
     ghost use Rattle.lsp_documents.specs.Announced.{usual};
 
-    /// As editors count: `LineEnds::LineFeed`. Late changes are not applied.
+    /// Returns the default options: lines end as in editors (`LineEnds::LineFeed`), and late changes are not applied.
     pub fn new() -> DocumentOptions
         ensures { result ≡ usual }
     {

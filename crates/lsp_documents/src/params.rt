@@ -27,7 +27,7 @@ fn count_in(value: &Value, name: &str) -> Option<u32>
     }
 }
 
-/// Whether a value is an integer below 0, if it is one that 64 bits hold.
+/// Returns whether a value is an integer below 0 that 64 bits hold.
 fn is_negative(value: Option<&Value>) -> bool
     ensures { result ≡ is_below (option_map (λ v. view v.now) value.entry) }
 {
@@ -40,7 +40,7 @@ fn is_negative(value: Option<&Value>) -> bool
     }
 }
 
-/// The line of a position. A negative one counts as 0 (LSP 3.17, `Position`).
+/// Reads the line of a position. A negative one counts as 0 (LSP 3.17, `Position`).
 fn line_in(position: &Value) -> Option<u32>
     ensures { result ≡ line_of (view position.now) }
 {
@@ -51,7 +51,7 @@ fn line_in(position: &Value) -> Option<u32>
     }
 }
 
-/// The version of a document, if one is given that is a number of 32 bits.
+/// Reads the version of a document, if there is one that is a number of 32 bits.
 fn version_in(document: &Value) -> Option<i32>
     ensures { result ≡ version_from (view document.now) }
 {
@@ -59,7 +59,8 @@ fn version_in(document: &Value) -> Option<i32>
     i32::try_from(number.as_i128()?).ok()
 }
 
-/// A position (LSP 3.17, `Position`), if the value is one: its numbers are whole ones that 32 bits hold, and a negative line is 0.
+/// Reads a position (LSP 3.17, `Position`). It returns `None` if the value is none. Its numbers are whole ones that 32
+/// bits hold. A negative line is 0.
 pub fn position_in(position: &Value) -> Option<Position>
     ensures { result ≡ position_of (view position.now) }
 {
@@ -68,7 +69,7 @@ pub fn position_in(position: &Value) -> Option<Position>
     Some(Position { line, character })
 }
 
-/// A range (LSP 3.17, `Range`), if the value is one.
+/// Reads a range (LSP 3.17, `Range`). It returns `None` if the value is none.
 pub fn range_in(range: &Value) -> Option<Range>
     ensures { result ≡ range_of (view range.now) }
 {
@@ -77,7 +78,7 @@ pub fn range_in(range: &Value) -> Option<Range>
     Some(Range { start, end })
 }
 
-/// The range of a change, if one is given.
+/// Reads the range of a change, if there is one.
 fn given_range(change: &Value) -> Option<Option<Range>>
     ensures { result ≡ range_given (get (codes "range") (view change.now)) }
 {
@@ -87,7 +88,7 @@ fn given_range(change: &Value) -> Option<Option<Range>>
     }
 }
 
-/// A change, if the value is one.
+/// Reads a change, if the value is one.
 fn change_in(alloc: Global, change: &Value) -> Result<Option<ContentChange>, AllocError>
     ensures { IfOk result (λ c. c ≡ change_of (view change.now)) }
 {
@@ -101,7 +102,7 @@ fn change_in(alloc: Global, change: &Value) -> Result<Option<ContentChange>, All
     Ok(Some(ContentChange { range, text }))
 }
 
-/// Whether a change is of the whole text, if the value is one.
+/// Returns whether a change is a whole text, if the value is a change.
 fn is_whole_text(change: &Value) -> Option<bool>
     ensures { result ≡ option_map (λ c. is_none c.range) (change_of (view change.now)) }
 {
@@ -110,7 +111,7 @@ fn is_whole_text(change: &Value) -> Option<bool>
     Some(range.is_none())
 }
 
-/// Whether a value is a change of the whole text.
+/// Returns whether a value is a change of the whole text.
 fn is_whole(value: &Value) -> bool
     ensures { result ≡ is_whole_change (change_of (view value.now)) }
 {
@@ -120,7 +121,7 @@ fn is_whole(value: &Value) -> bool
     }
 }
 
-/// Whether one of the values is a change of the whole text, if each value is a change.
+/// Returns whether one of the values is a change of the whole text, if each value is a change.
 fn whole_among(values: &[Value]) -> Option<bool>
     ensures { result ≡ option_map has_whole (changes_of (items_view values.now)) }
 {
@@ -132,7 +133,7 @@ fn whole_among(values: &[Value]) -> Option<bool>
     Some(whole)
 }
 
-/// The list of changes that a notification has.
+/// Returns the list of changes in a notification.
 fn listed_in(params: &Value) -> Option<&Vec<Value>>
     ensures { option_map (λ v. items_view v.now.items) result
         ≡ option_and_then as_array (get (codes "contentChanges") (view params.now)) }
@@ -140,8 +141,8 @@ fn listed_in(params: &Value) -> Option<&Vec<Value>>
     params.get("contentChanges")?.as_array()
 }
 
-/// The values that decide: those from the last whole text on, or all if there is none. A whole text takes the place of what stands
-/// before it, whether that can be read or not.
+/// Returns the values that decide: those from the last whole text on, or all if there is none. A whole text replaces
+/// the values before it, whether they can be read or not.
 fn since_whole(values: &[Value]) -> &[Value]
     ensures { items_view result.now ≡ values_since_whole (items_view values.now) }
 {
@@ -154,21 +155,21 @@ fn since_whole(values: &[Value]) -> &[Value]
     &values[from..]
 }
 
-/// Of the list of changes that a notification has the ones that decide.
+/// Returns those changes of a notification that decide.
 fn given_in(params: &Value) -> Option<&[Value]>
     ensures { option_map (λ v. items_view v.now) result ≡ values_given (view params.now) }
 {
     Some(since_whole(listed_in(params)?.as_slice()))
 }
 
-/// Whether one of the changes that a notification tells of is of the whole text, if those that decide can be read.
+/// Returns whether one of a notification's changes is a whole text, if those that decide can be read.
 pub fn whole_in(params: &Value) -> Option<bool>
     ensures { result ≡ option_map has_whole (changes_given (view params.now)) }
 {
     whole_among(given_in(params)?)
 }
 
-/// The changes of a list, if each value is one. For none no memory is needed.
+/// Reads the changes of a list, if each value is one. An empty list needs no memory.
 fn changes_in(alloc: Global, values: &[Value]) -> Result<Option<Vec<ContentChange>>, AllocError>
     ensures value { IfOk result (λ o.
         option_map (λ v. v.items) o ≡ changes_of (items_view values.now)) }
@@ -185,7 +186,8 @@ fn changes_in(alloc: Global, values: &[Value]) -> Result<Option<Vec<ContentChang
     Ok(Some(changes))
 }
 
-/// The changes that a notification tells of, from the last whole text on. For none no memory is needed.
+/// Reads a notification's changes, from the last whole text on. It returns `None` if one of these is no change. An
+/// empty list needs no memory.
 pub fn content_changes(
     alloc: Global,
     params: &Value,
@@ -201,14 +203,14 @@ pub fn content_changes(
     }
 }
 
-/// The URI of the document that params tell of, as `textDocument` of most methods has it, if they name one.
+/// Returns the URI of the document in params, if they name one. It is in `textDocument`, as for most methods.
 pub fn uri_in(params: &Value) -> Option<&str>
     ensures { option_map (λ s. s.now) result ≡ uri_of (view params.now) }
 {
     text_in(params.get("textDocument")?, "uri")
 }
 
-/// The version of the document that params tell of, if they give one.
+/// Returns the version of the document in params, if they have one.
 pub fn version_of(params: &Value) -> Option<i32>
     ensures { result ≡ option_and_then version_from (document_of (view params.now)) }
 {
@@ -226,7 +228,7 @@ pub struct Item<'v> {
     pub text: &'v str,
 }
 
-/// The document that a client opens, as the params of `textDocument/didOpen` tell of it.
+/// Reads the document that a client opens from the params of `textDocument/didOpen`.
 pub fn item_in(params: &Value) -> Option<Item<'_>>
     ensures { option_map (λ i.
         record { language_id = i.language_id.now; version = i.version; text = i.text.now }) result
@@ -240,14 +242,14 @@ pub fn item_in(params: &Value) -> Option<Item<'_>>
     })
 }
 
-/// The text of a document that was saved, if a string is given.
+/// Returns the text of a document that was saved, if it is a string.
 pub fn saved_text(params: &Value) -> Option<&str>
     ensures { option_map (λ s. s.now) result ≡ text_of (codes "text") (view params.now) }
 {
     text_in(params, "text")
 }
 
-/// The encoding of a name (LSP 3.17, `PositionEncodingKind`).
+/// Returns the encoding with this name (LSP 3.17, `PositionEncodingKind`).
 fn encoding_named(name: &str) -> Option<PositionEncoding>
     ensures { result ≡ named name.now }
 {
@@ -259,7 +261,7 @@ fn encoding_named(name: &str) -> Option<PositionEncoding>
     }
 }
 
-/// The first encoding that is named.
+/// Returns the first of the names that is an encoding.
 fn first_named(names: &[Value]) -> Option<PositionEncoding>
     ensures { result ≡ first_of (items_view names.now) }
 {
@@ -274,8 +276,9 @@ fn first_named(names: &[Value]) -> Option<PositionEncoding>
     None
 }
 
-/// The encoding that the params of `initialize` agree on (LSP 3.17, `general.positionEncodings` of the client's capabilities):
-/// the first of the client's that is UTF-8, UTF-16 or UTF-32, and UTF-16 if there is none. `Agreed::announced` says it to the client.
+/// Returns the encoding that follows from the params of `initialize` (LSP 3.17, `general.positionEncodings` of the
+/// client's capabilities): the first of the client's encodings that is UTF-8, UTF-16 or UTF-32, or UTF-16 if there is
+/// none. `Agreed::announced` announces it to the client.
 pub fn position_encoding(params: &Value) -> PositionEncoding
     ensures { result ≡ agreed_in (view params.now) }
 {
@@ -285,7 +288,7 @@ pub fn position_encoding(params: &Value) -> PositionEncoding
     }
 }
 
-/// The encoding that is agreed on with a client that has these capabilities.
+/// Returns the encoding for a client with these capabilities.
 pub fn encoding_for(client: &Value) -> PositionEncoding
     ensures { result ≡ agreed_by (view client.now) }
 {
