@@ -15,13 +15,13 @@ use std::alloc::{AllocError, Global};
 use std::marker::Model;
 use std::sync::Arc;
 
-/// One change of a document: other text in the place of a range, or of the whole text (LSP 3.17,
+/// One change of a document: a new text for a range, or for the whole text (LSP 3.17,
 /// `TextDocumentContentChangeEvent`).
 #[derive(Drop)]
 pub struct ContentChange {
-    /// What is replaced. With none it is the whole text.
+    /// The range that is replaced. `None` means the whole text.
     pub range: Option<Range>,
-    /// What stands there then.
+    /// The new text.
     pub text: String,
 }
 
@@ -56,8 +56,8 @@ impl<'de> Deserialize<'de> for ContentChange {
     }
 }
 
-/// A document that a client has opened (LSP 3.17, `TextDocumentItem`). Contracts see its language, its version and its text. Its text may
-/// be shared: then the next change makes a copy of its own first.
+/// A document that a client has opened (LSP 3.17, `TextDocumentItem`). Contracts see its language, its version and its
+/// text. The text may be shared. Then the next change copies it first.
 #[derive(Drop)]
 pub struct TextDocument {
     language_id: String,
@@ -76,7 +76,7 @@ impl Model for TextDocument {
 }
 
 impl TextDocument {
-    /// A document as a client opens it, and what ends its lines.
+    /// Makes a document that a client opens. `ends` says what ends its lines. `Err` means that an allocation failed.
     pub fn new(
         alloc: Global,
         language_id: &str,
@@ -99,14 +99,14 @@ impl TextDocument {
         })
     }
 
-    /// The language, as the client names it.
+    /// Returns the language, as the client names it.
     pub fn language_id(&self) -> &str
         ensures { result.now ≡ self.now.language_id }
     {
         self.language_id.as_str()
     }
 
-    /// The language, of a document that is not needed any more.
+    /// Returns the language of a document that is no longer needed.
     pub fn into_language_id(self) -> String
         ensures { string_bytes result ≡ self.language_id }
     {
@@ -114,30 +114,31 @@ impl TextDocument {
         language_id
     }
 
-    /// The version, as the client counts it, if it gave one.
+    /// Returns the version, as the client counts it, if it sent one.
     pub fn version(&self) -> Option<i32>
         ensures { result ≡ self.now.version }
     {
         self.version
     }
 
-    /// The text.
+    /// Returns the text.
     pub fn text(&self) -> &Text
         ensures { result.now ≡ self.now.text }
     {
         &*self.text
     }
 
-    /// The text, for one that keeps it while the document changes. It is not copied. `Err` means that it has too many owners.
+    /// Shares the text with an owner that keeps it while the document changes. It is not copied. `Err` means that it
+    /// has too many owners.
     pub fn share_text(&self) -> Result<Arc<Text>, AllocError>
         ensures { IfOk result (λ text. arc_value text ≡ self.now.text) }
     {
         Arc::try_clone(&self.text)
     }
 
-    /// Makes the changes of one notification, each in the text that the one before it left. If memory runs out, the document
-    /// stays as it was. Without a change no memory is needed. It gives what `change` does. It gives whether a position of a change lies past an end, as
-    /// `Text::apply` says.
+    /// Applies the changes of one notification, each to the text that the one before it left. It returns whether a
+    /// position of a change is past an end, as `Text::apply` says. If memory runs out, the document stays as it was. An
+    /// empty list of changes needs no memory.
     pub fn change(
         &mut self,
         alloc: Global,
@@ -169,8 +170,9 @@ impl TextDocument {
         Ok(past)
     }
 
-    /// Makes the changes of one notification in the text itself, or in a copy if it is shared. If memory runs out, some of them are made,
-    /// and the language alone is as it was. Without a change no memory is needed. It gives what `change` does.
+    /// Applies the changes of one notification to the text itself, or to a copy if it is shared. It returns what
+    /// `change` returns. If memory runs out, some of the changes are applied, and only the language is as it was. An
+    /// empty list of changes needs no memory.
     pub fn change_in_place(
         &mut self,
         alloc: Global,
@@ -198,7 +200,7 @@ impl TextDocument {
     }
 }
 
-/// Makes changes in a text, one after another. If memory runs out, some of them are made.
+/// Applies changes to a text, one after another. If memory runs out, some of them are applied.
 fn apply_all(
     alloc: Global,
     text: &mut Text,

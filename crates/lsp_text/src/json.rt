@@ -12,7 +12,7 @@ pub fn put<T: Serialize, S: Serializer>(
     value.serialize(out)
 }
 
-/// Reads an object for two of its members. The others are passed over.
+/// Reads two members of an object. Other members are ignored.
 pub fn members_in<'de, A: Deserialize<'de>, B: Deserialize<'de>, F: Format>(
     alloc: Global,
     first: &str,
@@ -48,7 +48,7 @@ fn fill<'de, T: Deserialize<'de>, F: Format>(
     Ok(())
 }
 
-/// The value of a member. If it is no object and no list, and does not fit, the error names the member.
+/// Reads the value of a member. If it is no object and no list, and does not fit, the error names the member.
 fn value_of<'de, T: Deserialize<'de>, F: Format>(
     alloc: Global,
     name: &str,
@@ -66,7 +66,7 @@ fn value_of<'de, T: Deserialize<'de>, F: Format>(
     }
 }
 
-/// The error of a member that does not fit. Its text is of at most 32 bytes.
+/// Makes the error for a member that does not fit. Its text has at most 32 bytes.
 pub fn misfit<F: Format>(alloc: Global, name: &str, from: &Deserializer<'_, '_, F>) -> F::Error {
     match format!(in alloc; "invalid `{name}`") {
         Ok(reason) => from.custom(reason.as_str()),
@@ -74,7 +74,7 @@ pub fn misfit<F: Format>(alloc: Global, name: &str, from: &Deserializer<'_, '_, 
     }
 }
 
-/// A member that has to be there.
+/// Returns a member that is required, or an error if it is missing.
 pub fn needed<T: Drop, F: Format>(
     slot: Option<T>,
     name: &str,

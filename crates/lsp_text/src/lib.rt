@@ -1,6 +1,6 @@
-//! The text of open documents, and edits of it by lines and characters (LSP 3.17, "Text Document Synchronization"). Positions,
-//! ranges and changes are read and written by `serde`, so `lsp_types` has these same types. `lsp_documents` reads the params of a
-//! client's notifications.
+//! The text of open documents, and edits of it by lines and characters (LSP 3.17, "Text Document Synchronization").
+//! `serde` reads and writes positions, ranges and changes, so `lsp_types` uses these types too. `lsp_documents` reads
+//! the params of a client's notifications.
 #![tactic(auto)]
 
 mod columns;

@@ -5,7 +5,7 @@
 pub enum LineEnds {
     /// `\n`, with or without a `\r` before it. In positions each `\r` counts as a character, also one before `\n`.
     LineFeed,
-    /// `\n`, `\r\n` or `\r` (LSP 3.17, "Text Documents"). No position stands between `\r` and `\n`.
+    /// `\n`, `\r\n` or `\r` (LSP 3.17, "Text Documents"). No position is between `\r` and `\n`.
     Standard,
 }
 
@@ -13,7 +13,7 @@ impl LineEnds {
     ghost use Rattle.std.specs.Prelude.{◌≡◌, ◌<◌, true};
     ghost use Rattle.lsp_text.specs.Lines.{is_break as breaks};
 
-    /// Whether a byte ends a line, or is the first of two that do.
+    /// Returns whether a byte ends a line, or is the first of two that do.
     pub(crate) fn has(self, byte: u8) -> bool
         ensures value { result ≡ breaks self byte }
         ensures ascii { result ≡ true → byte < 128 }

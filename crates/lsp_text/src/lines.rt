@@ -8,21 +8,22 @@ ghost use Rattle.std.specs.String.Boundary.{IsSplitPoint};
 use crate::line_ends::LineEnds;
 use std::alloc::{AllocError, Global};
 
-/// Whether a byte is the last one of what ends a line, if another one follows.
+/// Returns whether a byte is the last one of a line's end, if `next` follows it.
 fn ends_line(ends: LineEnds, byte: u8, next: u8) -> bool
     ensures { result ≡ is_ended ends byte next }
 {
     byte <= b'\r' && (byte == b'\n' || ends.has(byte) && next != b'\n')
 }
 
-/// The byte at a place, or another one past the end.
+/// Returns the byte at a place, or `default` past the end.
 fn byte_or(bytes: &[u8], i: usize, default: u8) -> u8
     ensures { result ≡ slice_index_or bytes.now i default }
 {
     if i < bytes.len() { bytes[i] } else { default }
 }
 
-/// Adds where lines begin behind the ends of lines in bytes that stand at a place of a text, before a byte.
+/// Adds where lines begin that follow the line ends in `bytes`, which are at a place of a text, before the byte `next`.
+/// `Err` means that an allocation failed.
 pub fn push_starts(
     ends: LineEnds,
     starts: &mut Vec<usize>,
@@ -42,7 +43,7 @@ pub fn push_starts(
     Ok(())
 }
 
-/// Moves the starts of lines, of all but the first ones, from behind one place to behind another.
+/// Moves the starts of lines, except the first ones, from after one place to after another.
 fn move_starts(starts: &mut [usize], first: usize, from: usize, to: usize)
     requires within { first ≤ length starts.old }
     requires fits { (k : ℕ) → first ≤ k → k < length starts.old → (from ≤ slice_index starts.old k)
@@ -55,7 +56,7 @@ fn move_starts(starts: &mut [usize], first: usize, from: usize, to: usize)
     }
 }
 
-/// Moves the starts of lines of an index, of all but the first ones.
+/// Moves the starts of lines of an index, except the first ones.
 fn move_behind(starts: &mut Vec<usize>, first: usize, from: usize, to: usize)
     requires within { first ≤ length starts.old.items }
     requires fits { (k : ℕ) → first ≤ k → k < length starts.old.items
@@ -67,7 +68,7 @@ fn move_behind(starts: &mut Vec<usize>, first: usize, from: usize, to: usize)
     move_starts(starts.as_mut_slice(), first, from, to);
 }
 
-/// Puts other starts of lines in the place of some.
+/// Replaces some starts of lines by others.
 fn put_starts(
     starts: &mut Vec<usize>,
     from: usize,
@@ -83,7 +84,7 @@ fn put_starts(
     Ok(())
 }
 
-/// How many of the starts are at most a place: they are in order.
+/// Returns how many of the starts, which are in order, are at most `place`.
 pub fn starts_to(starts: &[usize], place: usize) -> usize
     requires { (i j : ℕ) → i ≤ j → j < length starts.now
         → slice_index starts.now i ≤ slice_index starts.now j }
@@ -105,7 +106,7 @@ pub fn starts_to(starts: &[usize], place: usize) -> usize
     low
 }
 
-/// Where a line begins.
+/// Returns where a line begins.
 pub fn start_of(ends: LineEnds, text: &[u8], starts: &[usize], line: usize) -> usize
     requires index { starts.now ≡ line_starts ends text.now }
     requires within { line < length starts.now }
@@ -115,7 +116,8 @@ pub fn start_of(ends: LineEnds, text: &[u8], starts: &[usize], line: usize) -> u
     starts[line]
 }
 
-/// Where a line ends. The next one begins behind what ends it: one byte, with the `\r` before it if one stands there in the line.
+/// Returns where a line ends. The next one begins after its end: one byte, with the `\r` before it if there is one in
+/// the line.
 pub fn line_end(ends: LineEnds, text: &[u8], starts: &[usize], line: usize) -> usize
     requires index { starts.now ≡ line_starts ends text.now }
     requires within { line < length starts.now }
@@ -135,7 +137,7 @@ pub fn line_end(ends: LineEnds, text: &[u8], starts: &[usize], line: usize) -> u
     }
 }
 
-/// The line that a place of a text is in: the last one that begins there or before.
+/// Returns the line of a place of a text: the last one that begins there or before.
 pub fn line_at(ends: LineEnds, text: &[u8], starts: &[usize], place: usize) -> usize
     requires index { starts.now ≡ line_starts ends text.now }
     ensures value { result ≡ line_of (lined ends text.now) place }
@@ -148,7 +150,7 @@ pub fn line_at(ends: LineEnds, text: &[u8], starts: &[usize], place: usize) -> u
     count - 1
 }
 
-/// Where the lines of a text begin.
+/// Returns where the lines of a text begin. `Err` means that an allocation failed.
 pub fn starts_of(alloc: Global, ends: LineEnds, text: &[u8]) -> Result<Vec<usize>, AllocError>
     requires { length text.now < 2 ^ 64 }
     ensures { IfOk result (λ v. v.items ≡ line_starts ends text.now) }
@@ -159,8 +161,8 @@ pub fn starts_of(alloc: Global, ends: LineEnds, text: &[u8]) -> Result<Vec<usize
     Ok(starts)
 }
 
-/// Makes the starts of the lines of a text those of the text in which other bytes take the place of some. If memory runs
-/// out, they stay as they were.
+/// Changes the starts of the lines of a text to those of the text in which `new` replaces the bytes from `from` to
+/// `to`. If memory runs out, they stay as they were.
 pub fn replace_starts(
     alloc: Global,
     ends: LineEnds,

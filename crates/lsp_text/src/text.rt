@@ -71,14 +71,14 @@ impl Clone for Text {
 }
 
 impl Text {
-    /// A text that is a copy of another one. Its lines end as `LineEnds::LineFeed` says.
+    /// Makes a copy of a text. Its lines end as `LineEnds::LineFeed` says. `Err` means that an allocation failed.
     pub fn new(alloc: Global, text: &str) -> Result<Text, AllocError>
         ensures { IfOk result (λ t. t ≡ lined LineFeed text.now) }
     {
         Text::with_line_ends(alloc, text, LineEnds::LineFeed)
     }
 
-    /// A text that is a copy of another one, whose lines these end.
+    /// Makes a copy of a text. `ends` says what ends its lines. `Err` means that an allocation failed.
     pub fn with_line_ends(alloc: Global, text: &str, ends: LineEnds) -> Result<Text, AllocError>
         ensures { IfOk result (λ t. t ≡ lined ends text.now) }
     {
@@ -87,29 +87,29 @@ impl Text {
         Ok(Text { ends, text, starts })
     }
 
-    /// What ends its lines.
+    /// Returns what ends its lines.
     pub fn line_ends(&self) -> LineEnds
         ensures { result ≡ self.now.ends }
     {
         self.ends
     }
 
-    /// The whole text.
+    /// Returns the whole text.
     pub fn as_str(&self) -> &str
         ensures { result.now ≡ self.now.bytes }
     {
         self.text.as_str()
     }
 
-    /// How many lines the text has: one more than ends of lines.
+    /// Returns how many lines the text has: one more than ends of lines.
     pub fn line_count(&self) -> usize
         ensures { result ≡ length (starts_of self.now) }
     {
         self.starts.len()
     }
 
-    /// A line without its end: `\n` or `\r\n`, or `\r` where that ends lines, too. Lines count from 0, and the last one may be empty. `None`
-    /// means that the text has no such line.
+    /// Returns a line without its end: `\n` or `\r\n`, or `\r` if that ends lines too. Lines count from 0, and the last
+    /// one may be empty. `None` means that the text has no such line.
     pub fn line(&self, line: u32) -> Option<&str>
         ensures { MatchOption result (length (starts_of self.now) ≤ line)
             (λ found. (line < length (starts_of self.now))
@@ -126,8 +126,8 @@ impl Text {
         Some(&self.text.as_str()[start..end])
     }
 
-    /// Where a position is in the text, in bytes of UTF-8. A line past the last is the text's end, a character past the
-    /// line's end is the line's end, and one within a character is that character's start.
+    /// Returns the offset of a position in the text, in bytes of UTF-8. A line past the last one is the text's end. A
+    /// character past the line's end is the line's end, and one within a character is that character's start.
     pub fn offset_at(&self, position: Position, encoding: PositionEncoding) -> usize
         ensures value { result ≡ offset_of encoding self.now position.line position.character }
         ensures boundary { IsSplitPoint self.now.bytes result }
@@ -135,7 +135,7 @@ impl Text {
         self.reach(position, encoding).place
     }
 
-    /// Where a position is, and how many units are left of its character there.
+    /// Returns the place of a position, and how many units of its character are left there.
     fn reach(&self, position: Position, encoding: PositionEncoding) -> Reached
         ensures value { result.place
             ≡ offset_of encoding self.now position.line position.character }
@@ -159,8 +159,8 @@ impl Text {
         }
     }
 
-    /// Where the end of a range is, and how many units are left of its character there. In the line of the range's start, which was
-    /// reached, the way goes on from there.
+    /// Returns the place of the end of a range, and how many units of its character are left there. If it is in the
+    /// line of the range's start, which was reached, the search goes on from there.
     fn end_of(&self, range: Range, encoding: PositionEncoding, start: Reached) -> Reached
         requires place { start.place
             ≡ offset_of encoding self.now range.start.line range.start.character }
@@ -187,7 +187,8 @@ impl Text {
         }
     }
 
-    /// Whether a position lies past its line's end, or past the place behind the last line. It was reached.
+    /// Returns whether a position is past its line's end, or past the place after the last line. `reached` is its
+    /// place.
     fn is_past(&self, position: Position, encoding: PositionEncoding, reached: Reached) -> bool
         requires place { reached.place
             ≡ offset_of encoding self.now position.line position.character }
@@ -204,8 +205,9 @@ impl Text {
         }
     }
 
-    /// The position of an offset, in bytes of UTF-8. An offset past the text's end is its end, one within the end of a line is
-    /// that line's end, and one within a character counts that character. A number that does not fit is the greatest one.
+    /// Returns the position of an offset in bytes of UTF-8. An offset past the text's end is its end, one within the
+    /// end of a line is that line's end, and one within a character counts that character. A number that does not fit
+    /// is the greatest one.
     pub fn position_at(&self, offset: usize, encoding: PositionEncoding) -> Position
         ensures line { result.line ≡ min (line_of self.now (min offset (length self.now.bytes)))
             0xFFFF_FFFF }
@@ -224,8 +226,9 @@ impl Text {
         }
     }
 
-    /// The positions of several offsets, each as `position_at` gives it. An offset that stands in the line of the one before it, and
-    /// not before that, is counted from there on: so in ascending order they cost one pass over each line.
+    /// Returns the positions of several offsets, each as `position_at` does. An offset in the line of the one before
+    /// it, and not before that, is counted from there on. So offsets in ascending order read each line once.
+    /// `Err` means that an allocation failed.
     pub fn positions_at(
         &self,
         alloc: Global,
@@ -254,7 +257,7 @@ impl Text {
         Ok(positions)
     }
 
-    /// The units of a line up to a place, from another place on up to which they are counted, if it stands in this line before it.
+    /// Returns the units of a line up to a place. It counts from `before` on, if that is in this line before the place.
     fn mark_at(&self, line: usize, place: usize, encoding: PositionEncoding, before: Mark) -> Mark
         requires line { line < length (starts_of self.now) }
         requires in_order { slice_index (starts_of self.now) line ≤ place }
@@ -285,7 +288,8 @@ impl Text {
         }
     }
 
-    /// Puts other text in the place of the bytes between two offsets, if no character is cut.
+    /// Replaces the bytes between two offsets by another text. Both offsets have to be between characters. If memory
+    /// runs out, the text stays as it was.
     pub fn replace(
         &mut self,
         alloc: Global,
@@ -314,9 +318,10 @@ impl Text {
         Ok(())
     }
 
-    /// Puts other text in the place of a range, or of the whole text. A range whose end stands before its start is taken the
-    /// other way round. It gives whether a position of the range lies past its line's end, or past the place behind the last line:
-    /// LSP 3.17 takes it for that end, but a client whose text is this one has no such place.
+    /// Replaces a range, or the whole text, by another text. The ends of a range whose end is before its start are
+    /// swapped. It returns whether a position of the range is past its line's end, or past the place after the last
+    /// line. LSP 3.17 takes such a position for that end, but a client with this text has no such place. If memory runs
+    /// out, the text stays as it was.
     pub fn apply(
         &mut self,
         alloc: Global,
@@ -346,7 +351,7 @@ impl Text {
     }
 }
 
-/// A number, or the greatest one that fits.
+/// Returns a number, or the greatest one that fits.
 fn fitted(number: usize) -> u32
     ensures { result ≡ min number 0xFFFF_FFFF }
 {
