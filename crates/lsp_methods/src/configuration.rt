@@ -15,24 +15,24 @@ use serde::DeserializeOwned;
 use serde_json::Value;
 use std::alloc::{AllocError, Global};
 
-/// A section of the client's configuration, read by a type of your own (LSP 3.17, "Configuration Request").
+/// A section of the client's configuration, read as a type of your own (LSP 3.17, "Configuration Request").
 ///
-/// In `initialize` call `agree`, in `initialized` `ask`, and `change` at each `workspace/didChangeConfiguration`. The replies go to
-/// `take_reply`.
+/// In `initialize` call `agree`, in `initialized` call `ask`, and at each `workspace/didChangeConfiguration` call
+/// `change`. Pass the replies to `take_reply`.
 #[derive(Drop)]
 pub struct Configuration<T: Drop> {
-    /// The section, as the name of your server.
+    /// The name of the section, usually that of your server.
     pub section: &'static str,
     /// Whether the client can be asked.
     pub is_asked: bool,
-    /// What the user set last, or what you began with.
+    /// The value that the user set last, or your initial value.
     pub value: T,
 }
 
 impl<T: DeserializeOwned + Drop> Configuration<T> {
     ghost use Rattle.lsp_methods.specs.Configuring.{can_be_asked};
 
-    /// A section, and what holds until the user sets something. Until you `agree`, nothing is asked.
+    /// Makes a section with the value that holds until the user sets one. Before `agree`, the client is not asked.
     pub fn new(section: &'static str, value: T) -> Configuration<T>
         ensures section { result.«section».now ≡ «section».now }
         ensures is_asked { result.is_asked ≡ false }
@@ -45,7 +45,7 @@ impl<T: DeserializeOwned + Drop> Configuration<T> {
         }
     }
 
-    /// Looks in the client's capabilities whether it can be asked: `workspace.configuration` is true.
+    /// Reads from the client's capabilities whether it can be asked: `workspace.configuration` is true.
     pub fn agree(&mut self, client: &Value)
         ensures { self.new ≡ record self.old { is_asked = can_be_asked (view client.now) } }
     {
@@ -55,7 +55,7 @@ impl<T: DeserializeOwned + Drop> Configuration<T> {
         };
     }
 
-    /// Asks for it, if the client can be asked. `payload` comes back with the reply.
+    /// Makes the request for the section, if the client can be asked. `payload` is returned with the reply.
     ///
     /// `Err` means that an allocation failed.
     pub fn ask<P: Drop + PartialEq>(
@@ -86,9 +86,9 @@ impl<T: DeserializeOwned + Drop> Configuration<T> {
         }
     }
 
-    /// Takes the reply, and says whether its first value fits: the result has a value for each section that was asked for, in their
-    /// order (LSP 3.17, "Configuration Request"), and `ask` asks for one. Else `value` stays: the client may reply with an error, or
-    /// with null if the user set nothing.
+    /// Takes the reply, and returns whether its first value fits. The result has a value for each requested section, in
+    /// order (LSP 3.17, "Configuration Request"), and `ask` requests one. If it does not fit, `value` stays: the client
+    /// may reply with an error, or with null if the user set nothing.
     ///
     /// `Err` means that an allocation failed, and `value` stays too.
     pub fn take_reply(
@@ -112,8 +112,8 @@ impl<T: DeserializeOwned + Drop> Configuration<T> {
         }
     }
 
-    /// Takes the settings that a client sends which can't be asked: an object, whose member of the section's name is the value. It says
-    /// whether there is one that fits. Else `value` stays.
+    /// Takes the settings in a notification, for a client that can't be asked: an object with a member of the section's
+    /// name. It returns whether there is such a member that fits. Otherwise `value` stays.
     ///
     /// `Err` means that an allocation failed, and `value` stays too.
     pub fn take_settings(
@@ -128,8 +128,9 @@ impl<T: DeserializeOwned + Drop> Configuration<T> {
         self.take_from(alloc, &params.settings)
     }
 
-    /// Takes part in `workspace/didChangeConfiguration`, which has these params: asks anew, if the client can be asked, and else takes the
-    /// settings that it sends, as `take_settings` does. `payload` comes back with the reply.
+    /// Handles `workspace/didChangeConfiguration`, which has these params. It makes a new request if the client can be
+    /// asked, as `ask` does. Otherwise it takes the settings in the params, as `take_settings` does. `payload` is
+    /// returned with the reply.
     ///
     /// `Err` means that an allocation failed, and `value` stays.
     pub fn change<P: Drop + PartialEq>(
@@ -193,7 +194,7 @@ impl<T: DeserializeOwned + Drop> Configuration<T> {
     }
 }
 
-/// The first of the values that a client replied.
+/// Returns the first of the values in a client's reply.
 fn first(values: Vec<Value>) -> Option<Value>
     ensures { MatchOption result (values.items ≡ [])
         (λ value. (rest : List Value) × (values.items ≡ value ∷ rest)) }

@@ -1,9 +1,9 @@
-//! Calls by LSP's methods. A type of `lsp_types::methods` says which method is meant, and with it which params and which result: a pair
-//! that LSP does not have does not compile. That the request at hand has this method is proved where it is called: behind
-//! `HoverRequest::METHOD =>` of a `match` by itself.
+//! Calls by LSP's methods. A type of `lsp_types::methods` says which method is meant, and so which params and which
+//! result: a pair that LSP does not have does not compile. That a request has this method is proved where the call is
+//! made. After `HoverRequest::METHOD =>` in a `match` the prover sees this without help.
 //!
-//! What is sent is what a value stands for (`ToJson`), and what comes is read as its type says (`FromJson`): the contracts have both. For
-//! params and results of your own by `serde` take the calls of `lsp_acts` and `lsp_message`.
+//! A value is sent as the tree that it stands for (`ToJson`), and a tree is read as its type says (`FromJson`). The
+//! contracts have both. For params and results of your own with `serde`, use the calls of `lsp_acts` and `lsp_message`.
 #![tactic(auto)]
 
 mod configuration;

@@ -9,8 +9,8 @@ use lsp_types::json::Misfit;
 use serde_json::Value;
 use std::alloc::{AllocError, Global};
 
-/// The value of a tree by a type of LSP, or the error -32602 to reply with, whose text names the member that does not fit and what was
-/// wanted there (JSON-RPC 2.0, section 5.1).
+/// Reads a tree as a type of LSP. A tree that does not fit gives the error -32602 to reply with. Its text names the
+/// member that does not fit, and what was expected there (JSON-RPC 2.0, section 5.1).
 ///
 /// `Err(AllocError)` means that an allocation failed.
 pub fn read<T: FromJson>(

@@ -9,9 +9,10 @@ use lsp_types::methods::PublishDiagnosticsNotification;
 use lsp_types::{Diagnostic, PublishDiagnosticsParams, ToJson};
 use std::alloc::{AllocError, Global};
 
-/// Has the client show what is wrong with a document, in place of what it showed of it before: `textDocument/publishDiagnostics` (LSP
-/// 3.17, "PublishDiagnostics Notification"). `version` is that of the text that was looked at, if it is known. No diagnostics take away
-/// what was shown. The contract has each member, so a server can promise what it shows, and of which document.
+/// Makes the notification that shows the diagnostics of a document: `textDocument/publishDiagnostics` (LSP 3.17,
+/// "PublishDiagnostics Notification"). They replace those that the client shows for this document; an empty list
+/// removes them. `version` is the version of the text that was analysed, if it is known. The contract has each member,
+/// so a server can promise what it shows, and for which document.
 ///
 /// `Err` means that an allocation failed.
 pub fn publish<P: Drop + PartialEq>(

@@ -16,8 +16,9 @@ use lsp_message::{Notification, Request, RequestId, ResponseError};
 use lsp_types::{MessageType, NotificationToServer, RequestToServer};
 use std::alloc::{AllocError, Global};
 
-/// Answers a request of this method: with what `answer` gives for its params, or with the error -32602 if they do not fit (JSON-RPC 2.0,
-/// section 5.1). The contract has what the params are read as, and the tree of the answer.
+/// Answers a request of this method with the result that `answer` returns for its params. If they do not fit, the
+/// answer is the error -32602 (JSON-RPC 2.0, section 5.1). The contract says which value the params are read as, and
+/// which tree the answer is.
 ///
 /// `Err` means that an allocation failed.
 pub fn answer<M, P, F>(
@@ -47,7 +48,8 @@ where
     }
 }
 
-/// Answers a request of this method as `answer` does, if `answer` may also give an error to reply with.
+/// Answers a request of this method as `answer` does, with an `answer` that may also return an error, which is the
+/// reply then.
 pub fn try_answer<M, P, F>(
     alloc: Global,
     request: Request,
@@ -73,7 +75,7 @@ where
     }
 }
 
-/// The answer to the request with this id: what was found, or an error.
+/// Makes the answer to the request with this id: a result, or an error.
 fn answered<M, P>(
     alloc: Global,
     id: RequestId,
@@ -91,8 +93,8 @@ where
     }
 }
 
-/// Reads the params of a request of this method, and gives the acts that `act` gives for the id and the params, as `Act::of_request`
-/// does.
+/// Reads the params of a request of this method, and returns the acts that `act` returns for the id and the params, as
+/// `Act::of_request` does.
 ///
 /// `Err` means that an allocation failed.
 pub fn on_request<M, P, F>(
@@ -118,8 +120,8 @@ where
     }
 }
 
-/// Reads the params of a notification of this method, and gives the acts that `act` gives for them, as `Act::of_notification` does:
-/// params that do not fit give an error in the client's log (`window/logMessage`).
+/// Reads the params of a notification of this method, and returns the acts that `act` returns for them, as
+/// `Act::of_notification` does. Params that do not fit give an error in the client's log (`window/logMessage`).
 ///
 /// `Err` means that an allocation failed.
 pub fn on_notification<M, P, F>(
@@ -149,7 +151,8 @@ where
     }
 }
 
-/// The id of a request of this method, and its params, or the error -32602 to reply with (JSON-RPC 2.0, section 5.1).
+/// Returns the id of a request of this method, and its params, or the error -32602 to reply with (JSON-RPC 2.0, section
+/// 5.1).
 ///
 /// `Err` means that an allocation failed.
 pub fn read_params<M: RequestToServer>(
@@ -166,7 +169,7 @@ pub fn read_params<M: RequestToServer>(
     Ok((id, found))
 }
 
-/// An error in the client's log: what is wrong with a message of this method.
+/// Makes an error in the client's log about a message of this method.
 fn logged<P: Drop + PartialEq>(alloc: Global, method: &str, why: &str) -> Result<Act<P>, AllocError>
     ensures { IfOk result (λ act. act_view P.eq act ≡ logs_error (method.now ++ codes ": " ++ why.now)) }
 {

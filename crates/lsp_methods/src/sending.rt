@@ -12,7 +12,7 @@ use lsp_types::{FromJson, NotificationToClient, RequestToClient, RequestToServer
 use serde_json::Value;
 use std::alloc::{AllocError, Global};
 
-/// A notification of this method, with what the params stand for.
+/// Makes a notification of this method, with the tree that the params stand for.
 ///
 /// `Err` means that an allocation failed.
 pub fn tell<M, P>(alloc: Global, params: &M::Params) -> Result<Act<P>, AllocError>
@@ -26,7 +26,8 @@ where
     Ok(Act::Tell(Notification { method, params }))
 }
 
-/// A request of the server's own of this method, with what the params stand for. It keeps `payload` for the reply.
+/// Makes a request of this method, which the server sends, with the tree that the params stand for. `payload` is kept
+/// for the reply.
 ///
 /// `Err` means that an allocation failed.
 pub fn ask<M, P>(alloc: Global, params: &M::Params, payload: P) -> Result<Act<P>, AllocError>
@@ -40,7 +41,8 @@ where
     Ok(Act::Ask(method, params, payload))
 }
 
-/// The answer to a request of this method, with what the result stands for: for a request that is answered later, by its id.
+/// Makes the answer to a request of this method, with the tree that the result stands for. Use it for a request that is
+/// answered later, by its id.
 ///
 /// `Err` means that an allocation failed.
 pub fn reply<M, P>(alloc: Global, id: RequestId, found: &M::Result) -> Result<Act<P>, AllocError>
@@ -53,7 +55,8 @@ where
     Ok(Act::Reply(id, Ok(found)))
 }
 
-/// What the client replied to a request of this method: its result, the client's error, or the error -32602 if the result does not fit.
+/// Reads the client's reply to a request of this method: its result, the client's error, or the error -32602 if the
+/// result does not fit.
 ///
 /// `Err(AllocError)` means that an allocation failed.
 pub fn read_result<M: RequestToClient>(
