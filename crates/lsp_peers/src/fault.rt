@@ -18,7 +18,7 @@ impl WorldFault {
     ghost use Rattle.std.specs.Prelude.{◌≡◌};
     ghost use Rattle.lsp_peers.specs.WorldFault.{world_fault_number};
 
-    /// The fault's number, 1 or 2.
+    /// Returns the fault's number, 1 or 2.
     pub fn number(self) -> u8
         ensures { result ≡ world_fault_number self }
     {

@@ -1,4 +1,4 @@
-//! Laws of the histories of two peers. Each is the contract of a function, so the proofs of callers can use it.
+//! Laws of the histories of two peers. Each is the contract of a function, which the proofs of callers can use.
 ghost use Rattle.std.specs.Prelude.{◌≡◌, ◌<◌, ◌++◌, ◌∷◌, [], ℕ, List, Option, Result, IsSome, false, length, map as each};
 ghost use Rattle.lsp_message.specs.Id.{Id};
 ghost use Rattle.serde_json.specs.Data.{Data};
@@ -24,20 +24,22 @@ pub fn a_beginning_is_a_history()
     ensures { (before after : List Entry) → IsHistory (before ++ after) → IsHistory before }
 {}
 
-/// Each step of a history has params and a result that nest at most 126 levels: each message that a side takes is read back.
+/// Each step of a history has params and a result that nest at most 126 levels, so each message that a side takes is
+/// read back.
 pub fn a_history_is_shallow()
     ensures { (history : List Entry) → IsHistory history
         → AllShallow (each (λ entry. entry.step) history) }
 {}
 
-/// What the outcomes of a history say, over its steps and outcomes alone: requests are registered and arrive as 0, 1, 2, .., each
-/// reply gives back the payload of its own request, once, and a request is found exactly if it is held.
+/// States the outcomes of a history by its steps and outcomes alone. Requests are registered and arrive as 0, 1, 2, ..;
+/// each reply returns the payload of its own request, once; and a request is found exactly if it is held.
 pub fn a_history_has_its_facts()
     ensures { (history : List Entry) → IsHistory history
         → FactsOf (each (λ entry. entry.step) history) (each (λ entry. entry.outcome) history) }
 {}
 
-/// A reply that a side takes gives back the payload that it registered under the id. No reply to that id was taken before.
+/// A reply that a side takes returns the payload that the side registered under the id. No reply to that id was taken
+/// before.
 pub fn a_reply_gives_back_its_payload_once()
     ensures { (before : List Entry) (entry : Entry) → IsHistory (before ++ entry ∷ []) →
         (side : Side) (label : ℕ) (id : Id) (payload : Option ℕ) → entry.step ≡ Take side label
@@ -56,7 +58,8 @@ pub fn requests_arrive_in_order()
         < length (payloads (entries_of (other side) before))) }
 {}
 
-/// The message that a Take names is the last of those that the side took: the request of that id, the reply to it, a notification.
+/// The message that a `Take` names is the last that the side took: the request of that id, the reply to it, or a
+/// notification.
 pub fn a_take_gives_the_last_message()
     ensures { (world new : World) (handed : Side → List plain.Message) (before : List Entry)
         (entry : Entry) →
@@ -66,7 +69,7 @@ pub fn a_take_gives_the_last_message()
         (each message_view (seen_at side new).taken) }
 {}
 
-/// A reply that a side takes is what the other side wrote before, in answer to the request of this id.
+/// A reply that a side takes is one that the other side wrote before, in answer to the request of this id.
 pub fn a_reply_is_the_answer_of_the_other_side()
     ensures { (world new : World) (handed : Side → List plain.Message) (before : List Entry)
         (entry : Entry) →
@@ -78,14 +81,15 @@ pub fn a_reply_is_the_answer_of_the_other_side()
         ++ response id answer ∷ []) × AnsweredBy (other side) id answer before }
 {}
 
-/// Each request that a side registered is in one place: on the way, with the other side, coming back, done, or given up. The
-/// frames that wait, the requests that the other side holds and the payloads that are pending are those of these places.
+/// Each request that a side registered is in one place: on the way, with the other side, on the way back, done, or
+/// given up. The frames that wait, the requests that the other side holds and the payloads that are pending are those
+/// of these places.
 pub fn each_request_is_in_one_place()
     ensures { (history : List Entry) → IsHistory history → (side : Side)
         → InOnePlace (entries_of side history) (entries_of (other side) history) }
 {}
 
-/// An entry moves one request at most: the one that its outcome names, to the place that its step says.
+/// An entry moves at most one request: the one that its outcome names, to the place that its step says.
 pub fn an_entry_moves_its_request()
     ensures { (before : List Entry) (entry : Entry) → IsHistory (before ++ entry ∷ []) →
         (side : Side) → side_of entry.step ≡ side → (id : Id) →

@@ -1,5 +1,5 @@
-//! Two peers that send each other requests and replies over two links (JSON-RPC 2.0, sections 4 and 5), and what holds however
-//! their steps interleave. Users find all of it in `lsp_server`, under the same names.
+//! Two peers that send each other requests and replies over two links (JSON-RPC 2.0, sections 4 and 5), and what holds
+//! however their steps interleave. `lsp_server` exports all of it under the same names.
 #![tactic(auto)]
 
 mod fault;

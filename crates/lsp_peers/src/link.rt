@@ -10,9 +10,9 @@ use lsp_message::{Front, Message, ReadFault, front};
 use std::alloc::Global;
 use std::marker::Model;
 
-/// The bytes of one direction between two peers: those that have arrived, and behind them those on the way.
+/// The bytes of one direction between two peers: those that have arrived, followed by those on the way.
 ///
-/// They are frames (LSP 3.17, "Base Protocol"), one behind another. Their bytes arrive in any pieces.
+/// They are frames (LSP 3.17, "Base Protocol"), one after another. Their bytes arrive in any pieces.
 #[derive(Debug, Drop)]
 pub struct Link {
     alloc: Global,
@@ -47,14 +47,14 @@ impl Link {
         }
     }
 
-    /// The bytes that have arrived and were not taken.
+    /// Returns the bytes that have arrived and were not taken.
     pub fn arrived(&self) -> &[u8]
         ensures { result.now ≡ self.now.arrived }
     {
         &self.bytes[self.start..self.end]
     }
 
-    /// The bytes on the way.
+    /// Returns the bytes on the way.
     pub fn on_way(&self) -> &[u8]
         ensures { result.now ≡ self.now.on_way }
     {
@@ -63,7 +63,7 @@ impl Link {
 
     /// Adds a frame of the message to the bytes on the way.
     ///
-    /// The only fault is `WorldFault::Memory`, and the link is then as it was.
+    /// The only fault is `WorldFault::Memory`. Then the link is as it was.
     pub fn write(&mut self, message: &Message) -> Result<(), WorldFault>
         ensures ok { (post : Post) → Carries self.old post → OnOk result (
             (sent_frame : SentFrame) × (sent_frame.message ≡ message_view message.now)
@@ -81,7 +81,7 @@ impl Link {
         }
     }
 
-    /// Lets this many bytes arrive, in order, or all that are on the way if these are fewer. Says how many arrived.
+    /// Lets `bytes` bytes arrive, in order, or all that are on the way if these are fewer. It returns how many arrived.
     pub fn pass(&mut self, bytes: usize) -> usize
         ensures { (post : Post) → Carries self.old post →
             (result ≡ min bytes (unpassed post)) × Carries self.new (passed_on post bytes) }
@@ -91,10 +91,11 @@ impl Link {
         count
     }
 
-    /// Takes the first message if its whole frame has arrived, and gives `None` otherwise.
+    /// Takes the first message if its whole frame has arrived. Otherwise it returns `None`.
     ///
-    /// `WorldFault::Memory` means that an allocation failed, and `WorldFault::NotReadBack` that the message nests more than 127
-    /// levels, so it is not read from its frame. After a fault the link is as it was, with the frame in front: `skip` goes past it.
+    /// `WorldFault::Memory` means that an allocation failed, and `WorldFault::NotReadBack` that the message nests more
+    /// than 127 levels, so that it is not read from its frame. After a fault the link is as it was, with the frame in
+    /// front; `skip` skips it.
     pub fn take(&mut self) -> Result<Option<Message>, WorldFault>
         ensures ok { (post : Post) → Carries self.old post → IfNext ReadsBack post
             → IfOk result (λ taken.
@@ -125,8 +126,8 @@ impl Link {
         }
     }
 
-    /// Skips the first message if its whole frame has arrived, without reading it, and says whether it did. So a link goes on
-    /// behind a message that `take` can't read.
+    /// Skips the first message if its whole frame has arrived, without reading it, and returns whether it did. So a
+    /// link goes on after a message that `take` can't read.
     pub fn skip(&mut self) -> bool
         ensures { (post : Post) → Carries self.old post → (result ≡ is_some (next post))
             × Carries self.new (after_take post) }
@@ -141,7 +142,7 @@ impl Link {
         }
     }
 
-    /// How much of what has arrived is the first frame.
+    /// Returns how much of the arrived bytes is the first frame.
     fn first(&self) -> Front
         ensures front { result ≡ front_of self.now.arrived }
         ensures within { (count : ℕ) → result ≡ Front.Whole count → count ≤ length self.now.arrived }
@@ -150,8 +151,8 @@ impl Link {
         front(&self.bytes[self.start..self.end])
     }
 
-    /// Removes the first of the bytes that have arrived. Once more were taken than are left, it
-    /// moves the rest to the front. So a link holds at most twice the bytes that wait in it, however long it runs.
+    /// Removes the first of the bytes that have arrived. When more were taken than are left, it moves the rest to the
+    /// front. So a link holds at most twice the bytes that wait in it, however long it runs.
     fn remove(&mut self, count: usize)
         requires { count ≤ length self.old.arrived }
         ensures arrived { self.new.arrived ≡ drop count self.old.arrived }
@@ -167,7 +168,7 @@ impl Link {
     }
 }
 
-/// Removes the first bytes, this many, and keeps the room.
+/// Removes the first `count` bytes, and keeps the room.
 fn remove_front(bytes: &mut Vec<u8>, count: usize)
     requires { count ≤ vec_len bytes.old }
     ensures { bytes.new.items ≡ drop count bytes.old.items }
@@ -177,7 +178,7 @@ fn remove_front(bytes: &mut Vec<u8>, count: usize)
     bytes.truncate(len - count);
 }
 
-/// Bytes in memory don't fail, so a fault of the reader counts as a failed allocation.
+/// Returns the fault for one of a reader. Bytes in memory don't fail, so it counts as a failed allocation.
 fn fault_of_read(fault: ReadFault) -> WorldFault
     ensures { result ≡ fault_of fault }
 {

@@ -220,7 +220,7 @@ impl Peer {
         }
     }
 
-    /// Hands out the messages that were taken, in order, and keeps none.
+    /// Returns the messages that were taken, in order, and keeps none.
     pub(crate) fn hand_out(&mut self, alloc: Global) -> Vec<Message>
         ensures given { result.items ≡ self.old.taken.items }
         ensures none { self.new.taken.items ≡ [] }
@@ -231,7 +231,8 @@ impl Peer {
     }
 }
 
-/// What a taken message does: a request becomes pending with the label, a reply completes its id, a notification does nothing.
+/// Handles a message that was taken: a request becomes pending with the label, a reply completes its id, and a
+/// notification does nothing.
 fn deliver(
     queue: &mut ReqQueue<u64, u64>,
     message: &Message,

@@ -14,45 +14,45 @@ pub enum Side {
 /// One step of a side.
 #[derive(Debug, Drop)]
 pub enum Step {
-    /// The side registers a request with a payload under its next id, and writes the request to the other side (JSON-RPC 2.0,
-    /// section 4).
+    /// The side registers a request with a payload under its next id, and writes the request to the other side
+    /// (JSON-RPC 2.0, section 4).
     Register {
-        /// Who registers.
+        /// The side that registers it.
         side: Side,
         /// The method of the request.
         method: String,
-        /// Its params. Null ones aren't written.
+        /// Its params. Null is not written.
         params: Value,
-        /// What the side keeps under its id until it takes the reply.
+        /// What the side keeps under the id until it takes the reply.
         payload: u64,
     },
     /// The side sends a notification: it writes it to the other side (JSON-RPC 2.0, section 4.1).
     Tell {
-        /// Who sends it.
+        /// The side that sends it.
         side: Side,
         /// The method of the notification.
         method: String,
-        /// Its params. Null ones aren't written.
+        /// Its params. Null is not written.
         params: Value,
     },
     /// This many bytes arrive at a side, or all that are on the way to it if these are fewer.
     Pass {
-        /// Where they arrive.
+        /// The side where they arrive.
         to: Side,
         /// How many arrive at most.
         bytes: usize,
     },
-    /// The side takes its first message, if the whole frame has arrived. It then holds a request; a reply gives back the payload
-    /// of its request; a notification changes no queue.
+    /// The side takes its first message, if the whole frame has arrived. If it is a request, the side holds it then. A
+    /// reply returns the payload of its request. A notification changes no queue.
     Take {
-        /// Who takes it.
+        /// The side that takes it.
         side: Side,
         /// What the side keeps with a request until it answers it, refuses it, cancels it or gives it up.
         label: u64,
     },
     /// The side answers a request that it holds (JSON-RPC 2.0, section 5).
     Answer {
-        /// Who answers.
+        /// The side that answers.
         side: Side,
         /// The id of the request.
         id: RequestId,
@@ -61,7 +61,7 @@ pub enum Step {
     },
     /// The side replies to a request that it holds, with an error that has no data (JSON-RPC 2.0, section 5.1).
     Refuse {
-        /// Who replies.
+        /// The side that replies.
         side: Side,
         /// The id of the request.
         id: RequestId,
@@ -70,16 +70,17 @@ pub enum Step {
         /// Its text.
         message: String,
     },
-    /// The side replies to a request that it holds, with the error that it was cancelled (LSP 3.17, "Cancellation Support").
+    /// The side replies to a request that it holds, with the error that it was cancelled (LSP 3.17, "Cancellation
+    /// Support").
     Cancel {
-        /// Who replies.
+        /// The side that replies.
         side: Side,
         /// The id of the request.
         id: RequestId,
     },
     /// The side forgets a request that it holds, and writes no reply.
     GiveUp {
-        /// Who forgets it.
+        /// The side that forgets it.
         side: Side,
         /// The id of the request.
         id: RequestId,
@@ -90,7 +91,7 @@ impl Step {
     ghost use Rattle.std.specs.Prelude.{◌≡◌};
     ghost use Rattle.lsp_peers.specs.Sides.{side_of};
 
-    /// The side that takes the step, or that the bytes arrive at.
+    /// Returns the side that takes the step, or at which the bytes arrive.
     pub fn side(&self) -> Side
         ensures { result ≡ side_of self.now }
     {
@@ -107,12 +108,12 @@ impl Step {
     }
 }
 
-/// What came of a step.
+/// The outcome of a step.
 #[derive(Debug, Drop, PartialEq, Eq)]
 pub enum Outcome {
     /// The request was written, with this id. The requests of a side have the ids 0, 1, 2, ..
     Registered(RequestId),
-    /// All of the side's 2147483648 ids were given out, and nothing happened.
+    /// All of the side's 2147483648 ids were used, and nothing happened.
     Spent,
     /// The notification was written.
     Told,
@@ -120,7 +121,7 @@ pub enum Outcome {
     Passed(usize),
     /// The request with this id was taken.
     Arrived(RequestId),
-    /// The reply with this id was taken. It gives back this payload; `None` if the id was not pending.
+    /// The reply with this id was taken. It returns this payload, or `None` if the id was not pending.
     Returned(RequestId, Option<u64>),
     /// A notification was taken.
     Notified,
@@ -128,7 +129,7 @@ pub enum Outcome {
     Waiting,
     /// The request was answered, by a result or by an error. It was held under this label.
     Answered(u64),
-    /// The reply was written. It says that the request was cancelled.
+    /// The reply was written, which says that the request was cancelled.
     Cancelled,
     /// The request is forgotten. It was held under this label.
     GaveUp(u64),

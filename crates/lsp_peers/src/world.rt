@@ -34,16 +34,17 @@ impl World {
         }
     }
 
-    /// Takes the steps one after another, from empty queues and empty links. Gives the world that they lead to, and the outcome
-    /// of each step.
+    /// Takes the steps one after another, from empty queues and empty links. It returns the world after them, and the
+    /// outcome of each step.
     ///
-    /// - What each side took is a beginning of what the other side wrote, in order. The rest is still in the link.
-    /// - Each reply gives back the payload of its own request, once.
+    /// - The messages that each side took are the first of those that the other side wrote, in order. The rest is still
+    ///   in the link.
+    /// - Each reply returns the payload of its own request, once.
     ///
-    /// This holds however the steps of the two sides interleave, and whatever pieces the bytes arrive in.
+    /// This holds however the steps of the two sides interleave, and in whatever pieces the bytes arrive.
     ///
-    /// After a fault there is no world. `WorldFault::Memory` means that an allocation failed, and `WorldFault::NotReadBack` that the
-    /// params or the result of a step nest more than 126 levels.
+    /// After a fault there is no world. `WorldFault::Memory` means that an allocation failed, and
+    /// `WorldFault::NotReadBack` that the params or the result of a step nest more than 126 levels.
     pub fn run(alloc: Global, steps: Vec<Step>) -> Result<(World, Vec<Outcome>), WorldFault>
         // The steps and outcomes are a history of the two sides: each outcome follows from the entries before it, and the world is
         // what it is after them.
@@ -65,15 +66,15 @@ impl World {
         Ok((world, outcomes))
     }
 
-    /// Takes one step, and gives its outcome.
+    /// Takes one step, and returns its outcome.
     ///
-    /// `WorldFault::NotReadBack` means that the step's params or result nest more than 126 levels. Its message would nest more than
-    /// 127, so the other side could not read it. The world is then as it was, and goes on.
+    /// `WorldFault::NotReadBack` means that the step's params or result nest more than 126 levels. Its message would
+    /// nest more than 127, so the other side could not read it. Then the world is as it was, and you may go on.
     ///
-    /// `WorldFault::Memory` means that an allocation failed. Let the world go then: a request may be registered and not written.
-    /// A step that comes to `Spent`, `Passed`, `Waiting`, `GaveUp` or `Absent` needs no memory.
+    /// `WorldFault::Memory` means that an allocation failed. Drop the world then: a request may be registered and not
+    /// written. A step with the outcome `Spent`, `Passed`, `Waiting`, `GaveUp` or `Absent` needs no memory.
     ///
-    /// A world keeps each message that a side took. `hand_out` lets them go.
+    /// A world keeps each message that a side took, until `hand_out` returns them.
     pub fn step(&mut self, step: Step) -> Result<Outcome, WorldFault>
         // The outcome follows from the entries that led to this world, and the new world is what it is after one more entry.
         ensures exchanged { (handed : Side → List plain.Message) (old : List Entry)
@@ -103,8 +104,8 @@ impl World {
         }
     }
 
-    /// Hands out the messages that a side took and still has, in order. The world keeps them no longer, and is else as it was: the
-    /// queues and links of this side, and all that the other side has.
+    /// Returns the messages that a side took and that the world still has, in order. The world no longer keeps them.
+    /// The queues and links of this side, and everything of the other side, are as they were.
     pub fn hand_out(&mut self, alloc: Global, side: Side) -> Vec<Message>
         ensures given { result.items ≡ (seen_at side self.old).taken }
         ensures after { (handed : Side → List plain.Message) (old : List Entry)
@@ -119,28 +120,28 @@ impl World {
         }
     }
 
-    /// The queues of a side: what is pending there.
+    /// Returns the queues of a side: the requests that are pending there.
     pub fn queue(&self, side: Side) -> &ReqQueue<u64, u64>
         ensures { result.now ≡ (seen_at side self.now).queue }
     {
         &self.peer(side).queue
     }
 
-    /// The bytes on the way to a side.
+    /// Returns the bytes on the way to a side.
     pub fn on_way(&self, to: Side) -> &[u8]
         ensures { result.now ≡ (seen_at to self.now).on_way }
     {
         self.peer(to).link.on_way()
     }
 
-    /// The bytes that have arrived at a side and were not taken.
+    /// Returns the bytes that have arrived at a side and were not taken.
     pub fn arrived(&self, side: Side) -> &[u8]
         ensures { result.now ≡ (seen_at side self.now).arrived }
     {
         self.peer(side).link.arrived()
     }
 
-    /// The messages that a side took and still has, in order.
+    /// Returns the messages that a side took and that the world still has, in order.
     pub fn taken(&self, side: Side) -> &[Message]
         ensures { result.now ≡ (seen_at side self.now).taken }
     {
