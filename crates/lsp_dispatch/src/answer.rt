@@ -3,18 +3,19 @@ use lsp_message::{Message, Notification, Request, Response};
 use std::error::Error;
 use std::fmt;
 
-/// What a dispatcher answers to a call: what to send, and what to do.
+/// What a dispatcher answers to a call: the message to send, and the work to do.
 #[derive(Debug, Drop)]
 pub enum Answer {
-    /// Send this reply. It is the error -32601 to a request whose method begins with `$/` (LSP 3.17, "`$` Notifications and
-    /// Requests").
+    /// Send this reply. It is the error -32601 to a request whose method begins with `$/` (LSP 3.17, "`$` Notifications
+    /// and Requests").
     Unknown(Response),
-    /// Work on this request, and call `finish` with its id and its ticket.
+    /// Do the work of this request, and call `finish` with its id and its ticket.
     Work {
         /// The request.
         request: Request,
-        /// Its ticket. Tickets are 0, 1, 2, .. in the order in which requests come. A ticket that was pending under the same id
-        /// until now gets no reply any more: ask `Dispatcher::ticket_of` for it before `deliver`, and drop its work.
+        /// Its ticket. Tickets are 0, 1, 2, .. in the order in which requests arrive. A ticket that was pending under
+        /// the same id until now no longer gets a reply: call `Dispatcher::ticket_of` for it before `deliver`, and drop
+        /// its work.
         ticket: u64,
     },
     /// Send this reply, and drop the work: the client cancelled the request (LSP 3.17, "Cancellation Support").
@@ -42,7 +43,7 @@ impl Answer {
     ghost use Rattle.lsp_message.specs.View.{message_view};
     ghost use Rattle.lsp_dispatch.specs.DispatchAnswers.{answer_view, reply_of};
 
-    /// The message to send, if there is one: for `Unknown`, `Cancelled` and `Finished`.
+    /// Returns the message to send, if there is one: for `Unknown`, `Cancelled` and `Finished`.
     pub fn into_reply(self) -> Option<Message>
         ensures { option_map message_view result ≡ reply_of (answer_view self) }
     {
@@ -63,14 +64,14 @@ impl Answer {
     }
 }
 
-/// Why a message was not delivered. It gives the message back, and the dispatcher is unchanged.
+/// Why a message was not delivered. Each variant returns the message, and the dispatcher is unchanged.
 ///
-/// It prints `dispatch fault N`, where N is its `number`. To tell a person more, match on the variant.
+/// It prints `dispatch fault N`, where N is its `number`. To show a person more, match on the variant.
 #[derive(Debug, Drop)]
 pub enum DispatchFault {
     /// 1: an allocation failed.
     Memory(Message),
-    /// 2: every ticket was given out, 18446744073709551615 in all.
+    /// 2: every ticket was used, 18446744073709551615 in all.
     Spent(Message),
 }
 
@@ -78,7 +79,7 @@ impl DispatchFault {
     ghost use Rattle.std.specs.Prelude.{◌≡◌};
     ghost use Rattle.lsp_dispatch.specs.DispatchFaults.{dispatch_fault_number};
 
-    /// The fault's number, 1 or 2.
+    /// Returns the fault's number, 1 or 2.
     pub fn number(&self) -> u8
         ensures { result ≡ dispatch_fault_number self.now }
     {

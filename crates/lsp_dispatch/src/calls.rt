@@ -16,7 +16,7 @@ use std::alloc::Global;
 /// A call of a dispatcher.
 #[derive(Debug, Drop)]
 pub enum Call {
-    /// A message came.
+    /// A message arrived.
     Deliver(Message),
     /// The work under a ticket is done.
     Finish {
@@ -24,12 +24,12 @@ pub enum Call {
         id: RequestId,
         /// The ticket.
         ticket: u64,
-        /// What came of the work: the result, or an error.
+        /// The outcome of the work: the result, or an error.
         result: Result<Value, ResponseError>,
     },
 }
 
-/// Makes these calls on a new dispatcher, and gives the answers. It stops at the first fault and gives its number.
+/// Makes these calls on a new dispatcher, and returns the answers. It stops at the first fault and returns its number.
 ///
 /// That number is always 1, a failed allocation: no `Vec` has as many calls as there are tickets.
 pub fn replay(alloc: Global, calls: Vec<Call>) -> Result<Vec<Answer>, u8>
@@ -61,7 +61,7 @@ pub fn replay(alloc: Global, calls: Vec<Call>) -> Result<Vec<Answer>, u8>
     Ok(answers)
 }
 
-/// One call. A fault is told by its number.
+/// Makes one call. A fault is returned as its number.
 fn step(dispatcher: &mut Dispatcher, call: Call) -> Result<Answer, u8>
     ensures ok { IfOk result (λ answer. (answer_view answer, dispatcher.new)
         ≡ answered dispatcher.old (call_view call)) }

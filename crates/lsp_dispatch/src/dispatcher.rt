@@ -1,4 +1,4 @@
-//! Requests that are being worked on, each under its id with a ticket.
+//! Requests whose work is going on, each under its id with a ticket.
 ghost use Rattle.std.specs.Prelude.{◌≡◌, Err, ◌≢◌, ◌^◌, ◌-◌, Some, None, IfOk, IfErr, OnErr, string_bytes, codes};
 ghost use Rattle.std.specs.FinMap as map;
 ghost use Rattle.serde_json.specs.View.{view};
@@ -17,14 +17,15 @@ use serde_json::Value;
 use std::alloc::{AllocError, Global};
 use std::marker::Model;
 
-/// Keeps account of the requests that a server works on, so that each gets one reply at most.
+/// Keeps account of the requests that a server works on, so that each gets at most one reply.
 ///
 /// - `deliver` gives each request a ticket. Call `finish` with the ticket when the work is done.
-/// - A ticket has one reply: when its work is finished, or when the client cancels it (LSP 3.17, "Cancellation Support").
-/// - Work that was cancelled, or whose id came again, gets no reply any more, whenever it is finished.
+/// - A ticket gets at most one reply: when its work is finished, or when the client cancels it (LSP 3.17, "Cancellation
+///   Support").
+/// - Work that was cancelled, or whose id was used again, gets no reply, whenever it is finished.
 ///
-/// A dispatcher sends nothing: send what `Answer::into_reply` gives. Before `deliver`, give each request to
-/// `Connection::handle_shutdown` or `shutdown`, which end the session.
+/// A dispatcher sends nothing: send the message that `Answer::into_reply` returns. Before `deliver`, pass each request
+/// to `Connection::handle_shutdown` or `shutdown`, which end the session.
 #[derive(Debug, Drop)]
 pub struct Dispatcher {
     alloc: Global,
@@ -53,10 +54,10 @@ impl Dispatcher {
         Dispatcher::after(alloc, 0)
     }
 
-    /// Makes a dispatcher that has given out this many tickets. None of their requests is pending. It does not allocate.
+    /// Makes a dispatcher that has used `tickets` tickets. None of their requests is pending. It does not allocate.
     ///
-    /// The next request gets the ticket `tickets`. So a server goes on where an earlier dispatcher stopped, and a test reaches the
-    /// last tickets.
+    /// The next request gets the ticket `tickets`. So a server can go on where an earlier dispatcher stopped, and a
+    /// test can reach the last tickets.
     pub fn after(alloc: Global, tickets: u64) -> Dispatcher
         ensures { result ≡ (map.empty, tickets) }
     {
@@ -67,33 +68,34 @@ impl Dispatcher {
         }
     }
 
-    /// The ticket that is pending under this id. `None` means that the id has no request, or that its request was finished or
-    /// cancelled.
+    /// Returns the ticket that is pending under this id. `None` means that the id has no request, or that its request
+    /// was finished or cancelled.
     ///
-    /// Ask it before you `deliver` a request. If the answer is `Work`, the new ticket takes the place of this one, which gets no
-    /// reply any more: drop its work.
+    /// Call it before you `deliver` a request. If the answer is `Work`, the new ticket replaces this one, which no
+    /// longer gets a reply: drop its work.
     pub fn ticket_of(&self, id: &RequestId) -> Option<u64>
         ensures { result ≡ map.get (pending_of self.now) id.now }
     {
         self.queue.incoming.data(id).copied()
     }
 
-    /// Takes a message, and says what to do about it. The first line that fits counts:
+    /// Takes a message, and returns what to do about it. The first line that fits counts:
     ///
     /// | Message | Answer |
     /// |---|---|
     /// | request, method begins with `$/` | `Unknown`: code -32601, `method not found` |
-    /// | another request | `Work`: it is pending under its id with the next ticket, and a ticket that was pending there is not any more |
-    /// | notification `$/cancelRequest`, params an object whose `id` is a good id that is pending | `Cancelled`: the reply of `Incoming::cancel`; the id is pending no more |
+    /// | another request | `Work`: it is pending under its id with the next ticket, and a ticket that was pending there no longer is |
+    /// | notification `$/cancelRequest`, params an object whose `id` is a good id that is pending | `Cancelled`: the reply of `Incoming::cancel`; the id is no longer pending |
     /// | another notification, method begins with `$/` | `Nothing` |
     /// | another notification | `Note` |
     /// | response | `Nothing`, and the response is dropped |
     ///
-    /// A dispatcher knows the client's requests alone. So if you ask your client something, take its responses before `deliver`, and
-    /// give their ids to `ReqQueue::outgoing.complete`.
+    /// A dispatcher knows only the client's requests. So if you send your client requests, take its responses before
+    /// `deliver`, and pass their ids to `ReqQueue::outgoing.complete`.
     ///
-    /// A good id is a text, or a whole number that fits an `i32`. `DispatchFault::Memory` means that an allocation failed, and
-    /// `DispatchFault::Spent` that no ticket is left for the request. Both give the message back, and nothing has changed.
+    /// A good id is a text, or a whole number that fits an `i32`. `DispatchFault::Memory` means that an allocation
+    /// failed, and `DispatchFault::Spent` that no ticket is left for the request. Both return the message, and nothing
+    /// has changed.
     pub fn deliver(&mut self, message: Message) -> Result<Answer, DispatchFault>
         ensures ok { IfOk result (λ answer.
             (answer_view answer, self.new) ≡ delivered self.old (message_view message)) }
@@ -200,8 +202,9 @@ impl Dispatcher {
         }
     }
 
-    /// Says that the work of a ticket is done. If the ticket is still pending under this id, the answer is `Finished` with the
-    /// reply to send. Otherwise it was cancelled, replaced or finished before: the answer is `Nothing`, and nothing changes.
+    /// Reports that the work of a ticket is done. If the ticket is still pending under this id, the answer is
+    /// `Finished` with the reply to send. Otherwise it was cancelled, replaced or finished before: the answer is
+    /// `Nothing`, and nothing changes.
     pub fn finish(
         &mut self,
         id: RequestId,
@@ -233,14 +236,14 @@ impl Dispatcher {
     }
 }
 
-/// The reply to a request whose method nobody knows.
+/// Makes the reply to a request whose method is not known.
 fn not_found(alloc: Global, id: &RequestId) -> Result<Response, AllocError>
     ensures { IfOk result (λ reply. response_view reply ≡ not_found_reply id.now) }
 {
     Response::method_not_found(alloc, id.clone()?)
 }
 
-/// Whether the method is one of the protocol's own, whose names begin with `$/`.
+/// Returns whether the method is one of the protocol's, whose names begin with `$/`.
 fn is_own(method: &str) -> bool
     ensures { result ≡ own_spec method.now }
 {

@@ -1,5 +1,5 @@
-//! A dispatcher of requests with cancellation (JSON-RPC 2.0, section 5; LSP 3.17, "Cancellation Support"): each request has at
-//! most one reply, and none after it was cancelled or replaced. Users find all of it in `lsp_server::dispatch`.
+//! A dispatcher of requests with cancellation (JSON-RPC 2.0, section 5; LSP 3.17, "Cancellation Support"). Each request
+//! gets at most one reply, and none after it was cancelled or replaced. `lsp_server::dispatch` exports all of it.
 #![tactic(auto)]
 
 mod answer;
