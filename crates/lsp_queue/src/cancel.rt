@@ -7,8 +7,9 @@ use lsp_message::RequestId;
 use serde_json::Value;
 use std::alloc::AllocError;
 
-/// The id of the request that the params of `$/cancelRequest` name (LSP 3.17, "Cancellation Support"): they are an object whose `id`
-/// is a string or a whole number of 32 bits. Of all other params it is `None`. The error means that an allocation failed.
+/// Returns the id of the request that the params of `$/cancelRequest` name (LSP 3.17, "Cancellation Support"): they are
+/// an object whose `id` is a string or a whole number of 32 bits. For all other params it is `None`. The error means
+/// that an allocation failed.
 pub fn id_to_cancel(params: &Value) -> Result<Option<RequestId>, AllocError>
     ensures { IfOk result (λ id. id ≡ cancelled_id (view params.now)) }
 {

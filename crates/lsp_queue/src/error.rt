@@ -2,16 +2,16 @@
 use std::error::Error;
 use std::fmt;
 
-/// Why a request was not registered. Each variant gives the data back, and the queue is unchanged.
+/// Why a request was not registered. Each variant returns the data, and the queue is unchanged.
 ///
-/// It prints `register fault N`, where N is its `number`. To tell a person more, match on the variant.
+/// It prints `register fault N`, where N is its `number`. To show a person more, match on the variant.
 #[derive(Debug, Drop)]
 pub enum RegisterFault<T> {
     /// 1: an allocation of the queue failed.
     Memory(T),
     /// 2: `serde_json` could not convert the params, or an allocation failed while it did.
     Unwritable(T),
-    /// 3: all 2147483648 ids were given out.
+    /// 3: all 2147483648 ids were used.
     Spent(T),
 }
 
@@ -19,7 +19,7 @@ impl<T> RegisterFault<T> {
     ghost use Rattle.std.specs.Prelude.{◌≡◌};
     ghost use Rattle.lsp_queue.specs.Registering.{register_fault_number};
 
-    /// The fault's number, from 1 to 3.
+    /// Returns the fault's number, from 1 to 3.
     pub fn number(&self) -> u8
         ensures { result ≡ register_fault_number self.now }
     {

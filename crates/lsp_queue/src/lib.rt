@@ -1,5 +1,5 @@
-//! The requests that have no reply yet (JSON-RPC 2.0, section 5). Users find all of it but `id_to_cancel` in `lsp_server`, under the
-//! same names.
+//! The requests that have no reply yet (JSON-RPC 2.0, section 5). `lsp_server` exports all of it except `id_to_cancel`,
+//! under the same names.
 #![tactic(auto)]
 
 mod cancel;

@@ -19,7 +19,8 @@ use std::alloc::{AllocError, Global};
 use std::collections::BTreeMap;
 use std::marker::Model;
 
-/// The requests that have no reply yet, of both sides. A request is pending from `register` until `complete` or `cancel`.
+/// The requests that have no reply yet, of both sides. A request is pending from `register` until `complete` or
+/// `cancel`.
 #[derive(Debug, Drop)]
 pub struct ReqQueue<I, O> {
     /// The other side's requests, which this side has to answer.
@@ -40,7 +41,7 @@ impl<I, O> ReqQueue<I, O> {
         }
     }
 
-    /// Whether a request of either side is pending.
+    /// Returns whether a request of either side is pending.
     pub fn has_pending(&self) -> bool
         ensures { result
             ≡ (not (map.len self.now.incoming == 0) || not (map.len (pending_of self.now.outgoing)
@@ -79,21 +80,21 @@ impl<I> Incoming<I> {
         }
     }
 
-    /// Whether no request is pending under this id, also if there never was one.
+    /// Returns whether no request is pending under this id. It is true also if there never was one.
     pub fn is_completed(&self, id: &RequestId) -> bool
         ensures { result ≡ not (map.contains_key self.now id.now) }
     {
         !self.pending.contains_key(id)
     }
 
-    /// Whether any request is pending.
+    /// Returns whether any request is pending.
     pub fn has_pending(&self) -> bool
         ensures { result ≡ not (map.len self.now == 0) }
     {
         self.pending.len() != 0
     }
 
-    /// The ids of all pending requests. An `Err` is a failed allocation.
+    /// Returns the ids of all pending requests. An `Err` means that an allocation failed.
     pub fn ids(&self) -> Result<Vec<RequestId>, AllocError>
         ensures { IfOk result (λ ids. (id : Id)
             → list_any (same_id id) ids.items ≡ map.contains_key self.now id) }
@@ -106,14 +107,14 @@ impl<I> Incoming<I> {
         Ok(ids)
     }
 
-    /// The data of a pending request.
+    /// Returns the data of a pending request.
     pub fn data(&self, id: &RequestId) -> Option<&I>
         ensures { option_copied result ≡ map.get self.now id.now }
     {
         self.pending.get(id)
     }
 
-    /// Takes a request out and gives its data, or `None` if it was not pending.
+    /// Takes a request out and returns its data, or `None` if it was not pending.
     pub fn complete(&mut self, id: &RequestId) -> Option<I>
         ensures value { result ≡ map.get self.old id.now }
         ensures removed { self.new ≡ map.remove self.old id.now }
@@ -125,7 +126,7 @@ impl<I> Incoming<I> {
 impl<I: Drop> Incoming<I> {
     /// Makes a request pending with this data. If one is pending under the same id, its data is replaced and dropped.
     ///
-    /// The only fault is `RegisterFault::Memory`: it gives the data back, and the queue is unchanged.
+    /// The only fault is `RegisterFault::Memory`. It returns the data, and the queue is unchanged.
     pub fn register(&mut self, id: RequestId, data: I) -> Result<(), RegisterFault<I>>
         ensures ok { OnOk result (self.new ≡ map.insert self.old id «data») }
         ensures err { OnErr result (self.new ≡ self.old) }
@@ -137,8 +138,8 @@ impl<I: Drop> Incoming<I> {
         }
     }
 
-    /// Cancels a pending request (LSP 3.17, "Cancellation Support"): drops its data, and gives the reply to send, which has code
-    /// -32800 and the text `canceled by client`.
+    /// Cancels a pending request (LSP 3.17, "Cancellation Support"): it drops its data, and returns the reply to send,
+    /// which has code -32800 and the text `canceled by client`.
     ///
     /// `Ok(None)` means that no such request is pending. If the allocation of the text fails, the queue is unchanged.
     pub fn cancel(&mut self, id: RequestId) -> Result<Option<Response>, AllocError>
@@ -186,10 +187,11 @@ impl<O> Model for Outgoing<O> {
 }
 
 impl<O> Outgoing<O> {
-    /// Makes a queue that has given out this many ids, at most 2147483648. None of their requests is pending. It does not allocate.
+    /// Makes a queue that has used `count` ids, at most 2147483648. None of their requests is pending. It does not
+    /// allocate.
     ///
-    /// The next request gets the id `count`. So a server goes on where an earlier queue of the same session stopped, and a test
-    /// reaches the last ids.
+    /// The next request gets the id `count`. So a server can go on where an earlier queue of the same session stopped,
+    /// and a test can reach the last ids.
     pub fn after(alloc: Global, count: u32) -> Outgoing<O>
         requires { count ≤ all_ids }
         ensures { result ≡ (map.empty, count) }
@@ -201,21 +203,21 @@ impl<O> Outgoing<O> {
         }
     }
 
-    /// Whether no request is pending under this id, also if there never was one.
+    /// Returns whether no request is pending under this id. It is true also if there never was one.
     pub fn is_completed(&self, id: &RequestId) -> bool
         ensures { result ≡ not (map.contains_key (pending_of self.now) id.now) }
     {
         !self.pending.contains_key(id)
     }
 
-    /// Whether any request is pending.
+    /// Returns whether any request is pending.
     pub fn has_pending(&self) -> bool
         ensures { result ≡ not (map.len (pending_of self.now) == 0) }
     {
         self.pending.len() != 0
     }
 
-    /// Takes a request out and gives its data, or `None` if it was not pending.
+    /// Takes a request out and returns its data, or `None` if it was not pending.
     pub fn complete(&mut self, id: RequestId) -> Option<O>
         ensures value { result ≡ map.get (pending_of self.old) id }
         ensures removed { self.new ≡ (map.remove (pending_of self.old) id, count_of self.old) }
@@ -223,7 +225,7 @@ impl<O> Outgoing<O> {
         self.pending.remove(&id)
     }
 
-    /// The data of a pending request.
+    /// Returns the data of a pending request.
     pub fn data(&self, id: &RequestId) -> Option<&O>
         ensures { option_copied result ≡ map.get (pending_of self.now) id.now }
     {
@@ -232,7 +234,8 @@ impl<O> Outgoing<O> {
 }
 
 impl<O: PartialEq> Outgoing<O> {
-    /// The ids of the pending requests whose data equals `wanted`, in ascending order. An `Err` is a failed allocation.
+    /// Returns the ids of the pending requests whose data equals `wanted`, in ascending order. An `Err` means that an
+    /// allocation failed.
     pub fn ids_of(&self, wanted: &O) -> Result<Vec<RequestId>, AllocError>
         ensures { IfOk result (λ ids.
             ids.items ≡ ids_where (λ kept. O.eq kept wanted.now) (pending_of self.now)) }
@@ -249,10 +252,11 @@ impl<O: PartialEq> Outgoing<O> {
 }
 
 impl<O: Drop> Outgoing<O> {
-    /// Makes a request pending with this data, and gives the request to send. Its id is the next of 0, 1, 2, .. 2147483647.
+    /// Makes a request pending with this data, and returns the request to send. Its id is the next of 0, 1, 2, ..
+    /// 2147483647.
     ///
-    /// The fault is `RegisterFault::Spent` if all ids were given out, else `RegisterFault::Memory` if an allocation failed. Both
-    /// give the data back, and the queue is unchanged.
+    /// The fault is `RegisterFault::Spent` if all ids were used, otherwise `RegisterFault::Memory` if an allocation
+    /// failed. Both return the data, and the queue is unchanged.
     pub fn register_value(
         &mut self,
         method: String,
@@ -289,7 +293,8 @@ impl<O: Drop> Outgoing<O> {
         }
     }
 
-    /// As `register_value`, with params of any type that `serde_json` writes. They go through their compact text.
+    /// Does what `register_value` does, with params of any type that `serde_json` writes. They are converted by way of
+    /// their compact text.
     ///
     /// If ids are left, and `serde_json` cannot convert the params or lacks memory for them, the fault is
     /// `RegisterFault::Unwritable`.
@@ -325,7 +330,7 @@ impl<O: Drop> Outgoing<O> {
         }
     }
 
-    /// Whether all ids were given out.
+    /// Returns whether all ids were used.
     fn is_spent(&self) -> bool
         ensures { result ≡ (count_of self.now == all_ids) }
     {
@@ -333,7 +338,7 @@ impl<O: Drop> Outgoing<O> {
     }
 }
 
-/// Keeps the data under the id, in the place of what was there. Where an allocation fails it comes back.
+/// Keeps the data under the id, in place of the data that was there. If an allocation fails, it returns the data.
 fn keep<D: Drop>(pending: &mut BTreeMap<RequestId, D>, id: RequestId, data: D) -> Result<(), D>
     ensures ok { OnOk result (map.from_entries pending.new.entries
         ≡ map.insert (map.from_entries {R = id_cmp} pending.old.entries) id «data») }
@@ -346,7 +351,7 @@ fn keep<D: Drop>(pending: &mut BTreeMap<RequestId, D>, id: RequestId, data: D) -
     }
 }
 
-/// The id that is this number.
+/// Makes the id with this number.
 fn id_of(next: u32) -> RequestId
     requires { next < 2 ^ 31 }
     ensures { result ≡ number (pos next) }
