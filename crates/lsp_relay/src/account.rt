@@ -1,4 +1,4 @@
-//! What each end of a relay knows, and how the two ends share it. It exists in the proofs alone.
+//! What each end of a relay knows, and how the two ends share it. It exists only in the proofs.
 use crate::ends::Parcel;
 use crossbeam_channel::protocol::{Join, Lesson, Outcome, Protocol, Split};
 use std::collections::LinkedList;
@@ -16,15 +16,16 @@ pub struct Account<M> {
     pub sent: LinkedList<Parcel<M>>,
     /// What was taken with it, in order.
     pub taken: LinkedList<Parcel<M>>,
-    /// How many wakes were sent or taken with it.
+    /// How many wake-ups were sent or taken with it.
     pub wakes: u64,
-    /// Whether a waker was ever made, if it may send; and if it may take and knows a plan.
+    /// Whether a waker was ever made. A pass knows it that may send, and one that may take and knows a plan.
     pub wakeable: bool,
-    /// What the relay's plan is made of, if it has one: bytes, if they are known, and two bounds, the first if there is one.
+    /// What the relay's plan is made of, if it has one: bytes, if they are known, and two bounds, the first if there is
+    /// one.
     pub source: Option<(Option<LinkedList<u8>>, (Option<u64>, u64))>,
 }
 
-/// What may be sent on a relay, of these bytes and under these bounds.
+/// Which parcels may be sent on a relay, for these bytes and these bounds.
 pub trait Plan<M> {
     ghost use Rattle.std.specs.Prelude.{ℕ, List, Option};
     ghost use Rattle.lsp_relay.specs.declared.ends.Parcel.{Parcel as AnyParcel};
@@ -32,15 +33,15 @@ pub trait Plan<M> {
     ghost may_send: { Option (List ℕ) × (Option ℕ × ℕ) → List (AnyParcel M) → Type 0 };
 }
 
-/// Anything may be sent.
+/// A plan that allows everything.
 pub struct AnyPlan;
 
 impl<M> Plan<M> for AnyPlan {
     ghost may_send = { λ source sent. Unit {0} };
 }
 
-/// The rule of a relay: what was taken, and then the parcels that are held, is what was sent; and where no waker was made, there are no
-/// wakes. The channel holds `None` for a wake.
+/// The rule of a relay: the parcels that were taken, followed by those that are held, are those that were sent; and if
+/// no waker was made, there are no wake-ups. The channel holds `None` for a wake-up.
 pub(crate) struct InOrder<P> {
     plan: PhantomData<P>,
 }
@@ -147,7 +148,7 @@ impl<M> Lesson<Option<Parcel<M>>, Account<M>> for Sent {
     ghost fact = { λ v items. Unit {0} };
 }
 
-/// A wake was added at the back. The account has one more of them.
+/// A wake-up was added at the back. The account has one more of them.
 pub(crate) struct Woken;
 
 impl<M> Outcome<Option<Parcel<M>>, Account<M>> for Woken {
@@ -160,7 +161,7 @@ impl<M> Lesson<Option<Parcel<M>>, Account<M>> for Woken {
     ghost fact = { λ v items. Unit {0} };
 }
 
-/// The parcel or the wake at the front was taken.
+/// The parcel or the wake-up at the front was taken.
 pub(crate) struct Received<P> {
     plan: PhantomData<P>,
 }
@@ -175,8 +176,8 @@ impl<M, P> Lesson<Option<Parcel<M>>, Account<M>> for Received<P> {
     ghost fact = { λ v items. Unit {0} };
 }
 
-/// What was sent is what was taken and the parcels that are held, and what was taken follows the plan. If no waker was made, no wake was
-/// taken.
+/// The parcels that were sent are those that were taken, followed by those that are held, and the taken ones follow the
+/// plan. If no waker was made, no wake-up was taken.
 pub(crate) struct Whole<P> {
     plan: PhantomData<P>,
 }

@@ -1,5 +1,6 @@
-//! The two ends of a relay: a bounded channel with one sender and one receiver, each of which keeps account of its parcels. The
-//! channel holds a parcel as `Some`, and a wake as `None`. The account of the one that takes, and of each waker, counts wakes.
+//! The two ends of a relay: a bounded channel with one sender and one receiver, each of which keeps account of its
+//! parcels. The channel holds a parcel as `Some`, and a wake-up as `None`. The account of the end that takes, and that
+//! of each waker, count wake-ups.
 ghost use Rattle.std.specs.Bool.{MatchBool};
 ghost use Rattle.std.specs.Prelude.{◌≡◌, ◌<◌, ◌≤◌, ◌+◌, [], ◌∷◌, ◌++◌, false, None, Some, true, IfErr, IfNone, IfOk, IfSome, OnErr, OnOk};
 ghost use mathlib.Core.List.{IsPrefix};
@@ -13,12 +14,12 @@ use std::alloc::{AllocError, Global};
 use std::marker::Model;
 use std::sync::Wait;
 
-/// What a relay carries: a message, or the sign that no more follow.
+/// What a relay carries: a message, or `End`, which means that no further message follows.
 #[derive(Debug, Drop)]
 pub enum Parcel<M> {
     /// A message.
     Message(M),
-    /// No more messages come. It is sent once, and last.
+    /// The messages end. It is sent once, and last.
     End,
 }
 
@@ -27,14 +28,14 @@ pub enum Parcel<M> {
 pub enum Taken<M> {
     /// A parcel, which was taken.
     Parcel(Parcel<M>),
-    /// A wake, which was taken. It carries nothing.
+    /// A wake-up, which was taken. It carries nothing.
     Wake,
     /// Nothing was taken.
     Nothing,
 }
 
-/// The sender's end of a relay. Contracts see which relay it belongs to, the parcels that were sent, in order, and whether a waker was
-/// ever made.
+/// The sender's end of a relay. Contracts see which relay it belongs to, the parcels that were sent, in order, and
+/// whether a waker was ever made.
 #[derive(Drop)]
 #[derive_where(Debug)]
 pub struct RelayTx<M: Drop, P: Plan<M> = AnyPlan> {
@@ -65,8 +66,8 @@ impl<M: Drop, P: Plan<M>> Model for RelayTx<M, P> {
         × EndsAtMostOnce (account_of t.pass).sent };
 }
 
-/// The receiver's end of a relay. Contracts see which relay it belongs to, the parcels that were taken, in order, and how many wakes
-/// were.
+/// The receiver's end of a relay. Contracts see which relay it belongs to, the parcels that were taken, in order, and
+/// the number of wake-ups that were.
 #[derive(Drop)]
 #[derive_where(Debug)]
 pub struct RelayRx<M: Drop, P: Plan<M> = AnyPlan> {
@@ -100,7 +101,8 @@ impl<M: Drop, P: Plan<M>> Model for RelayRx<M, P> {
         (account_of r.pass).wakes };
 }
 
-/// Wakes the thread that takes from a relay. Contracts see which relay it belongs to, and how many wakes it gave. It sends no parcel.
+/// Wakes the thread that takes from a relay. Contracts see which relay it belongs to, and how many wake-ups it sent. It
+/// sends no parcel.
 #[derive(Drop)]
 #[derive_where(Debug)]
 pub struct RelayWaker<M: Drop, P: Plan<M> = AnyPlan> {
@@ -124,7 +126,7 @@ impl<M: Drop, P: Plan<M>> Model for RelayWaker<M, P> {
         × (account_of w.pass ≡ waker_account (account_of w.pass).wakes) };
 }
 
-/// Makes a relay with room for this many parcels and wakes, at least one. The error means that an allocation failed.
+/// Makes a relay with room for `room` parcels and wake-ups, at least one. The error means that an allocation failed.
 pub fn relay<M: Drop, P: Plan<M>>(
     alloc: Global,
     room: usize,
@@ -154,7 +156,7 @@ impl<M: Drop, P: Plan<M>> RelayTx<M, P> {
 
     /// Adds the parcel at the back in one step. It waits while the relay is full. Send nothing after `Parcel::End`.
     ///
-    /// The error gives the parcel back, and nothing has changed. It comes if the receiver's end is gone.
+    /// An error means that the receiver's end is gone. It returns the parcel, and nothing has changed.
     pub fn send<R: Wait>(&mut self, rt: &R, parcel: Parcel<M>) -> Result<(), Parcel<M>>
         requires open { IsOpen self.old.sent }
         requires planned { Follows P.may_send self.old.source (self.old.sent ++ parcel ∷ []) }
@@ -197,7 +199,7 @@ impl<M: Drop, P: Plan<M>> RelayTx<M, P> {
 }
 
 impl<M: Drop, P: Plan<M>> RelayWaker<M, P> {
-    /// Makes another one, for another thread. The error means that an allocation failed.
+    /// Makes another waker, for another thread. The error means that an allocation failed.
     pub fn another(&mut self) -> Result<RelayWaker<M, P>, AllocError>
         ensures relay { IfOk result (λ waker.
             waker ≡ record { relay = self.old.relay; given = 0 }) }
@@ -208,11 +210,11 @@ impl<M: Drop, P: Plan<M>> RelayWaker<M, P> {
         Ok(RelayWaker { sender, pass })
     }
 
-    /// Wakes the thread that takes. A wake takes room in the relay as a parcel does, and while the relay is full this waits. So the
-    /// thread that takes should not wake itself.
+    /// Wakes the thread that takes. A wake-up takes room in the relay as a parcel does, and while the relay is full
+    /// this waits. So the thread that takes should not wake itself.
     ///
-    /// True means that the wake is in the relay, to be taken after all that is there. False means that none was given. It comes if the
-    /// receiver's end is gone; no contract says so.
+    /// True means that the wake-up is in the relay, after everything that was there. False means that none was sent.
+    /// This happens if the receiver's end is gone, which no contract says.
     pub fn wake<R: Wait>(&mut self, rt: &R) -> bool
         ensures relay { self.new.relay ≡ self.old.relay }
         ensures given { MatchBool result (self.new.given ≡ self.old.given + 1)
@@ -229,17 +231,18 @@ impl<M: Drop, P: Plan<M>> RelayRx<M, P> {
     ghost use Rattle.std.specs.Prelude.{true};
     ghost use Rattle.lsp_relay.specs.Relay.{IsLearned, TakenIs, has_end, wakes_after};
 
-    /// What was taken follows the plan, if there is one, and each wake was given by a waker that was made before.
+    /// States that the parcels that were taken follow the plan, if there is one, and that each wake-up was sent by a
+    /// waker that was made before. It does nothing else.
     pub fn learn(&self)
         ensures { IsLearned P.may_send self.now.source self.now.wakeable self.now.taken self.now.wakes }
     {
         let _pass = &self.pass;
     }
 
-    /// Takes the parcel at the front in one step. It waits while the relay is empty, and passes over wakes.
+    /// Takes the parcel at the front in one step. It waits while the relay is empty, and ignores wake-ups.
     ///
-    /// `None` means that no parcel was taken. It comes if the relay is empty and the sender's end and all wakers are gone; no contract
-    /// says so.
+    /// `None` means that no parcel was taken. This happens if the relay is empty and the sender's end and all wakers
+    /// are gone, which no contract says.
     pub fn take<R: Wait>(&mut self, rt: &R) -> Option<Parcel<M>>
         ensures relay { self.new.relay ≡ self.old.relay }
         ensures source { (self.new.source ≡ self.old.source) × (self.new.wakeable ≡ self.old.wakeable) }
@@ -257,8 +260,9 @@ impl<M: Drop, P: Plan<M>> RelayRx<M, P> {
         unreachable!()
     }
 
-    /// Takes the parcel or the wake at the front in one step. It waits while the relay is empty. `Taken::Wake` means that one wake was
-    /// taken, and no other answer takes one. `Taken::Nothing` comes if `take` gives `None`.
+    /// Takes the parcel or the wake-up at the front in one step. It waits while the relay is empty. `Taken::Wake` means
+    /// that one wake-up was taken, and no other result takes one. `Taken::Nothing` is returned where `take` returns
+    /// `None`.
     pub fn take_or_wake<R: Wait>(&mut self, rt: &R) -> Taken<M>
         ensures relay { self.new.relay ≡ self.old.relay }
         ensures source { (self.new.source ≡ self.old.source) × (self.new.wakeable ≡ self.old.wakeable) }
@@ -272,7 +276,7 @@ impl<M: Drop, P: Plan<M>> RelayRx<M, P> {
         }
     }
 
-    /// As `take_or_wake`, but it doesn't wait. `Taken::Nothing` comes if nothing stands at the front.
+    /// Does what `take_or_wake` does, but doesn't wait. `Taken::Nothing` means that nothing is at the front.
     pub fn try_take<R: Wait>(&mut self, rt: &R) -> Taken<M>
         ensures relay { self.new.relay ≡ self.old.relay }
         ensures source { (self.new.source ≡ self.old.source) × (self.new.wakeable ≡ self.old.wakeable) }
@@ -289,7 +293,7 @@ impl<M: Drop, P: Plan<M>> RelayRx<M, P> {
         }
     }
 
-    /// Takes without waiting. `None` means that no parcel was taken: nothing or a wake stood at the front.
+    /// Takes without waiting. `None` means that no parcel was taken: nothing or a wake-up was at the front.
     fn take_at_once<R: Wait>(&mut self, rt: &R) -> Option<Parcel<M>>
         ensures relay { self.new.relay ≡ self.old.relay }
         ensures source { (self.new.source ≡ self.old.source) × (self.new.wakeable ≡ self.old.wakeable) }
@@ -303,10 +307,12 @@ impl<M: Drop, P: Plan<M>> RelayRx<M, P> {
         }
     }
 
-    /// Takes a parcel without waiting, when both ends are in one thread again. Afterwards what was taken is a beginning of what
-    /// was sent, in order, and all of it if `Parcel::End` was taken. If no waker was ever made, no wake was taken.
+    /// Takes a parcel without waiting, when both ends are in one thread again. After this the parcels that were taken
+    /// are the first of those that were sent, in order, and all of them if `Parcel::End` was taken. If no waker was
+    /// ever made, no wake-up was taken.
     ///
-    /// `None` means that no parcel was taken. It comes if the relay is empty, and where a wake stood at the front, which is taken then.
+    /// `None` means that no parcel was taken. This happens if the relay is empty, or if a wake-up is at the front,
+    /// which is taken then.
     pub fn settle<R: Wait>(&mut self, rt: &R, tx: &mut RelayTx<M, P>) -> Option<Parcel<M>>
         requires same_relay { self.old.relay ≡ tx.old.relay }
         ensures relay { self.new.relay ≡ self.old.relay }
@@ -327,7 +333,8 @@ impl<M: Drop, P: Plan<M>> RelayRx<M, P> {
     }
 }
 
-/// Gives a fresh relay a plan: from now on the sender sends only what it says, and makes no waker, and the receiver knows both.
+/// Gives a fresh relay a plan. From now on the sender sends only what the plan allows, and makes no waker, and the
+/// receiver knows both.
 pub fn plan<M: Drop, P: Plan<M>, W: Source>(tx: &mut RelayTx<M, P>, rx: &mut RelayRx<M, P>)
     requires same_relay { rx.old.relay ≡ tx.old.relay }
     requires fresh { tx.old.sent ≡ [] }
@@ -352,8 +359,8 @@ pub fn plan<M: Drop, P: Plan<M>, W: Source>(tx: &mut RelayTx<M, P>, rx: &mut Rel
     rx.pass = tx.sender.another::<Plans<W>>(&mut tx.pass);
 }
 
-/// Settles a relay whose ends are in one thread again, and drops both. What was taken is a beginning of what was sent. If no waker was
-/// ever made, no wake was taken.
+/// Settles a relay whose ends are in one thread again, and drops both. The parcels that were taken are the first of
+/// those that were sent. If no waker was ever made, no wake-up was taken.
 pub fn settle_all<R: Wait, M: Drop, P: Plan<M>>(rt: &R, rx: RelayRx<M, P>, tx: RelayTx<M, P>)
     requires { rx.relay ≡ tx.relay }
     ensures settled { IsPrefix rx.taken tx.sent }

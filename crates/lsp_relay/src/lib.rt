@@ -1,5 +1,5 @@
-//! A relay: a channel that hands messages from one thread to another in order, and then says that there are no more. Other threads can
-//! wake the one that takes.
+//! A relay: a channel that passes messages from one thread to another in order, and then says that they ended. Other
+//! threads can wake the thread that takes.
 #![tactic(auto)]
 
 mod account;
