@@ -5,11 +5,12 @@ use serde::{DeserializeOwned, Deserializer};
 use serde_json::{Error, Value};
 use std::alloc::{AllocError, Global};
 
-/// `serde_json` reads texts that nest no deeper.
+/// The deepest nesting of a text that `serde_json` reads.
 const MAX_DEPTH: u32 = 127;
 
-/// Reads a value as a type of your own, as `serde_json::from_value` does, whose errors it gives: a value that does not fit, or that
-/// is read by a step which needs its text, is written out and read again. No contract says what the type takes from it: test it.
+/// Reads a value as a type of your own, as `serde_json::from_value` does, with the same errors. A value that does not
+/// fit, or that is read by a step which needs its text, is written out and read again. No contract says what the type
+/// takes from it, so test it.
 pub fn from_value<T: DeserializeOwned>(alloc: Global, value: Value) -> Result<T, Error> {
     match straight(alloc, &value) {
         Ok(read) => Ok(read),

@@ -10,7 +10,7 @@ use std::collections::btree_map::Iter;
 pub(crate) enum Stop {
     /// It does not fit, and another type may.
     Misfit,
-    /// Its text has to be asked.
+    /// Its text is needed.
     Other,
     /// An allocation failed.
     Memory,
@@ -30,7 +30,7 @@ struct Frame<'v> {
     below: usize,
 }
 
-/// What a step in an array or an object meets.
+/// What a step in an array or an object finds.
 #[derive(Clone, Copy, Drop)]
 enum Step<'v> {
     Item(&'v Value),
@@ -76,7 +76,8 @@ impl<'v> TreeReader<'v> {
         }
     }
 
-    /// What was read, unless the reader stopped for good on the way. What is left unread does not count, as in the text.
+    /// Returns what was read, unless the reader stopped for good before. A part that is left unread does not count, as
+    /// in the text.
     pub(crate) fn settled<T: Drop>(&self, read: Result<T, Stop>) -> Result<T, Stop> {
         match self.stopped {
             None => read,
@@ -92,7 +93,8 @@ impl<'v> TreeReader<'v> {
         stop
     }
 
-    /// A value of another type was wanted. What comes next is inside it, if it is an array or an object, as in its text.
+    /// Reports that a value of another type was expected. The next value is inside it, if it is an array or an object,
+    /// as in its text.
     fn misfit(&mut self, value: &'v Value) -> Stop {
         let opened = match value {
             Value::Array(items) => self.open_items(items.as_slice()),
@@ -105,7 +107,7 @@ impl<'v> TreeReader<'v> {
         }
     }
 
-    /// Takes the value that comes next, which is no key.
+    /// Takes the next value, which is no key.
     fn value(&mut self) -> Result<&'v Value, Stop> {
         if self.key.is_some() {
             return Err(self.stop(Stop::Other));
@@ -149,7 +151,7 @@ impl<'v> TreeReader<'v> {
         self.push(Level::Members(members.iter()), self.at)
     }
 
-    /// A copy of a frame that stays as it is.
+    /// Copies a frame, which stays as it is.
     fn copied(&self, at: usize) -> Result<(Level<'v>, usize), Stop> {
         let Some(frame) = self.frames.get(at) else {
             return Err(Stop::Other);
@@ -184,7 +186,7 @@ impl<'v> TreeReader<'v> {
         }
     }
 
-    /// Leaves the frame that is open. Behind the one around it, only the frames of marks are kept.
+    /// Leaves the frame that is open. After the one around it, only the frames of marks are kept.
     fn leave(&mut self) {
         self.at = match self.frames.get(self.at.saturating_sub(1)) {
             Some(frame) => frame.below,
