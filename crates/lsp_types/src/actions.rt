@@ -22,13 +22,14 @@ use std::alloc::{AllocError, Global};
 pub struct CodeActionParams {
     /// The document.
     pub text_document: TextDocumentIdentifier,
-    /// The part that actions are asked for.
+    /// The part for which actions are requested.
     pub range: Range,
-    /// What else is known.
+    /// The context of the request.
     pub context: CodeActionContext,
-    /// The token to report progress with. None if it is not asked for, or does not fit.
+    /// The token to report progress with. `None` means that no progress is requested, or that the token does not fit.
     pub work_done_token: Option<ProgressToken>,
-    /// The token to send parts of the result with. None if they are not asked for, or it does not fit.
+    /// The token to send parts of the result with. `None` means that no parts are requested, or that the token does not
+    /// fit.
     pub partial_result_token: Option<ProgressToken>,
 }
 
@@ -87,15 +88,15 @@ impl FromJson for CodeActionParams {
     }
 }
 
-/// What is known where code actions are asked for (LSP 3.17, "CodeActionContext").
+/// The context of a request for code actions (LSP 3.17, "CodeActionContext").
 #[derive(Drop)]
 pub struct CodeActionContext {
-    /// The diagnostics that the client shows there, of each server and tool. On reading, one that does not fit is left
+    /// The diagnostics that the client shows there, from each server and tool. When read, one that does not fit is left
     /// out.
     pub diagnostics: Vec<Diagnostic>,
-    /// The kinds that are asked for (`code_action_kinds`), each with those below it.
+    /// The requested kinds (`code_action_kinds`), each with those below it.
     pub only: Option<Vec<String>>,
-    /// Why they are asked for. On reading, none if it does not fit.
+    /// Why they are requested. When read, it is `None` if it does not fit.
     pub trigger_kind: Option<CodeActionTriggerKind>,
 }
 
@@ -140,14 +141,14 @@ impl FromJson for CodeActionContext {
     }
 }
 
-/// Why code actions are asked for (LSP 3.17, "CodeActionTriggerKind"). On reading, another number is refused.
+/// Why code actions are requested (LSP 3.17, "CodeActionTriggerKind"). On reading, another number is refused.
 #[derive(Clone, Copy, Drop)]
 pub struct CodeActionTriggerKind(pub u32);
 
 impl CodeActionTriggerKind {
     /// The user asked.
     pub const INVOKED: CodeActionTriggerKind = CodeActionTriggerKind(1);
-    /// The client asked, as the cursor moved or the text changed.
+    /// The client asked, because the cursor moved or the text changed.
     pub const AUTOMATIC: CodeActionTriggerKind = CodeActionTriggerKind(2);
 }
 
@@ -170,7 +171,7 @@ impl FromJson for CodeActionTriggerKind {
     }
 }
 
-/// Why a change can not be taken now (LSP 3.17, "CodeAction").
+/// Why a change can't be chosen now (LSP 3.17, "CodeAction").
 #[derive(Drop)]
 pub struct CodeActionDisabled {
     /// The reason, for people.
@@ -208,27 +209,28 @@ pub struct CodeAction {
     pub title: String,
     /// Its kind (`code_action_kinds`).
     pub kind: Option<String>,
-    /// What it mends.
+    /// The diagnostics that it fixes.
     pub diagnostics: Option<Vec<Diagnostic>>,
-    /// Whether it is the one to take if the user asks for no choice.
+    /// Whether it is applied if the user does not choose, for example by a key for fixes.
     pub is_preferred: Option<bool>,
-    /// Why it can not be taken now.
+    /// Why it can't be chosen now.
     pub disabled: Option<CodeActionDisabled>,
     /// What it changes, before its command is sent.
     pub edit: Option<WorkspaceEdit>,
-    /// The command that the client sends then.
+    /// The command that the client sends after the edit.
     pub command: Option<Command>,
-    /// What the client gives back in `codeAction/resolve`.
+    /// The client returns this value in `codeAction/resolve`.
     pub data: Option<Value>,
-    /// What LSP 3.17 does not name, as a newer client or server says it: an object, whose members are written beside
-    /// these. On reading, none if there is nothing else. If a field above has the same name, the member here counts.
+    /// An object with members that LSP 3.17 does not name, for example those of a newer client or server. They are
+    /// written beside the members above. When read, it is `None` if there are none. If a field above has the same name,
+    /// the member here counts.
     pub more: Option<Value>,
 }
 
 impl CodeAction {
     ghost use Rattle.std.specs.Prelude.{◌≡◌, Some, None};
 
-    /// A change of some kind, which changes nothing yet.
+    /// Makes an action with this title and this kind, without an edit.
     pub fn new(title: String, kind: String) -> CodeAction
         ensures { result ≡ record {
           title = title;
@@ -343,8 +345,8 @@ impl FromJson for CodeAction {
     }
 }
 
-/// What a user may choose (LSP 3.17, "Code Action Request"). The `command` of a command is a string, and that of a code
-/// action is none.
+/// What a user may choose (LSP 3.17, "Code Action Request"). In a command, `command` is a string; in a code action it
+/// is not.
 #[derive(Drop)]
 pub enum CodeActionOrCommand {
     /// A command that the client sends.

@@ -1,4 +1,4 @@
-//! What a server can do. An options struct of which each field is `None` says as much as the standard's `true`.
+//! What a server can do. A struct of options whose fields are all `None` means the same as the standard's `true`.
 // `tools/types` wrote this file from `types.txt`: change that.
 ghost use Rattle.std.specs.Prelude.{◌∷◌, [], Some, codes, option_map};
 ghost use Rattle.serde_json.specs.Data.{number, unsigned};
@@ -11,14 +11,14 @@ use crate::json::{FromJson, Members, Misfit, Object, ToJson, fitting, number_wit
 use serde_json::Value;
 use std::alloc::{AllocError, Global};
 
-/// What a server can do (LSP 3.17, "ServerCapabilities"). What the fields lack goes into `more`.
+/// What a server can do (LSP 3.17, "ServerCapabilities"). `more` has the members without a field.
 #[derive(Drop)]
 pub struct ServerCapabilities {
     /// What `Position::character` counts: `utf-8`, `utf-16` or `utf-32`. `None` means `utf-16`.
     pub position_encoding: Option<String>,
-    /// What the client is to tell of its documents.
+    /// Which notifications about documents the client is to send.
     pub text_document_sync: Option<TextDocumentSyncOptions>,
-    /// What the client is to tell of its notebooks: an object.
+    /// Which notifications about notebooks the client is to send: an object.
     pub notebook_document_sync: Option<Value>,
     /// `textDocument/completion`.
     pub completion_provider: Option<CompletionOptions>,
@@ -84,16 +84,16 @@ pub struct ServerCapabilities {
     pub workspace: Option<WorkspaceOptions>,
     /// What the standard lacks.
     pub experimental: Option<Value>,
-    /// An object, whose members are written beside these, as `{"codeLensProvider": {}}`. Another value is passed over.
-    /// If a field above has the same name, the member here counts: a tree keeps the last of two. On reading, what has
-    /// no field.
+    /// An object with further members, such as `{"codeLensProvider": {}}`, which are written beside those above.
+    /// Another value is ignored. If a field above has the same name, the member here counts: a tree keeps the last of
+    /// two. When read, it has the members without a field.
     pub more: Option<Value>,
 }
 
 impl Default for ServerCapabilities {
     ghost use Rattle.std.specs.Prelude.{◌≡◌, None};
 
-    /// A server that can do nothing.
+    /// Makes the capabilities of a server that can do nothing.
     fn default() -> ServerCapabilities
         ensures { result ≡ record {
           position_encoding = None;
@@ -466,16 +466,16 @@ impl FromJson for ServerCapabilities {
     }
 }
 
-/// How a client tells of changes (LSP 3.17, "TextDocumentSyncKind"). On reading, another number is refused.
+/// How a client sends changes of documents (LSP 3.17, "TextDocumentSyncKind"). On reading, another number is refused.
 #[derive(Clone, Copy, Drop)]
 pub struct TextDocumentSyncKind(pub u32);
 
 impl TextDocumentSyncKind {
     /// Not at all.
     pub const NONE: TextDocumentSyncKind = TextDocumentSyncKind(0);
-    /// By the whole text.
+    /// As the whole text.
     pub const FULL: TextDocumentSyncKind = TextDocumentSyncKind(1);
-    /// By the parts that changed.
+    /// As the parts that changed.
     pub const INCREMENTAL: TextDocumentSyncKind = TextDocumentSyncKind(2);
 }
 
@@ -498,12 +498,12 @@ impl FromJson for TextDocumentSyncKind {
     }
 }
 
-/// What a client is to tell of its documents (LSP 3.17, "TextDocumentSyncOptions").
+/// Which notifications about documents a client is to send (LSP 3.17, "TextDocumentSyncOptions").
 #[derive(Drop)]
 pub struct TextDocumentSyncOptions {
     /// `textDocument/didOpen` and `didClose`.
     pub open_close: Option<bool>,
-    /// How it tells of changes. `None` means not at all.
+    /// How it sends changes. `None` means not at all.
     pub change: Option<TextDocumentSyncKind>,
     /// `textDocument/willSave`.
     pub will_save: Option<bool>,
@@ -516,7 +516,8 @@ pub struct TextDocumentSyncOptions {
 impl TextDocumentSyncOptions {
     ghost use Rattle.std.specs.Prelude.{◌≡◌, Some, None, true};
 
-    /// The client tells of opening and closing, and of changes in this way. It does not tell of saving.
+    /// Makes options by which the client notifies the server of opened and closed documents, and of changes in this
+    /// form, but not of saves.
     pub fn new(change: TextDocumentSyncKind) -> TextDocumentSyncOptions
         ensures { result ≡ record {
           open_close = Some true;
@@ -539,7 +540,7 @@ impl TextDocumentSyncOptions {
 impl Default for TextDocumentSyncOptions {
     ghost use Rattle.std.specs.Prelude.{◌≡◌, None};
 
-    /// Nothing is set.
+    /// Makes one in which no member is set.
     fn default() -> TextDocumentSyncOptions
         ensures { result ≡ record {
           open_close = None;
@@ -610,17 +611,17 @@ impl FromJson for TextDocumentSyncOptions {
     }
 }
 
-/// What a client tells of saving (LSP 3.17, "SaveOptions").
+/// What a client sends when a document is saved (LSP 3.17, "SaveOptions").
 #[derive(Clone, Copy, Drop)]
 pub struct SaveOptions {
-    /// Whether it sends the text, too.
+    /// Whether it sends the text too.
     pub include_text: Option<bool>,
 }
 
 impl Default for SaveOptions {
     ghost use Rattle.std.specs.Prelude.{◌≡◌, None};
 
-    /// Nothing is set.
+    /// Makes one in which no member is set.
     fn default() -> SaveOptions
         ensures { result ≡ record {
           include_text = None;
@@ -659,22 +660,22 @@ impl FromJson for SaveOptions {
 /// How completion is offered (LSP 3.17, "Completion Request").
 #[derive(Drop)]
 pub struct CompletionOptions {
-    /// Which characters ask for it when they are typed, beside letters.
+    /// Which typed characters, beside letters, request it.
     pub trigger_characters: Option<Vec<String>>,
     /// Whether the server fills in items by `completionItem/resolve`.
     pub resolve_provider: Option<bool>,
-    /// Which characters take an item as they are typed.
+    /// Which typed characters accept an item.
     pub all_commit_characters: Option<Vec<String>>,
-    /// What the server can do of an item.
+    /// What the server supports of an item.
     pub completion_item: Option<CompletionItemOptions>,
-    /// Whether the server can tell how far it is.
+    /// Whether the server can report progress.
     pub work_done_progress: Option<bool>,
 }
 
 impl Default for CompletionOptions {
     ghost use Rattle.std.specs.Prelude.{◌≡◌, None};
 
-    /// Nothing is set.
+    /// Makes one in which no member is set.
     fn default() -> CompletionOptions
         ensures { result ≡ record {
           trigger_characters = None;
@@ -749,7 +750,7 @@ impl FromJson for CompletionOptions {
     }
 }
 
-/// What a server can do of an item (LSP 3.17, "Completion Request").
+/// What a server supports of an item (LSP 3.17, "Completion Request").
 #[derive(Clone, Copy, Drop)]
 pub struct CompletionItemOptions {
     /// Whether it reads `label_details` in `completionItem/resolve`.
@@ -759,7 +760,7 @@ pub struct CompletionItemOptions {
 impl Default for CompletionItemOptions {
     ghost use Rattle.std.specs.Prelude.{◌≡◌, None};
 
-    /// Nothing is set.
+    /// Makes one in which no member is set.
     fn default() -> CompletionItemOptions
         ensures { result ≡ record {
           label_details_support = None;
@@ -805,18 +806,18 @@ impl FromJson for CompletionItemOptions {
 /// How signature help is offered (LSP 3.17, "Signature Help Request").
 #[derive(Drop)]
 pub struct SignatureHelpOptions {
-    /// Which characters ask for it when they are typed.
+    /// Which typed characters request it.
     pub trigger_characters: Option<Vec<String>>,
-    /// Which ask again while it is shown, beside these.
+    /// Which further characters request it again while it is shown.
     pub retrigger_characters: Option<Vec<String>>,
-    /// Whether the server can tell how far it is.
+    /// Whether the server can report progress.
     pub work_done_progress: Option<bool>,
 }
 
 impl Default for SignatureHelpOptions {
     ghost use Rattle.std.specs.Prelude.{◌≡◌, None};
 
-    /// Nothing is set.
+    /// Makes one in which no member is set.
     fn default() -> SignatureHelpOptions
         ensures { result ≡ record {
           trigger_characters = None;
@@ -880,14 +881,14 @@ pub struct CodeActionOptions {
     pub code_action_kinds: Option<Vec<String>>,
     /// Whether the server fills in actions by `codeAction/resolve`.
     pub resolve_provider: Option<bool>,
-    /// Whether the server can tell how far it is.
+    /// Whether the server can report progress.
     pub work_done_progress: Option<bool>,
 }
 
 impl Default for CodeActionOptions {
     ghost use Rattle.std.specs.Prelude.{◌≡◌, None};
 
-    /// Nothing is set.
+    /// Makes one in which no member is set.
     fn default() -> CodeActionOptions
         ensures { result ≡ record {
           code_action_kinds = None;
@@ -949,14 +950,14 @@ impl FromJson for CodeActionOptions {
 pub struct CodeLensOptions {
     /// Whether the server fills in lenses by `codeLens/resolve`.
     pub resolve_provider: Option<bool>,
-    /// Whether the server can tell how far it is.
+    /// Whether the server can report progress.
     pub work_done_progress: Option<bool>,
 }
 
 impl Default for CodeLensOptions {
     ghost use Rattle.std.specs.Prelude.{◌≡◌, None};
 
-    /// Nothing is set.
+    /// Makes one in which no member is set.
     fn default() -> CodeLensOptions
         ensures { result ≡ record {
           resolve_provider = None;
@@ -1011,14 +1012,14 @@ impl FromJson for CodeLensOptions {
 pub struct DocumentLinkOptions {
     /// Whether the server fills in links by `documentLink/resolve`.
     pub resolve_provider: Option<bool>,
-    /// Whether the server can tell how far it is.
+    /// Whether the server can report progress.
     pub work_done_progress: Option<bool>,
 }
 
 impl Default for DocumentLinkOptions {
     ghost use Rattle.std.specs.Prelude.{◌≡◌, None};
 
-    /// Nothing is set.
+    /// Makes one in which no member is set.
     fn default() -> DocumentLinkOptions
         ensures { result ≡ record {
           resolve_provider = None;
@@ -1071,16 +1072,16 @@ impl FromJson for DocumentLinkOptions {
 /// How formatting while a user types is offered (LSP 3.17, "Document on Type Formatting Request").
 #[derive(Drop)]
 pub struct DocumentOnTypeFormattingOptions {
-    /// A character that asks for it, as `}`.
+    /// A character that requests it, such as `}`.
     pub first_trigger_character: String,
-    /// Others that do.
+    /// Others that request it.
     pub more_trigger_character: Option<Vec<String>>,
 }
 
 impl DocumentOnTypeFormattingOptions {
     ghost use Rattle.std.specs.Prelude.{◌≡◌, None};
 
-    /// What has to be there. The rest is `None`.
+    /// Makes one from the required members. The others are `None`.
     pub fn new(first_trigger_character: String) -> DocumentOnTypeFormattingOptions
         ensures { result ≡ record {
           first_trigger_character = first_trigger_character;
@@ -1135,14 +1136,14 @@ impl FromJson for DocumentOnTypeFormattingOptions {
 pub struct RenameOptions {
     /// `textDocument/prepareRename`.
     pub prepare_provider: Option<bool>,
-    /// Whether the server can tell how far it is.
+    /// Whether the server can report progress.
     pub work_done_progress: Option<bool>,
 }
 
 impl Default for RenameOptions {
     ghost use Rattle.std.specs.Prelude.{◌≡◌, None};
 
-    /// Nothing is set.
+    /// Makes one in which no member is set.
     fn default() -> RenameOptions
         ensures { result ≡ record {
           prepare_provider = None;
@@ -1197,14 +1198,14 @@ impl FromJson for RenameOptions {
 pub struct ExecuteCommandOptions {
     /// Their names.
     pub commands: Vec<String>,
-    /// Whether the server can tell how far it is.
+    /// Whether the server can report progress.
     pub work_done_progress: Option<bool>,
 }
 
 impl ExecuteCommandOptions {
     ghost use Rattle.std.specs.Prelude.{◌≡◌, None};
 
-    /// What has to be there. The rest is `None`.
+    /// Makes one from the required members. The others are `None`.
     pub fn new(commands: Vec<String>) -> ExecuteCommandOptions
         ensures { result ≡ record {
           commands = commands;
@@ -1257,20 +1258,20 @@ impl FromJson for ExecuteCommandOptions {
 /// How semantic tokens are offered (LSP 3.17, "Semantic Tokens").
 #[derive(Drop)]
 pub struct SemanticTokensOptions {
-    /// What the numbers of types and modifiers stand for.
+    /// The names of the types and modifiers.
     pub legend: SemanticTokensLegend,
     /// `textDocument/semanticTokens/range`.
     pub range: Option<bool>,
     /// `textDocument/semanticTokens/full`.
     pub full: Option<SemanticTokensFullOptions>,
-    /// Whether the server can tell how far it is.
+    /// Whether the server can report progress.
     pub work_done_progress: Option<bool>,
 }
 
 impl SemanticTokensOptions {
     ghost use Rattle.std.specs.Prelude.{◌≡◌, None};
 
-    /// What has to be there. The rest is `None`.
+    /// Makes one from the required members. The others are `None`.
     pub fn new(legend: SemanticTokensLegend) -> SemanticTokensOptions
         ensures { result ≡ record {
           legend = legend;
@@ -1344,7 +1345,7 @@ pub struct SemanticTokensFullOptions {
 impl Default for SemanticTokensFullOptions {
     ghost use Rattle.std.specs.Prelude.{◌≡◌, None};
 
-    /// Nothing is set.
+    /// Makes one in which no member is set.
     fn default() -> SemanticTokensFullOptions
         ensures { result ≡ record {
           delta = None;
@@ -1381,9 +1382,9 @@ impl FromJson for SemanticTokensFullOptions {
 /// What the numbers of semantic tokens stand for (LSP 3.17, "SemanticTokensLegend").
 #[derive(Drop)]
 pub struct SemanticTokensLegend {
-    /// The name of each type, from 0, as `variable`.
+    /// The name of each type, from 0, such as `variable`.
     pub token_types: Vec<String>,
-    /// The name of each modifier, from the lowest bit, as `readonly`.
+    /// The name of each modifier, from the lowest bit, such as `readonly`.
     pub token_modifiers: Vec<String>,
 }
 
@@ -1423,7 +1424,7 @@ impl FromJson for SemanticTokensLegend {
     }
 }
 
-/// How diagnostics are offered that a client asks for (LSP 3.17, "Pull Diagnostics").
+/// How diagnostics are offered that a client requests (LSP 3.17, "Pull Diagnostics").
 #[derive(Drop)]
 pub struct DiagnosticOptions {
     /// A name for them, if the server has several kinds.
@@ -1432,14 +1433,14 @@ pub struct DiagnosticOptions {
     pub inter_file_dependencies: bool,
     /// `workspace/diagnostic`.
     pub workspace_diagnostics: bool,
-    /// Whether the server can tell how far it is.
+    /// Whether the server can report progress.
     pub work_done_progress: Option<bool>,
 }
 
 impl DiagnosticOptions {
     ghost use Rattle.std.specs.Prelude.{◌≡◌, None};
 
-    /// What has to be there. The rest is `None`.
+    /// Makes one from the required members. The others are `None`.
     pub fn new(inter_file_dependencies: bool, workspace_diagnostics: bool) -> DiagnosticOptions
         ensures { result ≡ record {
           identifier = None;
@@ -1511,14 +1512,14 @@ impl FromJson for DiagnosticOptions {
 pub struct WorkspaceOptions {
     /// What it can do with folders.
     pub workspace_folders: Option<WorkspaceFoldersServerCapabilities>,
-    /// Which files it wants to hear of, as they are made, renamed or deleted: an object.
+    /// For which files it wants notifications and requests when they are created, renamed or deleted: an object.
     pub file_operations: Option<Value>,
 }
 
 impl Default for WorkspaceOptions {
     ghost use Rattle.std.specs.Prelude.{◌≡◌, None};
 
-    /// Nothing is set.
+    /// Makes one in which no member is set.
     fn default() -> WorkspaceOptions
         ensures { result ≡ record {
           workspace_folders = None;
@@ -1573,14 +1574,14 @@ impl FromJson for WorkspaceOptions {
 pub struct WorkspaceFoldersServerCapabilities {
     /// Whether it can have several.
     pub supported: Option<bool>,
-    /// Whether it wants to hear of their changes.
+    /// Whether it wants notifications of their changes.
     pub change_notifications: Option<ChangeNotifications>,
 }
 
 impl Default for WorkspaceFoldersServerCapabilities {
     ghost use Rattle.std.specs.Prelude.{◌≡◌, None};
 
-    /// Nothing is set.
+    /// Makes one in which no member is set.
     fn default() -> WorkspaceFoldersServerCapabilities
         ensures { result ≡ record {
           supported = None;
@@ -1633,13 +1634,13 @@ impl FromJson for WorkspaceFoldersServerCapabilities {
     }
 }
 
-/// Whether a server wants to hear of changes of folders: a boolean, or a string (LSP 3.17,
+/// Whether a server wants notifications of changes of folders: a boolean, or a string (LSP 3.17,
 /// "WorkspaceFoldersServerCapabilities").
 #[derive(Drop)]
 pub enum ChangeNotifications {
     /// Whether it does.
     Wanted(bool),
-    /// It does, and takes this back by the id (`client/unregisterCapability`).
+    /// It does, and unregisters by this id (`client/unregisterCapability`).
     Id(String),
 }
 

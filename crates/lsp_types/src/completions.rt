@@ -92,7 +92,7 @@ impl FromJson for CompletionItemKind {
     }
 }
 
-/// How the text of a completion is meant (LSP 3.17, "InsertTextFormat"). On reading, another number is refused.
+/// The format of a completion's text (LSP 3.17, "InsertTextFormat"). On reading, another number is refused.
 #[derive(Clone, Copy, Drop)]
 pub struct InsertTextFormat(pub u32);
 
@@ -127,7 +127,7 @@ impl FromJson for InsertTextFormat {
 pub struct CompletionItemTag(pub u32);
 
 impl CompletionItemTag {
-    /// Struck through: code that is not to be used.
+    /// Struck through: deprecated code.
     pub const DEPRECATED: CompletionItemTag = CompletionItemTag(1);
 }
 
@@ -150,7 +150,7 @@ impl FromJson for CompletionItemTag {
     }
 }
 
-/// What becomes of the whitespace in a completion of several lines (LSP 3.17, "InsertTextMode"). On reading, another
+/// What happens to the whitespace of a completion with several lines (LSP 3.17, "InsertTextMode"). On reading, another
 /// number is refused.
 #[derive(Clone, Copy, Drop)]
 pub struct InsertTextMode(pub u32);
@@ -158,7 +158,7 @@ pub struct InsertTextMode(pub u32);
 impl InsertTextMode {
     /// It stays as it is.
     pub const AS_IS: InsertTextMode = InsertTextMode(1);
-    /// Its lines are indented as the one that it stands in.
+    /// Its lines are indented like the line of the cursor.
     pub const ADJUST_INDENTATION: InsertTextMode = InsertTextMode(2);
 }
 
@@ -184,16 +184,16 @@ impl FromJson for InsertTextMode {
 /// What is shown beside a label (LSP 3.17, "CompletionItemLabelDetails").
 #[derive(Drop)]
 pub struct CompletionItemLabelDetails {
-    /// Right behind it, as the params of a function.
+    /// Right after it, for example the parameters of a function.
     pub detail: Option<String>,
-    /// Further behind, as a path.
+    /// After that, for example a path.
     pub description: Option<String>,
 }
 
 impl Default for CompletionItemLabelDetails {
     ghost use Rattle.std.specs.Prelude.{◌≡◌, None};
 
-    /// Nothing is set.
+    /// Makes one in which no member is set.
     fn default() -> CompletionItemLabelDetails
         ensures { result ≡ record {
           detail = None;
@@ -248,9 +248,9 @@ impl FromJson for CompletionItemLabelDetails {
 pub struct InsertReplaceEdit {
     /// The text that is inserted.
     pub new_text: String,
-    /// The part to replace if it is inserted. It is the start of `replace`, and ends at the cursor.
+    /// The part to replace if the text is inserted. It is a prefix of `replace`, and ends at the cursor.
     pub insert: Range,
-    /// The part to replace if it takes the place of the word.
+    /// The part to replace if the text replaces the word.
     pub replace: Range,
 }
 
@@ -295,12 +295,12 @@ impl FromJson for InsertReplaceEdit {
     }
 }
 
-/// The edit that inserts a completion (LSP 3.17, "CompletionItem"). Its members tell the forms apart.
+/// The edit that inserts a completion (LSP 3.17, "CompletionItem"). The forms differ in their members.
 #[derive(Drop)]
 pub enum CompletionTextEdit {
-    /// One whose user chooses what it replaces, for clients with `insertReplaceSupport`.
+    /// An edit whose user chooses what it replaces, for clients with `insertReplaceSupport`.
     InsertReplace(InsertReplaceEdit),
-    /// One of one part. It lies in one line, and has the cursor in it or at its end.
+    /// An edit of one part. It is in one line, and the cursor is in it or at its end.
     Edit(TextEdit),
 }
 
@@ -339,10 +339,10 @@ impl FromJson for CompletionTextEdit {
     }
 }
 
-/// A completion (LSP 3.17, "CompletionItem"). The params and the result of `completionItem/resolve` are one.
+/// A completion (LSP 3.17, "CompletionItem"). It is also the params and the result of `completionItem/resolve`.
 #[derive(Drop)]
 pub struct CompletionItem {
-    /// What is shown, and inserted if nothing else is said.
+    /// What is shown. It is also inserted, unless another member says otherwise.
     pub label: String,
     /// What is shown beside it.
     pub label_details: Option<CompletionItemLabelDetails>,
@@ -350,13 +350,13 @@ pub struct CompletionItem {
     pub kind: Option<CompletionItemKind>,
     /// How it may be shown.
     pub tags: Option<Vec<CompletionItemTag>>,
-    /// More about it, as its type.
+    /// More about it, such as its type.
     pub detail: Option<String>,
-    /// All about it.
+    /// Its documentation.
     pub documentation: Option<Documentation>,
-    /// Whether it is not to be used. `tags` has come in its place.
+    /// Whether it is deprecated. `tags` has replaced it.
     pub deprecated: Option<bool>,
-    /// Whether it is the one to take first.
+    /// Whether it is selected first.
     pub preselect: Option<bool>,
     /// What it is sorted by, in place of its label.
     pub sort_text: Option<String>,
@@ -364,31 +364,32 @@ pub struct CompletionItem {
     pub filter_text: Option<String>,
     /// What is inserted, in place of its label.
     pub insert_text: Option<String>,
-    /// How the inserted text is meant. `None` means plain text.
+    /// The format of the inserted text. `None` means plain text.
     pub insert_text_format: Option<InsertTextFormat>,
-    /// What becomes of its whitespace. `None` means what the client does.
+    /// What happens to its whitespace. `None` means the client's default.
     pub insert_text_mode: Option<InsertTextMode>,
     /// The edit that inserts it.
     pub text_edit: Option<CompletionTextEdit>,
     /// The text of that edit, if its range is that of the list.
     pub text_edit_text: Option<String>,
-    /// Edits elsewhere in the document, as of an import.
+    /// Edits elsewhere in the document, for example an added import.
     pub additional_text_edits: Option<Vec<TextEdit>>,
-    /// Which characters take it as they are typed.
+    /// Which typed characters accept it.
     pub commit_characters: Option<Vec<String>>,
-    /// The command that the client sends once it is inserted.
+    /// The command that the client sends after it is inserted.
     pub command: Option<Command>,
-    /// What the client gives back in `completionItem/resolve`.
+    /// The client returns this value in `completionItem/resolve`.
     pub data: Option<Value>,
-    /// What LSP 3.17 does not name, as a newer client or server says it: an object, whose members are written beside
-    /// these. On reading, none if there is nothing else. If a field above has the same name, the member here counts.
+    /// An object with members that LSP 3.17 does not name, for example those of a newer client or server. They are
+    /// written beside the members above. When read, it is `None` if there are none. If a field above has the same name,
+    /// the member here counts.
     pub more: Option<Value>,
 }
 
 impl CompletionItem {
     ghost use Rattle.std.specs.Prelude.{◌≡◌, Some, None};
 
-    /// A label of some kind.
+    /// Makes a completion with this label and this kind.
     pub fn new(label: String, kind: CompletionItemKind) -> CompletionItem
         ensures { result ≡ record {
           label = label;
@@ -607,7 +608,7 @@ impl FromJson for CompletionItem {
 pub struct EditRangeWithInsertReplace {
     /// The part to replace if an item is inserted.
     pub insert: Range,
-    /// The part to replace if it takes the place of the word.
+    /// The part to replace if the text replaces the word.
     pub replace: Range,
 }
 
@@ -644,7 +645,7 @@ impl FromJson for EditRangeWithInsertReplace {
     }
 }
 
-/// The part that completions replace (LSP 3.17, "CompletionList"). The members tell the forms apart.
+/// The part that completions replace (LSP 3.17, "CompletionList"). The forms differ in their members.
 #[derive(Clone, Copy, Drop)]
 pub enum CompletionEditRange {
     /// One that the user chooses.
@@ -688,25 +689,25 @@ impl FromJson for CompletionEditRange {
     }
 }
 
-/// What the items of a list have that do not say it themselves (LSP 3.17, "CompletionList").
+/// Defaults for the items of a list (LSP 3.17, "CompletionList").
 #[derive(Drop)]
 pub struct CompletionItemDefaults {
-    /// Which characters take them as they are typed.
+    /// Which typed characters accept them.
     pub commit_characters: Option<Vec<String>>,
     /// The part that they replace.
     pub edit_range: Option<CompletionEditRange>,
-    /// How their texts are meant.
+    /// The format of their texts.
     pub insert_text_format: Option<InsertTextFormat>,
-    /// What becomes of their whitespace.
+    /// What happens to their whitespace.
     pub insert_text_mode: Option<InsertTextMode>,
-    /// What the client gives back in `completionItem/resolve`.
+    /// The client returns this value in `completionItem/resolve`.
     pub data: Option<Value>,
 }
 
 impl Default for CompletionItemDefaults {
     ghost use Rattle.std.specs.Prelude.{◌≡◌, None};
 
-    /// Nothing is set.
+    /// Makes one in which no member is set.
     fn default() -> CompletionItemDefaults
         ensures { result ≡ record {
           commit_characters = None;
@@ -781,7 +782,7 @@ impl FromJson for CompletionItemDefaults {
     }
 }
 
-/// Why completions are asked for (LSP 3.17, "CompletionTriggerKind"). On reading, another number is refused.
+/// Why completions are requested (LSP 3.17, "CompletionTriggerKind"). On reading, another number is refused.
 #[derive(Clone, Copy, Drop)]
 pub struct CompletionTriggerKind(pub u32);
 
@@ -813,7 +814,7 @@ impl FromJson for CompletionTriggerKind {
     }
 }
 
-/// Why completions are asked for (LSP 3.17, "CompletionContext").
+/// Why completions are requested (LSP 3.17, "CompletionContext").
 #[derive(Drop)]
 pub struct CompletionContext {
     /// Why.
@@ -865,11 +866,12 @@ pub struct CompletionParams {
     pub text_document: TextDocumentIdentifier,
     /// The place in it.
     pub position: Position,
-    /// Why. None if the client does not say it, or it does not fit.
+    /// Why. `None` means that the client does not say why, or that the value does not fit.
     pub context: Option<CompletionContext>,
-    /// The token to report progress with. None if it is not asked for, or does not fit.
+    /// The token to report progress with. `None` means that no progress is requested, or that the token does not fit.
     pub work_done_token: Option<ProgressToken>,
-    /// The token to send parts of the result with. None if they are not asked for, or it does not fit.
+    /// The token to send parts of the result with. `None` means that no parts are requested, or that the token does not
+    /// fit.
     pub partial_result_token: Option<ProgressToken>,
 }
 
@@ -928,12 +930,12 @@ impl FromJson for CompletionParams {
     }
 }
 
-/// Completions, and what holds of them all (LSP 3.17, "CompletionList").
+/// Completions, and what applies to all of them (LSP 3.17, "CompletionList").
 #[derive(Drop)]
 pub struct CompletionList {
-    /// Whether more typing is to ask again.
+    /// Whether further typing requests a new list.
     pub is_incomplete: bool,
-    /// What items have that do not say it themselves.
+    /// Defaults for the items.
     pub item_defaults: Option<CompletionItemDefaults>,
     /// The completions.
     pub items: Vec<CompletionItem>,
@@ -942,7 +944,7 @@ pub struct CompletionList {
 impl CompletionList {
     ghost use Rattle.std.specs.Prelude.{◌≡◌, None};
 
-    /// What has to be there. The rest is `None`.
+    /// Makes one from the required members. The others are `None`.
     pub fn new(is_incomplete: bool, items: Vec<CompletionItem>) -> CompletionList
         ensures { result ≡ record {
           is_incomplete = is_incomplete;
@@ -1004,7 +1006,7 @@ impl FromJson for CompletionList {
 pub enum CompletionResult {
     /// All completions.
     Items(Vec<CompletionItem>),
-    /// Completions, and what holds of them all.
+    /// Completions, and what applies to all of them.
     List(CompletionList),
 }
 

@@ -21,7 +21,7 @@ impl DiagnosticSeverity {
     pub const ERROR: DiagnosticSeverity = DiagnosticSeverity(1);
     /// A warning.
     pub const WARNING: DiagnosticSeverity = DiagnosticSeverity(2);
-    /// Something to know.
+    /// Information.
     pub const INFORMATION: DiagnosticSeverity = DiagnosticSeverity(3);
     /// A hint.
     pub const HINT: DiagnosticSeverity = DiagnosticSeverity(4);
@@ -51,9 +51,9 @@ impl FromJson for DiagnosticSeverity {
 pub struct DiagnosticTag(pub u32);
 
 impl DiagnosticTag {
-    /// Faded: code that nothing uses.
+    /// Faded: unused code.
     pub const UNNECESSARY: DiagnosticTag = DiagnosticTag(1);
-    /// Struck through: code that is not to be used.
+    /// Struck through: deprecated code.
     pub const DEPRECATED: DiagnosticTag = DiagnosticTag(2);
 }
 
@@ -118,7 +118,7 @@ impl FromJson for DiagnosticRelatedInformation {
     }
 }
 
-/// Where a rule is told (LSP 3.17, "CodeDescription").
+/// Where a rule is described (LSP 3.17, "CodeDescription").
 #[derive(Drop)]
 pub struct CodeDescription {
     /// The URI of a page.
@@ -158,9 +158,9 @@ pub struct Diagnostic {
     pub severity: Option<DiagnosticSeverity>,
     /// The code of the rule that it breaks.
     pub code: Option<NumberOrString>,
-    /// Where that rule is told.
+    /// Where that rule is described.
     pub code_description: Option<CodeDescription>,
-    /// Who says so, as the name of a compiler.
+    /// The source of the diagnostic, such as the name of a compiler.
     pub source: Option<String>,
     /// What is wrong, for people.
     pub message: String,
@@ -168,14 +168,14 @@ pub struct Diagnostic {
     pub tags: Option<Vec<DiagnosticTag>>,
     /// Places that have to do with it.
     pub related_information: Option<Vec<DiagnosticRelatedInformation>>,
-    /// What the client gives back in a code action's context.
+    /// The client returns this value in a code action's context.
     pub data: Option<Value>,
 }
 
 impl Diagnostic {
     ghost use Rattle.std.specs.Prelude.{◌≡◌, Some, None};
 
-    /// A part of a document, how severe it is, and what is wrong there.
+    /// Makes a diagnostic of a part of a document, with how severe it is, and what is wrong there.
     pub fn new(range: Range, severity: DiagnosticSeverity, message: String) -> Diagnostic
         ensures { result ≡ record {
           range = range;
@@ -287,16 +287,16 @@ impl FromJson for Diagnostic {
 pub struct PublishDiagnosticsParams {
     /// The document's URI.
     pub uri: String,
-    /// The version of the document that was looked at.
+    /// The version of the document that was analysed.
     pub version: Option<i32>,
-    /// All that is wrong with it. An empty list takes away what was shown before.
+    /// All its diagnostics. An empty list removes those that are shown.
     pub diagnostics: Vec<Diagnostic>,
 }
 
 impl PublishDiagnosticsParams {
     ghost use Rattle.std.specs.Prelude.{◌≡◌, None};
 
-    /// What has to be there. The rest is `None`.
+    /// Makes one from the required members. The others are `None`.
     pub fn new(uri: String, diagnostics: Vec<Diagnostic>) -> PublishDiagnosticsParams
         ensures { result ≡ record {
           uri = uri;

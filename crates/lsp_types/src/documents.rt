@@ -1,4 +1,4 @@
-//! Places in documents, and what a client tells of its documents.
+//! Places in documents, and the notifications about documents.
 // `tools/types` wrote this file from `types.txt`: change that.
 ghost use Rattle.std.specs.Prelude.{◌∷◌, [], Some, codes, option_map};
 ghost use Rattle.serde_json.specs.Data.{number, unsigned};
@@ -53,23 +53,23 @@ impl FromJson for Location {
     }
 }
 
-/// A part of a document, and how one comes to it (LSP 3.17, "LocationLink").
+/// A part of a document, and the part from which a link leads there (LSP 3.17, "LocationLink").
 #[derive(Drop)]
 pub struct LocationLink {
-    /// The part that leads there. `None` means the word at the place that was asked for.
+    /// The part that leads there. `None` means the word at the requested place.
     pub origin_selection_range: Option<Range>,
     /// The document's URI.
     pub target_uri: String,
-    /// All that is meant, as a function with its comment.
+    /// The whole target, such as a function with its comment.
     pub target_range: Range,
-    /// The part to select, as its name. It lies in `target_range`.
+    /// The part to select, such as its name. It is within `target_range`.
     pub target_selection_range: Range,
 }
 
 impl LocationLink {
     ghost use Rattle.std.specs.Prelude.{◌≡◌, None};
 
-    /// What has to be there. The rest is `None`.
+    /// Makes one from the required members. The others are `None`.
     pub fn new(
         target_uri: String,
         target_range: Range,
@@ -148,7 +148,7 @@ pub enum DefinitionResult {
     One(Location),
     /// Places.
     Several(Vec<Location>),
-    /// The same with more, for clients with `linkSupport` at this method.
+    /// Links, for clients with `linkSupport` at this method.
     Links(Vec<LocationLink>),
 }
 
@@ -229,7 +229,8 @@ impl FromJson for TextDocumentIdentifier {
 pub struct VersionedTextDocumentIdentifier {
     /// Its URI.
     pub uri: String,
-    /// Its version, which grows with each change. On reading, none if it is missing, is null or no number of 32 bits.
+    /// Its version, which grows with each change. When read, it is `None` if it is missing, null or no number of 32
+    /// bits.
     pub version: Option<i32>,
 }
 
@@ -271,9 +272,10 @@ impl FromJson for VersionedTextDocumentIdentifier {
 pub struct TextDocumentItem {
     /// Its URI.
     pub uri: String,
-    /// The language that it is in, as `rust`. On reading, the empty text if it is missing, is null or no text.
+    /// Its language, such as `rust`. When read, it is the empty text if it is missing, null or no text.
     pub language_id: String,
-    /// Its version, which grows with each change. On reading, none if it is missing, is null or no number of 32 bits.
+    /// Its version, which grows with each change. When read, it is `None` if it is missing, null or no number of 32
+    /// bits.
     pub version: Option<i32>,
     /// Its whole text.
     pub text: String,
@@ -363,7 +365,7 @@ impl FromJson for DidOpenTextDocumentParams {
 pub struct DidChangeTextDocumentParams {
     /// The document, at its version after all changes.
     pub text_document: VersionedTextDocumentIdentifier,
-    /// The changes. Each is of the text that the one before it left.
+    /// The changes. Each is applied to the text that the one before it left.
     pub content_changes: Vec<ContentChange>,
 }
 
@@ -564,9 +566,10 @@ impl FromJson for DidCloseTextDocumentParams {
 pub struct DocumentSymbolParams {
     /// The document.
     pub text_document: TextDocumentIdentifier,
-    /// The token to report progress with. None if it is not asked for, or does not fit.
+    /// The token to report progress with. `None` means that no progress is requested, or that the token does not fit.
     pub work_done_token: Option<ProgressToken>,
-    /// The token to send parts of the result with. None if they are not asked for, or it does not fit.
+    /// The token to send parts of the result with. `None` means that no parts are requested, or that the token does not
+    /// fit.
     pub partial_result_token: Option<ProgressToken>,
 }
 
@@ -670,7 +673,7 @@ pub struct HoverParams {
     pub text_document: TextDocumentIdentifier,
     /// The place in it.
     pub position: Position,
-    /// The token to report progress with. None if it is not asked for, or does not fit.
+    /// The token to report progress with. `None` means that no progress is requested, or that the token does not fit.
     pub work_done_token: Option<ProgressToken>,
 }
 
@@ -725,9 +728,10 @@ pub struct DefinitionParams {
     pub text_document: TextDocumentIdentifier,
     /// The place in it.
     pub position: Position,
-    /// The token to report progress with. None if it is not asked for, or does not fit.
+    /// The token to report progress with. `None` means that no progress is requested, or that the token does not fit.
     pub work_done_token: Option<ProgressToken>,
-    /// The token to send parts of the result with. None if they are not asked for, or it does not fit.
+    /// The token to send parts of the result with. `None` means that no parts are requested, or that the token does not
+    /// fit.
     pub partial_result_token: Option<ProgressToken>,
 }
 
@@ -796,7 +800,7 @@ pub struct InlayHintParams {
     pub text_document: TextDocumentIdentifier,
     /// The part of it.
     pub range: Range,
-    /// The token to report progress with. None if it is not asked for, or does not fit.
+    /// The token to report progress with. `None` means that no progress is requested, or that the token does not fit.
     pub work_done_token: Option<ProgressToken>,
 }
 
@@ -848,9 +852,10 @@ pub struct SemanticTokensRangeParams {
     pub text_document: TextDocumentIdentifier,
     /// The part of it.
     pub range: Range,
-    /// The token to report progress with. None if it is not asked for, or does not fit.
+    /// The token to report progress with. `None` means that no progress is requested, or that the token does not fit.
     pub work_done_token: Option<ProgressToken>,
-    /// The token to send parts of the result with. None if they are not asked for, or it does not fit.
+    /// The token to send parts of the result with. `None` means that no parts are requested, or that the token does not
+    /// fit.
     pub partial_result_token: Option<ProgressToken>,
 }
 
@@ -910,11 +915,12 @@ pub struct ReferenceParams {
     pub text_document: TextDocumentIdentifier,
     /// The place in it.
     pub position: Position,
-    /// Which references are asked for.
+    /// Which references are requested.
     pub context: ReferenceContext,
-    /// The token to report progress with. None if it is not asked for, or does not fit.
+    /// The token to report progress with. `None` means that no progress is requested, or that the token does not fit.
     pub work_done_token: Option<ProgressToken>,
-    /// The token to send parts of the result with. None if they are not asked for, or it does not fit.
+    /// The token to send parts of the result with. `None` means that no parts are requested, or that the token does not
+    /// fit.
     pub partial_result_token: Option<ProgressToken>,
 }
 
@@ -973,7 +979,7 @@ impl FromJson for ReferenceParams {
     }
 }
 
-/// Which references are asked for (LSP 3.17, "ReferenceContext").
+/// Which references are requested (LSP 3.17, "ReferenceContext").
 #[derive(Clone, Copy, Drop)]
 pub struct ReferenceContext {
     /// Whether the declaration is one of them.

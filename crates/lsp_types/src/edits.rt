@@ -55,12 +55,12 @@ impl FromJson for TextEdit {
     }
 }
 
-/// A document, at a version or at whatever it has (LSP 3.17, "OptionalVersionedTextDocumentIdentifier").
+/// A document, at a version or at its present one (LSP 3.17, "OptionalVersionedTextDocumentIdentifier").
 #[derive(Drop)]
 pub struct OptionalVersionedTextDocumentIdentifier {
     /// Its URI.
     pub uri: String,
-    /// Its version. `None` means that it may be any, as of a file that is not open.
+    /// Its version. `None` means any version, for example of a file that is not open.
     pub version: Option<i32>,
 }
 
@@ -100,14 +100,14 @@ impl FromJson for OptionalVersionedTextDocumentIdentifier {
     }
 }
 
-/// A change of a text of which something is said (LSP 3.17, "AnnotatedTextEdit").
+/// A change of a text with an annotation (LSP 3.17, "AnnotatedTextEdit").
 #[derive(Drop)]
 pub struct AnnotatedTextEdit {
     /// The part that is replaced.
     pub range: Range,
     /// The text in its place.
     pub new_text: String,
-    /// The name in `WorkspaceEdit::change_annotations` of what is said.
+    /// The name of the annotation in `WorkspaceEdit::change_annotations`.
     pub annotation_id: String,
 }
 
@@ -155,9 +155,9 @@ impl FromJson for AnnotatedTextEdit {
 /// A change of a text (LSP 3.17, "TextDocumentEdit"). One with a member `annotationId` is the first.
 #[derive(Drop)]
 pub enum AnyTextEdit {
-    /// One of which something is said, for clients with `workspace.workspaceEdit.changeAnnotationSupport`.
+    /// One with an annotation, for clients with `workspace.workspaceEdit.changeAnnotationSupport`.
     Annotated(AnnotatedTextEdit),
-    /// One of which nothing is said.
+    /// One without an annotation.
     Plain(TextEdit),
 }
 
@@ -241,19 +241,19 @@ impl FromJson for TextDocumentEdit {
     }
 }
 
-/// What is done if there is such a file already (LSP 3.17, "CreateFileOptions").
+/// What happens if there is such a file already (LSP 3.17, "CreateFileOptions").
 #[derive(Clone, Copy, Drop)]
 pub struct CreateFileOptions {
-    /// Whether it goes. This counts before `ignore_if_exists`.
+    /// Whether that file is replaced. This has precedence over `ignore_if_exists`.
     pub overwrite: Option<bool>,
-    /// Whether it stays, and nothing is done.
+    /// Whether that file stays, and nothing is done.
     pub ignore_if_exists: Option<bool>,
 }
 
 impl Default for CreateFileOptions {
     ghost use Rattle.std.specs.Prelude.{◌≡◌, None};
 
-    /// Nothing is set.
+    /// Makes one in which no member is set.
     fn default() -> CreateFileOptions
         ensures { result ≡ record {
           overwrite = None;
@@ -303,22 +303,22 @@ impl FromJson for CreateFileOptions {
     }
 }
 
-/// What is done if there is a file under the new URI already (LSP 3.17, "RenameFileOptions").
+/// What happens if there is a file under the new URI already (LSP 3.17, "RenameFileOptions").
 pub type RenameFileOptions = CreateFileOptions;
 
 /// How a file is deleted (LSP 3.17, "DeleteFileOptions").
 #[derive(Clone, Copy, Drop)]
 pub struct DeleteFileOptions {
-    /// Whether a folder goes with all that is in it.
+    /// Whether a folder is deleted with everything in it.
     pub recursive: Option<bool>,
-    /// Whether nothing is done if there is none.
+    /// Whether it is no error if there is no such file.
     pub ignore_if_not_exists: Option<bool>,
 }
 
 impl Default for DeleteFileOptions {
     ghost use Rattle.std.specs.Prelude.{◌≡◌, None};
 
-    /// Nothing is set.
+    /// Makes one in which no member is set.
     fn default() -> DeleteFileOptions
         ensures { result ≡ record {
           recursive = None;
@@ -373,16 +373,16 @@ impl FromJson for DeleteFileOptions {
 pub struct CreateFile {
     /// Its URI.
     pub uri: String,
-    /// What is done if it is there already.
+    /// What happens if it exists already.
     pub options: Option<CreateFileOptions>,
-    /// The name in `WorkspaceEdit::change_annotations` of what is said of it.
+    /// The name of its annotation in `WorkspaceEdit::change_annotations`.
     pub annotation_id: Option<String>,
 }
 
 impl CreateFile {
     ghost use Rattle.std.specs.Prelude.{◌≡◌, None};
 
-    /// What has to be there. The rest is `None`.
+    /// Makes one from the required members. The others are `None`.
     pub fn new(uri: String) -> CreateFile
         ensures { result ≡ record {
           uri = uri;
@@ -443,23 +443,23 @@ impl FromJson for CreateFile {
     }
 }
 
-/// A file or a folder to give another name (LSP 3.17, "RenameFile").
+/// A file or a folder to rename (LSP 3.17, "RenameFile").
 #[derive(Drop)]
 pub struct RenameFile {
     /// Its URI until now.
     pub old_uri: String,
     /// Its URI from now on.
     pub new_uri: String,
-    /// What is done if there is one under the new URI.
+    /// What happens if there is one under the new URI.
     pub options: Option<RenameFileOptions>,
-    /// The name in `WorkspaceEdit::change_annotations` of what is said of it.
+    /// The name of its annotation in `WorkspaceEdit::change_annotations`.
     pub annotation_id: Option<String>,
 }
 
 impl RenameFile {
     ghost use Rattle.std.specs.Prelude.{◌≡◌, None};
 
-    /// What has to be there. The rest is `None`.
+    /// Makes one from the required members. The others are `None`.
     pub fn new(old_uri: String, new_uri: String) -> RenameFile
         ensures { result ≡ record {
           old_uri = old_uri;
@@ -534,14 +534,14 @@ pub struct DeleteFile {
     pub uri: String,
     /// How it is deleted.
     pub options: Option<DeleteFileOptions>,
-    /// The name in `WorkspaceEdit::change_annotations` of what is said of it.
+    /// The name of its annotation in `WorkspaceEdit::change_annotations`.
     pub annotation_id: Option<String>,
 }
 
 impl DeleteFile {
     ghost use Rattle.std.specs.Prelude.{◌≡◌, None};
 
-    /// What has to be there. The rest is `None`.
+    /// Makes one from the required members. The others are `None`.
     pub fn new(uri: String) -> DeleteFile
         ensures { result ≡ record {
           uri = uri;
@@ -602,15 +602,15 @@ impl FromJson for DeleteFile {
     }
 }
 
-/// A change of a document or of a file (LSP 3.17, "WorkspaceEdit"). The `kind` of those of files tells them apart, and
-/// an edit has none.
+/// A change of a document or of a file (LSP 3.17, "WorkspaceEdit"). Changes of files differ in their `kind`, and an
+/// edit has none.
 #[derive(Drop)]
 pub enum DocumentChange {
     /// A file to make, for clients with `create` among `workspace.workspaceEdit.resourceOperations`.
     Create(CreateFile),
-    /// A file to give another name, for those with `rename` there.
+    /// A file to rename, for clients with `rename` there.
     Rename(RenameFile),
-    /// A file to delete, for those with `delete` there.
+    /// A file to delete, for clients with `delete` there.
     Delete(DeleteFile),
     /// Changes of a document's text.
     Edit(TextDocumentEdit),
@@ -668,17 +668,17 @@ impl FromJson for DocumentChange {
 pub struct WorkspaceEdit {
     /// The changes of each document, by its URI.
     pub changes: Option<BTreeMap<String, Vec<TextEdit>>>,
-    /// The same with versions, and changes of files, made in this order, for clients with
-    /// `workspace.workspaceEdit.documentChanges`. A client may take these and pass `changes` over.
+    /// Changes of documents with versions, and changes of files, made in this order, for clients with
+    /// `workspace.workspaceEdit.documentChanges`. A client may use these and ignore `changes`.
     pub document_changes: Option<Vec<DocumentChange>>,
-    /// What is said of changes, by the name that they have.
+    /// The annotations of changes, by their names.
     pub change_annotations: Option<BTreeMap<String, ChangeAnnotation>>,
 }
 
 impl Default for WorkspaceEdit {
     ghost use Rattle.std.specs.Prelude.{◌≡◌, None};
 
-    /// Nothing is set.
+    /// Makes one in which no member is set.
     fn default() -> WorkspaceEdit
         ensures { result ≡ record {
           changes = None;
@@ -735,7 +735,7 @@ impl FromJson for WorkspaceEdit {
     }
 }
 
-/// What is said of a change, before the user agrees to it (LSP 3.17, "ChangeAnnotation").
+/// An annotation of a change, which the user sees before agreeing to it (LSP 3.17, "ChangeAnnotation").
 #[derive(Drop)]
 pub struct ChangeAnnotation {
     /// What is shown.
@@ -749,7 +749,7 @@ pub struct ChangeAnnotation {
 impl ChangeAnnotation {
     ghost use Rattle.std.specs.Prelude.{◌≡◌, None};
 
-    /// What has to be there. The rest is `None`.
+    /// Makes one from the required members. The others are `None`.
     pub fn new(label: String) -> ChangeAnnotation
         ensures { result ≡ record {
           label = label;
@@ -815,7 +815,7 @@ pub struct RenameParams {
     pub position: Position,
     /// Its new name.
     pub new_name: String,
-    /// The token to report progress with. None if it is not asked for, or does not fit.
+    /// The token to report progress with. `None` means that no progress is requested, or that the token does not fit.
     pub work_done_token: Option<ProgressToken>,
 }
 
@@ -865,7 +865,7 @@ impl FromJson for RenameParams {
     }
 }
 
-/// What is renamed, and from which name (LSP 3.17, "Prepare Rename Request").
+/// The part that is renamed, and its present name (LSP 3.17, "Prepare Rename Request").
 #[derive(Drop)]
 pub struct PrepareRenamePlaceholder {
     /// The part that is renamed.
@@ -907,10 +907,10 @@ impl FromJson for PrepareRenamePlaceholder {
     }
 }
 
-/// The client finds what is renamed (LSP 3.17, "Prepare Rename Request").
+/// The client finds the part that is renamed (LSP 3.17, "Prepare Rename Request").
 #[derive(Clone, Copy, Drop)]
 pub struct PrepareRenameDefaultBehavior {
-    /// Whether it does so in its own way.
+    /// Whether the client uses its default behavior.
     pub default_behavior: bool,
 }
 
@@ -940,13 +940,13 @@ impl FromJson for PrepareRenameDefaultBehavior {
     }
 }
 
-/// The result of `textDocument/prepareRename`, or null (LSP 3.17, "Prepare Rename Request"). The members tell the forms
-/// apart.
+/// The result of `textDocument/prepareRename`, or null (LSP 3.17, "Prepare Rename Request"). The forms differ in their
+/// members.
 #[derive(Drop)]
 pub enum PrepareRenameResult {
-    /// What is renamed, and from which name.
+    /// The part that is renamed, and its present name.
     Placeholder(PrepareRenamePlaceholder),
-    /// The client finds what is renamed, for those with `prepareSupportDefaultBehavior`.
+    /// The client finds the part that is renamed, for clients with `prepareSupportDefaultBehavior`.
     Default(PrepareRenameDefaultBehavior),
     /// What is renamed.
     Range(Range),
@@ -993,18 +993,18 @@ impl FromJson for PrepareRenameResult {
     }
 }
 
-/// How a document is to be formatted (LSP 3.17, "FormattingOptions"). Other members are passed over.
+/// How a document is to be formatted (LSP 3.17, "FormattingOptions"). Other members are ignored.
 #[derive(Clone, Copy, Drop)]
 pub struct FormattingOptions {
     /// How many characters a tab is wide.
     pub tab_size: u32,
-    /// Whether to write spaces for tabs.
+    /// Whether to write spaces in place of tabs.
     pub insert_spaces: bool,
-    /// Whether to take away whitespace at the ends of lines.
+    /// Whether to remove whitespace at the ends of lines.
     pub trim_trailing_whitespace: Option<bool>,
     /// Whether to end the last line, if it has no end.
     pub insert_final_newline: Option<bool>,
-    /// Whether to take away ends of lines behind the last one.
+    /// Whether to remove line ends after the last line.
     pub trim_final_newlines: Option<bool>,
 }
 
@@ -1071,7 +1071,7 @@ pub struct DocumentFormattingParams {
     pub text_document: TextDocumentIdentifier,
     /// How to format it.
     pub options: FormattingOptions,
-    /// The token to report progress with. None if it is not asked for, or does not fit.
+    /// The token to report progress with. `None` means that no progress is requested, or that the token does not fit.
     pub work_done_token: Option<ProgressToken>,
 }
 
@@ -1126,7 +1126,7 @@ pub struct DocumentRangeFormattingParams {
     pub range: Range,
     /// How to format it.
     pub options: FormattingOptions,
-    /// The token to report progress with. None if it is not asked for, or does not fit.
+    /// The token to report progress with. `None` means that no progress is requested, or that the token does not fit.
     pub work_done_token: Option<ProgressToken>,
 }
 
@@ -1182,7 +1182,7 @@ impl FromJson for DocumentRangeFormattingParams {
 pub struct DocumentOnTypeFormattingParams {
     /// The document.
     pub text_document: TextDocumentIdentifier,
-    /// The place behind what was typed.
+    /// The place after the typed character.
     pub position: Position,
     /// The character that was typed.
     pub ch: String,

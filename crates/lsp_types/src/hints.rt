@@ -15,7 +15,7 @@ use lsp_text::Position;
 use serde_json::Value;
 use std::alloc::{AllocError, Global};
 
-/// What a hint tells (LSP 3.17, "InlayHintKind"). On reading, another number is refused.
+/// What a hint is about (LSP 3.17, "InlayHintKind"). On reading, another number is refused.
 #[derive(Clone, Copy, Drop)]
 pub struct InlayHintKind(pub u32);
 
@@ -50,7 +50,7 @@ impl FromJson for InlayHintKind {
 pub struct InlayHintLabelPart {
     /// Its text.
     pub value: String,
-    /// What is shown as the mouse stands over it.
+    /// What is shown while the mouse is over it.
     pub tooltip: Option<Documentation>,
     /// Where its name is defined, so that a user can go there.
     pub location: Option<Location>,
@@ -61,7 +61,7 @@ pub struct InlayHintLabelPart {
 impl InlayHintLabelPart {
     ghost use Rattle.std.specs.Prelude.{◌≡◌, None};
 
-    /// What has to be there. The rest is `None`.
+    /// Makes one from the required members. The others are `None`.
     pub fn new(value: String) -> InlayHintLabelPart
         ensures { result ≡ record {
           value = value;
@@ -130,7 +130,7 @@ impl FromJson for InlayHintLabelPart {
 pub enum InlayHintLabel {
     /// A text.
     Text(String),
-    /// Texts, one behind the other, with more of each.
+    /// Texts, one after the other, with more about each.
     Parts(Vec<InlayHintLabelPart>),
 }
 
@@ -172,24 +172,25 @@ impl FromJson for InlayHintLabel {
 /// A hint (LSP 3.17, "Inlay Hint Request").
 #[derive(Drop)]
 pub struct InlayHint {
-    /// Where it stands.
+    /// Where it is.
     pub position: Position,
     /// What it says.
     pub label: InlayHintLabel,
-    /// What it tells.
+    /// What it is about.
     pub kind: Option<InlayHintKind>,
     /// Edits that make it a part of the text, if the user takes it.
     pub text_edits: Option<Vec<TextEdit>>,
-    /// What is shown as the mouse stands over it.
+    /// What is shown while the mouse is over it.
     pub tooltip: Option<Documentation>,
-    /// Whether a space stands before it.
+    /// Whether there is a space before it.
     pub padding_left: Option<bool>,
-    /// Whether a space stands behind it.
+    /// Whether there is a space after it.
     pub padding_right: Option<bool>,
-    /// What the client gives back in `inlayHint/resolve`.
+    /// The client returns this value in `inlayHint/resolve`.
     pub data: Option<Value>,
-    /// What LSP 3.17 does not name, as a newer client or server says it: an object, whose members are written beside
-    /// these. On reading, none if there is nothing else. If a field above has the same name, the member here counts.
+    /// An object with members that LSP 3.17 does not name, for example those of a newer client or server. They are
+    /// written beside the members above. When read, it is `None` if there are none. If a field above has the same name,
+    /// the member here counts.
     pub more: Option<Value>,
 }
 
@@ -197,7 +198,7 @@ impl InlayHint {
     ghost use Rattle.std.specs.Prelude.{◌≡◌, None};
     ghost use Rattle.lsp_types.specs.declared.hints.InlayHintLabel.TheVariants.{Text};
 
-    /// A text at a place. The rest is `None`.
+    /// Makes a hint with a text at a place. The other members are `None`.
     pub fn new(position: Position, label: String) -> InlayHint
         ensures { result ≡ record {
           position = position;

@@ -52,7 +52,7 @@ impl FromJson for MarkupContent {
     }
 }
 
-/// A text that tells of something: a string, or an object (LSP 3.17, "MarkupContent").
+/// A text that describes something: a string, or an object (LSP 3.17, "MarkupContent").
 #[derive(Drop)]
 pub enum Documentation {
     /// Plain text.
@@ -99,7 +99,7 @@ impl FromJson for Documentation {
 /// Code (LSP 3.17, "MarkedString").
 #[derive(Drop)]
 pub struct LanguageString {
-    /// The language that it is in, as `rust`.
+    /// Its language, such as `rust`.
     pub language: String,
     /// The code.
     pub value: String,
@@ -138,7 +138,7 @@ impl FromJson for LanguageString {
     }
 }
 
-/// A text in the form that `MarkupContent` has taken the place of: a string, or an object (LSP 3.17, "MarkedString").
+/// A text in the form that `MarkupContent` has replaced: a string, or an object (LSP 3.17, "MarkedString").
 #[derive(Drop)]
 pub enum MarkedString {
     /// Markdown.

@@ -15,15 +15,15 @@ use std::alloc::{AllocError, Global};
 /// The params of `initialize`, as far as most servers read them (LSP 3.17, "Initialize Request").
 #[derive(Drop)]
 pub struct InitializeParams {
-    /// The client's process. On reading, none if it does not fit.
+    /// The client's process. When read, it is `None` if it does not fit.
     pub process_id: Option<i32>,
-    /// Who the client is. On reading, none if it does not fit.
+    /// Who the client is. When read, it is `None` if it does not fit.
     pub client_info: Option<ClientInfo>,
-    /// The language that the client shows, as `de-CH`. On reading, none if it does not fit.
+    /// The language of the client's user interface, such as `de-CH`. When read, it is `None` if it does not fit.
     pub locale: Option<String>,
-    /// The path of the folder that is open. `root_uri` has come in its place. On reading, none if it does not fit.
+    /// The path of the folder that is open. `root_uri` has replaced it. When read, it is `None` if it does not fit.
     pub root_path: Option<String>,
-    /// The folder that is open. `workspace_folders` has come in its place.
+    /// The folder that is open. `workspace_folders` has replaced it.
     pub root_uri: Option<String>,
     /// The folders that are open. `None` means that the client has no such list, or no folder is open.
     pub workspace_folders: Option<Vec<WorkspaceFolder>>,
@@ -31,9 +31,9 @@ pub struct InitializeParams {
     pub initialization_options: Option<Value>,
     /// What the client can do. Read a member by `pointer`.
     pub capabilities: Value,
-    /// How much the client wants to be told: `off`, `messages` or `verbose`. On reading, none if it does not fit.
+    /// How much trace the client wants: `off`, `messages` or `verbose`. When read, it is `None` if it does not fit.
     pub trace: Option<String>,
-    /// The token to report progress with. None if it is not asked for, or does not fit.
+    /// The token to report progress with. `None` means that no progress is requested, or that the token does not fit.
     pub work_done_token: Option<ProgressToken>,
 }
 
@@ -134,7 +134,7 @@ pub struct ServerInfo {
 impl ServerInfo {
     ghost use Rattle.std.specs.Prelude.{◌≡◌, None};
 
-    /// What has to be there. The rest is `None`.
+    /// Makes one from the required members. The others are `None`.
     pub fn new(name: String) -> ServerInfo
         ensures { result ≡ record {
           name = name;
@@ -232,7 +232,7 @@ impl FromJson for InitializeResult {
 /// The params of `$/setTrace` (LSP 3.17, "SetTrace").
 #[derive(Drop)]
 pub struct SetTraceParams {
-    /// How much the client wants to be told: `off`, `messages` or `verbose`.
+    /// How much trace the client wants: `off`, `messages` or `verbose`.
     pub value: String,
 }
 
@@ -265,14 +265,14 @@ impl FromJson for SetTraceParams {
 pub struct LogTraceParams {
     /// What was done.
     pub message: String,
-    /// More about it, if the client wants to be told all.
+    /// More about it, if the client wants `verbose` traces.
     pub verbose: Option<String>,
 }
 
 impl LogTraceParams {
     ghost use Rattle.std.specs.Prelude.{◌≡◌, None};
 
-    /// What has to be there. The rest is `None`.
+    /// Makes one from the required members. The others are `None`.
     pub fn new(message: String) -> LogTraceParams
         ensures { result ≡ record {
           message = message;
@@ -322,7 +322,7 @@ impl FromJson for LogTraceParams {
 /// The params of `$/cancelRequest` (LSP 3.17, "Cancellation Support").
 #[derive(Drop)]
 pub struct CancelParams {
-    /// The id of the request that is not needed any more.
+    /// The id of the request that is no longer needed.
     pub id: NumberOrString,
 }
 
@@ -353,7 +353,7 @@ impl FromJson for CancelParams {
 /// What the server can do from now on (LSP 3.17, "Register Capability").
 #[derive(Drop)]
 pub struct Registration {
-    /// A name for it, by which it is taken back.
+    /// An id for it, by which it is unregistered.
     pub id: String,
     /// The method that the client may send from now on.
     pub method: String,
@@ -364,7 +364,7 @@ pub struct Registration {
 impl Registration {
     ghost use Rattle.std.specs.Prelude.{◌≡◌, None};
 
-    /// What has to be there. The rest is `None`.
+    /// Makes one from the required members. The others are `None`.
     pub fn new(id: String, method: String) -> Registration
         ensures { result ≡ record {
           id = id;
@@ -454,10 +454,10 @@ impl FromJson for RegistrationParams {
     }
 }
 
-/// What the server takes back (LSP 3.17, "Unregister Capability").
+/// What the server unregisters (LSP 3.17, "Unregister Capability").
 #[derive(Drop)]
 pub struct Unregistration {
-    /// The name that it was given.
+    /// The id that it was registered with.
     pub id: String,
     /// The method.
     pub method: String,
@@ -499,7 +499,7 @@ impl FromJson for Unregistration {
 /// The params of `client/unregisterCapability` (LSP 3.17, "Unregister Capability").
 #[derive(Drop)]
 pub struct UnregistrationParams {
-    /// What is taken back. The standard spells the key so.
+    /// What is unregistered. The standard has this spelling of the key.
     pub unregisterations: Vec<Unregistration>,
 }
 

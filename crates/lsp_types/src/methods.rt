@@ -44,7 +44,7 @@ use serde_json::Value;
 pub struct InitializeRequest;
 
 impl InitializeRequest {
-    /// Its name.
+    /// The name of the method.
     pub const METHOD: &'static str = "initialize";
 }
 
@@ -60,7 +60,7 @@ impl RequestToServer for InitializeRequest {
 pub struct InitializedNotification;
 
 impl InitializedNotification {
-    /// Its name.
+    /// The name of the method.
     pub const METHOD: &'static str = "initialized";
 }
 
@@ -74,7 +74,7 @@ impl NotificationToServer for InitializedNotification {
 pub struct ShutdownRequest;
 
 impl ShutdownRequest {
-    /// Its name.
+    /// The name of the method.
     pub const METHOD: &'static str = "shutdown";
 }
 
@@ -90,7 +90,7 @@ impl RequestToServer for ShutdownRequest {
 pub struct ExitNotification;
 
 impl ExitNotification {
-    /// Its name.
+    /// The name of the method.
     pub const METHOD: &'static str = "exit";
 }
 
@@ -105,7 +105,7 @@ impl NotificationToServer for ExitNotification {
 pub struct RegistrationRequest;
 
 impl RegistrationRequest {
-    /// Its name.
+    /// The name of the method.
     pub const METHOD: &'static str = "client/registerCapability";
 }
 
@@ -121,11 +121,12 @@ impl RequestToClient for RegistrationRequest {
     }
 }
 
-/// `client/unregisterCapability`, a request to the client. What it takes back (LSP 3.17, "Unregister Capability").
+/// `client/unregisterCapability`, a request to the client. What the server unregisters (LSP 3.17, "Unregister
+/// Capability").
 pub struct UnregistrationRequest;
 
 impl UnregistrationRequest {
-    /// Its name.
+    /// The name of the method.
     pub const METHOD: &'static str = "client/unregisterCapability";
 }
 
@@ -141,11 +142,11 @@ impl RequestToClient for UnregistrationRequest {
     }
 }
 
-/// `$/setTrace`, a notification to the server. How much the client wants to be told (LSP 3.17, "SetTrace").
+/// `$/setTrace`, a notification to the server. How much trace the client wants (LSP 3.17, "SetTrace").
 pub struct SetTraceNotification;
 
 impl SetTraceNotification {
-    /// Its name.
+    /// The name of the method.
     pub const METHOD: &'static str = "$/setTrace";
 }
 
@@ -159,7 +160,7 @@ impl NotificationToServer for SetTraceNotification {
 pub struct LogTraceNotification;
 
 impl LogTraceNotification {
-    /// Its name.
+    /// The name of the method.
     pub const METHOD: &'static str = "$/logTrace";
 }
 
@@ -173,11 +174,12 @@ impl NotificationToClient for LogTraceNotification {
     }
 }
 
-/// `$/cancelRequest`, a notification either way. A request is not needed any more (LSP 3.17, "Cancellation Support").
+/// `$/cancelRequest`, a notification in both directions. A request is no longer needed (LSP 3.17, "Cancellation
+/// Support").
 pub struct CancelNotification;
 
 impl CancelNotification {
-    /// Its name.
+    /// The name of the method.
     pub const METHOD: &'static str = "$/cancelRequest";
 }
 
@@ -197,11 +199,12 @@ impl NotificationToClient for CancelNotification {
     }
 }
 
-/// `$/progress`, a notification to the client. How far work is, or a part of a result (LSP 3.17, "Progress Support").
+/// `$/progress`, a notification to the client. The progress of work, or a part of a result (LSP 3.17, "Progress
+/// Support").
 pub struct ProgressNotification;
 
 impl ProgressNotification {
-    /// Its name.
+    /// The name of the method.
     pub const METHOD: &'static str = "$/progress";
 }
 
@@ -220,7 +223,7 @@ impl NotificationToClient for ProgressNotification {
 pub struct DidOpenTextDocumentNotification;
 
 impl DidOpenTextDocumentNotification {
-    /// Its name.
+    /// The name of the method.
     pub const METHOD: &'static str = "textDocument/didOpen";
 }
 
@@ -235,7 +238,7 @@ impl NotificationToServer for DidOpenTextDocumentNotification {
 pub struct DidChangeTextDocumentNotification;
 
 impl DidChangeTextDocumentNotification {
-    /// Its name.
+    /// The name of the method.
     pub const METHOD: &'static str = "textDocument/didChange";
 }
 
@@ -250,7 +253,7 @@ impl NotificationToServer for DidChangeTextDocumentNotification {
 pub struct WillSaveTextDocumentNotification;
 
 impl WillSaveTextDocumentNotification {
-    /// Its name.
+    /// The name of the method.
     pub const METHOD: &'static str = "textDocument/willSave";
 }
 
@@ -265,7 +268,7 @@ impl NotificationToServer for WillSaveTextDocumentNotification {
 pub struct WillSaveTextDocumentWaitUntilRequest;
 
 impl WillSaveTextDocumentWaitUntilRequest {
-    /// Its name.
+    /// The name of the method.
     pub const METHOD: &'static str = "textDocument/willSaveWaitUntil";
 }
 
@@ -282,7 +285,7 @@ impl RequestToServer for WillSaveTextDocumentWaitUntilRequest {
 pub struct DidSaveTextDocumentNotification;
 
 impl DidSaveTextDocumentNotification {
-    /// Its name.
+    /// The name of the method.
     pub const METHOD: &'static str = "textDocument/didSave";
 }
 
@@ -297,7 +300,7 @@ impl NotificationToServer for DidSaveTextDocumentNotification {
 pub struct DidCloseTextDocumentNotification;
 
 impl DidCloseTextDocumentNotification {
-    /// Its name.
+    /// The name of the method.
     pub const METHOD: &'static str = "textDocument/didClose";
 }
 
@@ -312,7 +315,7 @@ impl NotificationToServer for DidCloseTextDocumentNotification {
 pub struct DeclarationRequest;
 
 impl DeclarationRequest {
-    /// Its name.
+    /// The name of the method.
     pub const METHOD: &'static str = "textDocument/declaration";
 }
 
@@ -328,7 +331,7 @@ impl RequestToServer for DeclarationRequest {
 pub struct DefinitionRequest;
 
 impl DefinitionRequest {
-    /// Its name.
+    /// The name of the method.
     pub const METHOD: &'static str = "textDocument/definition";
 }
 
@@ -345,7 +348,7 @@ impl RequestToServer for DefinitionRequest {
 pub struct TypeDefinitionRequest;
 
 impl TypeDefinitionRequest {
-    /// Its name.
+    /// The name of the method.
     pub const METHOD: &'static str = "textDocument/typeDefinition";
 }
 
@@ -362,7 +365,7 @@ impl RequestToServer for TypeDefinitionRequest {
 pub struct ImplementationRequest;
 
 impl ImplementationRequest {
-    /// Its name.
+    /// The name of the method.
     pub const METHOD: &'static str = "textDocument/implementation";
 }
 
@@ -378,7 +381,7 @@ impl RequestToServer for ImplementationRequest {
 pub struct ReferencesRequest;
 
 impl ReferencesRequest {
-    /// Its name.
+    /// The name of the method.
     pub const METHOD: &'static str = "textDocument/references";
 }
 
@@ -390,11 +393,11 @@ impl RequestToServer for ReferencesRequest {
     ghost method = { codes "textDocument/references" };
 }
 
-/// `textDocument/hover`, a request to the server. What is shown of a place (LSP 3.17, "Hover Request").
+/// `textDocument/hover`, a request to the server. What is shown about a place (LSP 3.17, "Hover Request").
 pub struct HoverRequest;
 
 impl HoverRequest {
-    /// Its name.
+    /// The name of the method.
     pub const METHOD: &'static str = "textDocument/hover";
 }
 
@@ -411,7 +414,7 @@ impl RequestToServer for HoverRequest {
 pub struct DocumentSymbolRequest;
 
 impl DocumentSymbolRequest {
-    /// Its name.
+    /// The name of the method.
     pub const METHOD: &'static str = "textDocument/documentSymbol";
 }
 
@@ -423,12 +426,12 @@ impl RequestToServer for DocumentSymbolRequest {
     ghost method = { codes "textDocument/documentSymbol" };
 }
 
-/// `textDocument/semanticTokens/full`, a request to the server. What each word of a document is (LSP 3.17, "Semantic
-/// Tokens").
+/// `textDocument/semanticTokens/full`, a request to the server. The kind of each token of a document (LSP 3.17,
+/// "Semantic Tokens").
 pub struct SemanticTokensRequest;
 
 impl SemanticTokensRequest {
-    /// Its name.
+    /// The name of the method.
     pub const METHOD: &'static str = "textDocument/semanticTokens/full";
 }
 
@@ -440,12 +443,12 @@ impl RequestToServer for SemanticTokensRequest {
     ghost method = { codes "textDocument/semanticTokens/full" };
 }
 
-/// `textDocument/semanticTokens/range`, a request to the server. What each word of a part is (LSP 3.17, "Semantic
-/// Tokens").
+/// `textDocument/semanticTokens/range`, a request to the server. The kind of each token of a part of a document (LSP
+/// 3.17, "Semantic Tokens").
 pub struct SemanticTokensRangeRequest;
 
 impl SemanticTokensRangeRequest {
-    /// Its name.
+    /// The name of the method.
     pub const METHOD: &'static str = "textDocument/semanticTokens/range";
 }
 
@@ -457,12 +460,12 @@ impl RequestToServer for SemanticTokensRangeRequest {
     ghost method = { codes "textDocument/semanticTokens/range" };
 }
 
-/// `workspace/semanticTokens/refresh`, a request to the client. The client is to ask for semantic tokens anew (LSP
+/// `workspace/semanticTokens/refresh`, a request to the client. The client is to request semantic tokens again (LSP
 /// 3.17, "Semantic Tokens").
 pub struct SemanticTokensRefreshRequest;
 
 impl SemanticTokensRefreshRequest {
-    /// Its name.
+    /// The name of the method.
     pub const METHOD: &'static str = "workspace/semanticTokens/refresh";
 }
 
@@ -483,7 +486,7 @@ impl RequestToClient for SemanticTokensRefreshRequest {
 pub struct InlayHintRequest;
 
 impl InlayHintRequest {
-    /// Its name.
+    /// The name of the method.
     pub const METHOD: &'static str = "textDocument/inlayHint";
 }
 
@@ -499,7 +502,7 @@ impl RequestToServer for InlayHintRequest {
 pub struct InlayHintResolveRequest;
 
 impl InlayHintResolveRequest {
-    /// Its name.
+    /// The name of the method.
     pub const METHOD: &'static str = "inlayHint/resolve";
 }
 
@@ -511,12 +514,12 @@ impl RequestToServer for InlayHintResolveRequest {
     ghost method = { codes "inlayHint/resolve" };
 }
 
-/// `workspace/inlayHint/refresh`, a request to the client. The client is to ask for hints anew (LSP 3.17, "Inlay Hint
+/// `workspace/inlayHint/refresh`, a request to the client. The client is to request hints again (LSP 3.17, "Inlay Hint
 /// Refresh Request").
 pub struct InlayHintRefreshRequest;
 
 impl InlayHintRefreshRequest {
-    /// Its name.
+    /// The name of the method.
     pub const METHOD: &'static str = "workspace/inlayHint/refresh";
 }
 
@@ -536,7 +539,7 @@ impl RequestToClient for InlayHintRefreshRequest {
 pub struct CompletionRequest;
 
 impl CompletionRequest {
-    /// Its name.
+    /// The name of the method.
     pub const METHOD: &'static str = "textDocument/completion";
 }
 
@@ -553,7 +556,7 @@ impl RequestToServer for CompletionRequest {
 pub struct CompletionResolveRequest;
 
 impl CompletionResolveRequest {
-    /// Its name.
+    /// The name of the method.
     pub const METHOD: &'static str = "completionItem/resolve";
 }
 
@@ -570,7 +573,7 @@ impl RequestToServer for CompletionResolveRequest {
 pub struct PublishDiagnosticsNotification;
 
 impl PublishDiagnosticsNotification {
-    /// Its name.
+    /// The name of the method.
     pub const METHOD: &'static str = "textDocument/publishDiagnostics";
 }
 
@@ -588,7 +591,7 @@ impl NotificationToClient for PublishDiagnosticsNotification {
 pub struct SignatureHelpRequest;
 
 impl SignatureHelpRequest {
-    /// Its name.
+    /// The name of the method.
     pub const METHOD: &'static str = "textDocument/signatureHelp";
 }
 
@@ -605,7 +608,7 @@ impl RequestToServer for SignatureHelpRequest {
 pub struct CodeActionRequest;
 
 impl CodeActionRequest {
-    /// Its name.
+    /// The name of the method.
     pub const METHOD: &'static str = "textDocument/codeAction";
 }
 
@@ -621,7 +624,7 @@ impl RequestToServer for CodeActionRequest {
 pub struct CodeActionResolveRequest;
 
 impl CodeActionResolveRequest {
-    /// Its name.
+    /// The name of the method.
     pub const METHOD: &'static str = "codeAction/resolve";
 }
 
@@ -638,7 +641,7 @@ impl RequestToServer for CodeActionResolveRequest {
 pub struct DocumentFormattingRequest;
 
 impl DocumentFormattingRequest {
-    /// Its name.
+    /// The name of the method.
     pub const METHOD: &'static str = "textDocument/formatting";
 }
 
@@ -655,7 +658,7 @@ impl RequestToServer for DocumentFormattingRequest {
 pub struct DocumentRangeFormattingRequest;
 
 impl DocumentRangeFormattingRequest {
-    /// Its name.
+    /// The name of the method.
     pub const METHOD: &'static str = "textDocument/rangeFormatting";
 }
 
@@ -672,7 +675,7 @@ impl RequestToServer for DocumentRangeFormattingRequest {
 pub struct DocumentOnTypeFormattingRequest;
 
 impl DocumentOnTypeFormattingRequest {
-    /// Its name.
+    /// The name of the method.
     pub const METHOD: &'static str = "textDocument/onTypeFormatting";
 }
 
@@ -684,12 +687,12 @@ impl RequestToServer for DocumentOnTypeFormattingRequest {
     ghost method = { codes "textDocument/onTypeFormatting" };
 }
 
-/// `textDocument/rename`, a request to the server. Changes that rename what stands at a place (LSP 3.17, "Rename
+/// `textDocument/rename`, a request to the server. Changes that rename the symbol at a place (LSP 3.17, "Rename
 /// Request").
 pub struct RenameRequest;
 
 impl RenameRequest {
-    /// Its name.
+    /// The name of the method.
     pub const METHOD: &'static str = "textDocument/rename";
 }
 
@@ -705,7 +708,7 @@ impl RequestToServer for RenameRequest {
 pub struct PrepareRenameRequest;
 
 impl PrepareRenameRequest {
-    /// Its name.
+    /// The name of the method.
     pub const METHOD: &'static str = "textDocument/prepareRename";
 }
 
@@ -721,7 +724,7 @@ impl RequestToServer for PrepareRenameRequest {
 pub struct WorkspaceSymbolRequest;
 
 impl WorkspaceSymbolRequest {
-    /// Its name.
+    /// The name of the method.
     pub const METHOD: &'static str = "workspace/symbol";
 }
 
@@ -738,7 +741,7 @@ impl RequestToServer for WorkspaceSymbolRequest {
 pub struct WorkspaceSymbolResolveRequest;
 
 impl WorkspaceSymbolResolveRequest {
-    /// Its name.
+    /// The name of the method.
     pub const METHOD: &'static str = "workspaceSymbol/resolve";
 }
 
@@ -754,7 +757,7 @@ impl RequestToServer for WorkspaceSymbolResolveRequest {
 pub struct ConfigurationRequest;
 
 impl ConfigurationRequest {
-    /// Its name.
+    /// The name of the method.
     pub const METHOD: &'static str = "workspace/configuration";
 }
 
@@ -775,7 +778,7 @@ impl RequestToClient for ConfigurationRequest {
 pub struct DidChangeConfigurationNotification;
 
 impl DidChangeConfigurationNotification {
-    /// Its name.
+    /// The name of the method.
     pub const METHOD: &'static str = "workspace/didChangeConfiguration";
 }
 
@@ -790,7 +793,7 @@ impl NotificationToServer for DidChangeConfigurationNotification {
 pub struct WorkspaceFoldersRequest;
 
 impl WorkspaceFoldersRequest {
-    /// Its name.
+    /// The name of the method.
     pub const METHOD: &'static str = "workspace/workspaceFolders";
 }
 
@@ -811,7 +814,7 @@ impl RequestToClient for WorkspaceFoldersRequest {
 pub struct DidChangeWorkspaceFoldersNotification;
 
 impl DidChangeWorkspaceFoldersNotification {
-    /// Its name.
+    /// The name of the method.
     pub const METHOD: &'static str = "workspace/didChangeWorkspaceFolders";
 }
 
@@ -821,12 +824,12 @@ impl NotificationToServer for DidChangeWorkspaceFoldersNotification {
     ghost method = { codes "workspace/didChangeWorkspaceFolders" };
 }
 
-/// `workspace/didChangeWatchedFiles`, a notification to the server. Files were made, changed or deleted (LSP 3.17,
+/// `workspace/didChangeWatchedFiles`, a notification to the server. Files were created, changed or deleted (LSP 3.17,
 /// "DidChangeWatchedFiles Notification").
 pub struct DidChangeWatchedFilesNotification;
 
 impl DidChangeWatchedFilesNotification {
-    /// Its name.
+    /// The name of the method.
     pub const METHOD: &'static str = "workspace/didChangeWatchedFiles";
 }
 
@@ -840,7 +843,7 @@ impl NotificationToServer for DidChangeWatchedFilesNotification {
 pub struct ExecuteCommandRequest;
 
 impl ExecuteCommandRequest {
-    /// Its name.
+    /// The name of the method.
     pub const METHOD: &'static str = "workspace/executeCommand";
 }
 
@@ -856,7 +859,7 @@ impl RequestToServer for ExecuteCommandRequest {
 pub struct ApplyWorkspaceEditRequest;
 
 impl ApplyWorkspaceEditRequest {
-    /// Its name.
+    /// The name of the method.
     pub const METHOD: &'static str = "workspace/applyEdit";
 }
 
@@ -876,7 +879,7 @@ impl RequestToClient for ApplyWorkspaceEditRequest {
 pub struct ShowMessageNotification;
 
 impl ShowMessageNotification {
-    /// Its name.
+    /// The name of the method.
     pub const METHOD: &'static str = "window/showMessage";
 }
 
@@ -895,7 +898,7 @@ impl NotificationToClient for ShowMessageNotification {
 pub struct ShowMessageRequest;
 
 impl ShowMessageRequest {
-    /// Its name.
+    /// The name of the method.
     pub const METHOD: &'static str = "window/showMessageRequest";
 }
 
@@ -915,7 +918,7 @@ impl RequestToClient for ShowMessageRequest {
 pub struct ShowDocumentRequest;
 
 impl ShowDocumentRequest {
-    /// Its name.
+    /// The name of the method.
     pub const METHOD: &'static str = "window/showDocument";
 }
 
@@ -935,7 +938,7 @@ impl RequestToClient for ShowDocumentRequest {
 pub struct LogMessageNotification;
 
 impl LogMessageNotification {
-    /// Its name.
+    /// The name of the method.
     pub const METHOD: &'static str = "window/logMessage";
 }
 
@@ -954,7 +957,7 @@ impl NotificationToClient for LogMessageNotification {
 pub struct WorkDoneProgressCreateRequest;
 
 impl WorkDoneProgressCreateRequest {
-    /// Its name.
+    /// The name of the method.
     pub const METHOD: &'static str = "window/workDoneProgress/create";
 }
 
@@ -970,12 +973,12 @@ impl RequestToClient for WorkDoneProgressCreateRequest {
     }
 }
 
-/// `window/workDoneProgress/cancel`, a notification to the server. The user calls work off (LSP 3.17, "Canceling a Work
+/// `window/workDoneProgress/cancel`, a notification to the server. The user cancels work (LSP 3.17, "Canceling a Work
 /// Done Progress").
 pub struct WorkDoneProgressCancelNotification;
 
 impl WorkDoneProgressCancelNotification {
-    /// Its name.
+    /// The name of the method.
     pub const METHOD: &'static str = "window/workDoneProgress/cancel";
 }
 
@@ -985,12 +988,12 @@ impl NotificationToServer for WorkDoneProgressCancelNotification {
     ghost method = { codes "window/workDoneProgress/cancel" };
 }
 
-/// `telemetry/event`, a notification to the client. What the server tells of its use: an object or a list (LSP 3.17,
-/// "Telemetry Notification").
+/// `telemetry/event`, a notification to the client. Telemetry of the server: an object or a list (LSP 3.17, "Telemetry
+/// Notification").
 pub struct TelemetryEventNotification;
 
 impl TelemetryEventNotification {
-    /// Its name.
+    /// The name of the method.
     pub const METHOD: &'static str = "telemetry/event";
 }
 

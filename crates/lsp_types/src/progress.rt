@@ -10,14 +10,14 @@ use crate::json::{FromJson, Members, Misfit, Object, ToJson};
 use serde_json::Value;
 use std::alloc::{AllocError, Global};
 
-/// A name that the one who asks for progress gives it (LSP 3.17, "Progress Support").
+/// A token for progress, which whoever requests the progress chooses (LSP 3.17, "Progress Support").
 pub type ProgressToken = NumberOrString;
 
-/// The member of a request's params by which the client asks for progress (LSP 3.17, "Client Initiated Progress"). Read
-/// it beside them, from the same value.
+/// The member of a request's params that requests progress (LSP 3.17, "Client Initiated Progress"). Read it from the
+/// same value as the other params.
 #[derive(Drop)]
 pub struct WorkDoneProgressParams {
-    /// The token to report with. `None` means that no progress is asked for.
+    /// The token to report with. `None` means that no progress is requested.
     pub work_done_token: Option<ProgressToken>,
 }
 
@@ -84,10 +84,10 @@ pub type WorkDoneProgressCancelParams = WorkDoneProgressCreateParams;
 /// The params of `$/progress` (LSP 3.17, "Progress Support").
 #[derive(Drop)]
 pub struct ProgressParams<T> {
-    /// The token that was asked with, or created.
+    /// The token of the request, or the one that was created.
     pub token: ProgressToken,
-    /// What is told: of work one `WorkDoneProgressBegin`, then any number of `WorkDoneProgressReport`, then one
-    /// `WorkDoneProgressEnd`; and of a result its next part.
+    /// The value: for work one `WorkDoneProgressBegin`, then any number of `WorkDoneProgressReport`, then one
+    /// `WorkDoneProgressEnd`; for a result its next part.
     pub value: T,
 }
 
@@ -127,11 +127,11 @@ impl<T: FromJson> FromJson for ProgressParams<T> {
 /// The start of work (LSP 3.17, "Work Done Progress Begin").
 #[derive(Drop)]
 pub struct WorkDoneProgressBegin {
-    /// What the work is, shortly, as `Indexing`.
+    /// A short name of the work, such as `Indexing`.
     pub title: String,
-    /// Whether the user may call it off.
+    /// Whether the user may cancel it.
     pub cancellable: Option<bool>,
-    /// What is done now.
+    /// What is being done now.
     pub message: Option<String>,
     /// How much is done, from 0 to 100. `None` means that this is not known.
     pub percentage: Option<u32>,
@@ -140,7 +140,7 @@ pub struct WorkDoneProgressBegin {
 impl WorkDoneProgressBegin {
     ghost use Rattle.std.specs.Prelude.{◌≡◌, None};
 
-    /// What has to be there. The rest is `None`.
+    /// Makes one from the required members. The others are `None`.
     pub fn new(title: String) -> WorkDoneProgressBegin
         ensures { result ≡ record {
           title = title;
@@ -208,12 +208,12 @@ impl FromJson for WorkDoneProgressBegin {
     }
 }
 
-/// What is done by now (LSP 3.17, "Work Done Progress Report").
+/// A report of the progress of work (LSP 3.17, "Work Done Progress Report").
 #[derive(Drop)]
 pub struct WorkDoneProgressReport {
-    /// Whether the user may call it off.
+    /// Whether the user may cancel it.
     pub cancellable: Option<bool>,
-    /// What is done now.
+    /// What is being done now.
     pub message: Option<String>,
     /// How much is done, from 0 to 100, and not less than before.
     pub percentage: Option<u32>,
@@ -222,7 +222,7 @@ pub struct WorkDoneProgressReport {
 impl Default for WorkDoneProgressReport {
     ghost use Rattle.std.specs.Prelude.{◌≡◌, None};
 
-    /// Nothing is set.
+    /// Makes one in which no member is set.
     fn default() -> WorkDoneProgressReport
         ensures { result ≡ record {
           cancellable = None;
@@ -286,14 +286,14 @@ impl FromJson for WorkDoneProgressReport {
 /// The end of work (LSP 3.17, "Work Done Progress End").
 #[derive(Drop)]
 pub struct WorkDoneProgressEnd {
-    /// What came of it.
+    /// The outcome of the work.
     pub message: Option<String>,
 }
 
 impl Default for WorkDoneProgressEnd {
     ghost use Rattle.std.specs.Prelude.{◌≡◌, None};
 
-    /// Nothing is set.
+    /// Makes one in which no member is set.
     fn default() -> WorkDoneProgressEnd
         ensures { result ≡ record {
           message = None;

@@ -11,7 +11,7 @@ use std::alloc::{AllocError, Global};
 /// The result of `textDocument/semanticTokens/full` and `/range`, or null (LSP 3.17, "Semantic Tokens").
 #[derive(Drop)]
 pub struct SemanticTokens {
-    /// A name for this result, for requests of what changed since.
+    /// An id for this result, for requests of later changes.
     pub result_id: Option<String>,
     /// Five numbers for each token.
     pub data: Vec<u32>,

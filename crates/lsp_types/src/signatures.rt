@@ -19,7 +19,7 @@ use std::alloc::{AllocError, Global};
 pub struct SignatureHelp {
     /// The signatures. An empty list shows none.
     pub signatures: Vec<SignatureInformation>,
-    /// Which of them is meant, from 0. `None` means the first.
+    /// Which of them is active, from 0. `None` means the first.
     pub active_signature: Option<u32>,
     /// Which parameter of it is typed, from 0. `None` means the first.
     pub active_parameter: Option<u32>,
@@ -28,7 +28,7 @@ pub struct SignatureHelp {
 impl SignatureHelp {
     ghost use Rattle.std.specs.Prelude.{◌≡◌, None};
 
-    /// What has to be there. The rest is `None`.
+    /// Makes one from the required members. The others are `None`.
     pub fn new(signatures: Vec<SignatureInformation>) -> SignatureHelp
         ensures { result ≡ record {
           signatures = signatures;
@@ -90,18 +90,18 @@ impl FromJson for SignatureHelp {
 pub struct SignatureInformation {
     /// The signature, as it is shown.
     pub label: String,
-    /// All about it.
+    /// Its documentation.
     pub documentation: Option<Documentation>,
     /// Its parameters.
     pub parameters: Option<Vec<ParameterInformation>>,
-    /// Which of them is typed, in place of the help's `active_parameter`.
+    /// Which of them is typed. It replaces the help's `active_parameter`.
     pub active_parameter: Option<u32>,
 }
 
 impl SignatureInformation {
     ghost use Rattle.std.specs.Prelude.{◌≡◌, None};
 
-    /// What has to be there. The rest is `None`.
+    /// Makes one from the required members. The others are `None`.
     pub fn new(label: String) -> SignatureInformation
         ensures { result ≡ record {
           label = label;
@@ -170,7 +170,7 @@ impl FromJson for SignatureInformation {
 pub enum ParameterLabel {
     /// Its text.
     Text(String),
-    /// Where it stands, for clients with `labelOffsetSupport`.
+    /// Its offsets, for clients with `labelOffsetSupport`.
     Offsets(LabelOffsets),
 }
 
@@ -214,7 +214,7 @@ impl FromJson for ParameterLabel {
 pub struct ParameterInformation {
     /// The part of the signature's label that it is.
     pub label: ParameterLabel,
-    /// All about it.
+    /// Its documentation.
     pub documentation: Option<Documentation>,
 }
 
@@ -222,7 +222,7 @@ impl ParameterInformation {
     ghost use Rattle.std.specs.Prelude.{◌≡◌, None};
     ghost use Rattle.lsp_types.specs.declared.signatures.ParameterLabel.TheVariants.{Text};
 
-    /// What stands in the signature. The rest is `None`.
+    /// Makes a parameter with its text in the signature. The other members are `None`.
     pub fn new(label: String) -> ParameterInformation
         ensures { result ≡ record {
           label = Text label;
@@ -272,7 +272,7 @@ impl FromJson for ParameterInformation {
     }
 }
 
-/// Why signature help is asked for (LSP 3.17, "SignatureHelpTriggerKind"). On reading, another number is refused.
+/// Why signature help is requested (LSP 3.17, "SignatureHelpTriggerKind"). On reading, another number is refused.
 #[derive(Clone, Copy, Drop)]
 pub struct SignatureHelpTriggerKind(pub u32);
 
@@ -304,7 +304,7 @@ impl FromJson for SignatureHelpTriggerKind {
     }
 }
 
-/// Why signature help is asked for (LSP 3.17, "SignatureHelpContext").
+/// Why signature help is requested (LSP 3.17, "SignatureHelpContext").
 #[derive(Drop)]
 pub struct SignatureHelpContext {
     /// Why.
@@ -373,9 +373,9 @@ pub struct SignatureHelpParams {
     pub text_document: TextDocumentIdentifier,
     /// The place in it.
     pub position: Position,
-    /// Why. None if the client does not say it, or it does not fit.
+    /// Why. `None` means that the client does not say why, or that the value does not fit.
     pub context: Option<SignatureHelpContext>,
-    /// The token to report progress with. None if it is not asked for, or does not fit.
+    /// The token to report progress with. `None` means that no progress is requested, or that the token does not fit.
     pub work_done_token: Option<ProgressToken>,
 }
 

@@ -96,7 +96,7 @@ impl FromJson for SymbolKind {
 pub struct SymbolTag(pub u32);
 
 impl SymbolTag {
-    /// Struck through: code that is not to be used.
+    /// Struck through: deprecated code.
     pub const DEPRECATED: SymbolTag = SymbolTag(1);
 }
 
@@ -119,25 +119,25 @@ impl FromJson for SymbolTag {
     }
 }
 
-/// A symbol of a document, with those inside it (LSP 3.17, "DocumentSymbol"). Read, they nest at most 128 levels; a
-/// message of JSON has room for half as many.
+/// A symbol of a document, with those inside it (LSP 3.17, "DocumentSymbol"). When read, they nest at most 128 levels;
+/// a message has room for half as many.
 #[derive(Drop)]
 pub struct DocumentSymbol {
     /// Its name.
     pub name: String,
-    /// More about it, as its type.
+    /// More about it, such as its type.
     pub detail: Option<String>,
     /// What it is.
     pub kind: SymbolKind,
     /// How it may be shown.
     pub tags: Option<Vec<SymbolTag>>,
-    /// Whether it is not to be used. `tags` has come in its place.
+    /// Whether it is deprecated. `tags` has replaced it.
     pub deprecated: Option<bool>,
     /// All of it.
     pub range: Range,
-    /// The part to select, as its name. It lies in `range`.
+    /// The part to select, such as its name. It is within `range`.
     pub selection_range: Range,
-    /// Those inside it. On reading, none if they are missing.
+    /// Those inside it. When read, there are none if they are missing.
     pub children: Vec<DocumentSymbol>,
 }
 
@@ -145,7 +145,7 @@ impl DocumentSymbol {
     ghost use Rattle.std.specs.Prelude.{◌≡◌, None};
     ghost use Rattle.lsp_types.specs.declared.symbols.DocumentSymbol.{out-DocumentSymbol};
 
-    /// A symbol, where it stands, and those inside it.
+    /// Makes a symbol from its name, its kind, its place, and those inside it.
     pub fn new(
         name: String,
         kind: SymbolKind,
@@ -186,18 +186,18 @@ pub struct SymbolInformation {
     pub kind: SymbolKind,
     /// How it may be shown.
     pub tags: Option<Vec<SymbolTag>>,
-    /// Whether it is not to be used. `tags` has come in its place.
+    /// Whether it is deprecated. `tags` has replaced it.
     pub deprecated: Option<bool>,
     /// Where it is.
     pub location: Location,
-    /// What it stands in, for people.
+    /// What contains it, for people.
     pub container_name: Option<String>,
 }
 
 impl SymbolInformation {
     ghost use Rattle.std.specs.Prelude.{◌≡◌, None};
 
-    /// What has to be there. The rest is `None`.
+    /// Makes one from the required members. The others are `None`.
     pub fn new(name: String, kind: SymbolKind, location: Location) -> SymbolInformation
         ensures { result ≡ record {
           name = name;
@@ -324,11 +324,12 @@ impl FromJson for DocumentSymbolResult {
 /// or null.
 #[derive(Drop)]
 pub struct WorkspaceSymbolParams {
-    /// What the user typed. The empty text asks for all.
+    /// What the user typed. The empty text requests all symbols.
     pub query: String,
-    /// The token to report progress with. None if it is not asked for, or does not fit.
+    /// The token to report progress with. `None` means that no progress is requested, or that the token does not fit.
     pub work_done_token: Option<ProgressToken>,
-    /// The token to send parts of the result with. None if they are not asked for, or it does not fit.
+    /// The token to send parts of the result with. `None` means that no parts are requested, or that the token does not
+    /// fit.
     pub partial_result_token: Option<ProgressToken>,
 }
 
@@ -378,7 +379,7 @@ impl FromJson for WorkspaceSymbolParams {
 pub enum WorkspaceSymbolLocation {
     /// The place.
     Place(Location),
-    /// Its document alone, for clients with `resolveSupport`: `workspaceSymbol/resolve` gives the place.
+    /// Its document without the place, for clients with `resolveSupport`: `workspaceSymbol/resolve` returns the place.
     Document(TextDocumentIdentifier),
 }
 
@@ -417,9 +418,9 @@ impl FromJson for WorkspaceSymbolLocation {
     }
 }
 
-/// A symbol of a workspace, of which the result of `workspace/symbol` is a list (LSP 3.17, "Workspace Symbols
-/// Request"). It has the members of the older `SymbolInformation` too, so that lists of these are read by it. The
-/// params and the result of `workspaceSymbol/resolve` are one.
+/// A symbol of a workspace (LSP 3.17, "Workspace Symbols Request"). The result of `workspace/symbol` is a list of
+/// these. It also has the members of the older `SymbolInformation`, so that lists of those are read too. It is also the
+/// params and the result of `workspaceSymbol/resolve`.
 #[derive(Drop)]
 pub struct WorkspaceSymbol {
     /// Its name.
@@ -428,16 +429,17 @@ pub struct WorkspaceSymbol {
     pub kind: SymbolKind,
     /// How it may be shown.
     pub tags: Option<Vec<SymbolTag>>,
-    /// Whether it is not to be used. Of a `SymbolInformation` alone. `tags` has come in its place.
+    /// Whether it is deprecated. Only a `SymbolInformation` has it. `tags` has replaced it.
     pub deprecated: Option<bool>,
-    /// What it stands in, for people.
+    /// What contains it, for people.
     pub container_name: Option<String>,
     /// Where it is.
     pub location: WorkspaceSymbolLocation,
-    /// What the client gives back in `workspaceSymbol/resolve`.
+    /// The client returns this value in `workspaceSymbol/resolve`.
     pub data: Option<Value>,
-    /// What LSP 3.17 does not name, as a newer client or server says it: an object, whose members are written beside
-    /// these. On reading, none if there is nothing else. If a field above has the same name, the member here counts.
+    /// An object with members that LSP 3.17 does not name, for example those of a newer client or server. They are
+    /// written beside the members above. When read, it is `None` if there are none. If a field above has the same name,
+    /// the member here counts.
     pub more: Option<Value>,
 }
 
@@ -445,7 +447,7 @@ impl WorkspaceSymbol {
     ghost use Rattle.std.specs.Prelude.{◌≡◌, None};
     ghost use Rattle.lsp_types.specs.declared.symbols.WorkspaceSymbolLocation.TheVariants.{Place};
 
-    /// A symbol, and its place. The rest is `None`.
+    /// Makes a symbol with its place. The other members are `None`.
     pub fn new(name: String, kind: SymbolKind, location: Location) -> WorkspaceSymbol
         ensures { result ≡ record {
           name = name;

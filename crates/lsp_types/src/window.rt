@@ -19,9 +19,9 @@ impl MessageType {
     pub const ERROR: MessageType = MessageType(1);
     /// A warning.
     pub const WARNING: MessageType = MessageType(2);
-    /// Something to know.
+    /// Information.
     pub const INFO: MessageType = MessageType(3);
-    /// A line of a log.
+    /// A log message.
     pub const LOG: MessageType = MessageType(4);
 }
 
@@ -101,7 +101,7 @@ pub struct ShowMessageRequestParams {
 impl ShowMessageRequestParams {
     ghost use Rattle.std.specs.Prelude.{◌≡◌, None};
 
-    /// What has to be there. The rest is `None`.
+    /// Makes one from the required members. The others are `None`.
     pub fn new(typ: MessageType, message: String) -> ShowMessageRequestParams
         ensures { result ≡ record {
           typ = typ;
@@ -194,9 +194,9 @@ impl FromJson for MessageActionItem {
 pub struct ShowDocumentParams {
     /// The document's URI, or another.
     pub uri: String,
-    /// Whether another program shows it, as a browser.
+    /// Whether another program shows it, such as a browser.
     pub external: Option<bool>,
-    /// Whether the user is to be there at once.
+    /// Whether the client gives it the focus.
     pub take_focus: Option<bool>,
     /// The part to select.
     pub selection: Option<Range>,
@@ -205,7 +205,7 @@ pub struct ShowDocumentParams {
 impl ShowDocumentParams {
     ghost use Rattle.std.specs.Prelude.{◌≡◌, None};
 
-    /// What has to be there. The rest is `None`.
+    /// Makes one from the required members. The others are `None`.
     pub fn new(uri: String) -> ShowDocumentParams
         ensures { result ≡ record {
           uri = uri;

@@ -16,7 +16,7 @@ use std::alloc::{AllocError, Global};
 pub struct WorkspaceFolder {
     /// Its URI.
     pub uri: String,
-    /// Its name, for people. On reading, none if it is missing or does not fit.
+    /// Its name, for people. When read, it is `None` if it is missing or does not fit.
     pub name: Option<String>,
 }
 
@@ -56,7 +56,7 @@ impl FromJson for WorkspaceFolder {
 /// The params of `workspace/didChangeWorkspaceFolders` (LSP 3.17, "DidChangeWorkspaceFolders Notification").
 #[derive(Drop)]
 pub struct DidChangeWorkspaceFoldersParams {
-    /// Which folders came and went.
+    /// Which folders were opened and closed.
     pub event: WorkspaceFoldersChangeEvent,
 }
 
@@ -84,7 +84,7 @@ impl FromJson for DidChangeWorkspaceFoldersParams {
     }
 }
 
-/// Which folders came and went (LSP 3.17, "DidChangeWorkspaceFolders Notification").
+/// Which folders were opened and closed (LSP 3.17, "DidChangeWorkspaceFolders Notification").
 #[derive(Drop)]
 pub struct WorkspaceFoldersChangeEvent {
     /// Those that were opened.
@@ -129,8 +129,7 @@ impl FromJson for WorkspaceFoldersChangeEvent {
 /// The params of `workspace/didChangeConfiguration` (LSP 3.17, "DidChangeConfiguration Notification").
 #[derive(Drop)]
 pub struct DidChangeConfigurationParams {
-    /// The settings. A client that can be asked sends null, and means that the server is to ask
-    /// (`workspace/configuration`).
+    /// The settings. A client that can be asked may send null. Then the server should ask (`workspace/configuration`).
     pub settings: Value,
 }
 
@@ -158,12 +157,12 @@ impl FromJson for DidChangeConfigurationParams {
     }
 }
 
-/// What became of a file (LSP 3.17, "FileChangeType"). On reading, another number is refused.
+/// What happened to a file (LSP 3.17, "FileChangeType"). On reading, another number is refused.
 #[derive(Clone, Copy, Drop)]
 pub struct FileChangeType(pub u32);
 
 impl FileChangeType {
-    /// It was made.
+    /// It was created.
     pub const CREATED: FileChangeType = FileChangeType(1);
     /// It was changed.
     pub const CHANGED: FileChangeType = FileChangeType(2);
@@ -190,12 +189,12 @@ impl FromJson for FileChangeType {
     }
 }
 
-/// What became of a file (LSP 3.17, "FileEvent").
+/// What happened to a file (LSP 3.17, "FileEvent").
 #[derive(Drop)]
 pub struct FileEvent {
     /// Its URI.
     pub uri: String,
-    /// What became of it. Its key is `type`.
+    /// What happened to it. Its key is `type`.
     pub typ: FileChangeType,
 }
 
@@ -267,7 +266,7 @@ impl FromJson for DidChangeWatchedFilesParams {
 /// each item.
 #[derive(Drop)]
 pub struct ConfigurationParams {
-    /// What is asked for.
+    /// The requested parts of the configuration.
     pub items: Vec<ConfigurationItem>,
 }
 
@@ -300,14 +299,14 @@ impl FromJson for ConfigurationParams {
 pub struct ConfigurationItem {
     /// The document or folder that it is for.
     pub scope_uri: Option<String>,
-    /// The section, as the name of the server.
+    /// The section, such as the name of the server.
     pub section: Option<String>,
 }
 
 impl Default for ConfigurationItem {
     ghost use Rattle.std.specs.Prelude.{◌≡◌, None};
 
-    /// Nothing is set.
+    /// Makes one in which no member is set.
     fn default() -> ConfigurationItem
         ensures { result ≡ record {
           scope_uri = None;
@@ -361,14 +360,14 @@ pub struct Command {
     pub title: String,
     /// Its name.
     pub command: String,
-    /// What it is sent back with.
+    /// The arguments that the client sends back.
     pub arguments: Option<Vec<Value>>,
 }
 
 impl Command {
     ghost use Rattle.std.specs.Prelude.{◌≡◌, None};
 
-    /// What has to be there. The rest is `None`.
+    /// Makes one from the required members. The others are `None`.
     pub fn new(title: String, command: String) -> Command
         ensures { result ≡ record {
           title = title;
@@ -430,9 +429,9 @@ impl FromJson for Command {
 pub struct ExecuteCommandParams {
     /// The command's name.
     pub command: String,
-    /// What the command has with it.
+    /// The command's arguments.
     pub arguments: Option<Vec<Value>>,
-    /// The token to report progress with. None if it is not asked for, or does not fit.
+    /// The token to report progress with. `None` means that no progress is requested, or that the token does not fit.
     pub work_done_token: Option<ProgressToken>,
 }
 
@@ -480,7 +479,7 @@ impl FromJson for ExecuteCommandParams {
 /// The params of `workspace/applyEdit` (LSP 3.17, "Applies a WorkspaceEdit").
 #[derive(Drop)]
 pub struct ApplyWorkspaceEditParams {
-    /// What the edit is called, as in a list of steps to undo.
+    /// The name of the edit, for example in a list of steps to undo.
     pub label: Option<String>,
     /// The edit.
     pub edit: WorkspaceEdit,
@@ -489,7 +488,7 @@ pub struct ApplyWorkspaceEditParams {
 impl ApplyWorkspaceEditParams {
     ghost use Rattle.std.specs.Prelude.{◌≡◌, None};
 
-    /// What has to be there. The rest is `None`.
+    /// Makes one from the required members. The others are `None`.
     pub fn new(edit: WorkspaceEdit) -> ApplyWorkspaceEditParams
         ensures { result ≡ record {
           label = None;

@@ -23,7 +23,7 @@ pub struct Color {
     pub green: f64,
     /// How blue it is.
     pub blue: f64,
-    /// How dense it is: 0 can not be seen, and 1 hides what is behind.
+    /// How dense it is: 0 is transparent, and 1 is opaque.
     pub alpha: f64,
 }
 
@@ -123,11 +123,12 @@ pub struct ColorPresentationParams {
     pub text_document: TextDocumentIdentifier,
     /// The color that the user chose.
     pub color: Color,
-    /// Where it is to stand.
+    /// Where it will be.
     pub range: Range,
-    /// The token to report progress with. None if it is not asked for, or does not fit.
+    /// The token to report progress with. `None` means that no progress is requested, or that the token does not fit.
     pub work_done_token: Option<ProgressToken>,
-    /// The token to send parts of the result with. None if they are not asked for, or it does not fit.
+    /// The token to send parts of the result with. `None` means that no parts are requested, or that the token does not
+    /// fit.
     pub partial_result_token: Option<ProgressToken>,
 }
 
@@ -200,7 +201,7 @@ pub struct ColorPresentation {
 impl ColorPresentation {
     ghost use Rattle.std.specs.Prelude.{◌≡◌, None};
 
-    /// What has to be there. The rest is `None`.
+    /// Makes one from the required members. The others are `None`.
     pub fn new(label: String) -> ColorPresentation
         ensures { result ≡ record {
           label = label;

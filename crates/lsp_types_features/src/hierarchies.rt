@@ -1,4 +1,4 @@
-//! Who calls whom, and which types stand above and below another.
+//! Callers and callees, and the supertypes and subtypes of a type.
 // `tools/types` wrote this file from `types.txt`: change that.
 ghost use Rattle.std.specs.Prelude.{◌∷◌, [], Some, codes, option_map};
 ghost use Rattle.serde_json.specs.View.{view};
@@ -24,25 +24,26 @@ pub struct CallHierarchyItem {
     pub kind: SymbolKind,
     /// How it may be shown.
     pub tags: Option<Vec<SymbolTag>>,
-    /// More about it, as its type.
+    /// More about it, such as its type.
     pub detail: Option<String>,
     /// The URI of its document.
     pub uri: String,
     /// All of it.
     pub range: Range,
-    /// The part to select, as its name. It lies in `range`.
+    /// The part to select, such as its name. It is within `range`.
     pub selection_range: Range,
-    /// What the client gives back where it asks for calls.
+    /// The client returns this value when it requests calls.
     pub data: Option<Value>,
-    /// What LSP 3.17 does not name, as a newer client or server says it: an object, whose members are written beside
-    /// these. On reading, none if there is nothing else. If a field above has the same name, the member here counts.
+    /// An object with members that LSP 3.17 does not name, for example those of a newer client or server. They are
+    /// written beside the members above. When read, it is `None` if there are none. If a field above has the same name,
+    /// the member here counts.
     pub more: Option<Value>,
 }
 
 impl CallHierarchyItem {
     ghost use Rattle.std.specs.Prelude.{◌≡◌, None};
 
-    /// What has to be there. The rest is `None`.
+    /// Makes one from the required members. The others are `None`.
     pub fn new(
         name: String,
         kind: SymbolKind,
@@ -169,9 +170,10 @@ impl FromJson for CallHierarchyItem {
 pub struct CallHierarchyIncomingCallsParams {
     /// The one that is called.
     pub item: CallHierarchyItem,
-    /// The token to report progress with. None if it is not asked for, or does not fit.
+    /// The token to report progress with. `None` means that no progress is requested, or that the token does not fit.
     pub work_done_token: Option<ProgressToken>,
-    /// The token to send parts of the result with. None if they are not asked for, or it does not fit.
+    /// The token to send parts of the result with. `None` means that no parts are requested, or that the token does not
+    /// fit.
     pub partial_result_token: Option<ProgressToken>,
 }
 

@@ -1,4 +1,4 @@
-//! What variables hold, shown within the text while a program stands still.
+//! Values of variables, shown within the text while a program is stopped.
 // `tools/types` wrote this file from `types.txt`: change that.
 ghost use Rattle.std.specs.Prelude.{◌∷◌, [], Some, codes, option_map};
 ghost use Rattle.lsp_types.specs.Json.{object_of};
@@ -18,9 +18,9 @@ pub struct InlineValueParams {
     pub text_document: TextDocumentIdentifier,
     /// The part of it that is shown.
     pub range: Range,
-    /// Where the program stands.
+    /// Where the program is stopped.
     pub context: InlineValueContext,
-    /// The token to report progress with. None if it is not asked for, or does not fit.
+    /// The token to report progress with. `None` means that no progress is requested, or that the token does not fit.
     pub work_done_token: Option<ProgressToken>,
 }
 
@@ -70,12 +70,12 @@ impl FromJson for InlineValueParams {
     }
 }
 
-/// Where a program stands (LSP 3.17, "InlineValueContext").
+/// Where a program is stopped (LSP 3.17, "InlineValueContext").
 #[derive(Clone, Copy, Drop)]
 pub struct InlineValueContext {
     /// The frame of its stack.
     pub frame_id: i32,
-    /// Where it stands in the document. Most clients mean its last line.
+    /// Where it is stopped in the document. Most clients use its last line.
     pub stopped_location: Range,
 }
 
@@ -160,18 +160,18 @@ impl FromJson for InlineValueText {
 /// A variable whose value the client finds (LSP 3.17, "InlineValueVariableLookup").
 #[derive(Drop)]
 pub struct InlineValueVariableLookup {
-    /// Where it stands.
+    /// Where it is.
     pub range: Range,
     /// Its name. `None` means the text there.
     pub variable_name: Option<String>,
-    /// Whether small and large letters differ.
+    /// Whether the case of letters matters.
     pub case_sensitive_lookup: bool,
 }
 
 impl InlineValueVariableLookup {
     ghost use Rattle.std.specs.Prelude.{◌≡◌, None};
 
-    /// What has to be there. The rest is `None`.
+    /// Makes one from the required members. The others are `None`.
     pub fn new(range: Range, case_sensitive_lookup: bool) -> InlineValueVariableLookup
         ensures { result ≡ record {
           range = range;
@@ -231,7 +231,7 @@ impl FromJson for InlineValueVariableLookup {
 /// An expression whose value the client finds (LSP 3.17, "InlineValueEvaluatableExpression").
 #[derive(Drop)]
 pub struct InlineValueEvaluatableExpression {
-    /// Where it stands.
+    /// Where it is.
     pub range: Range,
     /// The expression. `None` means the text there.
     pub expression: Option<String>,
@@ -240,7 +240,7 @@ pub struct InlineValueEvaluatableExpression {
 impl InlineValueEvaluatableExpression {
     ghost use Rattle.std.specs.Prelude.{◌≡◌, None};
 
-    /// What has to be there. The rest is `None`.
+    /// Makes one from the required members. The others are `None`.
     pub fn new(range: Range) -> InlineValueEvaluatableExpression
         ensures { result ≡ record {
           range = range;

@@ -24,12 +24,12 @@ use crate::reports::{
 use crate::token_changes::{SemanticTokensDeltaParams, SemanticTokensDeltaResult};
 use lsp_types::{RequestToClient, RequestToServer};
 
-/// `textDocument/documentHighlight`, a request to the server. Where a name stands, to mark it (LSP 3.17, "Document
+/// `textDocument/documentHighlight`, a request to the server. Where a name occurs, to mark it (LSP 3.17, "Document
 /// Highlights Request").
 pub struct DocumentHighlightRequest;
 
 impl DocumentHighlightRequest {
-    /// Its name.
+    /// The name of the method.
     pub const METHOD: &'static str = "textDocument/documentHighlight";
 }
 
@@ -45,7 +45,7 @@ impl RequestToServer for DocumentHighlightRequest {
 pub struct FoldingRangeRequest;
 
 impl FoldingRangeRequest {
-    /// Its name.
+    /// The name of the method.
     pub const METHOD: &'static str = "textDocument/foldingRange";
 }
 
@@ -62,7 +62,7 @@ impl RequestToServer for FoldingRangeRequest {
 pub struct SelectionRangeRequest;
 
 impl SelectionRangeRequest {
-    /// Its name.
+    /// The name of the method.
     pub const METHOD: &'static str = "textDocument/selectionRange";
 }
 
@@ -79,7 +79,7 @@ impl RequestToServer for SelectionRangeRequest {
 pub struct LinkedEditingRangeRequest;
 
 impl LinkedEditingRangeRequest {
-    /// Its name.
+    /// The name of the method.
     pub const METHOD: &'static str = "textDocument/linkedEditingRange";
 }
 
@@ -95,7 +95,7 @@ impl RequestToServer for LinkedEditingRangeRequest {
 pub struct MonikerRequest;
 
 impl MonikerRequest {
-    /// Its name.
+    /// The name of the method.
     pub const METHOD: &'static str = "textDocument/moniker";
 }
 
@@ -112,7 +112,7 @@ impl RequestToServer for MonikerRequest {
 pub struct CodeLensRequest;
 
 impl CodeLensRequest {
-    /// Its name.
+    /// The name of the method.
     pub const METHOD: &'static str = "textDocument/codeLens";
 }
 
@@ -129,7 +129,7 @@ impl RequestToServer for CodeLensRequest {
 pub struct CodeLensResolveRequest;
 
 impl CodeLensResolveRequest {
-    /// Its name.
+    /// The name of the method.
     pub const METHOD: &'static str = "codeLens/resolve";
 }
 
@@ -141,12 +141,12 @@ impl RequestToServer for CodeLensResolveRequest {
     ghost method = { codes "codeLens/resolve" };
 }
 
-/// `workspace/codeLens/refresh`, a request to the client. The client is to ask for lenses anew (LSP 3.17, "Code Lens
+/// `workspace/codeLens/refresh`, a request to the client. The client is to request lenses again (LSP 3.17, "Code Lens
 /// Refresh Request").
 pub struct CodeLensRefreshRequest;
 
 impl CodeLensRefreshRequest {
-    /// Its name.
+    /// The name of the method.
     pub const METHOD: &'static str = "workspace/codeLens/refresh";
 }
 
@@ -166,7 +166,7 @@ impl RequestToClient for CodeLensRefreshRequest {
 pub struct DocumentLinkRequest;
 
 impl DocumentLinkRequest {
-    /// Its name.
+    /// The name of the method.
     pub const METHOD: &'static str = "textDocument/documentLink";
 }
 
@@ -183,7 +183,7 @@ impl RequestToServer for DocumentLinkRequest {
 pub struct DocumentLinkResolveRequest;
 
 impl DocumentLinkResolveRequest {
-    /// Its name.
+    /// The name of the method.
     pub const METHOD: &'static str = "documentLink/resolve";
 }
 
@@ -195,12 +195,12 @@ impl RequestToServer for DocumentLinkResolveRequest {
     ghost method = { codes "documentLink/resolve" };
 }
 
-/// `textDocument/prepareCallHierarchy`, a request to the server. What stands at a place and can call or be called (LSP
-/// 3.17, "Prepare Call Hierarchy Request").
+/// `textDocument/prepareCallHierarchy`, a request to the server. The functions at a place (LSP 3.17, "Prepare Call
+/// Hierarchy Request").
 pub struct CallHierarchyPrepareRequest;
 
 impl CallHierarchyPrepareRequest {
-    /// Its name.
+    /// The name of the method.
     pub const METHOD: &'static str = "textDocument/prepareCallHierarchy";
 }
 
@@ -216,7 +216,7 @@ impl RequestToServer for CallHierarchyPrepareRequest {
 pub struct CallHierarchyIncomingCallsRequest;
 
 impl CallHierarchyIncomingCallsRequest {
-    /// Its name.
+    /// The name of the method.
     pub const METHOD: &'static str = "callHierarchy/incomingCalls";
 }
 
@@ -232,7 +232,7 @@ impl RequestToServer for CallHierarchyIncomingCallsRequest {
 pub struct CallHierarchyOutgoingCallsRequest;
 
 impl CallHierarchyOutgoingCallsRequest {
-    /// Its name.
+    /// The name of the method.
     pub const METHOD: &'static str = "callHierarchy/outgoingCalls";
 }
 
@@ -244,12 +244,12 @@ impl RequestToServer for CallHierarchyOutgoingCallsRequest {
     ghost method = { codes "callHierarchy/outgoingCalls" };
 }
 
-/// `textDocument/prepareTypeHierarchy`, a request to the server. Which type stands at a place (LSP 3.17, "Prepare Type
+/// `textDocument/prepareTypeHierarchy`, a request to the server. The types at a place (LSP 3.17, "Prepare Type
 /// Hierarchy Request").
 pub struct TypeHierarchyPrepareRequest;
 
 impl TypeHierarchyPrepareRequest {
-    /// Its name.
+    /// The name of the method.
     pub const METHOD: &'static str = "textDocument/prepareTypeHierarchy";
 }
 
@@ -266,7 +266,7 @@ impl RequestToServer for TypeHierarchyPrepareRequest {
 pub struct TypeHierarchySupertypesRequest;
 
 impl TypeHierarchySupertypesRequest {
-    /// Its name.
+    /// The name of the method.
     pub const METHOD: &'static str = "typeHierarchy/supertypes";
 }
 
@@ -282,7 +282,7 @@ impl RequestToServer for TypeHierarchySupertypesRequest {
 pub struct TypeHierarchySubtypesRequest;
 
 impl TypeHierarchySubtypesRequest {
-    /// Its name.
+    /// The name of the method.
     pub const METHOD: &'static str = "typeHierarchy/subtypes";
 }
 
@@ -299,7 +299,7 @@ impl RequestToServer for TypeHierarchySubtypesRequest {
 pub struct DocumentColorRequest;
 
 impl DocumentColorRequest {
-    /// Its name.
+    /// The name of the method.
     pub const METHOD: &'static str = "textDocument/documentColor";
 }
 
@@ -316,7 +316,7 @@ impl RequestToServer for DocumentColorRequest {
 pub struct ColorPresentationRequest;
 
 impl ColorPresentationRequest {
-    /// Its name.
+    /// The name of the method.
     pub const METHOD: &'static str = "textDocument/colorPresentation";
 }
 
@@ -332,7 +332,7 @@ impl RequestToServer for ColorPresentationRequest {
 pub struct InlineValueRequest;
 
 impl InlineValueRequest {
-    /// Its name.
+    /// The name of the method.
     pub const METHOD: &'static str = "textDocument/inlineValue";
 }
 
@@ -344,12 +344,12 @@ impl RequestToServer for InlineValueRequest {
     ghost method = { codes "textDocument/inlineValue" };
 }
 
-/// `workspace/inlineValue/refresh`, a request to the client. The client is to ask for values anew (LSP 3.17, "Inline
+/// `workspace/inlineValue/refresh`, a request to the client. The client is to request values again (LSP 3.17, "Inline
 /// Value Refresh Request").
 pub struct InlineValueRefreshRequest;
 
 impl InlineValueRefreshRequest {
-    /// Its name.
+    /// The name of the method.
     pub const METHOD: &'static str = "workspace/inlineValue/refresh";
 }
 
@@ -365,12 +365,12 @@ impl RequestToClient for InlineValueRefreshRequest {
     }
 }
 
-/// `textDocument/semanticTokens/full/delta`, a request to the server. What changed of the tokens of a document (LSP
-/// 3.17, "Semantic Tokens").
+/// `textDocument/semanticTokens/full/delta`, a request to the server. Changes of the tokens of a document (LSP 3.17,
+/// "Semantic Tokens").
 pub struct SemanticTokensDeltaRequest;
 
 impl SemanticTokensDeltaRequest {
-    /// Its name.
+    /// The name of the method.
     pub const METHOD: &'static str = "textDocument/semanticTokens/full/delta";
 }
 
@@ -387,7 +387,7 @@ impl RequestToServer for SemanticTokensDeltaRequest {
 pub struct DocumentDiagnosticRequest;
 
 impl DocumentDiagnosticRequest {
-    /// Its name.
+    /// The name of the method.
     pub const METHOD: &'static str = "textDocument/diagnostic";
 }
 
@@ -404,7 +404,7 @@ impl RequestToServer for DocumentDiagnosticRequest {
 pub struct WorkspaceDiagnosticRequest;
 
 impl WorkspaceDiagnosticRequest {
-    /// Its name.
+    /// The name of the method.
     pub const METHOD: &'static str = "workspace/diagnostic";
 }
 
@@ -416,12 +416,12 @@ impl RequestToServer for WorkspaceDiagnosticRequest {
     ghost method = { codes "workspace/diagnostic" };
 }
 
-/// `workspace/diagnostic/refresh`, a request to the client. The client is to ask for diagnostics anew (LSP 3.17,
+/// `workspace/diagnostic/refresh`, a request to the client. The client is to request diagnostics again (LSP 3.17,
 /// "Diagnostics Refresh").
 pub struct DiagnosticRefreshRequest;
 
 impl DiagnosticRefreshRequest {
-    /// Its name.
+    /// The name of the method.
     pub const METHOD: &'static str = "workspace/diagnostic/refresh";
 }
 

@@ -1,4 +1,4 @@
-//! Places that belong together: highlights, folds, selections, links and lenses.
+//! Highlights, folds, selections, links and lenses.
 // `tools/types` wrote this file from `types.txt`: change that.
 ghost use Rattle.std.specs.Prelude.{◌∷◌, [], Some, codes, option_map};
 ghost use Rattle.serde_json.specs.Data.{number, unsigned};
@@ -20,14 +20,14 @@ use std::alloc::{AllocError, Global};
 pub struct DocumentHighlight {
     /// The place.
     pub range: Range,
-    /// What is done there. `None` means a plain text.
+    /// What is done there. `None` means a textual occurrence.
     pub kind: Option<DocumentHighlightKind>,
 }
 
 impl DocumentHighlight {
     ghost use Rattle.std.specs.Prelude.{◌≡◌, None};
 
-    /// What has to be there. The rest is `None`.
+    /// Makes one from the required members. The others are `None`.
     pub fn new(range: Range) -> DocumentHighlight
         ensures { result ≡ record {
           range = range;
@@ -76,7 +76,7 @@ impl FromJson for DocumentHighlight {
 pub struct DocumentHighlightKind(pub u32);
 
 impl DocumentHighlightKind {
-    /// It stands there.
+    /// It occurs as text.
     pub const TEXT: DocumentHighlightKind = DocumentHighlightKind(1);
     /// It is read.
     pub const READ: DocumentHighlightKind = DocumentHighlightKind(2);
@@ -122,7 +122,7 @@ pub struct FoldingRange {
     pub end_line: u32,
     /// Where it ends in that line. `None` means at its end.
     pub end_character: Option<u32>,
-    /// What it is: `comment`, `imports`, `region` or another word.
+    /// Its kind: `comment`, `imports`, `region` or another.
     pub kind: Option<String>,
     /// What is shown in its place.
     pub collapsed_text: Option<String>,
@@ -131,7 +131,7 @@ pub struct FoldingRange {
 impl FoldingRange {
     ghost use Rattle.std.specs.Prelude.{◌≡◌, None};
 
-    /// What has to be there. The rest is `None`.
+    /// Makes one from the required members. The others are `None`.
     pub fn new(start_line: u32, end_line: u32) -> FoldingRange
         ensures { result ≡ record {
           start_line = start_line;
@@ -222,9 +222,10 @@ pub struct SelectionRangeParams {
     pub text_document: TextDocumentIdentifier,
     /// The places.
     pub positions: Vec<Position>,
-    /// The token to report progress with. None if it is not asked for, or does not fit.
+    /// The token to report progress with. `None` means that no progress is requested, or that the token does not fit.
     pub work_done_token: Option<ProgressToken>,
-    /// The token to send parts of the result with. None if they are not asked for, or it does not fit.
+    /// The token to send parts of the result with. `None` means that no parts are requested, or that the token does not
+    /// fit.
     pub partial_result_token: Option<ProgressToken>,
 }
 
@@ -277,13 +278,13 @@ impl FromJson for SelectionRangeParams {
     }
 }
 
-/// A part that a user may select, and what stands around it (LSP 3.17, "SelectionRange"). Read, they nest at most 128
-/// levels, and a message of JSON has room for no more.
+/// A part that a user may select, and the parts around it (LSP 3.17, "SelectionRange"). When read, they nest at most
+/// 128 levels, and a message has no room for deeper nesting.
 #[derive(Drop)]
 pub struct SelectionRange {
     /// The part.
     pub range: Range,
-    /// The next larger part, which has this one in it.
+    /// The next larger part, which contains this one.
     pub parent: Option<Box<SelectionRange>>,
 }
 
@@ -294,16 +295,16 @@ pub type LinkedEditingRangeParams = HoverParams;
 /// Places that are edited together (LSP 3.17, "Linked Editing Range").
 #[derive(Drop)]
 pub struct LinkedEditingRanges {
-    /// The places. They have one length and one text, and none overlaps another.
+    /// The places. They have the same length and the same text, and none overlaps another.
     pub ranges: Vec<Range>,
-    /// What may be typed there: a regular expression. `None` means what the client takes.
+    /// What may be typed there: a regular expression. `None` means the client's default.
     pub word_pattern: Option<String>,
 }
 
 impl LinkedEditingRanges {
     ghost use Rattle.std.specs.Prelude.{◌≡◌, None};
 
-    /// What has to be there. The rest is `None`.
+    /// Makes one from the required members. The others are `None`.
     pub fn new(ranges: Vec<Range>) -> LinkedEditingRanges
         ensures { result ≡ record {
           ranges = ranges;
@@ -359,11 +360,11 @@ pub type MonikerParams = DefinitionParams;
 /// A name that a symbol has in indexes of other projects (LSP 3.17, "Moniker").
 #[derive(Drop)]
 pub struct Moniker {
-    /// Whose names these are, as `tsc`.
+    /// The scheme of these names, such as `tsc`.
     pub scheme: String,
     /// The name.
     pub identifier: String,
-    /// Where no other symbol has it: `document`, `project`, `group`, `scheme` or `global`.
+    /// Where it is unique: `document`, `project`, `group`, `scheme` or `global`.
     pub unique: String,
     /// What it is for this project: `import`, `export` or `local`.
     pub kind: Option<String>,
@@ -372,7 +373,7 @@ pub struct Moniker {
 impl Moniker {
     ghost use Rattle.std.specs.Prelude.{◌≡◌, None};
 
-    /// What has to be there. The rest is `None`.
+    /// Makes one from the required members. The others are `None`.
     pub fn new(scheme: String, identifier: String, unique: String) -> Moniker
         ensures { result ≡ record {
           scheme = scheme;
@@ -439,25 +440,26 @@ impl FromJson for Moniker {
 /// The params of `textDocument/codeLens` (LSP 3.17, "Code Lens Request"). The result is a list of `CodeLens` or null.
 pub type CodeLensParams = DocumentSymbolParams;
 
-/// A command that is shown within a text (LSP 3.17, "CodeLens"). The params and the result of `codeLens/resolve` are
-/// one.
+/// A command that is shown within a text (LSP 3.17, "CodeLens"). It is also the params and the result of
+/// `codeLens/resolve`.
 #[derive(Drop)]
 pub struct CodeLens {
-    /// Where it is shown. It lies in one line.
+    /// Where it is shown. It is in one line.
     pub range: Range,
-    /// The command. `None` means that `codeLens/resolve` gives it.
+    /// The command. `None` means that `codeLens/resolve` returns it.
     pub command: Option<Command>,
-    /// What the client gives back in `codeLens/resolve`.
+    /// The client returns this value in `codeLens/resolve`.
     pub data: Option<Value>,
-    /// What LSP 3.17 does not name, as a newer client or server says it: an object, whose members are written beside
-    /// these. On reading, none if there is nothing else. If a field above has the same name, the member here counts.
+    /// An object with members that LSP 3.17 does not name, for example those of a newer client or server. They are
+    /// written beside the members above. When read, it is `None` if there are none. If a field above has the same name,
+    /// the member here counts.
     pub more: Option<Value>,
 }
 
 impl CodeLens {
     ghost use Rattle.std.specs.Prelude.{◌≡◌, None};
 
-    /// What has to be there. The rest is `None`.
+    /// Makes one from the required members. The others are `None`.
     pub fn new(range: Range) -> CodeLens
         ensures { result ≡ record {
           range = range;
@@ -524,27 +526,28 @@ impl FromJson for CodeLens {
 /// `DocumentLink` or null.
 pub type DocumentLinkParams = DocumentSymbolParams;
 
-/// A part of a text that leads elsewhere (LSP 3.17, "DocumentLink"). The params and the result of
-/// `documentLink/resolve` are one.
+/// A part of a text that leads elsewhere (LSP 3.17, "DocumentLink"). It is also the params and the result of
+/// `documentLink/resolve`.
 #[derive(Drop)]
 pub struct DocumentLink {
     /// The part.
     pub range: Range,
-    /// The URI that it leads to. `None` means that `documentLink/resolve` gives it.
+    /// The URI that it leads to. `None` means that `documentLink/resolve` returns it.
     pub target: Option<String>,
-    /// What is shown as the mouse stands over it.
+    /// What is shown while the mouse is over it.
     pub tooltip: Option<String>,
-    /// What the client gives back in `documentLink/resolve`.
+    /// The client returns this value in `documentLink/resolve`.
     pub data: Option<Value>,
-    /// What LSP 3.17 does not name, as a newer client or server says it: an object, whose members are written beside
-    /// these. On reading, none if there is nothing else. If a field above has the same name, the member here counts.
+    /// An object with members that LSP 3.17 does not name, for example those of a newer client or server. They are
+    /// written beside the members above. When read, it is `None` if there are none. If a field above has the same name,
+    /// the member here counts.
     pub more: Option<Value>,
 }
 
 impl DocumentLink {
     ghost use Rattle.std.specs.Prelude.{◌≡◌, None};
 
-    /// What has to be there. The rest is `None`.
+    /// Makes one from the required members. The others are `None`.
     pub fn new(range: Range) -> DocumentLink
         ensures { result ≡ record {
           range = range;

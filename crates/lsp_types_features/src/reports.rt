@@ -1,4 +1,4 @@
-//! Diagnostics that a client asks for.
+//! Diagnostics that a client requests.
 // `tools/types` wrote this file from `types.txt`: change that.
 ghost use Rattle.std.specs.Prelude.{◌∷◌, [], Some, codes, option_map};
 ghost use Rattle.serde_json.specs.Data.{string};
@@ -17,13 +17,14 @@ use std::collections::BTreeMap;
 pub struct DocumentDiagnosticParams {
     /// The document.
     pub text_document: TextDocumentIdentifier,
-    /// Which kind is asked for, by the name in `DiagnosticOptions`.
+    /// Which kind is requested, by the identifier in `DiagnosticOptions`.
     pub identifier: Option<String>,
     /// The report that the client has.
     pub previous_result_id: Option<String>,
-    /// The token to report progress with. None if it is not asked for, or does not fit.
+    /// The token to report progress with. `None` means that no progress is requested, or that the token does not fit.
     pub work_done_token: Option<ProgressToken>,
-    /// The token to send parts of the result with. None if they are not asked for, or it does not fit.
+    /// The token to send parts of the result with. `None` means that no parts are requested, or that the token does not
+    /// fit.
     pub partial_result_token: Option<ProgressToken>,
 }
 
@@ -85,7 +86,7 @@ impl FromJson for DocumentDiagnosticParams {
 /// All that is wrong with a document (LSP 3.17, "FullDocumentDiagnosticReport").
 #[derive(Drop)]
 pub struct FullDocumentDiagnosticReport {
-    /// A name for this report.
+    /// An id for this report.
     pub result_id: Option<String>,
     /// What is wrong.
     pub items: Vec<Diagnostic>,
@@ -94,7 +95,7 @@ pub struct FullDocumentDiagnosticReport {
 impl FullDocumentDiagnosticReport {
     ghost use Rattle.std.specs.Prelude.{◌≡◌, None};
 
-    /// What has to be there. The rest is `None`.
+    /// Makes one from the required members. The others are `None`.
     pub fn new(items: Vec<Diagnostic>) -> FullDocumentDiagnosticReport
         ensures { result ≡ record {
           result_id = None;
@@ -145,10 +146,10 @@ impl FromJson for FullDocumentDiagnosticReport {
     }
 }
 
-/// The report that the client has still holds (LSP 3.17, "UnchangedDocumentDiagnosticReport").
+/// The client's report is still valid (LSP 3.17, "UnchangedDocumentDiagnosticReport").
 #[derive(Drop)]
 pub struct UnchangedDocumentDiagnosticReport {
-    /// A name for it from now on.
+    /// Its id from now on.
     pub result_id: String,
 }
 
@@ -193,7 +194,7 @@ impl FromJson for UnchangedDocumentDiagnosticReport {
 pub enum RelatedReport {
     /// All of it.
     Full(FullDocumentDiagnosticReport),
-    /// What the client has still holds.
+    /// The client's report is still valid.
     Unchanged(UnchangedDocumentDiagnosticReport),
 }
 
@@ -236,7 +237,7 @@ impl FromJson for RelatedReport {
 /// "RelatedFullDocumentDiagnosticReport").
 #[derive(Drop)]
 pub struct RelatedFullDocumentDiagnosticReport {
-    /// A name for this report.
+    /// An id for this report.
     pub result_id: Option<String>,
     /// What is wrong.
     pub items: Vec<Diagnostic>,
@@ -247,7 +248,7 @@ pub struct RelatedFullDocumentDiagnosticReport {
 impl RelatedFullDocumentDiagnosticReport {
     ghost use Rattle.std.specs.Prelude.{◌≡◌, None};
 
-    /// What has to be there. The rest is `None`.
+    /// Makes one from the required members. The others are `None`.
     pub fn new(items: Vec<Diagnostic>) -> RelatedFullDocumentDiagnosticReport
         ensures { result ≡ record {
           result_id = None;
@@ -311,11 +312,11 @@ impl FromJson for RelatedFullDocumentDiagnosticReport {
     }
 }
 
-/// The report that the client has still holds, and those of others (LSP 3.17,
+/// The client's report is still valid, with reports of other documents (LSP 3.17,
 /// "RelatedUnchangedDocumentDiagnosticReport").
 #[derive(Drop)]
 pub struct RelatedUnchangedDocumentDiagnosticReport {
-    /// A name for it from now on.
+    /// Its id from now on.
     pub result_id: String,
     /// The reports of other documents, by their URIs.
     pub related_documents: Option<BTreeMap<String, RelatedReport>>,
@@ -324,7 +325,7 @@ pub struct RelatedUnchangedDocumentDiagnosticReport {
 impl RelatedUnchangedDocumentDiagnosticReport {
     ghost use Rattle.std.specs.Prelude.{◌≡◌, None};
 
-    /// What has to be there. The rest is `None`.
+    /// Makes one from the required members. The others are `None`.
     pub fn new(result_id: String) -> RelatedUnchangedDocumentDiagnosticReport
         ensures { result ≡ record {
           result_id = result_id;
@@ -386,7 +387,7 @@ impl FromJson for RelatedUnchangedDocumentDiagnosticReport {
 pub enum DocumentDiagnosticReport {
     /// All that is wrong.
     Full(RelatedFullDocumentDiagnosticReport),
-    /// What the client has still holds.
+    /// The client's report is still valid.
     Unchanged(RelatedUnchangedDocumentDiagnosticReport),
 }
 
@@ -430,7 +431,7 @@ impl FromJson for DocumentDiagnosticReport {
 pub struct PreviousResultId {
     /// The document's URI.
     pub uri: String,
-    /// The report's name.
+    /// The report's id.
     pub value: String,
 }
 
@@ -471,13 +472,14 @@ impl FromJson for PreviousResultId {
 /// `WorkspaceDiagnosticReport`.
 #[derive(Drop)]
 pub struct WorkspaceDiagnosticParams {
-    /// Which kind is asked for, by the name in `DiagnosticOptions`.
+    /// Which kind is requested, by the identifier in `DiagnosticOptions`.
     pub identifier: Option<String>,
     /// The reports that the client has.
     pub previous_result_ids: Vec<PreviousResultId>,
-    /// The token to report progress with. None if it is not asked for, or does not fit.
+    /// The token to report progress with. `None` means that no progress is requested, or that the token does not fit.
     pub work_done_token: Option<ProgressToken>,
-    /// The token to send parts of the result with. None if they are not asked for, or it does not fit.
+    /// The token to send parts of the result with. `None` means that no parts are requested, or that the token does not
+    /// fit.
     pub partial_result_token: Option<ProgressToken>,
 }
 
@@ -533,20 +535,20 @@ impl FromJson for WorkspaceDiagnosticParams {
 /// All that is wrong with a document (LSP 3.17, "WorkspaceFullDocumentDiagnosticReport").
 #[derive(Drop)]
 pub struct WorkspaceFullDocumentDiagnosticReport {
-    /// A name for this report.
+    /// An id for this report.
     pub result_id: Option<String>,
     /// What is wrong.
     pub items: Vec<Diagnostic>,
     /// The document's URI.
     pub uri: String,
-    /// The version that was looked at. `None` means that of the file.
+    /// The version that was analysed. `None` means the file on disk.
     pub version: Option<i32>,
 }
 
 impl WorkspaceFullDocumentDiagnosticReport {
     ghost use Rattle.std.specs.Prelude.{◌≡◌, None};
 
-    /// What has to be there. The rest is `None`.
+    /// Makes one from the required members. The others are `None`.
     pub fn new(items: Vec<Diagnostic>, uri: String) -> WorkspaceFullDocumentDiagnosticReport
         ensures { result ≡ record {
           result_id = None;
@@ -617,21 +619,21 @@ impl FromJson for WorkspaceFullDocumentDiagnosticReport {
     }
 }
 
-/// The report that the client has still holds (LSP 3.17, "WorkspaceUnchangedDocumentDiagnosticReport").
+/// The client's report is still valid (LSP 3.17, "WorkspaceUnchangedDocumentDiagnosticReport").
 #[derive(Drop)]
 pub struct WorkspaceUnchangedDocumentDiagnosticReport {
-    /// A name for it from now on.
+    /// Its id from now on.
     pub result_id: String,
     /// The document's URI.
     pub uri: String,
-    /// The version that was looked at. `None` means that of the file.
+    /// The version that was analysed. `None` means the file on disk.
     pub version: Option<i32>,
 }
 
 impl WorkspaceUnchangedDocumentDiagnosticReport {
     ghost use Rattle.std.specs.Prelude.{◌≡◌, None};
 
-    /// What has to be there. The rest is `None`.
+    /// Makes one from the required members. The others are `None`.
     pub fn new(result_id: String, uri: String) -> WorkspaceUnchangedDocumentDiagnosticReport
         ensures { result ≡ record {
           result_id = result_id;
@@ -700,7 +702,7 @@ impl FromJson for WorkspaceUnchangedDocumentDiagnosticReport {
 pub enum WorkspaceDocumentDiagnosticReport {
     /// All of it.
     Full(WorkspaceFullDocumentDiagnosticReport),
-    /// What the client has still holds.
+    /// The client's report is still valid.
     Unchanged(WorkspaceUnchangedDocumentDiagnosticReport),
 }
 

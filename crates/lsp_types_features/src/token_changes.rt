@@ -1,4 +1,4 @@
-//! What changed of semantic tokens.
+//! Changes of semantic tokens.
 // `tools/types` wrote this file from `types.txt`: change that.
 ghost use Rattle.std.specs.Prelude.{◌∷◌, [], Some, codes, option_map};
 ghost use Rattle.lsp_types.specs.Json.{object_of};
@@ -16,9 +16,10 @@ pub struct SemanticTokensDeltaParams {
     pub text_document: TextDocumentIdentifier,
     /// The result that the client has.
     pub previous_result_id: String,
-    /// The token to report progress with. None if it is not asked for, or does not fit.
+    /// The token to report progress with. `None` means that no progress is requested, or that the token does not fit.
     pub work_done_token: Option<ProgressToken>,
-    /// The token to send parts of the result with. None if they are not asked for, or it does not fit.
+    /// The token to send parts of the result with. `None` means that no parts are requested, or that the token does not
+    /// fit.
     pub partial_result_token: Option<ProgressToken>,
 }
 
@@ -74,9 +75,9 @@ impl FromJson for SemanticTokensDeltaParams {
 /// A change of the numbers of tokens (LSP 3.17, "SemanticTokensEdit").
 #[derive(Drop)]
 pub struct SemanticTokensEdit {
-    /// The first number that goes, from 0.
+    /// The first number that is removed, from 0.
     pub start: u32,
-    /// How many go.
+    /// How many are removed.
     pub delete_count: u32,
     /// The numbers in their place.
     pub data: Option<Vec<u32>>,
@@ -85,7 +86,7 @@ pub struct SemanticTokensEdit {
 impl SemanticTokensEdit {
     ghost use Rattle.std.specs.Prelude.{◌≡◌, None};
 
-    /// What has to be there. The rest is `None`.
+    /// Makes one from the required members. The others are `None`.
     pub fn new(start: u32, delete_count: u32) -> SemanticTokensEdit
         ensures { result ≡ record {
           start = start;
@@ -145,7 +146,7 @@ impl FromJson for SemanticTokensEdit {
 /// What changed (LSP 3.17, "SemanticTokensDelta").
 #[derive(Drop)]
 pub struct SemanticTokensDelta {
-    /// A name for the new result.
+    /// An id for the new result.
     pub result_id: Option<String>,
     /// The changes.
     pub edits: Vec<SemanticTokensEdit>,
@@ -154,7 +155,7 @@ pub struct SemanticTokensDelta {
 impl SemanticTokensDelta {
     ghost use Rattle.std.specs.Prelude.{◌≡◌, None};
 
-    /// What has to be there. The rest is `None`.
+    /// Makes one from the required members. The others are `None`.
     pub fn new(edits: Vec<SemanticTokensEdit>) -> SemanticTokensDelta
         ensures { result ≡ record {
           result_id = None;
@@ -206,7 +207,7 @@ impl FromJson for SemanticTokensDelta {
 pub enum SemanticTokensDeltaResult {
     /// What changed.
     Delta(SemanticTokensDelta),
-    /// All tokens anew.
+    /// All tokens again.
     Tokens(SemanticTokens),
 }
 

@@ -1,4 +1,4 @@
-//! Files that are made, renamed or deleted, and files that are watched.
+//! Files that are created, renamed or deleted, and files that are watched.
 // `tools/types` wrote this file from `types.txt`: change that.
 ghost use Rattle.std.specs.Prelude.{◌∷◌, [], Some, codes, option_map};
 ghost use Rattle.lsp_types.specs.Json.{object_of};
@@ -9,7 +9,7 @@ use lsp_types::json::{FromJson, Members, Misfit, Object, ToJson, fitting};
 use serde_json::Value;
 use std::alloc::{AllocError, Global};
 
-/// A file or a folder that is made (LSP 3.17, "FileCreate").
+/// A file or a folder that is created (LSP 3.17, "FileCreate").
 #[derive(Drop)]
 pub struct FileCreate {
     /// Its URI.
@@ -44,7 +44,7 @@ impl FromJson for FileCreate {
 /// the first is a `WorkspaceEdit` or null.
 #[derive(Drop)]
 pub struct CreateFilesParams {
-    /// All that are made.
+    /// All that are created.
     pub files: Vec<FileCreate>,
 }
 
@@ -79,7 +79,7 @@ pub type FileDelete = FileCreate;
 /// the first is a `WorkspaceEdit` or null.
 pub type DeleteFilesParams = CreateFilesParams;
 
-/// A file or a folder that gets another name (LSP 3.17, "FileRename").
+/// A file or a folder that is renamed (LSP 3.17, "FileRename").
 #[derive(Drop)]
 pub struct FileRename {
     /// Its URI until now.
@@ -125,7 +125,7 @@ impl FromJson for FileRename {
 /// the first is a `WorkspaceEdit` or null.
 #[derive(Drop)]
 pub struct RenameFilesParams {
-    /// All that get another name.
+    /// All that are renamed.
     pub files: Vec<FileRename>,
 }
 
@@ -156,14 +156,14 @@ impl FromJson for RenameFilesParams {
 /// How a pattern is compared (LSP 3.17, "FileOperationPatternOptions").
 #[derive(Clone, Copy, Drop)]
 pub struct FileOperationPatternOptions {
-    /// Whether small and large letters are the same.
+    /// Whether the case of letters is ignored.
     pub ignore_case: Option<bool>,
 }
 
 impl Default for FileOperationPatternOptions {
     ghost use Rattle.std.specs.Prelude.{◌≡◌, None};
 
-    /// Nothing is set.
+    /// Makes one in which no member is set.
     fn default() -> FileOperationPatternOptions
         ensures { result ≡ record {
           ignore_case = None;
@@ -202,7 +202,7 @@ impl FromJson for FileOperationPatternOptions {
 /// Which files are meant (LSP 3.17, "FileOperationPattern").
 #[derive(Drop)]
 pub struct FileOperationPattern {
-    /// A pattern of paths, as `**/*.rs`.
+    /// A pattern of paths, such as `**/*.rs`.
     pub glob: String,
     /// `file` or `folder`. `None` means both.
     pub matches: Option<String>,
@@ -213,7 +213,7 @@ pub struct FileOperationPattern {
 impl FileOperationPattern {
     ghost use Rattle.std.specs.Prelude.{◌≡◌, None};
 
-    /// What has to be there. The rest is `None`.
+    /// Makes one from the required members. The others are `None`.
     pub fn new(glob: String) -> FileOperationPattern
         ensures { result ≡ record {
           glob = glob;
@@ -273,7 +273,7 @@ impl FromJson for FileOperationPattern {
 /// Which files are meant, by their URIs (LSP 3.17, "FileOperationFilter").
 #[derive(Drop)]
 pub struct FileOperationFilter {
-    /// The scheme, as `file`. `None` means any.
+    /// The scheme, such as `file`. `None` means any.
     pub scheme: Option<String>,
     /// Which paths.
     pub pattern: FileOperationPattern,
@@ -282,7 +282,7 @@ pub struct FileOperationFilter {
 impl FileOperationFilter {
     ghost use Rattle.std.specs.Prelude.{◌≡◌, None};
 
-    /// What has to be there. The rest is `None`.
+    /// Makes one from the required members. The others are `None`.
     pub fn new(pattern: FileOperationPattern) -> FileOperationFilter
         ensures { result ≡ record {
           scheme = None;
@@ -329,7 +329,7 @@ impl FromJson for FileOperationFilter {
     }
 }
 
-/// The files of which a server wants to hear (LSP 3.17, "FileOperationRegistrationOptions").
+/// The files for which a server wants notifications and requests (LSP 3.17, "FileOperationRegistrationOptions").
 #[derive(Drop)]
 pub struct FileOperationRegistrationOptions {
     /// Those that fit one of these.
@@ -360,8 +360,8 @@ impl FromJson for FileOperationRegistrationOptions {
     }
 }
 
-/// Of which files a server wants to hear, and when: the value of `WorkspaceOptions::file_operations` (LSP 3.17,
-/// "ServerCapabilities").
+/// For which files a server wants notifications and requests, and when: the value of
+/// `WorkspaceOptions::file_operations` (LSP 3.17, "ServerCapabilities").
 #[derive(Drop)]
 pub struct FileOperationOptions {
     /// `workspace/didCreateFiles`.
@@ -381,7 +381,7 @@ pub struct FileOperationOptions {
 impl Default for FileOperationOptions {
     ghost use Rattle.std.specs.Prelude.{◌≡◌, None};
 
-    /// Nothing is set.
+    /// Makes one in which no member is set.
     fn default() -> FileOperationOptions
         ensures { result ≡ record {
           did_create = None;
@@ -553,7 +553,7 @@ impl FromJson for RelativePattern {
 /// Which paths are meant (LSP 3.17, "GlobPattern").
 #[derive(Drop)]
 pub enum GlobPattern {
-    /// A pattern, as `**/*.rs`.
+    /// A pattern, such as `**/*.rs`.
     Pattern(String),
     /// One below a folder, for clients with `relativePatternSupport`.
     Relative(RelativePattern),
@@ -599,8 +599,8 @@ impl FromJson for GlobPattern {
 pub struct FileSystemWatcher {
     /// Which.
     pub glob_pattern: GlobPattern,
-    /// What is told of them: the sum of 1 for those that are made, 2 for changes and 4 for those that are deleted.
-    /// `None` means all three.
+    /// Which events are sent: the sum of 1 for created files, 2 for changed ones and 4 for deleted ones. `None` means
+    /// all three.
     pub kind: Option<u32>,
 }
 

@@ -9,12 +9,12 @@ use crate::notebooks::{
 };
 use lsp_types::{NotificationToServer, RequestToServer, WorkspaceEdit};
 
-/// `workspace/willCreateFiles`, a request to the server. Changes to make before files are made (LSP 3.17,
+/// `workspace/willCreateFiles`, a request to the server. Changes to make before files are created (LSP 3.17,
 /// "WillCreateFiles Request").
 pub struct WillCreateFilesRequest;
 
 impl WillCreateFilesRequest {
-    /// Its name.
+    /// The name of the method.
     pub const METHOD: &'static str = "workspace/willCreateFiles";
 }
 
@@ -26,12 +26,12 @@ impl RequestToServer for WillCreateFilesRequest {
     ghost method = { codes "workspace/willCreateFiles" };
 }
 
-/// `workspace/willRenameFiles`, a request to the server. Changes to make before files get other names (LSP 3.17,
+/// `workspace/willRenameFiles`, a request to the server. Changes to make before files are renamed (LSP 3.17,
 /// "WillRenameFiles Request").
 pub struct WillRenameFilesRequest;
 
 impl WillRenameFilesRequest {
-    /// Its name.
+    /// The name of the method.
     pub const METHOD: &'static str = "workspace/willRenameFiles";
 }
 
@@ -48,7 +48,7 @@ impl RequestToServer for WillRenameFilesRequest {
 pub struct WillDeleteFilesRequest;
 
 impl WillDeleteFilesRequest {
-    /// Its name.
+    /// The name of the method.
     pub const METHOD: &'static str = "workspace/willDeleteFiles";
 }
 
@@ -60,11 +60,12 @@ impl RequestToServer for WillDeleteFilesRequest {
     ghost method = { codes "workspace/willDeleteFiles" };
 }
 
-/// `workspace/didCreateFiles`, a notification to the server. Files were made (LSP 3.17, "DidCreateFiles Notification").
+/// `workspace/didCreateFiles`, a notification to the server. Files were created (LSP 3.17, "DidCreateFiles
+/// Notification").
 pub struct DidCreateFilesNotification;
 
 impl DidCreateFilesNotification {
-    /// Its name.
+    /// The name of the method.
     pub const METHOD: &'static str = "workspace/didCreateFiles";
 }
 
@@ -74,12 +75,12 @@ impl NotificationToServer for DidCreateFilesNotification {
     ghost method = { codes "workspace/didCreateFiles" };
 }
 
-/// `workspace/didRenameFiles`, a notification to the server. Files got other names (LSP 3.17, "DidRenameFiles
+/// `workspace/didRenameFiles`, a notification to the server. Files were renamed (LSP 3.17, "DidRenameFiles
 /// Notification").
 pub struct DidRenameFilesNotification;
 
 impl DidRenameFilesNotification {
-    /// Its name.
+    /// The name of the method.
     pub const METHOD: &'static str = "workspace/didRenameFiles";
 }
 
@@ -94,7 +95,7 @@ impl NotificationToServer for DidRenameFilesNotification {
 pub struct DidDeleteFilesNotification;
 
 impl DidDeleteFilesNotification {
-    /// Its name.
+    /// The name of the method.
     pub const METHOD: &'static str = "workspace/didDeleteFiles";
 }
 
@@ -109,7 +110,7 @@ impl NotificationToServer for DidDeleteFilesNotification {
 pub struct DidOpenNotebookDocumentNotification;
 
 impl DidOpenNotebookDocumentNotification {
-    /// Its name.
+    /// The name of the method.
     pub const METHOD: &'static str = "notebookDocument/didOpen";
 }
 
@@ -124,7 +125,7 @@ impl NotificationToServer for DidOpenNotebookDocumentNotification {
 pub struct DidChangeNotebookDocumentNotification;
 
 impl DidChangeNotebookDocumentNotification {
-    /// Its name.
+    /// The name of the method.
     pub const METHOD: &'static str = "notebookDocument/didChange";
 }
 
@@ -139,7 +140,7 @@ impl NotificationToServer for DidChangeNotebookDocumentNotification {
 pub struct DidSaveNotebookDocumentNotification;
 
 impl DidSaveNotebookDocumentNotification {
-    /// Its name.
+    /// The name of the method.
     pub const METHOD: &'static str = "notebookDocument/didSave";
 }
 
@@ -154,7 +155,7 @@ impl NotificationToServer for DidSaveNotebookDocumentNotification {
 pub struct DidCloseNotebookDocumentNotification;
 
 impl DidCloseNotebookDocumentNotification {
-    /// Its name.
+    /// The name of the method.
     pub const METHOD: &'static str = "notebookDocument/didClose";
 }
 

@@ -1,4 +1,4 @@
-//! Notebooks, whose cells are documents of their own.
+//! Notebooks, whose cells are documents.
 // `tools/types` wrote this file from `types.txt`: change that.
 ghost use Rattle.std.specs.Prelude.{◌∷◌, [], Some, codes, option_map};
 ghost use Rattle.serde_json.specs.Data.{number, unsigned};
@@ -46,7 +46,7 @@ impl FromJson for NotebookCellKind {
 pub struct ExecutionSummary {
     /// Which run it was.
     pub execution_order: u32,
-    /// Whether it went well.
+    /// Whether it succeeded.
     pub success: Option<bool>,
 }
 
@@ -93,7 +93,7 @@ pub struct NotebookCell {
     pub kind: NotebookCellKind,
     /// The URI of the document with its text.
     pub document: String,
-    /// What else is known of it: an object.
+    /// Its metadata: an object.
     pub metadata: Option<Value>,
     /// How it was run last.
     pub execution_summary: Option<ExecutionSummary>,
@@ -150,11 +150,11 @@ impl FromJson for NotebookCell {
 pub struct NotebookDocument {
     /// Its URI.
     pub uri: String,
-    /// What kind it is of, as `jupyter-notebook`.
+    /// Its kind, such as `jupyter-notebook`.
     pub notebook_type: String,
     /// Its version, which grows with each change.
     pub version: i32,
-    /// What else is known of it: an object.
+    /// Its metadata: an object.
     pub metadata: Option<Value>,
     /// Its cells.
     pub cells: Vec<NotebookCell>,
@@ -304,9 +304,9 @@ impl FromJson for VersionedNotebookDocumentIdentifier {
 /// A change of the list of cells (LSP 3.17, "NotebookCellArrayChange").
 #[derive(Drop)]
 pub struct NotebookCellArrayChange {
-    /// The first cell that goes, from 0.
+    /// The first cell that is removed, from 0.
     pub start: u32,
-    /// How many go.
+    /// How many are removed.
     pub delete_count: u32,
     /// The cells in their place.
     pub cells: Option<Vec<NotebookCell>>,
@@ -353,14 +353,14 @@ impl FromJson for NotebookCellArrayChange {
     }
 }
 
-/// Which cells came and went (LSP 3.17, "NotebookDocumentChangeEvent").
+/// Which cells were added and removed (LSP 3.17, "NotebookDocumentChangeEvent").
 #[derive(Drop)]
 pub struct NotebookCellStructure {
     /// The change of the list.
     pub array: NotebookCellArrayChange,
-    /// The documents of cells that came.
+    /// The documents of added cells.
     pub did_open: Option<Vec<TextDocumentItem>>,
-    /// The documents of cells that went.
+    /// The documents of removed cells.
     pub did_close: Option<Vec<TextDocumentIdentifier>>,
 }
 
@@ -410,7 +410,7 @@ impl FromJson for NotebookCellStructure {
 pub struct NotebookCellTextChange {
     /// The cell's document, at its version after all changes.
     pub document: VersionedTextDocumentIdentifier,
-    /// The changes. Each is of the text that the one before it left.
+    /// The changes. Each is applied to the text that the one before it left.
     pub changes: Vec<ContentChange>,
 }
 
@@ -447,14 +447,14 @@ impl FromJson for NotebookCellTextChange {
     }
 }
 
-/// What changed of cells (LSP 3.17, "NotebookDocumentChangeEvent").
+/// Changes of cells (LSP 3.17, "NotebookDocumentChangeEvent").
 #[derive(Drop)]
 pub struct NotebookCellChanges {
-    /// Which came and went.
+    /// Which were added and removed.
     pub structure: Option<NotebookCellStructure>,
-    /// Those of which something else than the text changed.
+    /// Those in which something other than the text changed.
     pub data: Option<Vec<NotebookCell>>,
-    /// Those of which the text changed.
+    /// Those whose text changed.
     pub text_content: Option<Vec<NotebookCellTextChange>>,
 }
 
@@ -499,12 +499,12 @@ impl FromJson for NotebookCellChanges {
     }
 }
 
-/// What changed of a notebook (LSP 3.17, "NotebookDocumentChangeEvent").
+/// Changes of a notebook (LSP 3.17, "NotebookDocumentChangeEvent").
 #[derive(Drop)]
 pub struct NotebookDocumentChangeEvent {
-    /// What else is known of it now.
+    /// Its new metadata.
     pub metadata: Option<Value>,
-    /// What changed of its cells.
+    /// Changes of its cells.
     pub cells: Option<NotebookCellChanges>,
 }
 
