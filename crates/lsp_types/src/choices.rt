@@ -1,4 +1,4 @@
-//! Values of which there are several kinds.
+//! Values that have one of several types.
 ghost use Rattle.std.specs.Prelude.{◌≡◌, Some, codes, string_bytes};
 ghost use Rattle.serde_json.specs.Data.{number, string};
 ghost use Rattle.serde_json.specs.Find.{as_str, of_integer};
@@ -8,7 +8,8 @@ use crate::json::{FromJson, Misfit, ToJson, fitting};
 use serde_json::Value;
 use std::alloc::{AllocError, Global};
 
-/// A number or a text: the code of a diagnostic, or a token of progress (LSP 3.17, "Diagnostic" and "ProgressToken").
+/// A number or a text, such as the code of a diagnostic or a token of progress (LSP 3.17, "Diagnostic" and
+/// "ProgressToken").
 #[derive(Drop)]
 pub enum NumberOrString {
     /// A number.
@@ -46,7 +47,7 @@ impl FromJson for NumberOrString {
     }
 }
 
-/// How a text is marked up (LSP 3.17, "MarkupContent"). On reading, another name is refused.
+/// How a text is marked up (LSP 3.17, "MarkupContent"). When it is read, another name is refused.
 #[derive(Clone, Copy, Drop)]
 pub enum MarkupKind {
     /// Plain text.

@@ -15,7 +15,7 @@ impl Hover {
     ghost use Rattle.std.specs.Prelude.{◌≡◌, None};
     ghost use Rattle.lsp_types.specs.declared.hovers.HoverContents.TheVariants.{Markup};
 
-    /// A text, about the place that was asked for.
+    /// Makes a hover with one text, about the requested place.
     pub fn new(kind: MarkupKind, value: String) -> Hover
         ensures { result ≡ record {
           contents = Markup (record { kind = kind; value = value });
@@ -32,7 +32,7 @@ impl Hover {
 impl InitializeResult {
     ghost use Rattle.std.specs.Prelude.{◌≡◌, None, Some, IfOk, option_map, string_bytes};
 
-    /// What the server can do, and its name. `Err` means that an allocation failed.
+    /// Makes the result from the server's capabilities and its name. `Err` means that an allocation failed.
     pub fn new(
         alloc: Global,
         capabilities: ServerCapabilities,
@@ -63,7 +63,7 @@ impl ConfigurationParams {
     ghost use Rattle.std.specs.Prelude.{◌≡◌, ◌∷◌, [], Some, None, IfOk, option_map, string_bytes};
     ghost use Rattle.lsp_types.specs.declared.workspace.ConfigurationItem.{ConfigurationItem as Item};
 
-    /// One section, of no document. `Err` means that an allocation failed.
+    /// Makes params that request one section, for no document in particular. `Err` means that an allocation failed.
     pub fn section(alloc: Global, section: &str) -> Result<ConfigurationParams, AllocError>
         ensures { IfOk result (λ params. (item : Item) × (params.items.items ≡ item ∷ [])
             × (item.scope_uri ≡ None)
@@ -90,7 +90,7 @@ impl From<MessageType> for u32 {
 impl WorkspaceEdit {
     ghost use Rattle.std.specs.Prelude.{◌≡◌, ◌∷◌, [], None, Some, IfOk, option_map};
 
-    /// Changes of one document. `Err` means that an allocation failed.
+    /// Makes an edit with changes of one document. `Err` means that an allocation failed.
     pub fn of_document(
         alloc: Global,
         uri: String,

@@ -15,7 +15,7 @@ pub trait RequestToServer {
     ghost method: { List ℕ };
 }
 
-/// A notification that a client sends and a server hears (LSP 3.17, "Notification Message").
+/// A notification that a client sends and a server receives (LSP 3.17, "Notification Message").
 pub trait NotificationToServer {
     /// Its params.
     type Params: FromJson;
@@ -29,7 +29,7 @@ pub trait RequestToClient {
     /// Its params.
     type Params: ToJson;
 
-    /// Its result, which is read.
+    /// Its result, which the server reads.
     type Result;
 
     // Its method.
@@ -40,7 +40,7 @@ pub trait RequestToClient {
         ensures { result.now ≡ method };
 }
 
-/// A notification that a server sends and a client hears (LSP 3.17, "Notification Message").
+/// A notification that a server sends and a client receives (LSP 3.17, "Notification Message").
 pub trait NotificationToClient {
     /// Its params.
     type Params: ToJson;

@@ -14,15 +14,15 @@ pub enum FileUriFault {
     Memory,
     /// The text does not begin with `file://`.
     NotFile,
-    /// Behind `file://` stands another host than `localhost`, or no absolute path.
+    /// After `file://` there is another host than `localhost`, or no absolute path.
     Host,
     /// It has a query or a fragment: a `?` or `#` without an escape.
     Query,
-    /// A `%` stands before less than two hexadecimal digits.
+    /// A `%` is followed by fewer than two hexadecimal digits.
     Escape,
     /// The path is not absolute: it does not begin with `/`.
     Relative,
-    /// The path has a NUL, which no file has.
+    /// The path has a NUL, which no file's path has.
     Nul,
     /// The path is no UTF-8.
     NotUtf8,
@@ -49,7 +49,7 @@ fn stays(byte: u8) -> bool
         || byte == b'/'
 }
 
-/// Adds a path as it stands in a URI.
+/// Adds a path as it is written in a URI.
 fn push_path(uri: &mut String, path: &str) -> Result<(), AllocError>
     ensures { OnOk result
         (string_bytes uri.new ≡ string_bytes uri.old ++ flat_map written path.now) }
@@ -64,8 +64,9 @@ fn push_path(uri: &mut String, path: &str) -> Result<(), AllocError>
     Ok(())
 }
 
-/// The URI of an absolute path, as `file:///project/a%20b`. Letters, digits and `-._~/` stand as they are, and each other byte as
-/// `%` and two digits (RFC 3986, section 2.3). It is an error if the path does not begin with `/` (`Relative`), or has a NUL.
+/// Returns the URI of an absolute path, such as `file:///project/a%20b`. Letters, digits and `-._~/` are not escaped,
+/// and each other byte is written as `%` and two digits (RFC 3986, section 2.3). It is an error if the path does not
+/// begin with `/` (`Relative`), or has a NUL (`Nul`).
 pub fn uri_of_path(alloc: Global, path: &str) -> Result<String, FileUriFault>
     ensures ok { IfOk result (λ uri. string_bytes uri ≡ uri_of path.now) }
     ensures path { IfOk result (λ _. IsPath path.now) }
@@ -82,7 +83,7 @@ pub fn uri_of_path(alloc: Global, path: &str) -> Result<String, FileUriFault>
     Ok(uri)
 }
 
-/// Whether no byte is this one.
+/// Returns whether no byte is this one.
 fn lacks(bytes: &[u8], byte: u8) -> bool
     ensures { MatchBool result (Lacks byte bytes.now) (Lacks byte bytes.now → ⊥) }
 {
@@ -99,7 +100,7 @@ fn is_absolute(path: &[u8]) -> bool
     }
 }
 
-/// Whether two hexadecimal digits come first.
+/// Returns whether the bytes begin with two hexadecimal digits.
 fn begins_digits(bytes: &[u8]) -> bool
     ensures { result ≡ digits_first bytes.now }
 {
@@ -109,7 +110,7 @@ fn begins_digits(bytes: &[u8]) -> bool
     }
 }
 
-/// Whether each `%` stands before two hexadecimal digits.
+/// Returns whether each `%` is followed by two hexadecimal digits.
 fn is_escaped(bytes: &[u8]) -> bool
     ensures { result ≡ escaped bytes.now }
 {
@@ -121,7 +122,7 @@ fn is_escaped(bytes: &[u8]) -> bool
     true
 }
 
-/// What stands behind the first `/` of the path of a file URI.
+/// Returns the part after the first `/` of the path of a file URI.
 fn names_in(uri: &str) -> Result<&str, FileUriFault>
     ensures ok { IfOk result (λ names. IsFileUri uri.now names.now) }
     ensures err { IfErr result (λ fault. Refuses fault uri.now) }
@@ -139,7 +140,7 @@ fn names_in(uri: &str) -> Result<&str, FileUriFault>
     }
 }
 
-/// The path behind whose `/` these names stand.
+/// Returns the path that is `/` and the decoded names.
 fn absolute_path(alloc: Global, names: &[u8]) -> Result<Vec<u8>, AllocError>
     ensures { IfOk result (λ path. path.items ≡ 47 ∷ without_escapes names.now) }
 {
@@ -148,7 +149,7 @@ fn absolute_path(alloc: Global, names: &[u8]) -> Result<Vec<u8>, AllocError>
     Ok(path)
 }
 
-/// The path behind whose `/` these names stand in a URI.
+/// Returns the path that is `/` and the decoded names of a URI, as a text.
 fn path_of_names(alloc: Global, names: &[u8]) -> Result<String, FileUriFault>
     ensures ok { IfOk result (λ path. IsPathOf names.now (string_bytes path)) }
     ensures err { IfErr result (λ fault. AreNoPath fault names.now) }
@@ -169,11 +170,11 @@ fn path_of_names(alloc: Global, names: &[u8]) -> Result<String, FileUriFault>
     }
 }
 
-/// The path that a file URI names, as `/project/a b` (RFC 8089). The host is empty or `localhost`. Of a Windows path
-/// `file:///c%3A/a` gives `/c:/a`.
+/// Returns the path that a file URI names, such as `/project/a b` (RFC 8089). The host has to be empty or `localhost`.
+/// A Windows path `file:///c%3A/a` gives `/c:/a`.
 ///
-/// It is an error if the text is no such URI (`NotFile`, `Host`), has a query or a fragment (`Query`), or a `%` without two
-/// hexadecimal digits (`Escape`), and if the path has a NUL or is no UTF-8.
+/// It is an error if the text is no such URI (`NotFile`, `Host`), has a query or a fragment (`Query`), or a `%` without
+/// two hexadecimal digits (`Escape`), and if the path has a NUL or is no UTF-8.
 pub fn path_of_uri(alloc: Global, uri: &str) -> Result<String, FileUriFault>
     ensures ok { IfOk result (λ path. Names uri.now (string_bytes path)) }
     ensures err { IfErr result (λ fault. Refuses fault uri.now) }
@@ -182,7 +183,7 @@ pub fn path_of_uri(alloc: Global, uri: &str) -> Result<String, FileUriFault>
     path_of_names(alloc, names.as_bytes())
 }
 
-/// Whether bytes are what others stand for, in which `%` and two hexadecimal digits are a byte.
+/// Returns whether `bytes` are the decoded `names`, in which `%` and two hexadecimal digits are one byte.
 fn are_decoded(names: &[u8], bytes: &[u8]) -> bool
     ensures { MatchBool result (bytes.now ≡ without_escapes names.now)
         (bytes.now ≢ without_escapes names.now) }
@@ -197,7 +198,7 @@ fn are_decoded(names: &[u8], bytes: &[u8]) -> bool
     rest.is_empty()
 }
 
-/// Whether a path is `/` and what these names stand for.
+/// Returns whether a path is `/` and the decoded names.
 fn is_decoded_path(names: &[u8], path: &[u8]) -> bool
     ensures { MatchBool result (path.now ≡ 47 ∷ without_escapes names.now)
         (path.now ≢ 47 ∷ without_escapes names.now) }
@@ -208,7 +209,7 @@ fn is_decoded_path(names: &[u8], path: &[u8]) -> bool
     }
 }
 
-/// Whether a path is the one behind whose `/` these names stand in a URI.
+/// Returns whether a path is `/` and the decoded names of a URI.
 fn is_path_of(names: &[u8], path: &[u8]) -> bool
     ensures { MatchBool result (IsPathOf names.now path.now) (IsPathOf names.now path.now → ⊥) }
 {
@@ -219,8 +220,9 @@ fn is_path_of(names: &[u8], path: &[u8]) -> bool
         && is_decoded_path(names, path)
 }
 
-/// Whether a file URI names a path, as `path_of_uri` reads it. Editors spell the URI of a path in several ways, of which `uri_of_path`
-/// gives one, so look for the document of a path by `TextDocuments::at_path` of `lsp_documents`, which asks this of each URI.
+/// Returns whether a file URI names a path, as `path_of_uri` reads it. Editors spell the URI of a path in several ways,
+/// and `uri_of_path` returns one of them. So find the document of a path with `TextDocuments::at_path` of
+/// `lsp_documents`, which calls this for each URI.
 pub fn names_path(uri: &str, path: &str) -> bool
     ensures { MatchBool result (Names uri.now path.now) (Names uri.now path.now → ⊥) }
 {
@@ -230,7 +232,7 @@ pub fn names_path(uri: &str, path: &str) -> bool
     }
 }
 
-/// A path that has a URI is the one that its URI names.
+/// A path that has a URI is the path that this URI names.
 pub fn paths_come_back()
     ensures { (path : List ℕ) → All (λ b. b < 256) path → IsPath path → Names (uri_of path) path }
 {}

@@ -8,9 +8,9 @@ use crate::workspace::WorkspaceFolder;
 use std::alloc::{AllocError, Global};
 
 impl InitializeParams {
-    /// The paths of the folders that are open, in the client's order: those of `workspace_folders`, or that of `root_uri` if the client
-    /// has no such list. A URI that names no path, as of another scheme, is left out (`path_of_uri`). The error means that an
-    /// allocation failed.
+    /// Returns the paths of the open folders, in the client's order: those of `workspace_folders`, or that of
+    /// `root_uri` if the client has no such list. A URI that names no path, for example one with another scheme, is
+    /// left out (`path_of_uri`). The error means that an allocation failed.
     pub fn folder_paths(&self, alloc: Global) -> Result<Vec<String>, AllocError>
         ensures { IfOk result (λ paths. WithPaths
             (folder_uris (option_map (λ folders. folders.items) self.now.workspace_folders)

@@ -1,7 +1,8 @@
-//! How types of LSP are read and written, for crates of such types.
+//! How types of LSP are read and written, for crates with such types.
 //!
-//! What a type is read as is its `reads`, and what it is written as its `stands`: each has a line for each member. No step of a reader
-//! or a writer fails: what fails is kept until the object's end, so that nothing is let go half way.
+//! `reads` says which value a tree is read as, and `stands` which tree a value is written as. Both have a line for each
+//! member. No step of a reader or a writer returns an error: the first error is kept until the end of the object, so
+//! that nothing is dropped half way.
 mod members;
 mod offers;
 mod read_lists;

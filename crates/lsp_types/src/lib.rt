@@ -1,16 +1,17 @@
-//! Types of LSP 3.17 that most servers use, under the standard's names. What a client sends is read (`FromJson`), and what a server
-//! sends is written (`ToJson`), both by the calls of `lsp_methods`. All types go both ways.
+//! Types of LSP 3.17 that most servers use, under the standard's names. `FromJson` reads what a client sends, and
+//! `ToJson` writes what a server sends. The calls of `lsp_methods` do both. Each type can be read and written.
 //!
-//! On reading, members that a type lacks are passed over, or go into its `more`, and a member that may be missing may be null. It is an
-//! error if a required member is missing, if one has another type, or if a number or a name is none that the standard lists. Where the
-//! standard has several forms, the type is an enum, of which the first case that fits is read. What a server offers is read in each
-//! form, and written in the one that says most.
+//! When a value is read, members without a field are ignored, or go into the type's `more`. A member that may be
+//! missing may be null. It is an error if a required member is missing, if a member has another type, or if a number or
+//! a name is not one that the standard lists. If the standard has several forms, the type is an enum, and the first
+//! case that fits is read. What a server offers is read in each form, and written in the form that says most.
 //!
-//! `Position`, `Range` and `TextDocumentContentChangeEvent` are types of `lsp_text`, so `Text::offset_at` takes a position that was
-//! read, and `TextDocuments::change` of `lsp_documents` the changes.
+//! `Position`, `Range` and `TextDocumentContentChangeEvent` are types of `lsp_text`. So `Text::offset_at` takes a
+//! position that was read, and `TextDocuments::change` of `lsp_documents` the changes.
 //!
-//! Each is safe and each call returns. What a tree is read as and the tree that a value is written as are proved: `reads` and `stands` have
-//! each key. That the keys are the standard's is tested and not proved. Take the crate beside `lsp_server`, or copy the types that you need.
+//! Each call is safe and returns. Two things are proved: which value a tree is read as (`reads`), and which tree a
+//! value is written as (`stands`). Both have each key. That the keys are the standard's is tested, not proved. Use the
+//! crate together with `lsp_server`, or copy the types that you need.
 #![tactic(auto)]
 
 mod actions;

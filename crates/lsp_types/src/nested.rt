@@ -19,7 +19,7 @@ impl ToJson for DocumentSymbol {
     }
 }
 
-/// A symbol, with those inside it.
+/// Writes a symbol, with those inside it.
 fn symbol_to_json(alloc: Global, symbol: &DocumentSymbol) -> Result<Value, AllocError>
     ensures { IfOk result (λ value. view value ≡ document_symbol symbol.now) }
 {
@@ -47,7 +47,7 @@ impl FromJson for DocumentSymbol {
     }
 }
 
-/// A symbol in which others nest, down to so many levels.
+/// Reads a symbol, with those inside it up to this many levels.
 #[tactic(auto, using(crate::proofs::SymbolLemmas::child_at))]
 fn symbol_within(alloc: Global, value: &Value, levels: u32) -> Result<DocumentSymbol, Misfit>
     ensures { ReadsAs (IsSymbolWithin levels (view value.now)) result }
@@ -96,7 +96,7 @@ fn symbol_within(alloc: Global, value: &Value, levels: u32) -> Result<DocumentSy
     }
 }
 
-/// The items of a list that may be missing or null, and has none then. `None` means that it is no list.
+/// Returns the items of a list. A list that is missing or null has none. `None` means that the member is no list.
 fn items_at<'v>(value: &'v Value, key: &'static str) -> Option<&'v [Value]>
     ensures { option_map (λ items. items_view items.now) result
         ≡ items_or_none (but_null (get key.now (view value.now))) }

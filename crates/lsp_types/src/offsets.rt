@@ -8,12 +8,13 @@ use crate::json::{FromJson, Misfit, ToJson};
 use serde_json::Value;
 use std::alloc::{AllocError, Global};
 
-/// Where a part of a text stands in it, in units of UTF-16 from 0 (LSP 3.17, "ParameterInformation"). It is a list of two numbers.
+/// The place of a part of a text in it, in units of UTF-16 from 0 (LSP 3.17, "ParameterInformation"). It is a list of
+/// two numbers.
 #[derive(Clone, Copy, Drop)]
 pub struct LabelOffsets {
     /// Its first unit.
     pub start: u32,
-    /// The first unit behind it.
+    /// The first unit after it.
     pub end: u32,
 }
 

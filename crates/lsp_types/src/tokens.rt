@@ -1,35 +1,35 @@
-//! Semantic tokens: what each word of a text is.
+//! Semantic tokens: the kind of each token of a text.
 ghost use Rattle.std.specs.Prelude.{◌≡◌, true, false, IfOk, MatchOption, None, OnOk, ◌++◌};
 
 use crate::semantic_tokens::SemanticTokens;
 use std::alloc::{AllocError, Global};
 
-/// A word of a text, and what it is (LSP 3.17, "Semantic Tokens").
+/// A token of a text, with its kind (LSP 3.17, "Semantic Tokens").
 #[derive(Clone, Copy, Drop)]
 pub struct SemanticToken {
     /// Its line, from 0.
     pub line: u32,
-    /// Where it begins in its line, as `Position::character`.
+    /// Where it begins in its line, in the units of `Position::character`.
     pub start: u32,
     /// How long it is, in the same units.
     pub length: u32,
-    /// Its type, as a place in the legend's `token_types`.
+    /// Its type: an index into the legend's `token_types`.
     pub token_type: u32,
-    /// Its modifiers: bit 0 stands for the first of the legend's `token_modifiers`, and so on.
+    /// Its modifiers. Bit 0 means the first of the legend's `token_modifiers`, and so on.
     pub token_modifiers: u32,
 }
 
 impl SemanticToken {
     ghost use Rattle.lsp_types.specs.Tokens.{is_behind, five_behind};
 
-    /// Whether it stands behind a place, or at it.
+    /// Returns whether the token is at a place or after it.
     fn is_behind(&self, line: u32, start: u32) -> bool
         ensures { result ≡ is_behind line start self.now }
     {
         line < self.line || line == self.line && start <= self.start
     }
 
-    /// Adds its numbers behind a place.
+    /// Adds the token's numbers, relative to a place before it.
     fn push_behind(&self, line: u32, start: u32, numbers: &mut Vec<u32>) -> Result<(), AllocError>
         requires { is_behind line start self.now ≡ true }
         ensures { OnOk result (numbers.new.items ≡ numbers.old.items ++ five_behind line start self.now) }
@@ -52,7 +52,8 @@ impl SemanticToken {
 impl SemanticTokens {
     ghost use Rattle.lsp_types.specs.Tokens.{are_behind, numbers_behind};
 
-    /// The numbers of tokens (LSP 3.17, "Integer Encoding for Tokens"). `None` means that they are not in the order of the text.
+    /// Encodes tokens as numbers (LSP 3.17, "Integer Encoding for Tokens"). `None` means that they are not in the order
+    /// of the text. `Err` means that an allocation failed.
     pub fn encode(
         alloc: Global,
         tokens: &[SemanticToken],

@@ -1,6 +1,7 @@
-//! Types of LSP 3.17 for the language features that fewer servers have: highlights, folds, selections, monikers, lenses, links, hierarchies of
-//! calls and types, colors, inline values, changes of semantic tokens, and diagnostics that a client asks for. As in `lsp_types`, each is safe
-//! and each call returns, and what it is read and written as is proved; that the keys are the standard's is tested.
+//! Types of LSP 3.17 for language features that fewer servers have: highlights, folds, selections, monikers, lenses,
+//! links, hierarchies of calls and types, colors, inline values, changes of semantic tokens, and diagnostics that a
+//! client requests. As in `lsp_types`, each call is safe and returns, and it is proved which value a tree is read as,
+//! and which tree a value is written as. That the keys are the standard's is tested.
 #![tactic(auto)]
 
 mod colors;

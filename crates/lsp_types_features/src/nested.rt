@@ -19,7 +19,7 @@ impl ToJson for SelectionRange {
     }
 }
 
-/// A part, with those around it.
+/// Writes a part, with those around it.
 fn selection_to_json(alloc: Global, selection: &SelectionRange) -> Result<Value, AllocError>
     ensures { IfOk result (λ value. view value ≡ selection_range selection.now) }
 {
@@ -46,7 +46,7 @@ impl FromJson for SelectionRange {
     }
 }
 
-/// A part that stands in others, up to so many levels.
+/// Reads a part, with those around it up to this many levels.
 #[tactic(auto, using(crate::proofs::SelectionLemmas::none_within, crate::proofs::SelectionLemmas::made, crate::proofs::SelectionLemmas::unfit_range, crate::proofs::SelectionLemmas::unfit_around))]
 fn selection_within(alloc: Global, value: &Value, levels: u32) -> Result<SelectionRange, Misfit>
     ensures { ReadsAs (IsSelectionWithin levels (view value.now)) result }
@@ -79,7 +79,7 @@ fn selection_within(alloc: Global, value: &Value, levels: u32) -> Result<Selecti
     }
 }
 
-/// The part around one, if it has a member for it that is not null.
+/// Returns the part around one, if it has such a member that is not null.
 fn around(value: &Value) -> Option<&Value>
     ensures { option_map (λ parent. view parent.now) result
         ≡ but_null (get (codes "parent") (view value.now)) }

@@ -1,5 +1,6 @@
-//! Types of LSP 3.17 for files that are made, renamed, deleted or watched, and for notebooks. As in `lsp_types`, each is safe and each call
-//! returns, and what it is written as is proved; that the keys are the standard's is tested.
+//! Types of LSP 3.17 for files that are created, renamed, deleted or watched, and for notebooks. As in `lsp_types`,
+//! each call is safe and returns, and it is proved which value a tree is read as, and which tree a value is written as.
+//! That the keys are the standard's is tested.
 #![tactic(auto)]
 
 mod files;

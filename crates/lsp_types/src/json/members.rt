@@ -25,7 +25,8 @@ use crate::json::{FromJson, Misfit, optional, required};
 use serde_json::Value;
 use std::alloc::Global;
 
-/// The members of an object that are read one after another. The first that does not fit is kept until the end, so that no step can fail.
+/// The members of an object, which are read one after another. The first misfit is kept until the end, so no step
+/// returns an error.
 #[derive(Drop)]
 pub struct Members<'v, A: Drop> {
     alloc: Global,
@@ -34,7 +35,7 @@ pub struct Members<'v, A: Drop> {
 }
 
 impl<'v> Members<'v, ()> {
-    /// None so far.
+    /// Starts with no member read.
     pub fn new(alloc: Global, value: &'v Value) -> Members<'v, ()>
         ensures { ReadSoFar (view value.now) (λ _. IsObject (view value.now)) (view result.value.now) result.read }
     {
@@ -48,7 +49,7 @@ impl<'v> Members<'v, ()> {
 }
 
 impl<'v, A: Drop> Members<'v, A> {
-    /// And one that has to be there.
+    /// Reads a required member.
     pub fn required<T: FromJson>(self, key: &'static str) -> Members<'v, (A, T)>
         ensures { ReadsMore (Required T.reads key.now)
             (view self.entry.value.now) self.entry.read (view result.value.now) result.read }
@@ -62,7 +63,7 @@ impl<'v, A: Drop> Members<'v, A> {
         }
     }
 
-    /// And one that may be missing or null.
+    /// Reads a member that may be missing or null.
     pub fn optional<T: FromJson>(self, key: &'static str) -> Members<'v, (A, Option<T>)>
         ensures { ReadsMore (Optional T.reads key.now)
             (view self.entry.value.now) self.entry.read (view result.value.now) result.read }
@@ -76,7 +77,7 @@ impl<'v, A: Drop> Members<'v, A> {
         }
     }
 
-    /// And one that only informs: none if it is missing, is null or does not fit.
+    /// Reads a member that only informs. It is `None` if it is missing, null or does not fit.
     pub fn if_fits<T: FromJson>(self, key: &'static str) -> Members<'v, (A, Option<T>)>
         ensures { ReadsMore (IfFits T.reads key.now)
             (view self.entry.value.now) self.entry.read (view result.value.now) result.read }
@@ -90,7 +91,7 @@ impl<'v, A: Drop> Members<'v, A> {
         }
     }
 
-    /// And a list that has to be there, without the items that do not fit.
+    /// Reads a required list, without the items that do not fit.
     pub fn those_that_fit<T: FromJson>(self, key: &'static str) -> Members<'v, (A, Vec<T>)>
         ensures { ReadsMore (ThoseThatFit T.reads key.now)
             (view self.entry.value.now) self.entry.read (view result.value.now) result.read }
@@ -104,7 +105,7 @@ impl<'v, A: Drop> Members<'v, A> {
         }
     }
 
-    /// And a text that only informs: the empty one if it is missing, is null or is none.
+    /// Reads a text that only informs. It is empty if it is missing, null or no text.
     pub fn text_or_empty(self, key: &'static str) -> Members<'v, (A, String)>
         ensures { ReadsMore (TextOrEmpty key.now)
             (view self.entry.value.now) self.entry.read (view result.value.now) result.read }
@@ -118,7 +119,7 @@ impl<'v, A: Drop> Members<'v, A> {
         }
     }
 
-    /// And what there is beside the members of these keys, as an object. None if there is nothing.
+    /// Reads the members with other keys than these, as an object. It is `None` if there are none.
     pub fn rest(self, keys: &[&'static str]) -> Members<'v, (A, Option<Value>)>
         ensures { ReadsMore (Beside (map (λ key. key.now) keys.now))
             (view self.entry.value.now) self.entry.read (view result.value.now) result.read }
@@ -132,7 +133,8 @@ impl<'v, A: Drop> Members<'v, A> {
         }
     }
 
-    /// And one that offers something, by a boolean or by options, which mean that it does. None if it is missing or null.
+    /// Reads a member that offers something: a boolean, or options, which mean true. It is `None` if it is missing or
+    /// null.
     pub fn offered(self, key: &'static str) -> Members<'v, (A, Option<bool>)>
         ensures { ReadsMore (Offered key.now)
             (view self.entry.value.now) self.entry.read (view result.value.now) result.read }
@@ -146,7 +148,7 @@ impl<'v, A: Drop> Members<'v, A> {
         }
     }
 
-    /// And options, of which `true` has none set. None if they are missing, null or `false`.
+    /// Reads options. `true` means options of which none is set. They are `None` if they are missing, null or `false`.
     pub fn options<T: FromJson>(self, key: &'static str) -> Members<'v, (A, Option<T>)>
         ensures { ReadsMore (Options T.reads key.now)
             (view self.entry.value.now) self.entry.read (view result.value.now) result.read }
@@ -160,7 +162,8 @@ impl<'v, A: Drop> Members<'v, A> {
         }
     }
 
-    /// And options, for which a number may stand: that of the member `inside` them alone. None if they are missing or null.
+    /// Reads options in whose place a number may be. The number means options with only the member `inside`. They are
+    /// `None` if they are missing or null.
     pub fn number_or<T: FromJson>(
         self,
         key: &'static str,
@@ -178,7 +181,7 @@ impl<'v, A: Drop> Members<'v, A> {
         }
     }
 
-    /// And one that is this text.
+    /// Reads a member that has to be this text.
     pub fn named(self, key: &'static str, name: &'static str) -> Members<'v, (A, ())>
         ensures { ReadsMore (λ json _. Named key.now name.now json)
             (view self.entry.value.now) self.entry.read (view result.value.now) result.read }
@@ -192,7 +195,7 @@ impl<'v, A: Drop> Members<'v, A> {
         }
     }
 
-    /// All of them, or the first that does not fit.
+    /// Returns all members that were read, or the first misfit.
     pub fn end(self) -> Result<A, Misfit>
         ensures { result ≡ self.entry.read }
     {
@@ -200,7 +203,7 @@ impl<'v, A: Drop> Members<'v, A> {
     }
 }
 
-/// Both, or why not.
+/// Returns both, or the first misfit.
 fn and<A: Drop, T: Drop>(read: Result<A, Misfit>, more: Result<T, Misfit>) -> Result<(A, T), Misfit>
     ensures { Both read more result }
 {

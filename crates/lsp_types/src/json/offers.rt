@@ -9,7 +9,7 @@ use crate::json::{FromJson, Misfit};
 use serde_json::{Map, Value};
 use std::alloc::{AllocError, Global};
 
-/// A member that offers something, by a boolean or by options, which mean that it does.
+/// Reads a member that offers something: a boolean, or options, which mean true.
 #[tactic(auto, unfolding(crate::specs::Offers::Offered))]
 pub fn offered(value: &Value, key: &'static str) -> Result<Option<bool>, Misfit>
     ensures { ReadsAs (Offered key.now (view value.now)) result }
@@ -25,7 +25,7 @@ pub fn offered(value: &Value, key: &'static str) -> Result<Option<bool>, Misfit>
     }
 }
 
-/// A member with options, of which `true` has none set, and `false` is none.
+/// Reads a member with options. `true` means options of which none is set, and `false` means none.
 #[tactic(auto, unfolding(crate::specs::Offers::Options))]
 pub fn options<T: FromJson>(
     alloc: Global,
@@ -50,7 +50,7 @@ pub fn options<T: FromJson>(
     }
 }
 
-/// The options of which none is set.
+/// Returns options of which none is set.
 fn none_set<T: FromJson>(alloc: Global, key: &'static str) -> Result<Option<T>, Misfit>
     ensures { ReadsAs (ReadsSome T.reads (Some (object no_members))) result }
 {
@@ -81,7 +81,7 @@ fn of_member<T: FromJson>(
     }
 }
 
-/// A member with options, for which a number may stand: that of the member `inside` them alone.
+/// Reads a member with options in whose place a number may be. The number means options with only the member `inside`.
 #[tactic(auto, unfolding(crate::specs::Offers::NumberOr))]
 pub fn number_or<T: FromJson>(
     alloc: Global,
@@ -104,7 +104,7 @@ pub fn number_or<T: FromJson>(
     }
 }
 
-/// The options with a number at this key alone.
+/// Returns options with only this number, under this key.
 fn number_inside<T: FromJson>(
     alloc: Global,
     number: &Value,

@@ -21,7 +21,7 @@ impl<T: FromJson> FromJson for Vec<T> {
     }
 }
 
-/// The values of items.
+/// Reads the values of items.
 #[tactic(auto, using(crate::proofs::ReadLemmas::item_more, crate::proofs::ReadLemmas::item_at))]
 fn each_item<T: FromJson>(alloc: Global, items: &[Value]) -> Result<Vec<T>, Misfit>
     ensures { ReadsAs (λ values. EachItem T.reads (items_view items.now) values.items) result }
@@ -36,7 +36,7 @@ fn each_item<T: FromJson>(alloc: Global, items: &[Value]) -> Result<Vec<T>, Misf
     Ok(values)
 }
 
-/// A list that has to be there, without the items that do not fit.
+/// Reads a required list, without the items that do not fit.
 #[tactic(auto, unfolding(crate::specs::Reads::ThoseThatFit))]
 pub fn those_that_fit<T: FromJson>(
     alloc: Global,
@@ -54,7 +54,7 @@ pub fn those_that_fit<T: FromJson>(
     }
 }
 
-/// The values of the items that fit.
+/// Reads the values of the items that fit.
 #[tactic(auto, using(crate::proofs::ReadLemmas::fits_more, crate::proofs::ReadLemmas::fits_not))]
 fn fitting_items<T: FromJson>(alloc: Global, items: &[Value]) -> Result<Vec<T>, Misfit>
     ensures { ReadsAs (λ values. FittingItems T.reads (items_view items.now) values.items) result }
@@ -81,7 +81,7 @@ impl<T: FromJson> FromJson for BTreeMap<String, T> {
     }
 }
 
-/// The values of members, by their keys.
+/// Reads the values of members, by their keys.
 fn each_member<T: FromJson>(
     alloc: Global,
     members: &Map<String, Value>,

@@ -9,7 +9,7 @@ use crate::json::Misfit;
 use serde_json::{Map, Value};
 use std::alloc::{AllocError, Global};
 
-/// The members of other keys than these, as an object. None if there are none.
+/// Returns the members with other keys than these, as an object, or `None` if there are none.
 #[tactic(auto, unfolding(crate::specs::Reads::Beside))]
 pub fn beside(alloc: Global, value: &Value, keys: &[&'static str]) -> Result<Option<Value>, Misfit>
     ensures { ReadsAs (Beside (map (λ key. key.now) keys.now) (view value.now)) result }
@@ -20,7 +20,7 @@ pub fn beside(alloc: Global, value: &Value, keys: &[&'static str]) -> Result<Opt
     }
 }
 
-/// The same of the members of an object.
+/// Returns the same for the members of an object.
 fn object_beside(
     alloc: Global,
     members: &Map<String, Value>,
@@ -35,7 +35,7 @@ fn object_beside(
     }
 }
 
-/// The object with these members. None if there are none.
+/// Makes an object of these members, or returns `None` if there are none.
 #[tactic(auto, using(crate::proofs::RestLemmas::none_if))]
 fn object_of(members: Map<String, Value>) -> Option<Value>
     ensures { option_map view result ≡ object_if (members_view members.entries) }
@@ -54,7 +54,7 @@ fn object(members: Map<String, Value>) -> Value
     Value::Object(members)
 }
 
-/// The members of other keys than these.
+/// Returns the members with other keys than these.
 fn members_beside(
     alloc: Global,
     members: &Map<String, Value>,
@@ -70,7 +70,7 @@ fn members_beside(
     Ok(rest)
 }
 
-/// Puts a member, if its key is none of these.
+/// Adds a member, if its key is none of these.
 #[tactic(auto, using(crate::proofs::RestLemmas::with_named, crate::proofs::RestLemmas::with_new))]
 fn put_other(
     alloc: Global,

@@ -107,7 +107,7 @@ impl<T: FromJson> FromJson for Option<T> {
     }
 }
 
-/// A text that only informs: the empty one if it is missing, is null or is none.
+/// Reads a text that only informs. It is empty if it is missing, null or no text.
 #[tactic(auto, unfolding(crate::specs::Reads::TextOrEmpty))]
 pub fn text_or_empty(alloc: Global, value: &Value, key: &'static str) -> Result<String, Misfit>
     ensures { ReadsAs (TextOrEmpty key.now (view value.now)) result }
@@ -136,7 +136,7 @@ impl FromJson for Position {
     }
 }
 
-/// The line of a position. A negative one counts as 0.
+/// Reads the line of a position. A negative one counts as 0.
 #[tactic(auto, using(crate::proofs::ReadLemmas::whole_line, crate::proofs::ReadLemmas::negative_line, crate::proofs::ReadLemmas::no_line), unfolding(crate::specs::Reads::Required))]
 fn line(value: &Value) -> Result<u32, Misfit>
     ensures { ReadsAs (Required IsLine (codes "line") (view value.now)) result }
@@ -179,7 +179,7 @@ impl FromJson for ContentChange {
     }
 }
 
-/// The text of a change.
+/// Reads the text of a change.
 fn text_of(alloc: Global, change: &Value) -> Result<String, Misfit>
     ensures { TextAs (option_and_then as_str (get (codes "text") (view change.now))) result }
 {

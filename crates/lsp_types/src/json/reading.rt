@@ -14,11 +14,11 @@ use std::fmt;
 pub enum Misfit {
     /// An allocation failed.
     Memory,
-    /// A member that has to be there is missing. It has this key.
+    /// The required member with this key is missing.
     Missing(&'static str),
-    /// This was wanted, in the place of something else.
+    /// A value of this kind was expected, and another was found.
     Wanted(&'static str),
-    /// The member of this key has something else in the place of what was wanted.
+    /// In the member with the first text as its key, a value of the second kind was expected, and another was found.
     WantedAt(&'static str, &'static str),
 }
 
@@ -26,7 +26,8 @@ impl Misfit {
     ghost use Rattle.std.specs.Prelude.{◌≢◌};
     ghost use Rattle.lsp_types.specs.declared.json.reading.Misfit.TheVariants.{Memory};
 
-    /// The same in the member of a key. A key that is named already is further inside.
+    /// Returns the same misfit inside the member with this key. If a key is named already, it stays, since it is
+    /// further inside.
     pub fn at(self, key: &'static str) -> Misfit
         ensures { result ≢ Memory → self ≢ Memory }
     {
@@ -48,17 +49,17 @@ impl fmt::Display for Misfit {
     }
 }
 
-/// A type that says what it is read as.
+/// A type that can be read from JSON. `reads` says which value a tree is read as.
 pub trait FromJson: Sized + Drop {
     // Whether a value is what this JSON is read as.
     ghost reads: { Data → Self → Type 0 };
 
-    /// The value of this JSON, if it is one of this type.
+    /// Reads this JSON. It is an error if it is no value of this type, or if an allocation failed.
     fn from_json(alloc: Global, value: &Value) -> Result<Self, Misfit>
         ensures { ReadsAs (reads (view value.now)) result };
 }
 
-/// The value of this JSON, if it fits.
+/// Reads this JSON, or returns `None` if it does not fit.
 ///
 /// `Err` means that an allocation failed.
 #[tactic(auto, unfolding(crate::specs::Reads::NoneReads))]
@@ -73,7 +74,7 @@ pub fn fitting<T: FromJson>(alloc: Global, value: &Value) -> Result<Option<T>, M
     }
 }
 
-/// A member that has to be there.
+/// Reads a required member.
 #[tactic(auto, unfolding(crate::specs::Reads::Required))]
 pub fn required<T: FromJson>(alloc: Global, value: &Value, key: &'static str) -> Result<T, Misfit>
     ensures { ReadsAs (Required T.reads key.now (view value.now)) result }
@@ -90,7 +91,7 @@ pub fn required<T: FromJson>(alloc: Global, value: &Value, key: &'static str) ->
     }
 }
 
-/// A member that may be missing or null.
+/// Reads a member that may be missing or null.
 #[tactic(auto, unfolding(crate::specs::Reads::Optional))]
 pub fn optional<T: FromJson>(
     alloc: Global,
@@ -111,7 +112,7 @@ pub fn optional<T: FromJson>(
     }
 }
 
-/// A member that only informs: none if it is missing, is null or does not fit.
+/// Reads a member that only informs. It is `None` if it is missing, null or does not fit.
 #[tactic(auto, unfolding(crate::specs::Reads::IfFits))]
 pub fn if_fits<T: FromJson>(
     alloc: Global,
@@ -129,7 +130,7 @@ pub fn if_fits<T: FromJson>(
     }
 }
 
-/// Whether a member is this text.
+/// Checks that a member is this text.
 #[tactic(auto, unfolding(crate::specs::Reads::Named))]
 pub fn named(value: &Value, key: &'static str, name: &'static str) -> Result<(), Misfit>
     ensures { ReadsAs (λ _. Named key.now name.now (view value.now)) result }
@@ -143,7 +144,7 @@ pub fn named(value: &Value, key: &'static str, name: &'static str) -> Result<(),
     }
 }
 
-/// A number from one to another. Another one is refused.
+/// Reads a number from `least` to `most`. Another value is refused.
 pub fn number_within(alloc: Global, value: &Value, least: u32, most: u32) -> Result<u32, Misfit>
     ensures { ReadsAs (IsWithin least most (view value.now)) result }
 {

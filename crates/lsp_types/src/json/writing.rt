@@ -9,17 +9,18 @@ use serde_json::{Map, Value};
 use std::alloc::{AllocError, Global};
 use std::collections::BTreeMap;
 
-/// A type that says which JSON it is written as.
+/// A type that can be written as JSON. `stands` says which tree a value is written as.
 pub trait ToJson {
     // The JSON that a value stands for.
     ghost stands: { Self → Data };
 
-    /// It. `Err` means that an allocation failed.
+    /// Writes the value as JSON. `Err` means that an allocation failed.
     fn to_json(&self, alloc: Global) -> Result<Value, AllocError>
         ensures { IfOk result (λ value. view value ≡ stands self.now) };
 }
 
-/// An object that is written, member after member. A failed allocation is kept until its end, so that no step can fail.
+/// An object that is written, member after member. A failed allocation is kept until the end, so no step returns an
+/// error.
 #[derive(Drop)]
 pub struct Object {
     alloc: Global,
@@ -28,7 +29,7 @@ pub struct Object {
 }
 
 impl Object {
-    /// One without members.
+    /// Starts an object without members.
     pub fn new(alloc: Global) -> Object
         ensures { Has result.failed (members_view result.members.entries) no_members }
     {
@@ -39,7 +40,7 @@ impl Object {
         }
     }
 
-    /// With a member.
+    /// Adds a member.
     pub fn member<T: ToJson>(self, key: &str, value: &T) -> Object
         ensures { (members : Members) → Has self.failed (members_view self.members.entries) members
             → Has result.failed (members_view result.members.entries)
@@ -58,7 +59,7 @@ impl Object {
         }
     }
 
-    /// With a member, if it has a value.
+    /// Adds a member, if it has a value.
     #[tactic(auto, unfolding(crate::specs::Json::with_member))]
     pub fn some<T: ToJson>(self, key: &str, value: &Option<T>) -> Object
         ensures { (members : Members) → Has self.failed (members_view self.members.entries) members
@@ -71,7 +72,7 @@ impl Object {
         }
     }
 
-    /// With a member that is this text.
+    /// Adds a member that is this text.
     pub fn text(self, key: &str, text: &str) -> Object
         ensures { (members : Members) → Has self.failed (members_view self.members.entries) members
             → Has result.failed (members_view result.members.entries)
@@ -90,7 +91,7 @@ impl Object {
         }
     }
 
-    /// With a member for each entry of a map.
+    /// Adds a member for each entry of a map.
     pub fn each<T: ToJson>(self, values: &BTreeMap<String, T>) -> Object
         ensures { (members : Members) → Has self.failed (members_view self.members.entries) members
             → Has result.failed (members_view result.members.entries)
@@ -110,7 +111,7 @@ impl Object {
         }
     }
 
-    /// With the members of an object, if there is one.
+    /// Adds the members of an object, if there is one.
     pub fn rest(self, value: &Option<Value>) -> Object
         ensures { (members : Members) → Has self.failed (members_view self.members.entries) members
             → Has result.failed (members_view result.members.entries)
@@ -122,7 +123,7 @@ impl Object {
         }
     }
 
-    /// With the members of a value, if it is an object.
+    /// Adds the members of a value, if it is an object.
     #[tactic(auto, using(crate::proofs::JsonLemmas::each_members))]
     fn members_of(self, value: &Value) -> Object
         ensures { (members : Members) → Has self.failed (members_view self.members.entries) members
@@ -135,7 +136,7 @@ impl Object {
         }
     }
 
-    /// With a member that is a list of these values.
+    /// Adds a member that is a list of these values.
     pub fn list(self, key: &str, values: Vec<Value>) -> Object
         ensures { (members : Members) → Has self.failed (members_view self.members.entries) members
             → Has result.failed (members_view result.members.entries)
@@ -144,7 +145,7 @@ impl Object {
         self.value(key, Some(Value::Array(values)))
     }
 
-    /// With a member that is this value, if there is one.
+    /// Adds a member that is this value, if there is one.
     #[tactic(auto, unfolding(crate::specs::Json::with_member))]
     pub fn value(self, key: &str, value: Option<Value>) -> Object
         ensures { (members : Members) → Has self.failed (members_view self.members.entries) members
@@ -167,7 +168,7 @@ impl Object {
         }
     }
 
-    /// The object.
+    /// Returns the object. The error means that an allocation failed.
     pub fn end(self) -> Result<Value, AllocError>
         ensures { (members : Members) → Has self.failed (members_view self.members.entries) members
             → IfOk result (λ value. view value ≡ object members) }
