@@ -1,5 +1,5 @@
-//! A server that drops all that it is given, on one thread and on three: it answers each request with a value of its own. What that costs
-//! tells whether one thread frees what another one allocated.
+//! A server that drops everything that it receives, on one thread and on three. It answers each request with a value
+//! that it makes. The cost shows whether one thread frees what another one allocated.
 use crate::Host;
 use crate::session::Echo;
 use anyhow::{Error, Result};
@@ -10,7 +10,7 @@ use std::alloc::{AllocError, Global};
 use std::io::BufRead;
 use std::sync::Wait;
 
-/// A server whose replies are a list of so many places, or null for none.
+/// Makes a server whose replies are a list of this many places, or null for none.
 pub fn server(alloc: Global, count: &str) -> Result<Echo> {
     let count = count.parse::<u64>()?;
     Ok(Echo {
@@ -37,7 +37,7 @@ fn place(alloc: Global, line: u64) -> Result<Value, AllocError> {
     Ok(Value::Object(members))
 }
 
-/// A loop over a connection.
+/// Runs a loop on a connection.
 pub fn serve_connection<T, R>(rt: &T, reader: R, echo: Echo) -> Result<()>
 where
     T: Host,
@@ -52,7 +52,7 @@ where
     }
 }
 
-/// From `initialize` to `exit`. The connection is dropped then, so that its threads end too.
+/// Runs a session from `initialize` to `exit`. The connection is dropped at the end, so that its threads end too.
 fn answer_all<T>(rt: &T, connection: Connection, threads: IoThreads, echo: Echo) -> Result<()>
 where
     T: Host,
@@ -88,7 +88,7 @@ where
     Err(Error::msg("the client left without a shutdown"))
 }
 
-/// Answers this request: whether it was the shutdown.
+/// Answers this request, and returns whether it was the shutdown.
 fn answer<T>(rt: &T, connection: &Connection, request: Request, echo: &mut Echo) -> Result<bool>
 where
     T: Host,
@@ -106,7 +106,7 @@ where
     }
 }
 
-/// Sends the reply. The session goes on, so it gives false.
+/// Sends the reply. The session goes on, so it returns false.
 fn send<T: Wait>(rt: &T, connection: &Connection, response: Response) -> Result<bool> {
     match connection.sender.send(rt, Message::from(response)).ok() {
         Some(()) => Ok(false),

@@ -1,4 +1,4 @@
-//! A session whose requests are jobs, each of which gets its params back: what a job costs, and what more workers gain.
+//! A session whose requests are jobs, each of which returns its params: what a job costs, and what more workers gain.
 ghost use Rattle.std.specs.Prelude.{true, IfOk, IfSome};
 ghost use Rattle.lsp_message.specs.Frame.{no_limit};
 ghost use Rattle.lsp_threads.specs.Threads.{ThreadsGiveOver};
@@ -21,7 +21,7 @@ use std::io::{BufRead, Write};
 use std::sync::Wait;
 use std::thread::Threads;
 
-/// Computes for as many turns as `turns` in the params says, and gives the params back.
+/// Computes for as many turns as `turns` in the params says, and returns the params.
 #[derive(Drop)]
 struct Computation {
     params: Value,
@@ -69,7 +69,7 @@ impl Job for Computation {
     }
 }
 
-/// A number that takes so many turns to compute.
+/// Returns a number that takes this many turns to compute.
 fn computed(turns: u64) -> u64 {
     let mut state: u64 = 1;
     for _ in 0..turns {
@@ -80,8 +80,9 @@ fn computed(turns: u64) -> u64 {
     state
 }
 
-/// Runs a session whose requests are jobs. Its author knows by the law of jobs, from what `Computation` states: each result that is sent at
-/// a wake under an id is the params of the last request under that id, since which no reply under it was sent, and no cancellation came.
+/// Runs a session whose requests are jobs. By the law of jobs, from what `Computation` states, each result that is sent
+/// at a wake-up under an id is the params of the last request under that id. Since that request, no reply under the id
+/// was sent, and no cancellation arrived.
 fn echo_with_jobs<T, R, W>(
     rt: &T,
     alloc: Global,
@@ -108,7 +109,7 @@ where
     done
 }
 
-/// The whole session.
+/// Runs the whole session.
 pub fn serve<T, R>(rt: &T, alloc: Global, reader: R, workers: usize) -> anyhow::Result<()>
 where
     T: Host,

@@ -1,5 +1,5 @@
-//! Each message of the input once more, by `serde_json` alone, as a measure of the least cost. It trusts its input: a line with the
-//! length, an empty line and the body, over and over.
+//! Writes each message of the input again, with `serde_json` alone, as a measure of the least cost. It trusts its
+//! input: a line with the length, an empty line and the body, over and over.
 use anyhow::Result;
 use serde_json::Value;
 use std::alloc::Global;
@@ -7,7 +7,7 @@ use std::fmt::Write as _;
 use std::io;
 use std::io::{BufRead, ErrorKind, Write};
 
-/// What is kept from one message to the next, so that each takes the same room.
+/// The memory that is kept from one message to the next, so that each takes the same room.
 #[derive(Drop)]
 struct Buffers {
     line: Vec<u8>,
@@ -16,7 +16,7 @@ struct Buffers {
 }
 
 impl Buffers {
-    /// The number in a header, and 0 at the end of the input.
+    /// Reads the number in a header. It is 0 at the end of the input.
     fn read_header<R: BufRead>(&mut self, reader: &mut R) -> io::Result<usize> {
         self.line.clear();
         reader.read_until(b'\n', &mut self.line)?;
@@ -24,7 +24,7 @@ impl Buffers {
         Ok(number_in(self.line.as_slice()))
     }
 
-    /// Reads the next body. False at the end of the input.
+    /// Reads the next body. Returns false at the end of the input.
     fn read_body<R: BufRead>(&mut self, reader: &mut R) -> io::Result<bool> {
         let length = self.read_header(reader)?;
         if length == 0 {
@@ -35,7 +35,7 @@ impl Buffers {
         Ok(true)
     }
 
-    /// Makes the frame of the value that the body has.
+    /// Makes the frame of the value in the body.
     fn make_frame(&mut self, alloc: Global) -> io::Result<()> {
         let text = text_of(alloc, self.body.as_slice())?;
         self.frame.clear();
@@ -61,7 +61,7 @@ impl Buffers {
     }
 }
 
-/// The number that the digits of a line make.
+/// Returns the number of a line's digits.
 fn number_in(line: &[u8]) -> usize {
     let mut number = 0usize;
     for byte in line {
@@ -73,7 +73,7 @@ fn number_in(line: &[u8]) -> usize {
     number
 }
 
-/// The text of the value that a body has.
+/// Returns the text of the value in a body.
 fn text_of(alloc: Global, body: &[u8]) -> io::Result<String> {
     match Value::from_slice(alloc, body) {
         Ok(value) => {

@@ -72,7 +72,7 @@ fn main(rt: HostRuntime) -> Result<()> {
     measure(&rt, alloc, words.as_str(), reader)
 }
 
-/// The measure that these words ask for.
+/// Takes the measure that these arguments name.
 fn measure<T, R>(rt: &T, alloc: Global, words: &str, reader: R) -> Result<()>
 where
     T: Host,
@@ -94,7 +94,7 @@ where
     }
 }
 
-/// The session of a server that drops its params.
+/// Runs the session of a server that drops its params.
 fn run_drops<T, R>(rt: &T, alloc: Global, words: &str, reader: R) -> Result<()>
 where
     T: Host,
@@ -110,7 +110,7 @@ where
     }
 }
 
-/// The session of this name of that server.
+/// Runs the session of this name with that server.
 fn run_way<T, R>(rt: &T, alloc: Global, way: &str, reader: R, echo: Echo) -> Result<()>
 where
     T: Host,
@@ -128,7 +128,7 @@ where
     }
 }
 
-/// Each measure over these bytes, under its name.
+/// Takes each measure with these bytes, under its name.
 fn run_all<T, R>(rt: &T, alloc: Global, reader: R) -> Result<()>
 where
     T: Host,
@@ -151,7 +151,7 @@ fn run_over<T: Host>(rt: &T, alloc: Global, text: &[u8]) -> Result<()> {
     Ok(())
 }
 
-/// The measure of this name.
+/// Takes the measure of this name.
 fn run<T, R>(rt: &T, alloc: Global, measure: &str, reader: R) -> Result<()>
 where
     T: Host,
@@ -168,7 +168,7 @@ where
     }
 }
 
-/// The measure of this name, on one thread.
+/// Takes the measure of this name, on one thread.
 fn run_alone<R, W>(alloc: Global, measure: &str, reader: &mut R, writer: &mut W) -> Result<()>
 where
     R: BufRead,
@@ -185,7 +185,7 @@ where
     }
 }
 
-/// The times of the queues or of texts, for each of these numbers.
+/// Measures the queues or the texts, for each of these numbers.
 fn time_each<T: Host>(rt: &T, alloc: Global, numbers: &str, is_of_queues: bool) -> Result<()> {
     for number in numbers.split(' ') {
         let count = number.parse::<u32>()?;

@@ -1,4 +1,4 @@
-//! How the time of a call on the request queues grows with what is pending.
+//! How the time of a call on the request queues grows with the number of pending requests.
 use anyhow::Result;
 use lsp_server::{Outgoing, ReqQueue, RequestId};
 use serde_json::Value;
@@ -10,7 +10,7 @@ use std::time::{Clock, Instant};
 /// How many requests are registered and completed if no number is given, and no time is printed.
 const FEW: u32 = 1000;
 
-/// Says how many of a thousand requests were given back.
+/// Prints how many of a thousand requests were returned.
 pub fn tell_found<R: Print>(rt: &R, alloc: Global) -> Result<()> {
     let mut queue: ReqQueue<u64, u64> = ReqQueue::default(alloc);
     let registered = register_all(alloc, &mut queue.outgoing, FEW);
@@ -21,7 +21,7 @@ pub fn tell_found<R: Print>(rt: &R, alloc: Global) -> Result<()> {
     Ok(())
 }
 
-/// Registers and completes so many requests, and prints the nanoseconds that a call took.
+/// Registers and completes this many requests, and prints the nanoseconds of a call.
 pub fn time_calls<R: Clock + Print>(rt: &R, alloc: Global, count: u32) -> io::Result<()> {
     let mut queue: ReqQueue<u64, u64> = ReqQueue::default(alloc);
     let timed = time_queue(rt, alloc, &mut queue.outgoing, count);
@@ -44,7 +44,7 @@ fn time_queue<R: Clock + Print>(
     println!(rt; "{count} pending: register {each} ns, complete {last} ns, {found} given back")
 }
 
-/// Registers so many requests. The data of each is its number.
+/// Registers this many requests. The data of each is its number.
 fn register_all(alloc: Global, queue: &mut Outgoing<u64>, count: u32) -> io::Result<()> {
     for number in 0..count {
         let registered = queue.register_value(String::new(alloc), Value::Null, u64::from(number));
@@ -57,7 +57,7 @@ fn register_all(alloc: Global, queue: &mut Outgoing<u64>, count: u32) -> io::Res
     Ok(())
 }
 
-/// Completes so many requests in an order that jumps about, and counts those that gave their own number back.
+/// Completes this many requests in a mixed order, and counts those that returned their own number.
 fn complete_all(queue: &mut Outgoing<u64>, count: u32) -> u32 {
     let mut found = 0u32;
     let mut number = 0u64;
@@ -71,7 +71,7 @@ fn complete_all(queue: &mut Outgoing<u64>, count: u32) -> u32 {
     found
 }
 
-/// The nanoseconds of a call, if so many were made since this start.
+/// Returns the nanoseconds of a call, if this many were made since `start`.
 fn per_call<R: Clock>(rt: &R, start: Instant, count: u32) -> io::Result<u128> {
     Ok(start.elapsed(rt)?.as_nanos() / u128::from(count.max(1)))
 }

@@ -1,4 +1,4 @@
-//! A session on one thread: what it costs beside `pump`, and how it answers a recorded client.
+//! A session on one thread: its cost compared with `pump`, and how it answers a recorded client.
 use anyhow::{Error, Result};
 use lsp_server::{
     Handler, Notification, Request, Response, ResponseError, SessionEnd, SessionFault, session,
@@ -10,14 +10,14 @@ use std::io::{BufRead, Write};
 /// Answers each request with its params, or with a copy of one value.
 #[derive(Drop)]
 pub struct Echo {
-    /// Whether it gives the params back.
+    /// Whether it returns the params.
     pub echoes: bool,
-    /// What it answers with else.
+    /// What it answers otherwise.
     pub reply: Value,
 }
 
 impl Echo {
-    /// One that gives the params back, or answers with null.
+    /// Makes one that returns the params, or answers with null.
     pub fn new(is_null: bool) -> Echo {
         Echo {
             echoes: !is_null,
@@ -70,7 +70,7 @@ impl Handler for Echo {
     }
 }
 
-/// The whole session.
+/// Runs the whole session.
 pub fn serve<R: BufRead, W: Write>(
     alloc: Global,
     reader: &mut R,
@@ -84,7 +84,7 @@ pub fn serve<R: BufRead, W: Write>(
     ended(answer)
 }
 
-/// How a session ended.
+/// Returns how a session ended.
 pub fn ended(answer: Result<SessionEnd, SessionFault>) -> Result<()> {
     match answer {
         Ok(_) => Ok(()),

@@ -1,4 +1,4 @@
-//! The same session of a server that speaks, though it says nothing of its own.
+//! The same session with a `Server`, although it sends nothing first.
 use crate::session::ended;
 use anyhow::Result;
 use lsp_server::policies::EndSession;
@@ -97,7 +97,7 @@ impl Server for Speaking {
     }
 }
 
-/// The whole session.
+/// Runs the whole session.
 pub fn serve<R: BufRead, W: Write>(
     alloc: Global,
     reader: &mut R,

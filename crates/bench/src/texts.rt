@@ -1,4 +1,4 @@
-//! How the time of an edit depends on where it stands in a text of a million bytes, and in a long line.
+//! How the time of an edit depends on its place in a text of a million bytes, and in a long line.
 use lsp_text::{Position, PositionEncoding, Range, Text};
 use std::alloc::{AllocError, Global};
 use std::io;
@@ -11,7 +11,7 @@ const FEW: u32 = 10;
 
 const UTF16: PositionEncoding = PositionEncoding::Utf16;
 
-/// What is typed over and over in a line, behind a character and up to forty further ones.
+/// A text that is typed over and over in a line, after a character and up to forty further ones.
 struct Typing {
     /// Its name.
     what: &'static str,
@@ -64,7 +64,7 @@ static LONG: [Typing; 2] = [
     },
 ];
 
-/// Says how long the text is after a few keystrokes at its start.
+/// Prints how long the text is after a few keystrokes at its start.
 pub fn tell_length<R: Print>(rt: &R, alloc: Global) -> anyhow::Result<()> {
     let mut text = large(alloc)?;
     let edited = typed(alloc, &mut text, &EDITS[0], FEW);
@@ -75,9 +75,9 @@ pub fn tell_length<R: Print>(rt: &R, alloc: Global) -> anyhow::Result<()> {
     Ok(())
 }
 
-/// Makes so many keystrokes at the text's start, in its middle and at its end, and so many new lines in its middle, asks for the
-/// positions of as many offsets, types at as many carets; types a tenth as often at the end of a long line, and asks for as many places in
-/// it. Prints the microseconds of each.
+/// Makes `count` keystrokes each at the text's start, in its middle and at its end, and as many new lines in its
+/// middle; requests the positions of as many offsets; types at as many carets; types a tenth as often at the end of a
+/// long line, and requests as many places in it. It prints the microseconds of each.
 pub fn time_all<R: Clock + Print>(rt: &R, alloc: Global, count: u32) -> io::Result<()> {
     time_large(rt, alloc, count)?;
     time_carets(rt, alloc, count)?;
@@ -95,7 +95,7 @@ fn time_large<R: Clock + Print>(rt: &R, alloc: Global, count: u32) -> io::Result
     timed
 }
 
-/// The times of a text that was begun then.
+/// Measures the edits of a text that was made at `start`.
 fn time_edits<R: Clock + Print>(
     rt: &R,
     alloc: Global,
@@ -123,7 +123,7 @@ fn time_typing<R: Clock + Print>(
     tell_count(rt, start, count, typing.what)
 }
 
-/// Asks for the positions of so many offsets, `step` bytes apart, and of each position for its offset.
+/// Requests the positions of `count` offsets, `step` bytes apart, and the offset of each position.
 fn time_asking<R: Clock + Print>(rt: &R, text: &Text, count: u32, step: u32) -> io::Result<()> {
     let start = Instant::now(rt)?;
     let sum = asked(text, count, step);
@@ -131,7 +131,7 @@ fn time_asking<R: Clock + Print>(rt: &R, text: &Text, count: u32, step: u32) -> 
     println!(rt; "{count} positions of offsets and back: {took} us, sum {sum}")
 }
 
-/// Asks for the positions of so many offsets in one call.
+/// Requests the positions of `count` offsets in one call.
 fn time_in_order<R: Clock + Print>(
     rt: &R,
     alloc: Global,
@@ -178,7 +178,7 @@ fn time_long_line<R: Clock + Print>(
     timed
 }
 
-/// Types at the end of this line, and asks for places all over it.
+/// Types at the end of this line, and requests places all over it.
 fn time_line<R: Clock + Print>(
     rt: &R,
     alloc: Global,
@@ -192,7 +192,7 @@ fn time_line<R: Clock + Print>(
     time_in_order(rt, alloc, text, count, step)
 }
 
-/// Prints the microseconds since this start behind a name.
+/// Prints the microseconds since `start` after a name.
 fn tell_count<R: Clock + Print>(rt: &R, start: Instant, count: u32, what: &str) -> io::Result<()> {
     let took = start.elapsed(rt)?.as_micros();
     println!(rt; "{count} {what}: {took} us")
@@ -202,13 +202,13 @@ fn large(alloc: Global) -> Result<Text, AllocError> {
     repeated(alloc, "    let value = some_call(argument, 1);\n", LINES)
 }
 
-/// A text that is this one so many times.
+/// Makes a text that is this one `count` times.
 fn repeated(alloc: Global, text: &str, count: u32) -> Result<Text, AllocError> {
     let text = text.repeat(alloc, count as usize)?;
     Text::new(alloc, text.as_str())
 }
 
-/// Types so many times.
+/// Types `count` times.
 fn typed(alloc: Global, text: &mut Text, typing: &Typing, count: u32) -> Result<(), AllocError> {
     for i in 0..count {
         let character = typing.behind.saturating_add(i % 40);
@@ -217,7 +217,7 @@ fn typed(alloc: Global, text: &mut Text, typing: &Typing, count: u32) -> Result<
     Ok(())
 }
 
-/// Types at so many carets, from the last line up, as an editor sends them.
+/// Types at `count` carets, from the last line up, as an editor sends them.
 fn typed_at_carets(alloc: Global, text: &mut Text, count: u32) -> Result<(), AllocError> {
     for i in 0..count {
         let line = LINES.saturating_sub(i.saturating_mul(2));
@@ -239,7 +239,7 @@ fn insert(
     Ok(())
 }
 
-/// The sum of so many offsets, each by way of its position.
+/// Returns the sum of `count` offsets, each by way of its position.
 fn asked(text: &Text, count: u32, step: u32) -> u64 {
     let mut sum: u64 = 0;
     for i in 0..count {

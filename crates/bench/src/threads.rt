@@ -32,7 +32,7 @@ where
     Ok(pump(rt, alloc, reader, &mut io::writer(rt))?)
 }
 
-/// A whole session on three threads.
+/// Runs a whole session on three threads.
 pub fn serve<T, R>(rt: &T, alloc: Global, reader: R, echo: Echo) -> Result<()>
 where
     T: Host,
@@ -52,7 +52,7 @@ where
     ended(done)
 }
 
-/// The same of a server that speaks.
+/// Runs the same with a `Server`.
 pub fn serve_speaking<T, R>(rt: &T, alloc: Global, reader: R) -> Result<()>
 where
     T: Host,
@@ -75,7 +75,7 @@ where
     ended(done)
 }
 
-/// How a session in threads ended.
+/// Returns how a session in threads ended.
 pub fn ended<W: Drop>(done: Result<Threaded<W>, StartFault>) -> Result<()> {
     match done {
         Ok(Threaded { answer, .. }) => session::ended(answer),

@@ -1,5 +1,5 @@
-//! A small test client: it holds a session with a server, in which it asks one thing. The server runs in a thread of the same program, or
-//! listens at an address.
+//! A small test client. It holds a session with a server, in which it sends one request. The server runs in a thread of
+//! the same program, or listens at an address.
 use crate::{send, serve};
 use anyhow::{Error, Result, anyhow, bail};
 use lsp_server::running::spawn;
@@ -10,13 +10,14 @@ use std::sync::Wait;
 use std::thread::Threads;
 use std::time::Clock;
 
-/// What the client tells the server of itself.
+/// What the client tells the server about itself.
 const ABOUT: &str = r#"{ "processId": null, "rootUri": null, "capabilities": {} }"#;
 
 /// What it asks about.
 const PLACE: &str = r#"{ "textDocument": { "uri": "file:///a.rs" } }"#;
 
-/// Prints what a server answers: that of this program at the word `client`, and another one at `client ADDRESS`.
+/// Prints the answer of a server: that of this program with the argument `client`, and another one with `client
+/// ADDRESS`.
 pub fn print_answer<R>(rt: &R, words: &[String]) -> Result<()>
 where
     R: Net + Threads + Wait + Clock + AllocGlobal + Print + Copy + Drop + Send + 'static,
@@ -33,7 +34,7 @@ where
     Ok(printed?)
 }
 
-/// What the server that listens at an address answers, as `127.0.0.1:9257`.
+/// Returns the answer of the server that listens at an address, such as `127.0.0.1:9257`.
 pub fn ask_address<R>(rt: &R, address: &str) -> Result<Value>
 where
     R: Net + Threads + Wait + Clock + AllocGlobal + Copy + Drop + Send + 'static,
@@ -51,7 +52,7 @@ where
     threads.join(rt).map_err(Error::from).and(answer)
 }
 
-/// What the server of this program answers. It runs in a thread, and needs no socket.
+/// Returns the answer of the server of this program. It runs in a thread, and needs no socket.
 pub fn ask_thread<R>(rt: &R) -> Result<Value>
 where
     R: Threads + Wait + Clock + AllocGlobal + Copy + Drop + Send + 'static,
@@ -64,7 +65,7 @@ where
     thread.join(rt).and(answer)
 }
 
-/// The messages of the session (LSP 3.17, "Server lifecycle").
+/// Sends and receives the messages of the session (LSP 3.17, "Server lifecycle").
 fn hold_session<R: Wait + AllocGlobal>(rt: &R, connection: &Connection) -> Result<Value> {
     drop(ask(rt, connection, 1, "initialize", ABOUT)?);
     tell(rt, connection, "initialized")?;
@@ -74,7 +75,7 @@ fn hold_session<R: Wait + AllocGlobal>(rt: &R, connection: &Connection) -> Resul
     Ok(answer)
 }
 
-/// Sends a request under a new id, and waits for its result. What else the server sends is passed over.
+/// Sends a request under a new id, and waits for its result. Other messages of the server are ignored.
 fn ask<R: Wait + AllocGlobal>(
     rt: &R,
     connection: &Connection,
@@ -106,7 +107,7 @@ fn result_of<R: Wait>(rt: &R, connection: &Connection, number: i32) -> Result<Va
     bail!("the server is gone")
 }
 
-/// The result, or an error that has the code and the text of the server's.
+/// Returns the result, or an error with the code and the text of the server's.
 fn result_in(reply: Response) -> Result<Value> {
     let Response {
         id: _,

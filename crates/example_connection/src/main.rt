@@ -1,9 +1,9 @@
-//! A whole language server over standard input and output, as a loop of its own. It says how long the path of a document
-//! is: a request `textDocument/hover` is answered with it. What to call a path it asks its client once, at the start, if the
-//! client can tell (`workspace/configuration`, section `paths`, a text).
+//! A whole language server on standard input and output, as a loop. It says how long the path of a document is, in
+//! answer to a request `textDocument/hover`. At the start it asks its client once what to call a path, if the client
+//! can be asked (`workspace/configuration`, section `paths`, a text).
 //!
-//! With the word `client` the program is a test client: it asks the server, which then runs in a thread, or with `client ADDRESS` another
-//! server, and prints the answer.
+//! With the argument `client` the program is a test client: it asks the server, which then runs in a thread, or with
+//! `client ADDRESS` another server, and prints the answer.
 #![tactic(auto)]
 
 mod client;
@@ -22,11 +22,11 @@ struct Paths {
     alloc: Global,
     /// What a hover calls a path.
     name: String,
-    /// The server's own requests that have no reply yet, each with what it asked for.
+    /// The requests of the server that have no reply yet, each with what it asked for.
     queue: ReqQueue<(), Asked>,
 }
 
-/// What a request of the server's own asked for.
+/// What a request of the server asked for.
 #[derive(Drop)]
 enum Asked {
     Name,
@@ -45,7 +45,7 @@ fn main(rt: HostRuntime) -> Result<()> {
     Ok(())
 }
 
-/// From `initialize` to `exit`. The connection is dropped at the end, so that its threads end too.
+/// Serves a client from `initialize` to `exit`. The connection is dropped at the end, so that its threads end too.
 fn serve<R: Wait + Clock + AllocGlobal>(rt: &R, connection: Connection) -> Result<()> {
     let served = serve_session(rt, &connection);
     drop(connection);
@@ -61,7 +61,7 @@ fn serve_session<R: Wait + Clock + AllocGlobal>(rt: &R, connection: &Connection)
     serve_messages(rt, connection, &mut paths)
 }
 
-/// The handshake. Gives whether the client can be asked for its configuration.
+/// Does the handshake. Returns whether the client can be asked for its configuration.
 fn begin<R: Wait + Clock + AllocGlobal>(rt: &R, connection: &Connection) -> Result<bool> {
     let (id, params) = connection.initialize_start(rt)?;
     let can_be_asked = can_be_asked(&params);
@@ -90,7 +90,7 @@ fn serve_messages<R: Wait + Clock + AllocGlobal>(
     bail!("the client left without a shutdown")
 }
 
-/// What the server says of itself (LSP 3.17, `InitializeResult`).
+/// What the server says about itself (LSP 3.17, `InitializeResult`).
 fn about(alloc: Global) -> Result<Value, serde_json::Error> {
     let about = r#"{
         "capabilities": { "hoverProvider": true },
@@ -99,7 +99,7 @@ fn about(alloc: Global) -> Result<Value, serde_json::Error> {
     Value::from_str(alloc, about)
 }
 
-/// Whether the client takes `workspace/configuration` (LSP 3.17, "Configuration Request").
+/// Returns whether the client supports `workspace/configuration` (LSP 3.17, "Configuration Request").
 fn can_be_asked(params: &Value) -> bool {
     let path = "/capabilities/workspace/configuration";
     matches!(params.pointer(path), Some(Value::Bool(true)))
@@ -119,7 +119,7 @@ impl Paths {
         })
     }
 
-    /// The request that asks for the name. It is pending until its response comes.
+    /// Makes the request that asks for the name. It is pending until its response arrives.
     fn ask(&mut self) -> Result<Request> {
         let method = String::from_str(self.alloc, "workspace/configuration")?;
         let sections = r#"{ "items": [{ "section": "paths" }] }"#;
@@ -129,7 +129,7 @@ impl Paths {
         registered.context("a registration was refused")
     }
 
-    /// Takes the response to a request of the server's own.
+    /// Takes the response to a request of the server.
     fn take(&mut self, response: Response) -> Result<(), AllocError> {
         let Response {
             id,
@@ -166,7 +166,7 @@ impl Paths {
         })
     }
 
-    /// What a hover shows.
+    /// Returns what a hover shows.
     fn hover(&self, params: &Value) -> Result<Value, AllocError> {
         let name = self.name.as_str();
         let length = uri_of(params).map_or(0, |uri| uri.len() as u64);
@@ -175,7 +175,7 @@ impl Paths {
     }
 }
 
-/// The path of the document that the params of a request name (LSP 3.17, "TextDocumentPositionParams").
+/// Returns the path of the document that the params of a request name (LSP 3.17, "TextDocumentPositionParams").
 fn uri_of(params: &Value) -> Option<&str> {
     params.get("textDocument")?.get("uri")?.as_str()
 }

@@ -1,10 +1,10 @@
-//! A language server by types: `example_diagnostics [--stdio | ADDRESS]`, over standard input and output, or over a socket, where it
-//! serves one client after another.
+//! A language server with LSP's types: `example_diagnostics [--stdio | ADDRESS]`, on standard input and output, or on a
+//! socket, where it serves one client after another.
 //!
-//! It keeps each text as the client edits it, a range at a time, and marks the lines that are too long. A hover says how long a line is, and a definition leads
-//! to the heading that a line stands under (`# ..`). How long a line may be it asks its client for, if the client can be
-//! asked (`workspace/configuration`, section `lines`, a number; 80 if there is none). Until the answer comes hovers wait, so
-//! they can be cancelled.
+//! It keeps each text as the client edits it, a range at a time, and marks the lines that are too long. A hover says
+//! how long a line is. A definition leads to the heading above a line (`# ..`). The server asks its client how long a
+//! line may be, if the client can be asked (`workspace/configuration`, section `lines`, a number; 80 if there is none).
+//! Hovers wait until the answer arrives, so they can be cancelled.
 #![tactic(auto)]
 
 ghost use Rattle.lsp_session.specs.StreamTransports.{IsUnused, Serves};
@@ -31,7 +31,7 @@ use std::alloc::{AllocError, Global};
 use std::io::{BufRead, Write};
 use std::{env, mem};
 
-/// What documents are checked against, and which hovers wait.
+/// The server: the texts and the longest line that is allowed, and the hovers that wait.
 #[derive(Drop)]
 struct Checker {
     alloc: Global,
@@ -40,13 +40,13 @@ struct Checker {
     /// Whether the client was asked, and has not answered yet.
     is_asking: bool,
     documents: TextDocuments,
-    /// What was last logged of a notification that was not applied.
+    /// The last log line about a notification that was not applied.
     complaint: String,
     /// The hovers that wait for the configuration.
     waiting: Vec<Request>,
 }
 
-/// What a request of the server's own was for.
+/// What a request of the server was for.
 #[derive(Drop, PartialEq)]
 enum Asked {
     Configuration,
@@ -149,7 +149,7 @@ impl Checker {
         }
     }
 
-    /// Agrees with the client on how its texts are told, and gives what the server can do, which announces it.
+    /// Agrees with the client on how its texts are sent, and returns what the server can do, which announces it.
     fn agree(&mut self, params: &InitializeParams) -> Result<ServerCapabilities, AllocError> {
         let client = &params.capabilities;
         self.longest.agree(client);
@@ -162,7 +162,7 @@ impl Checker {
         })
     }
 
-    /// What the client is told after a notification.
+    /// Adds the acts after a notification.
     fn note(&mut self, notification: &Notification, acts: &mut Acts) -> Result<(), AllocError> {
         match self.documents.apply(notification) {
             Some(Ok(update)) => self.follow(update, acts),
@@ -171,7 +171,7 @@ impl Checker {
         }
     }
 
-    /// What the client is told after a notification that was applied: what there is to say of it, and which lines are too long.
+    /// Adds the acts after a notification that was applied: the remark about it, and which lines are too long.
     fn follow(&self, update: DocumentUpdate<'_>, acts: &mut Acts) -> Result<(), AllocError> {
         if update.remark.is_some() {
             let line = format!(in self.alloc; "{update}")?;
@@ -180,8 +180,8 @@ impl Checker {
         self.mark(acts, update.uri, self.documents.get(update.uri))
     }
 
-    /// What the client is told after a notification that was not applied: why, but not at each keystroke anew, and no marks of a text that
-    /// was lost by it. Each may be, if no URI is named.
+    /// Adds the acts after a notification that was not applied: the reason, but not again at each keystroke, and no
+    /// marks for a text that is lost now. If no URI is named, each text may be lost.
     fn complain(&mut self, missed: UpdateFault<'_>, acts: &mut Acts) -> Result<(), AllocError> {
         let line = format!(in self.alloc; "{missed}")?;
         if missed.lost || line.as_str() != self.complaint.as_str() {
@@ -220,7 +220,7 @@ impl Checker {
         }
     }
 
-    /// Tells the client which lines of a document are too long: none, if it is closed or its text is lost.
+    /// Shows which lines of a document are too long: none, if it is closed or its text is lost.
     fn mark(
         &self,
         acts: &mut Acts,
@@ -236,7 +236,7 @@ impl Checker {
         Ok(())
     }
 
-    /// How long a line is (LSP 3.17, "Hover Request").
+    /// Returns how long a line is (LSP 3.17, "Hover Request").
     fn hover(&self, params: &HoverParams) -> Result<Option<Hover>, AllocError> {
         let Some(document) = self.documents.get(params.text_document.uri.as_str()) else {
             return Ok(None);
@@ -249,7 +249,7 @@ impl Checker {
         Ok(Some(Hover::new(MarkupKind::PlainText, text)))
     }
 
-    /// The heading that a line stands under (LSP 3.17, "Goto Definition Request").
+    /// Returns the heading above a line (LSP 3.17, "Goto Definition Request").
     fn definition(
         &self,
         params: &DefinitionParams,
@@ -269,7 +269,7 @@ impl Checker {
     }
 }
 
-/// A warning for each line with more characters than are allowed.
+/// Returns a warning for each line with more characters than are allowed.
 fn long_lines(alloc: Global, text: &Text, longest: u32) -> Result<Vec<Diagnostic>, AllocError> {
     let mut found = Vec::new(alloc);
     for number in 0..u32::MAX {
@@ -286,7 +286,7 @@ fn long_lines(alloc: Global, text: &Text, longest: u32) -> Result<Vec<Diagnostic
     Ok(found)
 }
 
-/// The last line that is a heading, up to this one.
+/// Returns the last line up to this one that is a heading.
 fn heading_above(text: &Text, line: u32) -> Option<u32> {
     let mut heading = None;
     for number in 0..=line {
@@ -300,8 +300,9 @@ fn heading_above(text: &Text, line: u32) -> Option<u32> {
     heading
 }
 
-/// Serves the client of a transport. Of whatever reader and writer, also of standard input and output or a socket: the bytes that were taken are
-/// frames of messages, and those that were given are frames of what a session of a `Checker` sends for them, each before the next byte is taken.
+/// Serves the client of a transport. This holds for every reader and writer, also for standard input and output or a
+/// socket: the bytes that were taken are frames of messages, and those that were given are frames of what a session of
+/// a `Checker` sends for them, each before the next byte is taken.
 fn serve<R: BufRead, W: Write>(
     transport: &mut StreamTransport<'_, R, W, EndSession>,
     checker: &mut QueuedServer<Checker, Asked>,

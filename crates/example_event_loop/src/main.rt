@@ -1,8 +1,9 @@
-//! Several sessions on one thread, as an event loop runs them: each gets the bytes of its client as they come, and gives the bytes that are
-//! to be sent. No session waits, reads or writes.
+//! Several sessions on one thread, as an event loop runs them. Each takes the bytes of its client as they arrive, and
+//! returns the bytes that are to be sent. No session waits, reads or writes.
 //!
-//! A line `NAME SIZE BYTES` of standard input has bytes of a client, which come in pieces of SIZE bytes. In it `\r` and `\n` stand for
-//! the bytes of a line end. A line `NAME closed` says that the client sends no more, and `NAME timeout` that 30 seconds passed.
+//! A line `NAME SIZE BYTES` of standard input has bytes of a client, which arrive in pieces of SIZE bytes. In it `\r`
+//! and `\n` mean the bytes of a line end. A line `NAME closed` says that the client sends no more, and `NAME timeout`
+//! that 30 seconds passed.
 #![tactic(auto)]
 
 use anyhow::Result;
@@ -18,7 +19,7 @@ const MAX_CONTENT: u64 = 1000;
 
 const MAX_PENDING: usize = 1000;
 
-/// Answers each request with how many came.
+/// Answers each request with the number of requests so far.
 #[derive(Drop)]
 struct Counter {
     alloc: Global,
@@ -96,7 +97,7 @@ impl Client {
         })
     }
 
-    /// Bytes of the client came.
+    /// Takes bytes of the client.
     fn receive<R: Print>(&mut self, rt: &R, alloc: Global, piece: &[u8]) -> Result<()> {
         let mut rest = piece;
         for _ in 0..piece.len() {
@@ -107,7 +108,7 @@ impl Client {
         Ok(())
     }
 
-    /// Sends what the session has to send.
+    /// Sends the output of the session.
     fn send<R: Print>(&mut self, rt: &R, alloc: Global) -> Result<()> {
         let count = self.session.output().len();
         if count > 0 {
@@ -134,7 +135,7 @@ fn main(rt: HostRuntime) -> Result<()> {
     Ok(())
 }
 
-/// Hands the event of a line to the session of this name.
+/// Passes the event of a line to the session of this name.
 fn take_event<R: Print>(
     rt: &R,
     alloc: Global,

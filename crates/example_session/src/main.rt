@@ -1,4 +1,4 @@
-//! A whole server over standard input and output that answers requests: it knows how many documents its client has open.
+//! A whole server on standard input and output that answers requests: it knows how many documents its client has open.
 #![tactic(auto)]
 
 ghost use Rattle.serde_json.specs.View.{view};
@@ -61,9 +61,9 @@ impl Handler for Documents {
     }
 }
 
-/// Serves the client of a transport. Of whatever reader and writer, also of standard input and output: the bytes that were taken are frames of
-/// messages, and those that were given are frames of what a session of `Documents` sends for them, each before the next byte is taken. Each
-/// request gets one reply.
+/// Serves the client of a transport. This holds for every reader and writer, also for standard input and output: the
+/// bytes that were taken are frames of messages, and those that were given are frames of what a session of `Documents`
+/// sends for them, each before the next byte is taken. Each request gets one reply.
 fn serve<R: BufRead, W: Write>(
     transport: &mut StreamTransport<'_, R, W, EndSession>,
     documents: &mut HandlerApplication<Documents>,

@@ -1,8 +1,8 @@
-//! Two peers that send each other requests and replies, over links whose bytes arrive in any pieces (JSON-RPC 2.0, sections 4
-//! and 5). Whatever the order of their steps, each takes exactly what the other wrote, and each reply gives back the payload of its
-//! own request, once: `run_through` has that as a contract.
+//! Two peers that send each other requests and replies, over links whose bytes arrive in any pieces (JSON-RPC 2.0,
+//! sections 4 and 5). Whatever the order of their steps, each takes exactly what the other wrote, and each reply
+//! returns the payload of its own request, once. The contract of `run_through` says this.
 //!
-//! Standard input has runs, each of two new peers, with a blank line behind it: a title, and steps as in `script.rt`.
+//! Standard input has runs, each with two new peers and a blank line after it: a title, and steps as in `script.rt`.
 #![tactic(auto)]
 
 ghost use Rattle.std.specs.Prelude.{◌≡◌, ◌==◌, length, IfOk};
@@ -18,8 +18,8 @@ use script::step_of;
 use std::alloc::Global;
 use std::io;
 
-/// Runs the steps of both sides, in whatever order they come. Says whether each side took all that the other one wrote: then, and
-/// only then, nothing is left in the links.
+/// Runs the steps of both sides, in the order in which they are given. It returns whether each side took everything
+/// that the other one wrote. If so, and only then, nothing is left in the links.
 fn run_through(alloc: Global, steps: Vec<Step>) -> Result<(World, Vec<Outcome>, bool), WorldFault>
     // What each side took is a beginning of what the other wrote, and all of it if the answer says so. A watch finds no broken rule of ids.
     ensures took { IfOk result (λ r. Exchanged steps.items r.1.items r.0 r.2) }
@@ -32,7 +32,7 @@ fn run_through(alloc: Global, steps: Vec<Step>) -> Result<(World, Vec<Outcome>, 
     Ok((world, outcomes, all))
 }
 
-/// Whether no byte is in the link to a side.
+/// Returns whether no byte is in the link to a side.
 fn is_idle(world: &World, side: Side) -> bool
     ensures { result ≡ (length (link_of side world.now) == 0) }
 {
@@ -50,7 +50,7 @@ fn main(rt: HostRuntime) -> Result<()> {
     Ok(())
 }
 
-/// Runs two new peers through the steps of these lines, and shows what came of each.
+/// Runs two new peers through the steps of these lines, and shows the outcome of each.
 fn show_run<R: Print>(rt: &R, alloc: Global, lines: &str) -> Result<()> {
     let steps = lines.lines().map(|line| step_of(alloc, line));
     match run_through(alloc, steps.try_collect(alloc)?) {

@@ -1,13 +1,14 @@
-//! The steps of a script, each in a line: `A registers p 10 [1,2]` is a request `p` of A's with the payload 10, and `A tells p null` a
-//! notification. By `B gets 59` up to 59 bytes arrive at B. By `B takes 2` it takes a message, and if that is a request holds it as 2.
-//! Then `B answers 0 true`, `B refuses 0 -32601 text`, `B cancels 0` or `B gives-up 0` the request whose id is 0.
+//! The steps of a script, each in a line. `A registers p 10 [1,2]` is a request `p` of A with the payload 10, and `A
+//! tells p null` a notification. `B gets 59` lets up to 59 bytes arrive at B. With `B takes 2` it takes a message, and
+//! if that is a request holds it as 2. Then `B answers 0 true`, `B refuses 0 -32601 text`, `B cancels 0` or `B gives-up
+//! 0` closes the request whose id is 0.
 use anyhow::{Context, Result, bail};
 use lsp_message::RequestId;
 use lsp_peers::{Side, Step};
 use serde_json::Value;
 use std::alloc::Global;
 
-/// The step of a line.
+/// Reads the step of a line.
 pub fn step_of(alloc: Global, line: &str) -> Result<Step> {
     let (name, rest) = cut(line);
     let side = if name == "A" { Side::A } else { Side::B };
@@ -43,7 +44,7 @@ pub fn step_of(alloc: Global, line: &str) -> Result<Step> {
     }
 }
 
-/// A step that closes the request with this id, which the side holds.
+/// Makes a step that closes the request with this id, which the side holds.
 fn close(alloc: Global, side: Side, verb: &str, id: RequestId, rest: &str) -> Result<Step> {
     match verb {
         "answers" => {
@@ -65,7 +66,7 @@ fn close(alloc: Global, side: Side, verb: &str, id: RequestId, rest: &str) -> Re
     }
 }
 
-/// The first word, and what follows it.
+/// Returns the first word, and the text after it.
 fn cut(words: &str) -> (&str, &str) {
     words.split_once(" ").unwrap_or((words, ""))
 }

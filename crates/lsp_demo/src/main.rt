@@ -1,4 +1,4 @@
-//! A server over standard input and output or a socket, and a program that passes messages on.
+//! A server on standard input and output or on a socket, and a program that passes messages on.
 #![tactic(auto)]
 
 ghost use Rattle.std.specs.Prelude.{◌≡◌, option_map};
@@ -34,7 +34,7 @@ fn main(rt: HostRuntime) -> ExitCode {
     })
 }
 
-/// The exit status of the program, or why it was not begun. No word at all means `serve`.
+/// Returns the exit status of the program, or why it did not begin. Without an argument it is `serve`.
 fn status<R, E: Write>(rt: &R, errors: &mut E) -> io::Result<u8>
 where
     R: Env
@@ -71,7 +71,7 @@ where
     Ok(pumped.status)
 }
 
-/// Whether the words ask for the server on standard input and output.
+/// Returns whether the arguments ask for the server on standard input and output.
 fn is_serve(words: &[String]) -> bool
     ensures { result ≡ asks_serve words.now }
 {
@@ -82,7 +82,7 @@ fn is_serve(words: &[String]) -> bool
     }
 }
 
-/// The address at which the words ask for the server.
+/// Returns the address at which the arguments ask for the server.
 fn tcp_address(words: &[String]) -> Option<&str>
     ensures { option_map (λ addr. addr.now) result ≡ asked_address words.now }
 {
@@ -92,7 +92,8 @@ fn tcp_address(words: &[String]) -> Option<&str>
     }
 }
 
-/// Says why the program was not begun: a word that is no text is a wrong one, and all else is want of memory.
+/// Prints why the program did not begin. An argument that is no text is a wrong one; everything else is a lack of
+/// memory.
 fn refused<E: Write>(kind: ErrorKind, errors: &mut E) -> u8
     ensures { result ≡ 1 }
 {

@@ -13,7 +13,7 @@ use std::io::{BufRead, Write};
 use std::sync::Wait;
 use std::thread::{Builder, Threads};
 
-/// The exit status, and accounts of the bytes that passed, which clauses alone see.
+/// The exit status, and accounts of the bytes that were read and written, which only clauses see.
 #[derive(Drop)]
 pub struct PumpStatus {
     /// 0 if all messages were passed on, and 1 otherwise.
@@ -24,15 +24,15 @@ pub struct PumpStatus {
     pub given: Passed,
 }
 
-/// Runs the program on its words, and gives the exit status.
+/// Runs the program with its arguments, and returns the exit status.
 ///
-/// `pump` writes each message of the reader again, as a frame; a word after it is the greatest length of a content part in bytes. The
-/// status is 0 if all were passed on, and 1 after a fault, whose text goes to `errors`. Other words, and none, are answered
-/// by how the program is called, and status 1.
-/// A fault of `errors` is ignored. `main` comes here with all words that do not ask for the server.
+/// `pump` writes each message of the reader again, as a frame. An argument after it is the greatest length of a content
+/// part in bytes. The status is 0 if all messages were passed on, and 1 after a fault, whose text goes to `errors`. For
+/// other arguments, and for none, the usage goes to `errors`, and the status is 1. A fault of `errors` is ignored.
+/// `main` calls this with all arguments that do not ask for the server.
 ///
-/// `told` holds for each reader and writer, standard input and output among them: the bytes that were given are the frames of the messages
-/// that the taken bytes begin with, as far as the status says, whatever follows them.
+/// `told` holds for every reader and writer, including standard input and output: the bytes that were given are the
+/// frames of the messages at the front of the bytes that were taken, as far as the status says, whatever follows them.
 pub fn pump_words<T, R, W, E>(
     rt: &T,
     alloc: Global,
@@ -69,7 +69,7 @@ where
     }
 }
 
-/// The exit status of what came of passing messages on. A fault is printed.
+/// Returns the exit status for the result of passing messages on. A fault is printed.
 fn status_of<E: Write>(errors: &mut E, answer: Result<(), PumpFault>) -> u8
     ensures { result ≡ status_of_spec answer }
 {
@@ -79,7 +79,7 @@ fn status_of<E: Write>(errors: &mut E, answer: Result<(), PumpFault>) -> u8
     }
 }
 
-/// The limits on the parts of a frame, if the words ask for messages to be passed on.
+/// Returns the limits on the parts of a frame, if the arguments ask for messages to be passed on.
 fn pump_limits(words: &[String]) -> Option<Limits>
     ensures { result ≡ asked_limit words.now }
 {
@@ -93,7 +93,7 @@ fn pump_limits(words: &[String]) -> Option<Limits>
     }
 }
 
-/// The number that a word is: digits, after a `+` or none.
+/// Returns the number in an argument: digits, with or without a `+` before them.
 fn limit_of(word: &str) -> Option<u64>
     ensures { result ≡ number word.now }
 {

@@ -4,7 +4,7 @@ ghost use Rattle.std.specs.Prelude.{◌≡◌};
 use std::fmt::Display;
 use std::io::Write;
 
-/// Prints the text as the program's, and gives the exit status. A fault of `errors` is ignored.
+/// Prints the text as the program's, and returns the exit status. A fault of `errors` is ignored.
 pub fn report<E: Write, D: Display + Drop>(errors: &mut E, text: D) -> u8
     ensures { result ≡ 1 }
 {
@@ -12,7 +12,7 @@ pub fn report<E: Write, D: Display + Drop>(errors: &mut E, text: D) -> u8
     1
 }
 
-/// Prints how the program is called, and gives the exit status. A fault of `errors` is ignored.
+/// Prints how the program is called, and returns the exit status. A fault of `errors` is ignored.
 pub fn report_usage<E: Write>(errors: &mut E) -> u8
     ensures { result ≡ 1 }
 {

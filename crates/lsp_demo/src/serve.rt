@@ -20,18 +20,19 @@ enum ServeEnd {
     Ended,
     /// With an error of the handshake or of the shutdown.
     Refused(ProtocolError),
-    /// With a message that was not taken.
+    /// With a message that could not be handled.
     Failed(WorkFault),
 }
 
-/// Serves one connection, and gives the exit status: 0 after `shutdown` and `exit`, if the threads of the connection
-/// ended without a fault, and else 1. Why it is 1 goes to `errors`, whose faults are ignored.
+/// Serves one connection, and returns the exit status: 0 after `shutdown` and `exit`, if the threads of the connection
+/// ended without a fault, otherwise 1. The reason goes to `errors`, whose faults are ignored.
 ///
-/// The request `demo/echo` is answered with its params at once, and `demo/hold` is kept: it is answered with its params at
-/// the notification `demo/release`, with the others that are kept and in the order in which they came, or with code -32800
-/// if the notification `$/cancelRequest` names it before. Every other request is answered with code -32601. A request
-/// under the id of one that is kept replaces it, which then gets no reply, and neither does what is kept at `shutdown`. Other
-/// notifications than these and `exit`, and responses, are dropped. Without threads nothing is waited for at the end.
+/// The request `demo/echo` is answered with its params at once. `demo/hold` is kept. It is answered with its params at
+/// the notification `demo/release`, together with the others that are kept and in the order in which they arrived, or
+/// with code -32800 if the notification `$/cancelRequest` names it before. Every other request is answered with code
+/// -32601. A request under the id of one that is kept replaces it. The replaced one gets no reply, and neither do those
+/// that are kept at `shutdown`. Other notifications than these and `exit`, and responses, are dropped. Without threads
+/// nothing is waited for at the end.
 pub fn serve_on<R: Threads + Wait + Clock + AllocGlobal, E: Write>(
     rt: &R,
     connection: Connection,
@@ -59,7 +60,8 @@ pub fn serve_on<R: Threads + Wait + Clock + AllocGlobal, E: Write>(
     }
 }
 
-/// Says why the other side was refused, or which fault the threads had if it is gone. All that was sent is written first.
+/// Prints why the other side was refused, or which fault the threads had if it is gone. All messages that were sent are
+/// written first.
 fn report_refusal<R: Threads, E: Write>(
     rt: &R,
     connection: Connection,
@@ -82,7 +84,7 @@ fn report_refusal<R: Threads, E: Write>(
     }
 }
 
-/// Says why a message was not taken.
+/// Prints why a message could not be handled.
 fn report_failure<E: Write>(errors: &mut E, fault: WorkFault) -> u8
     ensures { result ≡ 1 }
 {
@@ -92,7 +94,7 @@ fn report_failure<E: Write>(errors: &mut E, fault: WorkFault) -> u8
     }
 }
 
-/// Lets go of the connection, waits until all that was sent is written, and then for the threads.
+/// Drops the connection, and waits until all messages that were sent are written, and then for the threads.
 fn close<R: Threads>(
     rt: &R,
     connection: Connection,
@@ -104,7 +106,7 @@ fn close<R: Threads>(
     }
 }
 
-/// Lets go of the connection, and waits until all that was sent is written. The client may stay and say nothing.
+/// Drops the connection, and waits until all messages that were sent are written. The client may stay and be silent.
 fn flush<R: Threads>(
     rt: &R,
     connection: Connection,
@@ -117,7 +119,7 @@ fn flush<R: Threads>(
     }
 }
 
-/// A session: the handshake with capabilities `{}`, and then one message after another.
+/// Runs a session: the handshake with capabilities `{}`, and then one message after another.
 fn serve_session<'a, R: Wait + Clock + AllocGlobal>(
     rt: &'a R,
     connection: &'a Connection,
@@ -129,7 +131,7 @@ fn serve_session<'a, R: Wait + Clock + AllocGlobal>(
     }
 }
 
-/// The session after the handshake.
+/// Runs the session after the handshake.
 fn serve_messages<'a, R: Wait + Clock + AllocGlobal>(
     rt: &'a R,
     connection: &'a Connection,
@@ -153,7 +155,7 @@ fn serve_each<R: Wait + Clock + AllocGlobal>(
     ServeEnd::Ended
 }
 
-/// Serves a message. It gives how the session ends, where it ends with this message.
+/// Handles a message. It returns how the session ends, if it ends with this message.
 fn serve_message<R: Wait + Clock + AllocGlobal>(
     rt: &R,
     connection: &Connection,
@@ -169,7 +171,7 @@ fn serve_message<R: Wait + Clock + AllocGlobal>(
     }
 }
 
-/// How the session ends, if the message asks for the shutdown.
+/// Returns how the session ends, if the message asks for the shutdown.
 fn shutdown<R: Wait + Clock + AllocGlobal>(
     rt: &R,
     connection: &Connection,
@@ -185,7 +187,7 @@ fn shutdown<R: Wait + Clock + AllocGlobal>(
     }
 }
 
-/// Takes any other message.
+/// Handles any other message.
 fn take<R: Wait>(
     rt: &R,
     connection: &Connection,
@@ -203,7 +205,7 @@ fn take<R: Wait>(
     }
 }
 
-/// Serves a notification by its method.
+/// Handles a notification by its method.
 fn serve_notification<R: Wait>(
     rt: &R,
     connection: &Connection,
@@ -217,7 +219,7 @@ fn serve_notification<R: Wait>(
     }
 }
 
-/// Answers every request that is kept, in the order in which they came.
+/// Answers every request that is kept, in the order in which they arrived.
 fn release_all<R: Wait>(rt: &R, connection: &Connection, work: &mut Work) -> Option<ServeEnd> {
     for (ticket, request) in work.release() {
         let answer = work.finish(ticket, request);
@@ -228,7 +230,7 @@ fn release_all<R: Wait>(rt: &R, connection: &Connection, work: &mut Work) -> Opt
     None
 }
 
-/// Sends the reply that an answer has, if it has one.
+/// Sends the reply of an answer, if it has one.
 fn reply<R: Wait>(rt: &R, connection: &Connection, answer: Answer) -> Option<ServeEnd> {
     match connection.sender.send(rt, answer.into_reply()?).ok() {
         Some(()) => None,
@@ -236,7 +238,7 @@ fn reply<R: Wait>(rt: &R, connection: &Connection, answer: Answer) -> Option<Ser
     }
 }
 
-/// Serves standard input and output, and gives the exit status, as `serve_on`.
+/// Serves standard input and output, and returns the exit status, as `serve_on` does.
 pub fn serve_stdio<R, E: Write>(rt: &R, errors: &mut E) -> u8
 where
     R: Threads + Wait + Clock + AllocGlobal + Input + Print + Copy + Drop + Send + 'static,
@@ -249,7 +251,7 @@ where
     }
 }
 
-/// Waits at the address for one client, serves it, and gives the exit status, as `serve_on`.
+/// Waits at the address for one client, serves it, and returns the exit status, as `serve_on` does.
 pub fn tcp_on<R, A: ToSocketAddrs, E: Write>(rt: &R, addr: A, errors: &mut E) -> u8
 where
     R: Net + Threads + Wait + Clock + AllocGlobal + Copy + Drop + Send + 'static,

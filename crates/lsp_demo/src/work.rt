@@ -15,7 +15,7 @@ use std::alloc::{AllocError, Global};
 use std::collections::BTreeMap;
 use std::mem;
 
-/// Why a message was not taken.
+/// Why a message could not be handled.
 pub enum WorkFault {
     /// The message was not delivered, or a request that is to be kept was not.
     Dispatch(DispatchFault),
@@ -23,7 +23,7 @@ pub enum WorkFault {
     Memory,
 }
 
-/// The requests that are worked on.
+/// The requests whose work is going on.
 #[derive(Drop)]
 pub struct Work {
     alloc: Global,
@@ -33,7 +33,7 @@ pub struct Work {
 }
 
 impl Work {
-    /// There are none.
+    /// Starts with none.
     pub fn new(alloc: Global) -> Work {
         Work {
             alloc,
@@ -42,7 +42,7 @@ impl Work {
         }
     }
 
-    /// Takes a message, does what it asks for, and gives what is left to do: to send a reply, or to see to a notification.
+    /// Takes a message, does its work, and returns what is left to do: to send a reply, or to handle a notification.
     pub fn take(&mut self, message: Message) -> Result<Answer, WorkFault>
         ensures { IfOk result (λ answer. (answer_view answer, self.new.dispatcher)
             ≡ served self.old.dispatcher (message_view message)) }
@@ -96,7 +96,7 @@ impl Work {
         }
     }
 
-    /// Gives the requests that are kept, by their tickets, and keeps them no longer.
+    /// Returns the requests that are kept, by their tickets, and keeps them no longer.
     pub fn release(&mut self) -> BTreeMap<u64, Request>
         ensures given { result ≡ self.old.held }
         ensures none { IsEmpty self.new.held }
@@ -104,7 +104,7 @@ impl Work {
         mem::replace(&mut self.held, BTreeMap::new(self.alloc))
     }
 
-    /// Finishes a request with its params for its result.
+    /// Finishes a request with its params as its result.
     pub fn finish(&mut self, ticket: u64, request: Request) -> Answer
         ensures { (answer_view result, self.new.dispatcher)
             ≡ finished self.old.dispatcher request.id ticket (Ok (view request.params)) }
@@ -114,7 +114,7 @@ impl Work {
     }
 }
 
-/// What comes of a request that is finished at once.
+/// Returns the outcome of a request that is finished at once.
 fn outcome_of(
     alloc: Global,
     method: &str,

@@ -1,11 +1,11 @@
-//! Traits that a user of the port implements, with the methods that were asked for and no other.
+//! Traits that a user of the port implements, with exactly the methods that were asked for.
 use lsp_server::{
     Event, Gate, Handler, Inbox, Message, Notification, Outbox, Request, ResponseError, SendFault,
 };
 use serde_json::Value;
 use std::alloc::AllocError;
 
-/// Gives so many timeouts, and then the end.
+/// An inbox that gives this many timeouts, and then the end.
 #[derive(Drop)]
 pub struct Given {
     pub left: u64,
@@ -29,7 +29,7 @@ impl Inbox for Given {
     }
 }
 
-/// Counts messages, and refuses none.
+/// An outbox that counts messages, and refuses none.
 #[derive(Drop)]
 pub struct Kept {
     pub count: u64,
@@ -47,7 +47,7 @@ impl Outbox for Kept {
     }
 }
 
-/// Says yes.
+/// A gate that says yes.
 #[derive(Drop)]
 pub struct Asked;
 
@@ -61,7 +61,7 @@ impl Gate for Asked {
     }
 }
 
-/// Answers each request with null.
+/// A handler that answers each request with null.
 #[derive(Drop)]
 pub struct Answers;
 

@@ -1,7 +1,9 @@
-//! The public surface of the port, in the shapes that were asked for: each name, each list of arguments in its order, each result, each
-//! pattern without `..`, and an `impl` of each trait with its methods alone. A line here changes only if what was asked for changes.
+//! The public surface of the port, in the shapes that were asked for: each name, each list of arguments in its order,
+//! each result, each pattern without `..`, and an `impl` of each trait with only its methods. A line here changes only
+//! if what was asked for changes.
 //!
-//! Where a shape could not be had, the line says `beyond`: docs/DECISIONS.md has the reason. Run, it prints what some of the calls give.
+//! Where a shape was not possible, the line says `beyond`: docs/DECISIONS.md has the reason. When run, it prints the
+//! results of some of the calls.
 #![tactic(auto)]
 
 mod boxes;
@@ -16,7 +18,7 @@ use lsp_server::{Message, Notification, Request, RequestId, SessionEnd, Side, St
 use serde_json::Value;
 use std::alloc::Global;
 
-/// A whole session: the frames of `initialize`, `initialized`, `shutdown` and `exit`.
+/// The input of a whole session: the frames of `initialize`, `initialized`, `shutdown` and `exit`.
 const SESSION: &[u8] =
     b"Content-Length: 46\r\n\r\n{\"jsonrpc\":\"2.0\",\"id\":1,\"method\":\"initialize\"}Content-Length: 40\r\n\r\n{\"jsonrpc\":\"2.0\",\"method\":\"initialized\"}Content-Length: 44\r\n\r\n{\"jsonrpc\":\"2.0\",\"id\":2,\"method\":\"shutdown\"}Content-Length: 33\r\n\r\n{\"jsonrpc\":\"2.0\",\"method\":\"exit\"}";
 
@@ -49,7 +51,7 @@ fn show_session<R: Print>(rt: &R, alloc: Global) -> Result<()> {
     Ok(())
 }
 
-/// Runs a handshake over boxes of this crate's own, which have the methods alone that were asked for.
+/// Runs a handshake with an inbox and an outbox of this crate, which have only the methods that were asked for.
 fn show_boxes<R: Print>(rt: &R, alloc: Global) -> Result<()> {
     let mut inbox = Given { left: 3 };
     let mut outbox = Kept { count: 0 };
