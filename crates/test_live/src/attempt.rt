@@ -4,17 +4,18 @@ use std::io::ErrorKind;
 use std::num::ParseIntError;
 use std::{fmt, io};
 
-/// What came of a call that is tried.
+/// The result of a call that is tried.
 #[derive(Drop)]
 pub struct Attempt {
-    /// What it answered.
+    /// The text of its answer.
     pub said: String,
-    /// Whether it answered that an allocation failed, or that a thread was not started. Then it says which call, and what it left.
+    /// Whether it answered that an allocation failed, or that a thread was not started. The text then says which call,
+    /// and what it left.
     pub is_refused: bool,
 }
 
 impl Attempt {
-    /// It answered so.
+    /// Makes the result of a call with this answer.
     pub fn came(said: String) -> Attempt {
         Attempt {
             said,
@@ -22,7 +23,7 @@ impl Attempt {
         }
     }
 
-    /// It answered that an allocation failed, or that a thread was not started.
+    /// Makes the result of a call that answered that an allocation failed, or that a thread was not started.
     pub fn refused(said: String) -> Attempt {
         Attempt {
             said,
@@ -31,7 +32,7 @@ impl Attempt {
     }
 }
 
-/// What ends the program before its table does.
+/// Why the program ends before its table does.
 #[derive(Clone, Copy)]
 pub enum Stop {
     /// There was no memory for the table, for a reader, for a writer or for a line that is printed.
@@ -40,14 +41,14 @@ pub enum Stop {
     Stream,
     /// A line of the table says nothing that is known.
     Table,
-    /// A call that is made once more was refused again.
+    /// A call that is made again was refused again.
     Again,
     /// A call did not do what it promises.
     Broken(&'static str),
 }
 
 impl Stop {
-    /// The exit status: 2 if a call did not do what it promises, and else 1.
+    /// Returns the exit status: 2 if a call did not do what it promises, otherwise 1.
     pub fn status(self) -> u8 {
         match self {
             Stop::Broken(_) => 2,
@@ -90,7 +91,7 @@ impl From<ParseIntError> for Stop {
     }
 }
 
-/// The texts of a table are JSON, so only memory can be wanting.
+/// The texts of a table are JSON, so only memory can be missing.
 impl From<serde_json::Error> for Stop {
     fn from(_: serde_json::Error) -> Stop {
         Stop::Memory
@@ -107,7 +108,7 @@ impl From<io::Error> for Stop {
     }
 }
 
-/// Prints a line below a row: what came of a call, or, behind `refused: `, which call is made once more.
+/// Prints a line below a row: the result of a call or, after `refused: `, which call is made again.
 pub fn print_below<R: Print>(rt: &R, alloc: Global, what: &str, came: &str) -> Result<(), Stop> {
     let line = ["  ", what, came].join(alloc, "")?;
     let printed = rt.println(line.as_str());

@@ -29,7 +29,7 @@ struct Trial {
     writer: Sink,
 }
 
-/// What comes of a run on one thread.
+/// Returns the result of a run on one thread.
 pub fn attempt_alone(alloc: Global, run: Run, given: &Given) -> Result<Attempt, Stop> {
     let signals = Arc::new(alloc, Signals::new())?;
     let mut trial = Trial {
@@ -69,7 +69,7 @@ fn fronted(trial: &Trial) -> Result<Attempt, Stop> {
     Ok(Attempt::came(said?))
 }
 
-/// What one read gives, and what it leaves.
+/// Returns the result of one read, and what it leaves.
 fn read(trial: &mut Trial) -> Result<Attempt, Stop> {
     let alloc = trial.alloc;
     let read = match (trial.run.device, trial.run.limit()) {
@@ -86,7 +86,7 @@ fn read(trial: &mut Trial) -> Result<Attempt, Stop> {
     Ok(attempt(trial.run, came.as_str(), said))
 }
 
-/// The message that was read, or the fault, with the kind of the reader's error.
+/// Returns the message that was read, or the fault, with the kind of the reader's error.
 fn read_text(
     alloc: Global,
     read: Result<Option<Message>, ReadFault>,
@@ -101,7 +101,7 @@ fn read_text(
     }
 }
 
-/// What a content part means in a frame, and as a tree if that is something else.
+/// Returns the meaning of a content part in a frame, and as a tree if that differs.
 pub fn meaning(alloc: Global, escaped: &str) -> Result<Attempt, Stop> {
     let body = unescape(alloc, escaped)?;
     let mut frame = format!(in alloc; "Content-Length: {}\r\n\r\n", body.len())?.into_bytes();
@@ -117,7 +117,7 @@ pub fn meaning(alloc: Global, escaped: &str) -> Result<Attempt, Stop> {
     Ok(Attempt::came([in_frame.as_str(), ", ", as_tree.as_str()].join(alloc, "")?))
 }
 
-/// The message that a tree means, if these bytes are one.
+/// Returns the message of a tree, if these bytes are one.
 fn tree_text(alloc: Global, body: &[u8]) -> Result<String, AllocError> {
     match Value::from_slice(alloc, body) {
         Ok(tree) => match Message::from_value(alloc, &tree)? {
@@ -129,10 +129,10 @@ fn tree_text(alloc: Global, body: &[u8]) -> Result<String, AllocError> {
     }
 }
 
-/// How many messages are read of a text at most.
+/// The most messages that are read of a text.
 const MOST: usize = 20;
 
-/// What an inbox over the reader gives, how it ended, and whether it is closed then.
+/// Returns the events of an inbox on the reader, how it ended, and whether it is closed then.
 fn received(trial: &mut Trial) -> Result<Attempt, Stop> {
     let alloc = trial.alloc;
     let mut inbox = StreamInbox::new(alloc, &mut trial.reader);
@@ -142,7 +142,7 @@ fn received(trial: &mut Trial) -> Result<Attempt, Stop> {
     Ok(Attempt::came(format!(in alloc; "{came} {end:?}, closed {is_closed}")?))
 }
 
-/// The messages up to the first event that is none.
+/// Returns the messages up to the first event that is none.
 fn events<I: Inbox>(alloc: Global, inbox: &mut I) -> Result<String, AllocError> {
     let mut came = String::new(alloc);
     for _ in 0..MOST {
@@ -159,7 +159,7 @@ fn add_text(all: &mut String, text: Result<String, AllocError>) -> Result<(), Al
     all.push_str(text?.as_str())
 }
 
-/// What a loop hands on, how it ends, and how many bytes it leaves.
+/// Returns what a loop passes on, how it ends, and how many bytes it leaves.
 fn handed_on(trial: &mut Trial) -> Result<Attempt, Stop> {
     let alloc = trial.alloc;
     let room = match trial.run.device {
@@ -181,7 +181,7 @@ fn handed_on(trial: &mut Trial) -> Result<Attempt, Stop> {
     Ok(attempt(trial.run, end.as_str(), said))
 }
 
-/// What comes of writing the first message, and what the writer got.
+/// Returns the result of writing the first message, and the bytes that the writer got.
 fn written(trial: &mut Trial) -> Result<Attempt, Stop> {
     match next_message(trial.alloc, &mut trial.reader) {
         Some(message) => {
@@ -192,7 +192,7 @@ fn written(trial: &mut Trial) -> Result<Attempt, Stop> {
     }
 }
 
-/// The next message. There is none at the end, and after a fault.
+/// Reads the next message. There is none at the end, and after a fault.
 fn next_message(alloc: Global, reader: &mut Source) -> Option<Message> {
     match Message::read(alloc, reader) {
         Ok(message) => message,
@@ -200,7 +200,7 @@ fn next_message(alloc: Global, reader: &mut Source) -> Option<Message> {
     }
 }
 
-/// What comes of writing all frames at once, and what the writer got.
+/// Returns the result of writing all frames at once, and the bytes that the writer got.
 fn written_at_once(trial: &mut Trial) -> Result<Attempt, Stop> {
     match str::from_utf8(trial.reader.left()) {
         Ok(frames) => {
@@ -216,7 +216,7 @@ fn got_after(trial: &Trial, written: Result<(), WriteFault>) -> Result<Attempt, 
     got(trial, came.as_str())
 }
 
-/// What came, and what the writer got.
+/// Returns a result, and the bytes that the writer got.
 fn got(trial: &Trial, came: &str) -> Result<Attempt, Stop> {
     let bytes = escape(trial.alloc, trial.writer.taken.as_slice())?;
     let flushes = trial.writer.flushes;
@@ -224,7 +224,7 @@ fn got(trial: &Trial, came: &str) -> Result<Attempt, Stop> {
     Ok(attempt(trial.run, came, said))
 }
 
-/// What becomes of each message that is sent to an outbox over the writer, and what the writer got.
+/// Returns the result of each send to an outbox on the writer, and the bytes that the writer got.
 fn sent(trial: &mut Trial) -> Result<Attempt, Stop> {
     let alloc = trial.alloc;
     let mut outbox = FrameOutbox::new(alloc, &mut trial.writer);
@@ -235,7 +235,7 @@ fn sent(trial: &mut Trial) -> Result<Attempt, Stop> {
     got(trial, came.as_str())
 }
 
-/// Whether each message was taken, or came back.
+/// Returns for each message whether it was taken or returned.
 fn all_sent<O: Outbox>(
     alloc: Global,
     reader: &mut Source,
@@ -258,7 +258,7 @@ fn all_sent<O: Outbox>(
     Ok(all)
 }
 
-/// How a session of the handler ends, and what it wrote.
+/// Returns how a session of the handler ends, and what it wrote.
 fn handled(trial: &mut Trial) -> Result<Attempt, Stop> {
     let alloc = trial.alloc;
     let mut echo = echo(alloc, trial.run, &trial.reader.signals)?;
@@ -272,18 +272,18 @@ fn handled(trial: &mut Trial) -> Result<Attempt, Stop> {
     ended(trial, end)
 }
 
-/// How a session ended, and what it wrote.
+/// Returns how a session ended, and what it wrote.
 fn ended(trial: &Trial, answer: Result<SessionEnd, SessionFault>) -> Result<Attempt, Stop> {
     let end = session_end(trial.alloc, answer)?;
     Ok(told(trial.alloc, trial.run, end.as_str(), &trial.writer)?)
 }
 
-/// The server that speaks.
+/// Makes the server that sends first.
 fn talker(trial: &Trial) -> Result<Talker, AllocError> {
     Ok(Talker::new(trial.alloc, Arc::try_clone(&trial.reader.signals)?))
 }
 
-/// How a session of the server that speaks ends, and what it wrote.
+/// Returns how a session of the server that sends first ends, and what it wrote.
 fn spoken(trial: &mut Trial) -> Result<Attempt, Stop> {
     let talker = talker(trial)?;
     let end = if trial.run.is_limited() {
@@ -313,7 +313,7 @@ fn unlimited(trial: &mut Trial, talker: Talker) -> Result<SessionEnd, SessionFau
     end
 }
 
-/// How a session of an application over the reader and the writer ends.
+/// Returns how a session of an application on the reader and the writer ends.
 fn served<A: Application, L: BadContentPolicy>(
     trial: &mut Trial,
     application: &mut A,
@@ -334,7 +334,7 @@ fn served<A: Application, L: BadContentPolicy>(
     transport.serve(application)
 }
 
-/// The same over one value that holds the reader and the writer.
+/// Returns the same with one value that holds the reader and the writer.
 fn spoken_over_transport(trial: &mut Trial) -> Result<Attempt, Stop> {
     let alloc = trial.alloc;
     let talker = talker(trial)?;
@@ -355,8 +355,8 @@ fn spoken_over_transport(trial: &mut Trial) -> Result<Attempt, Stop> {
     ended(trial, end)
 }
 
-/// The same if content parts are passed over, and how many of each kind: not UTF-8, no JSON, no message, lists. With a limit the server is
-/// told of none.
+/// Returns the same if content parts are skipped, and how many of each kind: not UTF-8, no JSON, no message, lists.
+/// With a limit the server is notified of none.
 fn spoken_woken(trial: &mut Trial) -> Result<Attempt, Stop> {
     let talker = talker(trial)?;
     if trial.run.is_limited() {

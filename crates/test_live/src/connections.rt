@@ -12,8 +12,8 @@ use std::sync::{Arc, Wait};
 use std::thread::Threads;
 use std::time::{Clock, Instant};
 
-/// `NAME | MESSAGES`: a call of a server, whose client sent these messages before, or is `gone`: what the call gave, how many messages
-/// it left, and what the client got.
+/// `NAME | MESSAGES`: a call of a server, whose client sent these messages before, or is `gone`. The result is what the
+/// call returned, how many messages it left, and the messages that the client got.
 pub fn called<R: Wait + Clock + AllocGlobal>(
     rt: &R,
     alloc: Global,
@@ -32,7 +32,7 @@ pub fn called<R: Wait + Clock + AllocGlobal>(
     with_rest(rt, alloc, came, client)
 }
 
-/// What a call gives once the client has sent these messages, and how many it leaves.
+/// Returns the result of a call after the client has sent these messages, and how many it leaves.
 fn answered<R: Wait + Clock + AllocGlobal>(
     rt: &R,
     alloc: Global,
@@ -47,7 +47,7 @@ fn answered<R: Wait + Clock + AllocGlobal>(
     Ok(format!(in alloc; "{came}; left {left}")?)
 }
 
-/// What came of a call whose server is gone, and what its client got.
+/// Returns the result of a call whose server is gone, and the messages that its client got.
 fn with_rest<R: Wait>(
     rt: &R,
     alloc: Global,
@@ -85,7 +85,7 @@ fn send<R: Wait>(rt: &R, alloc: Global, client: &Connection, text: &str) -> Resu
     }
 }
 
-/// The member texts of what comes, up to the end.
+/// Returns the member texts of the messages that arrive, up to the end.
 fn rest_of<R: Wait>(rt: &R, alloc: Global, client: &Connection) -> Result<String, AllocError> {
     let mut texts = String::new(alloc);
     for message in client.receiver.iter(rt) {
@@ -126,7 +126,8 @@ fn call<R: Wait + Clock + AllocGlobal>(
     }
 }
 
-/// A call that asks before each wait whether to go on. The server tells that it was asked, and goes on until this turn.
+/// Makes a call that asks before each wait whether to go on. The server signals each question, and goes on until this
+/// turn.
 fn call_while<R: Wait + Clock + AllocGlobal>(
     rt: &R,
     alloc: Global,
@@ -161,7 +162,7 @@ fn request(alloc: Global, method: &str) -> Result<Request, AllocError> {
     })
 }
 
-/// The id and the params of `initialize`.
+/// Returns the id and the params of `initialize`.
 fn started(
     alloc: Global,
     answer: Result<(RequestId, Value), ProtocolError>,
@@ -184,7 +185,7 @@ fn done(alloc: Global, answer: Result<(), ProtocolError>) -> Result<String, Allo
     }
 }
 
-/// What a call gave.
+/// Returns the result of a call.
 fn given<T: Display + Drop>(
     alloc: Global,
     answer: Result<T, ProtocolError>,
@@ -209,8 +210,8 @@ fn failed(alloc: Global, error: ProtocolError) -> Result<String, AllocError> {
     text
 }
 
-/// A handshake that is called off in its second turn, in which nothing has come either: how often the server asked whether to go on,
-/// and whether a second was over.
+/// Runs a handshake that is called off in its second turn, in which nothing has arrived either. It returns how often
+/// the server asked whether to go on, and whether a second was over.
 pub fn called_off<R: Wait + Clock + AllocGlobal>(rt: &R, alloc: Global) -> Result<Attempt, Stop> {
     let (server, client) = Connection::memory(alloc)?;
     let signals = Signals::new();
@@ -221,7 +222,7 @@ pub fn called_off<R: Wait + Clock + AllocGlobal>(rt: &R, alloc: Global) -> Resul
     came
 }
 
-/// The same with these signals, of a client that stays.
+/// Does the same with these signals, with a client that stays.
 fn called_off_by<R: Wait + Clock + AllocGlobal>(
     rt: &R,
     alloc: Global,
@@ -235,7 +236,8 @@ fn called_off_by<R: Wait + Clock + AllocGlobal>(
     Ok(Attempt::came(format!(in alloc; "{came}, asked {turns} times, after a second {is_late}")?))
 }
 
-/// What a client in a thread sends before the server has asked so often whether to go on, and what it sends then.
+/// The messages of a client in a thread before the server has asked often enough whether to go on, and those after
+/// that.
 const EARLY: &str = "{\"id\":1,\"method\":\"initialize\",\"params\":{\"a\":1}}";
 
 static LATE: [&str; 3] = [
@@ -246,7 +248,7 @@ static LATE: [&str; 3] = [
 
 const TURNS: u64 = 3;
 
-/// Plays that part, and gives what it got.
+/// Plays that client, and returns the messages that it got.
 fn patient<R: Wait + AllocGlobal + Drop>(
     rt: R,
     client: Connection,
@@ -272,7 +274,7 @@ fn got_by<R: Wait>(
     Ok(rest_of(rt, alloc, client)?)
 }
 
-/// A whole session with that client, which waits for more than one turn before it ends the handshake.
+/// Runs a whole session with that client, which waits for more than one turn before it ends the handshake.
 pub fn turns<R>(rt: &R, alloc: Global) -> Result<Attempt, Stop>
 where
     R: Threads + Wait + Clock + AllocGlobal + Copy + Drop + Send + 'static,
@@ -295,13 +297,13 @@ where
     }
 }
 
-/// What a server said, and what its client got.
+/// Makes a result of what a server returned, and the messages that its client got.
 fn said_and_got(alloc: Global, said: String, got: String) -> Result<Attempt, Stop> {
     let all = [said.as_str(), "; got ", got.as_str()].join(alloc, "")?;
     Ok(Attempt::came(all))
 }
 
-/// A handshake, and the shutdown that a client asks for.
+/// Does a handshake, and the shutdown that a client asks for.
 fn served<R: Wait + Clock + AllocGlobal>(
     rt: &R,
     alloc: Global,
@@ -321,7 +323,7 @@ fn served<R: Wait + Clock + AllocGlobal>(
     [said.as_str(), "; shutdown ", shut.as_str()].join(alloc, "")
 }
 
-/// What comes of the shutdown that this request may ask for.
+/// Returns the result of the shutdown that this request may ask for.
 fn shut_down<R: Wait + Clock + AllocGlobal>(
     rt: &R,
     alloc: Global,
@@ -333,7 +335,8 @@ fn shut_down<R: Wait + Clock + AllocGlobal>(
     given(alloc, answer)
 }
 
-/// Whether a server whose client stays and says nothing gives `exit` up, after 30 seconds and not before.
+/// Returns whether a server whose client stays and is silent gives up the wait for `exit` after 30 seconds and not
+/// before.
 pub fn awaits_exit<R: Wait + Clock + AllocGlobal>(rt: &R) -> Result<Attempt, Stop> {
     let alloc = rt.alloc();
     let (server, client) = Connection::memory(alloc)?;
@@ -353,7 +356,7 @@ fn exit_awaited<R: Wait + Clock + AllocGlobal>(
     Ok(format!(in alloc; "{said}, after 30 seconds {is_late}")?)
 }
 
-/// What a connection to an address gives at which nobody listens.
+/// Returns the result of a connection to an address at which nobody listens.
 pub fn nobody<R>(rt: &R, alloc: Global) -> Result<Attempt, Stop>
 where
     R: Net + Threads + Wait + Clock + AllocGlobal + Copy + Drop + Send + 'static,

@@ -5,7 +5,7 @@ use std::io::{BufRead, ErrorKind, Read, Write};
 use std::sync::Arc;
 use std::{io, thread};
 
-/// A place of an input. What follows it is given only once the signal has come so often.
+/// A place of an input. The bytes after it are given only once the signal has come this often.
 #[derive(Clone, Copy)]
 pub struct Pause {
     pub at: usize,
@@ -13,7 +13,7 @@ pub struct Pause {
     pub wanted: u64,
 }
 
-/// Gives its bytes in pieces of at most so many. It waits at each of its pauses.
+/// Gives its bytes in pieces of at most `step` bytes. It waits at each of its pauses.
 #[derive(Drop)]
 pub struct Source {
     pub signals: Arc<Signals>,
@@ -26,9 +26,9 @@ pub struct Source {
     /// After how many bytes it fails, if it still does.
     pub fails_at: Option<usize>,
     pub kind: ErrorKind,
-    /// Whether it shows what follows before it fails.
+    /// Whether it shows the bytes that follow before it fails.
     pub shows_on: bool,
-    /// Whether it is read on one thread: it has nothing yet where it would wait.
+    /// Whether it is read on one thread. Then it has nothing yet where it would wait.
     pub is_alone: bool,
     /// In the order of their places.
     pub pauses: Vec<Pause>,
@@ -37,7 +37,7 @@ pub struct Source {
 }
 
 impl Source {
-    /// It is asked for bytes: it fails, if that is due, and else shows a piece.
+    /// Handles a request for bytes: it fails, if that is due, and otherwise shows a piece.
     fn ask(&mut self) -> io::Result<()> {
         self.signals.tell(Signal::Reads);
         if let Some(place) = self.fails_at {
@@ -76,7 +76,7 @@ impl Source {
         Ok(())
     }
 
-    /// The place up to which bytes are shown now. It waits at each pause that it came to.
+    /// Returns the place up to which bytes are shown now. It waits at each pause that it reached.
     fn next_pause(&mut self) -> io::Result<usize> {
         for _ in 0..u64::MAX {
             let Some(pause) = self.pauses.as_slice().get(self.over).copied() else {
@@ -92,7 +92,7 @@ impl Source {
         Ok(usize::MAX)
     }
 
-    /// Waits at a pause. On one thread nobody else brings the signal.
+    /// Waits at a pause. On one thread nobody else gives the signal.
     fn pass(&self, pause: Pause) -> io::Result<()> {
         if self.is_alone && self.signals.count(pause.signal) < pause.wanted {
             return Err(io::Error::from(ErrorKind::WouldBlock));
@@ -124,7 +124,7 @@ impl BufRead for Source {
 /// How often a slow writer lets other threads go on before a write.
 const REST: u32 = 200;
 
-/// Keeps what is written.
+/// Keeps the bytes that are written.
 #[derive(Drop)]
 pub struct Sink {
     pub signals: Arc<Signals>,
@@ -138,11 +138,11 @@ pub struct Sink {
     pub bad_flush: usize,
     pub flushes: usize,
     pub writes: usize,
-    /// How many lines of headers were taken: two of each frame, and no content part has the end of one.
+    /// How many lines of headers were taken: two of each frame. No content part has the end of one.
     pub lines: u64,
     /// Whether it lets other threads go on before each write.
     pub is_slow: bool,
-    /// Whether each write waits until a request came to the handler.
+    /// Whether each write waits until a request reached the handler.
     pub is_gated: bool,
 }
 

@@ -18,7 +18,7 @@ pub fn unescape(alloc: Global, text: &str) -> Result<Vec<u8>, Stop> {
     Ok(bytes)
 }
 
-/// The byte of the escape whose backslash came.
+/// Returns the byte of the escape whose backslash was read.
 fn escaped(rest: &mut Bytes<'_>) -> Option<u8> {
     match rest.next()? {
         b'r' => Some(b'\r'),
@@ -32,7 +32,7 @@ fn escaped(rest: &mut Bytes<'_>) -> Option<u8> {
     }
 }
 
-/// What a digit of base 16 stands for.
+/// Returns the value of a digit of base 16.
 fn digit(byte: u8) -> Option<u8> {
     match byte {
         b'0'..=b'9' => Some(byte.wrapping_sub(b'0')),
@@ -44,7 +44,7 @@ fn digit(byte: u8) -> Option<u8> {
 /// How many bytes are shown at most.
 const SHOWN: usize = 1000;
 
-/// The text of these bytes. Of many bytes it is their count and their value as digits of base 31, modulo 2^32.
+/// Returns the text of these bytes. For many bytes it is their count and their value as digits of base 31, modulo 2^32.
 pub fn escape(alloc: Global, bytes: &[u8]) -> Result<String, AllocError> {
     if bytes.len() > SHOWN {
         return format!(in alloc; "{} bytes of sum {}", bytes.len(), sum(bytes));

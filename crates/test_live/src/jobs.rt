@@ -11,17 +11,20 @@ use std::sync::Arc;
 use std::time::Duration;
 use std::{mem, thread};
 
-/// Does what its script says, and comes to its value, which it replies or, in a slot, finds. It finds its number in any case. A script has
-/// words, `, ` between them:
+/// Does what its script says, and ends with its value, which it replies or, in a slot, finds. It finds its number in
+/// any case. A script has words, with `, ` between them:
 ///
-/// - `soon`: nothing. `after N`: waits until N messages were written. `cancelled`: waits until it is to end, and goes on. `rests`: rests for
-///   an hour, and ends at once if it is to end. `checks`: ends if it is to end.
-/// - `reports N`: makes N reports, numbered on from those before. `sends N`: the same of notifications that are not to be dropped.
-/// - `begins`, `steps N`, `ends`: tells of its work, if the client gave a token for that. `offers`: begins, and its client may cancel it.
-///   `parts N`: sends N partial results, if the client gave a token for those.
-/// - `asks`: asks its client `demo/asked` with its value, and comes to the reply. Where none comes it counts as stopped.
-/// - `creates TOKEN`: from now on it tells of its work under this token, if the client agrees.
-/// - `counted`: comes to the count of reports that were taken. `fails`: comes to an error. `starves`: finds no memory.
+/// - `soon`: nothing. `after N`: waits until N messages were written. `cancelled`: waits until it is to end, and goes
+///   on. `rests`: sleeps for an hour, and ends at once if it is to end. `checks`: ends if it is to end.
+/// - `reports N`: makes N reports, numbered on from those before. `sends N`: sends N notifications that must not be
+///   dropped.
+/// - `begins`, `steps N`, `ends`: reports its progress, if the client gave a token for that. `offers`: begins, and its
+///   client may cancel it. `parts N`: sends N partial results, if the client gave a token for those.
+/// - `asks`: sends its client `demo/asked` with its value, and ends with the reply. If there is none, it counts as
+///   stopped.
+/// - `creates TOKEN`: from now on it reports its progress under this token, if the client agrees.
+/// - `counted`: ends with the count of reports that were taken. `fails`: ends with an error. `starves`: finds no
+///   memory.
 /// - `replies nothing`: gives no reply. `finds nothing`: not its number either.
 #[derive(Drop)]
 pub struct Scripted {
@@ -32,7 +35,7 @@ pub struct Scripted {
     pub is_in_slot: bool,
 }
 
-/// What a job finds: its number and, in a slot, the value that it comes to, if that is no error.
+/// The result of a job: its number and, in a slot, its value, if that is no error.
 #[derive(Debug, Drop)]
 pub struct Found {
     pub number: u64,
@@ -49,7 +52,7 @@ pub struct Means {
 }
 
 impl Means {
-    /// Those of a job with this script, whose client gave the tokens in these params.
+    /// Makes those of a job with this script, whose client gave the tokens in these params.
     pub fn of(
         alloc: Global,
         signals: &Arc<Signals>,
@@ -74,7 +77,7 @@ impl Means {
     }
 }
 
-/// What a job comes to.
+/// How a job ends.
 #[derive(Clone, Copy)]
 enum Ending {
     Value,
@@ -83,8 +86,8 @@ enum Ending {
     NoMemory,
 }
 
-/// How far a job is: the reports that it made, those of them that were taken, what it told by a token, what it will come to, and whether it
-/// will give a reply, and find something.
+/// The state of a job: the reports that it made, those of them that were taken, its progress under a token, how it will
+/// end, and whether it will give a reply and find something.
 #[derive(Drop)]
 struct Course {
     alloc: Global,
@@ -122,7 +125,7 @@ impl Course {
         Ok(())
     }
 
-    /// What it does without its client.
+    /// Does a step that needs no client.
     fn act_alone(&mut self, name: &str, number: u64) {
         match name {
             "after" => self.await_written(number),
@@ -135,7 +138,7 @@ impl Course {
         }
     }
 
-    /// Rests or checks. If it is to end, that counts as stopped.
+    /// Sleeps or checks. If the job is to end, that counts as stopped.
     fn stop_if_told<C: JobContext>(&self, name: &str, context: &mut C) -> Result<(), Interrupted> {
         let outcome = match name {
             "rests" => context.rest(Duration::from_secs(3600)),
@@ -322,7 +325,7 @@ impl Job for Scripted {
     }
 }
 
-/// What the job of a request gives.
+/// Returns the result of a request's job.
 fn request_result(
     number: u64,
     replies: bool,
@@ -343,7 +346,7 @@ fn request_result(
     JobResult { reply: None, found }
 }
 
-/// What a job in a slot gives.
+/// Returns the result of a job in a slot.
 fn slot_result(
     number: u64,
     finds: bool,
@@ -367,7 +370,7 @@ fn slot_result(
 }
 
 impl Course {
-    /// What the script comes to.
+    /// Runs the script, and returns how it ends.
     fn go<C: JobContext>(
         &mut self,
         script: &str,

@@ -10,7 +10,7 @@ pub struct Listening {
 }
 
 impl Listening {
-    /// One that counted nothing.
+    /// Makes one that counted nothing.
     pub fn new(reads_on: bool) -> Listening {
         Listening {
             reads_on,

@@ -1,20 +1,21 @@
-//! Calls over a reader and a writer, on one thread and in threads: a table of rows on standard input, and below each row what came of it.
-//! `tools/rows/make` writes the table, and beside it what must come. No row depends on the clock: what has to be waited for is waited
-//! for. A row begins with a word:
+//! Calls on a reader and a writer, on one thread and in threads. The program reads a table of rows from standard input,
+//! and prints below each row its result. `tools/rows/make` writes the table, and the expected output. No row depends on
+//! the clock: each wait is for an event. A row begins with a word:
 //!
 //! - `#`: a remark.
-//! - `=`: the bytes that the next cases are about, with the escapes `\r`, `\n` and `\x` with two digits. `+` adds a text so
-//!   many times, and `pauses` says where a reader waits (`table.rt`).
-//! - `body`: what a content part means (`calls.rt`).
-//! - The name of a call over a reader and a writer: a case (`table.rt`). Its server and its jobs do what methods say (`servers.rt`,
-//!   `jobs.rt`).
-//! - `pool`: a pool of jobs by hand (`pools.rt`). `relay`, `waker`: a relay alone.
+//! - `=`: the bytes that the next cases are about, with the escapes `\r`, `\n` and `\x` with two digits. `+` adds a
+//!   text a number of times, and `pauses` says where a reader waits (`table.rt`).
+//! - `body`: the meaning of a content part (`calls.rt`).
+//! - The name of a call on a reader and a writer: a case (`table.rt`). Its server and its jobs do what methods say
+//!   (`servers.rt`, `jobs.rt`).
+//! - `pool`: a pool of jobs, used directly (`pools.rt`). `relay`, `waker`: a relay alone.
 //! - `call`, `turns`, `called_off`, `nobody`: the calls of a connection (`connections.rt`).
-//! - `exit`, the last row: a server that waits for an `exit` which never comes. It takes 30 seconds, and began when the program did.
+//! - `exit`, the last row: a server that waits for an `exit` which never arrives. It takes 30 seconds, and began when
+//!   the program did.
 //!
-//! If an allocation or the start of a thread fails in a call, its line is `refused: ..`, and it is made once more. The program
-//! ends with status 1 if that is refused too, or if it has no memory of its own; and with status 2 if a call breaks a promise, or
-//! if a wait is given up.
+//! If an allocation or the start of a thread fails in a call, its line is `refused: ..`, and the call is made again.
+//! The program ends with status 1 if that is refused too, or if the program itself has no memory; and with status 2 if
+//! a call breaks a promise, or if a wait is given up.
 #![tactic(auto)]
 
 mod attempt;
@@ -45,7 +46,7 @@ use std::time::Clock;
 use std::{io, thread};
 use table::{Case, Given, case_of};
 
-/// What rows need of the runtime, beside sockets.
+/// What rows need of the runtime, except sockets.
 pub trait Live: Threads + Wait + Clock + Print + AllocGlobal + Copy + Drop + Send + 'static {}
 
 impl<R> Live for R
@@ -109,7 +110,7 @@ where
     }
 }
 
-/// A thread whose server waits for an `exit`, if the last row of the table is about it.
+/// Starts a thread whose server waits for an `exit`, if the last row of the table is about it.
 fn silent_client<R>(rt: &R, table: &str) -> Result<Option<JoinHandle<Result<Attempt, Stop>>>, Stop>
 where
     R: Live,
@@ -124,7 +125,7 @@ where
     }
 }
 
-/// A row, which tells what came of a call.
+/// A row that makes a call.
 #[derive(Clone, Copy)]
 enum Row<'a> {
     /// A case at one of its places.
@@ -144,7 +145,7 @@ where
     print_below(rt, alloc, "", came.as_str())
 }
 
-/// What comes of a row, whose call is made once more if it is refused.
+/// Returns the result of a row, whose call is made again if it is refused.
 fn run_once<R>(rt: &R, alloc: Global, row: Row<'_>, given: &Given) -> Result<String, Stop>
 where
     R: Live + Net<Listener = TcpListener, Stream = TcpStream>,
@@ -180,7 +181,7 @@ where
     }
 }
 
-/// Runs a case at each of its places. What came is printed if it is another than at the place before.
+/// Runs a case at each of its places. The result is printed if it differs from the one at the place before.
 fn run_case<R>(rt: &R, alloc: Global, case: Case<'_>, given: &Given) -> Result<(), Stop>
 where
     R: Live + Net<Listener = TcpListener, Stream = TcpStream>,
@@ -197,7 +198,8 @@ where
     Ok(())
 }
 
-/// What comes of a case at one of its places: the same with each size of pieces and in each of its ways, or all is told.
+/// Returns the result of a case at one of its places. If the results for the sizes of pieces and the modes differ, it
+/// returns all of them.
 fn run_at<R>(
     rt: &R,
     alloc: Global,

@@ -10,7 +10,8 @@ use std::sync::{Arc, Wait};
 use std::thread;
 use std::thread::Threads;
 
-/// Plays the part: how many messages waited at most, if that is told, and what the threads answer.
+/// Plays the part, and returns how many messages waited at most, if the call reports that, and the results of the
+/// threads.
 pub fn parted<R: Threads + Wait>(
     rt: &R,
     run: Run,
@@ -41,7 +42,7 @@ pub fn parted<R: Threads + Wait>(
     (most, threads.flush(rt).join(rt))
 }
 
-/// What is done before the connection is dropped: each message is sent back, or none.
+/// Does what is to be done before the connection is dropped: each message is sent back, or none.
 fn passed_back<R: Wait>(
     rt: &R,
     run: Run,
@@ -64,10 +65,11 @@ fn passed_back<R: Wait>(
 /// How many hold the signals while both devices are there.
 const HOLDERS: usize = 3;
 
-/// How often the other threads are let go on, where they should not.
+/// How often the other threads may go on, where they should not.
 const RESTS: u32 = 50;
 
-/// Waits until so many messages wait, and a while longer: how many wait then. It waits no longer if a thread has ended.
+/// Waits until this many messages wait, and a while longer, and returns how many wait then. It stops waiting if a
+/// thread has ended.
 fn waiting(signals: &Arc<Signals>, receiver: &Receiver<Message>, wanted: u64) -> usize {
     for _ in 0..LOOKS {
         if receiver.len() as u64 >= wanted || Arc::strong_count(signals) < HOLDERS {

@@ -29,7 +29,7 @@ use std::mem;
 use std::sync::{Arc, Wait};
 use std::thread::Threads;
 
-/// A pool, and what is told of it. It has to be ended.
+/// A pool, and the report about it. It has to be ended.
 struct Bench<R: Wait + Drop> {
     rt: R,
     alloc: Global,
@@ -39,7 +39,7 @@ struct Bench<R: Wait + Drop> {
     told: String,
 }
 
-/// What comes of these steps.
+/// Returns the result of these steps.
 pub fn came_of<R>(rt: &R, alloc: Global, row: &str) -> Result<Attempt, Stop>
 where
     R: Threads + Wait + Copy + Drop + Send + 'static,
@@ -65,12 +65,12 @@ where
     Ok(Attempt::came(told?))
 }
 
-/// The number of an id. What is no such number is 0.
+/// Returns the number of an id. An id that is no such number is 0.
 fn small_of(text: &str) -> i32 {
     text.parse::<i32>().unwrap_or(0)
 }
 
-/// The request with this number as its id, or the slot of this number behind an `s`.
+/// Returns the request with this number as its id, or the slot of this number after an `s`.
 fn name_of(word: &str) -> JobName {
     match word.strip_prefix("s") {
         Some(number) => JobName::Slot(Slot::from(small_of(number))),
@@ -78,7 +78,7 @@ fn name_of(word: &str) -> JobName {
     }
 }
 
-/// As it is told: a slot's number behind an `s`.
+/// Writes a name: a slot's number after an `s`.
 fn tell_name(told: &mut String, name: &JobName) -> Result<(), AllocError> {
     match name {
         JobName::Request(id) => write!(told, "{id}"),
@@ -86,7 +86,7 @@ fn tell_name(told: &mut String, name: &JobName) -> Result<(), AllocError> {
     }
 }
 
-/// A count. What is no number is 0.
+/// Returns a count. A text that is no number is 0.
 fn count_of(text: &str) -> u64 {
     text.parse::<u64>().unwrap_or(0)
 }
@@ -95,7 +95,7 @@ impl<R> Bench<R>
 where
     R: Threads + Wait + Copy + Drop + Send + 'static,
 {
-    /// Ends the pool: what was told, and what its jobs did.
+    /// Ends the pool, and returns the report, and what its jobs did.
     fn end(self) -> Result<String, AllocError> {
         let Bench {
             rt,
@@ -144,7 +144,7 @@ impl<R: Wait + Drop> Bench<R> {
         Ok(self.signals.wait(signal, count_of(count))?)
     }
 
-    /// A step of which nothing is told.
+    /// Takes a step that is not reported.
     fn go_silently(&mut self, name: &str, rest: &str) {
         match name {
             "forget" => {
@@ -155,7 +155,7 @@ impl<R: Wait + Drop> Bench<R> {
         }
     }
 
-    /// A step, and what is told of it.
+    /// Takes a step, and reports its result.
     fn tell(&mut self, name: &str, rest: &str) -> Result<(), AllocError> {
         match name {
             "submit" => self.submit(rest),
@@ -179,7 +179,7 @@ impl<R: Wait + Drop> Bench<R> {
         }
     }
 
-    /// The client cancels the progress with this token.
+    /// Cancels the progress with this token, as the client.
     fn cancel(&self, token: &str) -> Result<(), AllocError> {
         let token = String::from_str(self.alloc, token)?;
         self.pool.cancel_progress(&RequestId::from(token));
@@ -219,7 +219,7 @@ impl<R: Wait + Drop> Bench<R> {
         Ok(())
     }
 
-    /// Rounds of jobs, and how many were refused in all.
+    /// Runs rounds of jobs, and reports how many were refused in all.
     fn run_rounds(&mut self, words: &str) -> Result<(), AllocError> {
         let (rounds, jobs) = words.split_once(" ").unwrap_or((words, "0"));
         let told = mem::replace(&mut self.told, String::new(self.alloc));
@@ -231,7 +231,7 @@ impl<R: Wait + Drop> Bench<R> {
         write!(self.told, "{refused} refused, ")
     }
 
-    /// So many jobs at once, and how many were refused.
+    /// Runs this many jobs at once, and returns how many were refused.
     fn run_round(&mut self, jobs: u64) -> Result<u64, AllocError> {
         let mut refused: u64 = 0;
         for name in 0..jobs {
@@ -259,7 +259,7 @@ impl<R: Wait + Drop> Bench<R> {
         Ok(())
     }
 
-    /// Takes the next message. False if there is none, which is told if that is asked for.
+    /// Takes the next message. Returns false if there is none, which is reported if `tells` is set.
     fn take_message(&mut self, tells: bool) -> Result<bool, AllocError> {
         match self.pool.take_message() {
             Some((name, message)) => {
@@ -293,7 +293,7 @@ impl<R: Wait + Drop> Bench<R> {
         }
     }
 
-    /// What a job came to.
+    /// Reports the result of a job.
     fn tell_result(&mut self, done: &DoneJob<Found>) -> Result<(), AllocError> {
         match &done.reply {
             Some(Ok(text)) => return write!(self.told, " outcome {text:?}, "),

@@ -7,8 +7,8 @@ use serde_json::Value;
 use std::alloc::{AllocError, Global};
 use std::sync::Wait;
 
-/// A notification of this method and the end are sent, then taken and settled. A relay that gives something else ends the program, since
-/// sessions in threads would wait for what is lost.
+/// Sends a notification of this method and the end, takes and settles them. A relay that gives something else ends the
+/// program, since sessions in threads would wait for a message that is lost.
 pub fn relayed<R: Wait>(rt: &R, alloc: Global, method: &str) -> Result<Attempt, Stop> {
     let note = note_of(alloc, method)?;
     let text = note.member_text(alloc);
@@ -41,8 +41,8 @@ pub fn relayed<R: Wait>(rt: &R, alloc: Global, method: &str) -> Result<Attempt, 
     )?))
 }
 
-/// A notification of this method is sent between two wakes, and the end behind them. One wake is passed over, and the other found. A wake
-/// fails once the receiver's end is gone.
+/// Sends a notification of this method between two wake-ups, and the end after them. One wake-up is ignored, and the
+/// other found. A wake-up fails once the receiver's end is gone.
 pub fn woken<R: Wait>(rt: &R, alloc: Global, method: &str) -> Result<Attempt, Stop> {
     let (mut tx, mut rx) = relay(alloc, 4)?;
     let mut waker = tx.waker()?;

@@ -17,7 +17,7 @@ use std::sync::atomic::{AtomicU64, Ordering};
 pub struct Echo {
     pub alloc: Global,
     pub signals: Arc<Signals>,
-    /// Whether it waits with an answer until the reader came to its second pause.
+    /// Whether it waits with an answer until the reader reached its second pause.
     pub is_gated: bool,
     /// How many messages have to be written before it refuses a request.
     pub awaited: u64,
@@ -44,7 +44,7 @@ impl Handler for Echo {
     }
 }
 
-/// Why the server asked its client.
+/// Why the server sent its client a request.
 #[derive(Drop, PartialEq)]
 pub enum Asked {
     /// To answer this request with the reply.
@@ -53,39 +53,40 @@ pub enum Asked {
     Configuration(u64),
 }
 
-/// Pushes, asks, answers late, and starts jobs.
+/// Notifies its client, sends it requests, answers late, and starts jobs.
 ///
-/// - It says `demo/hello` first, and asks for the configuration.
-/// - It answers `demo/echo` with its params, asks its client `demo/asked` at `demo/ask` and answers with the reply, keeps `demo/hold`
-///   until the next notification, and knows no other method but two:
-/// - `job SCRIPT` gives a job with this script (`jobs.rt`), which comes to the params. `later SCRIPT` is one that it starts in a slot at the
-///   notification `start`, and whose result it gives as the reply. Jobs have numbers, from 1.
-/// - `long known` is answered at once with its params, where a job might run. For the job of `long unmade` memory is missing.
-/// - The notification `job SCRIPT` starts a job in a slot of its own, whose result it publishes; `stop` stops it. At `answer` it answers the
-///   request whose id is the first of the params itself, and at `withdraw` it cancels what it asked for that request. At one whose method
-///   begins with `$/` or `window/` it does nothing.
-/// - At another notification it pushes its params, asks for the configuration and answers what it keeps. At a wake it pushes `demo/woken`,
-///   and answers what it keeps, if `tells_wakes` is set.
-/// - At a reply with the configuration it pushes the number of the question.
-/// - Of a job in a slot that found no room it pushes the slot's name.
+/// - It sends `demo/hello` first, and asks for the configuration.
+/// - It answers `demo/echo` with its params. At `demo/ask` it sends its client `demo/asked`, and answers with the
+///   reply. It keeps `demo/hold` until the next notification. It knows no other method except two:
+/// - `job SCRIPT` gives a job with this script (`jobs.rt`), whose value is the params. `later SCRIPT` is one that it
+///   starts in a slot at the notification `start`, and whose result it returns as the reply. Jobs have numbers, from 1.
+/// - `long known` is answered at once with its params, where a job might run. For the job of `long unmade` there is no
+///   memory.
+/// - The notification `job SCRIPT` starts a job in a new slot, whose result it publishes; `stop` stops it. At `answer`
+///   it answers the request whose id is the first of the params itself. At `withdraw` it cancels the request that it
+///   sent for that request. At one whose method begins with `$/` or `window/` it does nothing.
+/// - At another notification it sends its params to the client, asks for the configuration, and answers the requests
+///   that it keeps. At a wake-up it sends `demo/woken`, and answers these too, if `tells_wakes` is set.
+/// - At a reply with the configuration it sends the number of the question.
+/// - If a job in a slot found no room, it sends the slot's name.
 #[derive(Drop)]
 pub struct Talker {
     alloc: Global,
     signals: Arc<Signals>,
     questions: u64,
     held: Vec<RequestId>,
-    /// Whether it does something at a wake.
+    /// Whether it does something at a wake-up.
     pub tells_wakes: bool,
     numbered: AtomicU64,
     changes: Vec<Change>,
     later: Vec<Change>,
     /// The requests that jobs in slots answer, each with the number of its job.
     kept: Vec<(RequestId, u64)>,
-    /// The names of the jobs whose end it saw, each behind a space, with the number that the job found or how it ended.
+    /// The names of the jobs whose end it saw, each after a space, with the number that the job found or how it ended.
     pub finished: String,
 }
 
-/// The id that stands first in these params.
+/// Returns the first id in these params.
 fn first_of(params: &Value) -> Result<Option<RequestId>, AllocError> {
     match params.get(0) {
         Some(value) => RequestId::from_value(value),
@@ -98,7 +99,7 @@ type Acts = Vec<Act<Asked>>;
 type Change = SlotChange<Scripted>;
 
 impl Talker {
-    /// A server to which nothing came.
+    /// Makes a server that has received nothing.
     pub fn new(alloc: Global, signals: Arc<Signals>) -> Talker {
         Talker {
             alloc,
@@ -130,7 +131,7 @@ impl Talker {
         }
     }
 
-    /// Asks for the configuration behind these acts.
+    /// Adds the question for the configuration after these acts.
     fn ask_configuration(&mut self, acts: &mut Acts) -> Result<(), AllocError> {
         self.questions = self.questions.saturating_add(1);
         let method = String::from_str(self.alloc, "workspace/configuration")?;
@@ -138,7 +139,7 @@ impl Talker {
         Ok(())
     }
 
-    /// Asks its client, to answer this request with the reply.
+    /// Sends its client a request, to answer this request with the reply.
     fn ask(&self, id: RequestId, params: Value) -> Result<Acts, AllocError> {
         match String::from_str(self.alloc, "demo/asked") {
             Ok(method) => self.one(Act::Ask(method, params, Asked::For(id))),
@@ -191,7 +192,7 @@ impl Talker {
         Ok(Vec::new(self.alloc))
     }
 
-    /// Starts a job in a slot of its own.
+    /// Starts a job in a new slot.
     fn start_job(&mut self, script: &str, params: Value) -> Result<Acts, AllocError> {
         let job = self.job_of(script, params, true)?;
         self.changes
@@ -199,7 +200,7 @@ impl Talker {
         Ok(Vec::new(self.alloc))
     }
 
-    /// What it does at a notification that says no more by its name: it may start a job, and pushes the params else.
+    /// Handles a notification whose name says nothing else: it may start a job, and otherwise sends the params.
     fn note(&mut self, method: &str, params: Value) -> Result<Acts, AllocError> {
         if let Some(script) = method.strip_prefix("job ") {
             return self.start_job(script, params);
@@ -211,7 +212,7 @@ impl Talker {
         self.push(params)
     }
 
-    /// Cancels what it asked for the request whose id stands first in these params.
+    /// Cancels the request that it sent for the request whose id is the first in these params.
     fn withdraw_first(&self, params: &Value) -> Result<Acts, AllocError> {
         match first_of(params)? {
             Some(id) => self.one(Act::Cancel(Asked::For(id))),
@@ -219,7 +220,7 @@ impl Talker {
         }
     }
 
-    /// Answers the request whose id stands first in these params.
+    /// Answers the request whose id is the first in these params.
     fn answer_first(&self, params: &Value) -> Result<Acts, AllocError> {
         match first_of(params)? {
             Some(id) => {
@@ -230,7 +231,7 @@ impl Talker {
         }
     }
 
-    /// What it does when a job in a slot found this: it answers the request for which it kept the job, or publishes it.
+    /// Handles what a job in a slot found: it answers the request for which it kept the job, or publishes it.
     fn show(&mut self, number: u64, value: Value) -> Result<Acts, AllocError> {
         match self.kept_for(number) {
             Some(id) => self.one(Act::Reply(id, Ok(value))),
@@ -245,14 +246,14 @@ impl Talker {
         Some(id)
     }
 
-    /// Pushes these params, asks for the configuration and answers what it keeps.
+    /// Sends these params, asks for the configuration, and answers the requests that it keeps.
     fn push(&mut self, params: Value) -> Result<Acts, AllocError> {
         let mut acts = self.tell("demo/pushed", params)?;
         self.ask_configuration(&mut acts)?;
         self.release(acts)
     }
 
-    /// These acts, and the answers to what it keeps.
+    /// Returns these acts, and the answers to the requests that it keeps.
     fn release(&mut self, mut acts: Acts) -> Result<Acts, AllocError> {
         for id in mem::replace(&mut self.held, Vec::new(self.alloc)) {
             acts.push(Act::Reply(id, Ok(Value::Null)))?;
@@ -447,7 +448,7 @@ impl Talker {
         }
     }
 
-    /// Pushes the name of a slot for whose job there was no room.
+    /// Sends the name of a slot for whose job there was no room.
     fn tell_refused(&self, slot: &Slot) -> Result<Acts, AllocError> {
         let printed = format!(in self.alloc; "{slot}")?;
         match Value::from_str(self.alloc, printed.as_str()) {

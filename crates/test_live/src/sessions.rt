@@ -72,7 +72,7 @@ impl Run {
     }
 }
 
-/// What comes of a run in threads.
+/// Returns the result of a run in threads.
 pub fn attempt_of<R>(rt: &R, alloc: Global, run: Run, given: &Given) -> Result<Attempt, Stop>
 where
     R: Threads + Wait + Clock + AllocGlobal + Copy + Drop + Send + 'static,
@@ -92,7 +92,7 @@ where
     Ok(came)
 }
 
-/// No wait was given up, and no thread is left.
+/// Checks that no wait was given up, and no thread is left.
 fn all_ended(signals: &Arc<Signals>) -> Result<(), Stop> {
     if signals.is_late() {
         return Err(Stop::Broken("a wait was given up"));
@@ -188,7 +188,7 @@ pub fn echo(alloc: Global, run: Run, signals: &Arc<Signals>) -> Result<Echo, All
     })
 }
 
-/// How a session of the handler ends, and what it wrote.
+/// Returns how a session of the handler ends, and what it wrote.
 fn handled<R>(
     rt: &R,
     alloc: Global,
@@ -208,7 +208,7 @@ where
     came
 }
 
-/// How a session of the server that speaks ends, and what it wrote.
+/// Returns how a session of the server that sends first ends, and what it wrote.
 fn spoken<R>(
     rt: &R,
     alloc: Global,
@@ -227,7 +227,7 @@ where
     came
 }
 
-/// How a session of an application ends, and what it wrote.
+/// Returns how a session of an application ends, and what it wrote.
 fn served<R, A>(
     rt: &R,
     alloc: Global,
@@ -256,7 +256,8 @@ where
     with_passed(run, came, &listening)
 }
 
-/// How a session with jobs ends, what it wrote, how many jobs began and saw their cancellation, and which it saw come to an end.
+/// Returns how a session with jobs ends, what it wrote, how many jobs began and saw their cancellation, and which ends
+/// of jobs it saw.
 fn worked<R>(
     rt: &R,
     alloc: Global,
@@ -277,7 +278,7 @@ where
     with_passed(run, told, &listening)
 }
 
-/// What came of a session and of its jobs.
+/// Returns the result of a session and of its jobs.
 fn with_jobs(
     run: Run,
     came: Result<Attempt, AllocError>,
@@ -297,7 +298,7 @@ fn with_jobs(
     Ok(came)
 }
 
-/// What came of a run and, if it passes over content parts, how many of each kind it passed over.
+/// Returns the result of a run and, if it skips content parts, how many of each kind it skipped.
 fn with_passed(
     run: Run,
     came: Result<Attempt, AllocError>,
@@ -310,7 +311,7 @@ fn with_passed(
     Ok(came)
 }
 
-/// Adds how many content parts of each kind were passed over.
+/// Adds how many content parts of each kind were skipped.
 pub fn add_counts(came: &mut Attempt, counts: FaultCounts) -> Result<(), AllocError> {
     let FaultCounts {
         not_text,
@@ -327,8 +328,8 @@ pub fn add_counts(came: &mut Attempt, counts: FaultCounts) -> Result<(), AllocEr
     )
 }
 
-/// A session of the server with its jobs, over any reader and writer: so it is proved in one place that threads may own a job, and in
-/// another that they may own these two.
+/// Runs a session of the server with its jobs, on any reader and writer. So it is proved in one place that threads may
+/// own a job, and in another that they may own these two.
 fn run_talker<R, S, W>(
     rt: &R,
     alloc: Global,
@@ -406,7 +407,8 @@ pub fn session_end(
     }
 }
 
-/// What a call says that started no thread, or not both. A case that refuses a thread tells how often a device was called.
+/// Returns the result of a call that started no thread, or not both. A case that refuses a thread reports how often a
+/// device was called.
 fn not_started(
     alloc: Global,
     fault: StartFault,
@@ -422,7 +424,7 @@ fn not_started(
     }
 }
 
-/// How passing messages on ends, and what it wrote.
+/// Returns how passing messages on ends, and what it wrote.
 fn pumped<R>(
     rt: &R,
     alloc: Global,
@@ -460,7 +462,7 @@ pub fn told(alloc: Global, run: Run, end: &str, writer: &Sink) -> Result<Attempt
     Ok(attempt(run, end, said))
 }
 
-/// What came of a call that ended so: that an allocation failed, unless no memory could be enough.
+/// Returns the result of a call that ended in this manner: that an allocation failed, unless no memory could be enough.
 pub fn attempt(run: Run, end: &str, said: String) -> Attempt {
     Attempt {
         said,
@@ -468,7 +470,7 @@ pub fn attempt(run: Run, end: &str, said: String) -> Attempt {
     }
 }
 
-/// Whether a fault that prints so is a failed allocation.
+/// Returns whether a fault with this text is a failed allocation.
 pub fn lacks_memory(fault: &str) -> bool {
     matches!(
         fault,
@@ -489,7 +491,8 @@ fn in_order(alloc: Global, written: &[u8]) -> Result<String, AllocError> {
     frames.as_slice().join(alloc, "")
 }
 
-/// What the threads of a connection answer, and how many bytes were written and flushed; of a writer that fills, how many it took.
+/// Returns the results of a connection's threads, and how many bytes were written and flushed; for a writer that fills,
+/// how many it took.
 fn connected<R>(
     rt: &R,
     alloc: Global,

@@ -15,9 +15,9 @@ pub enum Signal {
     Messages,
     /// So many writes began.
     Writes,
-    /// So many requests came to the handler.
+    /// So many requests reached the handler.
     Requests,
-    /// The reader came to so many of its pauses.
+    /// The reader reached so many of its pauses.
     Pauses,
     /// The reader was asked so often.
     Reads,
@@ -25,7 +25,7 @@ pub enum Signal {
     Begun,
     /// So many jobs saw that their token is cancelled.
     Stopped,
-    /// So many jobs came to the end of their script.
+    /// So many jobs reached the end of their script.
     Ended,
     /// So many times a job was done with its reports.
     Reported,
@@ -52,7 +52,7 @@ pub struct Signals {
     late: AtomicU64,
 }
 
-/// How often a wait looks for its signal, before it is given up: for a minute or so, and longer if the machine is busy.
+/// How often a wait checks its signal before it is given up: for a minute or so, and longer if the machine is busy.
 pub const LOOKS: u64 = 100_000_000;
 
 impl Signals {
@@ -97,7 +97,7 @@ impl Signals {
         self.counter(signal).load(Ordering::SeqCst)
     }
 
-    /// The signal comes once more.
+    /// Gives the signal once more.
     pub fn tell(&self, signal: Signal) {
         self.counter(signal).fetch_add(1, Ordering::SeqCst);
     }
@@ -144,7 +144,8 @@ impl Signals {
     }
 }
 
-/// Whether nobody else holds the signals any more. A thread that still runs holds them, and it may take a while to end.
+/// Returns whether nobody else holds the signals any longer. A thread that still runs holds them, and may take a while
+/// to end.
 pub fn is_alone(signals: &Arc<Signals>) -> bool {
     for _ in 0..LOOKS {
         if Arc::strong_count(signals) == 1 {

@@ -32,7 +32,7 @@ impl Given {
         Ok(self.bytes.extend_from_slice(repeated.as_slice())?)
     }
 
-    /// `AT:SIGNAL:COUNT ..`: at these places, in their order, a reader waits until the signal has come so often.
+    /// `AT:SIGNAL:COUNT ..`: at these places, in order, a reader waits until the signal has come this often.
     pub fn pause(&mut self, words: &str) -> Result<(), Stop> {
         for word in words.split(' ') {
             self.pauses.push(pause_of(word).ok_or(Stop::Table)?)?;
@@ -70,7 +70,7 @@ static SIGNALS: [(&str, Signal); 7] = [
     ("ended", Signal::Ended),
 ];
 
-/// What stands beside a word.
+/// Returns the value for a word.
 fn named<T: Copy>(table: &[(&str, T)], word: Option<&str>) -> Option<T> {
     let word = word.unwrap_or("");
     for (name, it) in table {
@@ -81,13 +81,14 @@ fn named<T: Copy>(table: &[(&str, T)], word: Option<&str>) -> Option<T> {
     None
 }
 
-/// A case: `CALL HOW PIECES DEVICE FROM TO`, and with the device `waits` how many bytes have to be written, with `bounds` how many
-/// messages have to wait, with another perhaps the kind of the error with which it fails. The call is made with each size of pieces, in
-/// each of its ways, for each count of the device, from the first to the last.
+/// A case: `CALL HOW PIECES DEVICE FROM TO`. With the device `waits` it also has how many bytes have to be written,
+/// with `bounds` how many messages have to wait, and with another perhaps the kind of the error with which it fails.
+/// The call is made with each size of pieces, in each of its modes, for each count of the device, from the first to the
+/// last.
 #[derive(Clone, Copy)]
 pub struct Case<'a> {
     pub call: Call,
-    /// The ways in which the call is made, with commas between them: `alone` is on one thread, each other in threads.
+    /// The modes in which the call is made, with commas between them: `alone` is on one thread, each other in threads.
     pub ways: &'a str,
     /// The size of the pool of jobs.
     pub pool: PoolSize,
@@ -121,19 +122,20 @@ pub enum Call {
     Session,
     /// `StreamTransport::serve` of the server that speaks, with `EndSession`. In threads as above.
     Speaks,
-    /// The same over a transport that stands beside the devices.
+    /// The same with a transport that holds the devices.
     Line,
-    /// `StreamTransport::serve` of the same, which tells its wakes, with `FaultCounts`; with a limit or a bound it tells none, with `Ignore`.
+    /// `StreamTransport::serve` of the same, which reports its wake-ups, with `FaultCounts`; with a limit or a bound it
+    /// reports none, with `Ignore`.
     Tolerant,
     /// `run_jobs`, with that server.
     Jobs,
-    /// The same. It tells what was written in the order of the texts.
+    /// The same. It reports what was written in the order of the texts.
     Many,
     /// `pump_by`.
     Pump,
-    /// The same. It says how many writes there were, too.
+    /// The same. It also says how many writes there were.
     Burst,
-    /// `Connection::over_within`: each message that comes is sent back.
+    /// `Connection::over_within`: each message that arrives is sent back.
     Over,
     /// The same, but nothing is received, and the threads are joined at once.
     Joined,
@@ -176,12 +178,12 @@ pub enum Device {
     Waits,
     /// The writer is slow, so that messages come faster than they are written.
     Slow,
-    /// The writer waits for a request to come to the handler, which waits for the second pause of the text.
+    /// The writer waits until a request reached the handler, which waits for the second pause of the text.
     Gated,
     /// The handler waits, before it refuses a request, until so many messages were written.
     Late,
-    /// Content parts that are no messages are passed over, if a session can. It says how many were not UTF-8, no JSON, no message,
-    /// and lists.
+    /// Content parts that are no messages are skipped, if a session can do that. It says how many were not UTF-8, no
+    /// JSON, no message, and lists.
     Passes,
     /// The thread that reads is not started.
     NoReader,
@@ -189,7 +191,7 @@ pub enum Device {
     NoWriter,
 }
 
-/// The case of these words. There is none if they are no case.
+/// Returns the case of these words, if they are one.
 pub fn case_of<'a>(call: &str, rest: &'a str) -> Option<Case<'a>> {
     let mut words = rest.split(' ');
     let (Some(how), Some(steps)) = (words.next(), words.next()) else {
@@ -222,7 +224,7 @@ pub fn case_of<'a>(call: &str, rest: &'a str) -> Option<Case<'a>> {
     }
 }
 
-/// The ways that a case names: `alone`, `threads`, `both`; or the size of a pool, for threads.
+/// Returns the modes that a case names: `alone`, `threads`, `both`; or the size of a pool, for threads.
 fn ways_of(how: &str) -> &str {
     match how {
         "both" => "alone,threads",
@@ -230,7 +232,8 @@ fn ways_of(how: &str) -> &str {
     }
 }
 
-/// `WORKERS`, or `WORKERS:WAITING` if only so many jobs may wait. A call without jobs has the ways in which it is made.
+/// `WORKERS`, or `WORKERS:WAITING` if only so many jobs may wait. A call without jobs has the modes in which it is
+/// made.
 pub fn pool_of(word: &str) -> Option<PoolSize> {
     if matches!(word, "alone" | "threads" | "both") {
         return Some(PoolSize::from(1));

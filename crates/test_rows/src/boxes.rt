@@ -8,12 +8,12 @@ use lsp_session::{
 };
 use std::cell::Cell;
 
-/// What an inbox does beside giving the events of its list.
+/// What an inbox does beside returning the events of its list.
 #[derive(Clone, Copy, PartialEq, Eq)]
 pub enum Habit {
     /// Nothing.
     Gives,
-    /// Before each event, the first too, it is ready to wake whoever asks for that.
+    /// Before each event, also the first, it has a wake-up for whoever asks for that.
     Wakes,
     /// It is closed as long as nothing was sent.
     Follows,
@@ -74,7 +74,7 @@ impl WakingInbox for Events<'_> {
     }
 }
 
-/// Keeps what it is sent, up to its room, and tells that something was sent.
+/// Keeps what it is sent, up to its room, and records that something was sent.
 #[derive(Drop)]
 pub struct Sent<'a> {
     pub list: ListOutbox,

@@ -26,8 +26,9 @@ use std::alloc::{AllocError, Global};
 
 type Acts = Result<Vec<Act<u32>>, AllocError>;
 
-/// The acts at a message: the text of a hover is the document, a definition is the line above (the error -32803 if there is none), one
-/// fold is from line 1 to 2, a completion has its position, and a document that is closed has no marks.
+/// Makes the acts at a message: the text of a hover is the document, a definition is the line above (the error -32803
+/// if there is none), one fold is from line 1 to 2, a completion has its position, and a document that is closed has no
+/// marks.
 pub fn acts(said: &mut Said, message: Message) {
     let alloc = said.alloc;
     let acts = match message {
@@ -183,8 +184,8 @@ fn say(said: &mut Said, act: Act<u32>) {
     }
 }
 
-/// A client's capabilities, what it replies, what it sends as settings and as params of a change, one after another: what is asked, whether
-/// each is taken, and what holds then, from 80.
+/// Takes a client's capabilities, its replies, the settings that it sends, and params of a change, one after another.
+/// Says what is asked, whether each is taken, and the value after it, from 80.
 pub fn configuration(said: &mut Said, text: &str) {
     let alloc = said.alloc;
     match value_in(alloc, text) {

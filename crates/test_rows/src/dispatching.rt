@@ -7,7 +7,7 @@ use lsp_dispatch::{Answer, Call, DispatchFault, Dispatcher, replay};
 use std::alloc::AllocError;
 use std::fmt::Write;
 
-/// What the steps give on a new dispatcher, one after another.
+/// Says the results of the steps on a new dispatcher, one after another.
 pub fn dispatched(said: &mut Said, steps: &str) {
     let dispatcher = Dispatcher::default(said.alloc);
     said.steps_on(steps, dispatcher)
@@ -47,7 +47,7 @@ fn say(said: &mut Said, answer: Result<Answer, DispatchFault>) {
     }
 }
 
-/// What all steps give on a new dispatcher.
+/// Says the results of all steps on a new dispatcher.
 pub fn replayed(said: &mut Said, steps: &str) {
     let mut calls = Calls(Vec::new(said.alloc));
     said.steps(steps, &mut calls);

@@ -23,7 +23,8 @@ use std::alloc::{AllocError, Global};
 use std::fmt::Write;
 use std::mem;
 
-/// The documents of a server, and as lines the URIs that it was told of, each behind a tab, and what it was told since `initialize`.
+/// The documents of a server, and as lines the URIs of its notifications, each after a tab, and its notifications since
+/// `initialize`.
 #[derive(Drop)]
 pub struct Documents {
     alloc: Global,
@@ -34,7 +35,7 @@ pub struct Documents {
 }
 
 impl Documents {
-    /// None are open.
+    /// Starts with no open document.
     pub fn new(alloc: Global) -> Documents {
         Documents {
             alloc,
@@ -45,7 +46,8 @@ impl Documents {
         }
     }
 
-    /// What comes of a message. One for which there was no memory is missed, so all before it is told once more.
+    /// Says the result of a message. A message for which there was no memory is missed, so all messages before it are
+    /// sent again.
     pub fn answer(&mut self, said: &mut Said, text: &str) {
         self.hear(said, text);
         if said.is_short {
@@ -53,7 +55,7 @@ impl Documents {
         }
     }
 
-    /// Tells all that was told to documents that begin anew.
+    /// Sends all notifications again to new documents.
     fn hear_again(&mut self) {
         let told = mem::replace(&mut self.told, String::new(self.alloc));
         let agreed = self.documents.agreed();
@@ -65,7 +67,7 @@ impl Documents {
         drop(said);
     }
 
-    /// Begins anew, by what was agreed on.
+    /// Starts again, with what was agreed on.
     fn begin(&mut self, agreed: Agreed) {
         self.documents = TextDocuments::new(self.alloc, agreed);
         self.copies.clear();
@@ -111,7 +113,7 @@ impl Documents {
         drop(none);
     }
 
-    /// Agrees with a client, and begins anew.
+    /// Agrees with a client, and starts again.
     fn initialize(&mut self, said: &mut Said, params: &Value) {
         let includes_text = flag_in(params, "includeText") != Some(false);
         let mut can = Value::Null;
@@ -126,7 +128,7 @@ impl Documents {
         }
     }
 
-    /// The URIs whose text is doubtful, in the order in which they were told.
+    /// Says the URIs whose text is doubtful, in the order in which they were named.
     fn show_doubtful(&self, said: &mut Said) {
         said.push("doubtful");
         for line in self.seen.lines() {
@@ -138,7 +140,7 @@ impl Documents {
         }
     }
 
-    /// The URI and the version of the document of a path.
+    /// Says the URI and the version of the document of a path.
     fn show_path(&self, said: &mut Said, path: &str) {
         match self.documents.at_path(path) {
             Some((uri, document)) => {
@@ -150,7 +152,7 @@ impl Documents {
         }
     }
 
-    /// Opens a document whose text is one that is given, so many times.
+    /// Opens a document whose text is a given one, repeated.
     fn open_long(&mut self, said: &mut Said, params: &Value) {
         let uri = text_in(params.get("uri"));
         let given = text_in(params.get("text"));
@@ -164,7 +166,7 @@ impl Documents {
         }
     }
 
-    /// Makes so many changes of a document at once, each of which puts a text before it.
+    /// Makes many changes of a document at once, each of which adds a text at the start.
     fn change_often(&mut self, said: &mut Said, params: &Value) {
         let uri = text_in(params.get("uri"));
         let start = Position::new(0, 0);
@@ -183,7 +185,7 @@ impl Documents {
         drop(changes);
     }
 
-    /// What came of a call, and how long the document is then, in bytes and in lines.
+    /// Says the result of a call, and how long the document is then, in bytes and in lines.
     fn say_length(
         &self,
         said: &mut Said,
@@ -218,7 +220,7 @@ impl Documents {
         drop(notification);
     }
 
-    /// What came of a notification.
+    /// Says the result of a notification.
     fn say(&mut self, said: &mut Said, heard: Option<Result<DocumentUpdate<'_>, UpdateFault<'_>>>) {
         match heard {
             None => said.push("no notification of documents"),
@@ -350,7 +352,7 @@ impl Documents {
     }
 }
 
-/// Copies of documents, each behind a tab.
+/// Says copies of documents, each after a tab.
 fn show_copies(said: &mut Said, copies: &[OpenText]) {
     for copy in copies {
         said.push("\t");
@@ -373,7 +375,7 @@ fn flag_in(params: &Value, name: &str) -> Option<bool> {
     params.get(name)?.as_bool()
 }
 
-/// How a row has its client read.
+/// Returns the options with which a row has its client read.
 fn options_in(params: &Value) -> DocumentOptions {
     let mut options = DocumentOptions::new();
     if flag_in(params, "standard") == Some(true) {

@@ -12,7 +12,7 @@ use lsp_message::{Message, Notification};
 use lsp_peers::{Link, WorldFault};
 use std::alloc::{AllocError, Global};
 
-/// What comes of these steps on a link without bytes.
+/// Says the results of these steps on a link without bytes.
 pub fn answers(said: &mut Said, steps: &str) {
     let link = Link::default(said.alloc);
     said.steps_on(steps, link)

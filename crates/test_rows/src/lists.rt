@@ -43,13 +43,13 @@ impl Stepped for ListInbox {
     }
 }
 
-/// How many messages an outbox takes, and how many bytes a writer, without a new allocation. If that fails in a call, the reply to `shutdown` of
-/// `shutdown` may be missing, and a message that is handed on: both are no refusal.
+/// How many messages an outbox takes, and how many bytes a writer, without a new allocation. If one fails in a call,
+/// the reply to `shutdown` may be missing, and a message that is passed on. Neither is a refusal.
 const MESSAGES: usize = 32;
 
 const BYTES: usize = 4096;
 
-/// The boxes of a row, and the id that the last start gave.
+/// The inbox, the outbox and the gate of a row, and the id that the last start returned.
 #[derive(Drop)]
 struct Boxes<'a> {
     inbox: Events<'a>,
@@ -59,7 +59,7 @@ struct Boxes<'a> {
 }
 
 impl<'a> Boxes<'a> {
-    /// Empty boxes. The outbox takes its messages without a new allocation.
+    /// Makes empty ones. The outbox takes its messages without a new allocation.
     fn new(said: &mut Said, room: &str, habit: Habit, is_some: &'a Cell<bool>) -> Boxes<'a> {
         let alloc = said.alloc;
         let room = said.count_in(room);
@@ -82,7 +82,8 @@ impl<'a> Boxes<'a> {
     }
 }
 
-/// What the calls give; what was sent, what is left of the events and the answers, and for how long the last wait was.
+/// Says the results of the calls; what was sent, what is left of the events and the answers, and for how long the last
+/// wait was.
 pub fn called(said: &mut Said, row: &str) {
     let (names, row) = said.cut(row, " | ");
     let (answers, row) = said.cut(row, " | ");
@@ -139,7 +140,7 @@ fn call(said: &mut Said, boxes: &mut Boxes<'_>, name: &str) {
     }
 }
 
-/// Calls `start_within`: the id and the params of a start.
+/// Calls `start_within`, and says the id and the params of a start.
 fn start(said: &mut Said, boxes: &mut Boxes<'_>, turns: u64) {
     let Boxes {
         inbox,
@@ -189,7 +190,7 @@ fn say_done(said: &mut Said, answer: Option<Result<(), ProtocolError>>) {
     }
 }
 
-/// What the error says. An allocation that failed is no answer.
+/// Says the text of the error. An allocation that failed is no answer.
 fn say_error(said: &mut Said, error: ProtocolError) {
     if error.is_out_of_memory() {
         said.is_short = true;
@@ -197,7 +198,7 @@ fn say_error(said: &mut Said, error: ProtocolError) {
     said.show(error);
 }
 
-/// What `shutdown` answers to a request of this method.
+/// Says the result of `shutdown` for a request of this method.
 fn shut(said: &mut Said, boxes: &mut Boxes<'_>, method: &str) {
     let last = said.text_of("last");
     let method = said.text_of(method);
@@ -215,7 +216,7 @@ fn shut(said: &mut Said, boxes: &mut Boxes<'_>, method: &str) {
     }
 }
 
-/// How a session over lists ends, and what it sent.
+/// Says how a session on lists ends, and what it sent.
 pub fn session(said: &mut Said, word: &str, row: &str) {
     let (room, events) = said.cut(row, " | ");
     let sent = Cell::new(false);
@@ -281,7 +282,7 @@ fn served(
     served.answer
 }
 
-/// What is written of the events, and what is handed on afterwards.
+/// Says what is written of the events, and what is passed on afterwards.
 pub fn written(said: &mut Said, row: &str) {
     let (counts, events) = said.cut(row, " | ");
     let (fills, room) = said.cut(counts, " ");
@@ -300,7 +301,7 @@ fn write_row(said: &mut Said, boxes: &mut Boxes<'_>, events: &str, fills: usize)
     said.show(boxes.inbox.list.events.len());
 }
 
-/// Keeps what is written. It fails after so many bytes.
+/// Keeps the bytes that are written. It fails after this many.
 #[derive(Drop)]
 struct Filling {
     taken: Vec<u8>,

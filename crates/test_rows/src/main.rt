@@ -1,19 +1,19 @@
-//! Runs a table of rows on standard input, and prints below each row what came of it. `tools/rows/make` writes the table, and
-//! beside it what must come. No row needs a thread, a clock or a socket. A row begins with a word:
+//! Runs a table of rows from standard input, and prints below each row its result. `tools/rows/make` writes the table,
+//! and the expected output. No row needs a thread, a clock or a socket. A row begins with a word:
 //!
 //! - `#`: a remark.
-//! - `calls`, `serve`, `served`, `woken`, `writes`: the calls over lists (`lists.rt`).
-//! - `id`: how an id prints. `values`: a message that is cloned, converted and written. `error`: a response with the data of an
-//!   error. `extract`: params that are taken out.
+//! - `calls`, `serve`, `served`, `woken`, `writes`: the calls on lists (`lists.rt`).
+//! - `id`: how an id prints. `values`: a message that is cloned, converted and written. `error`: a response with the
+//!   data of an error. `extract`: params that are taken out.
 //! - `queues`, `dispatch`, `link`: calls on a state, as steps. `replay`: all steps of a dispatcher at once.
-//! - `plain`, `typed`: values that are read and written by a type: one of serde's kinds, or of `lsp_types`. `uri`, `path`: a path and its URI. `names`: whether
-//!   a URI names a path. `tokens`: the numbers of semantic tokens. `offset`: the place of a position that was read. `lines`:
-//!   the lines of a text, and whether there is one more.
-//! - `method`: the acts at a message, by LSP's methods. `configuration`: what is asked of a client, and what it sends.
-//! - `document`: a notification of an open document.
+//! - `plain`, `typed`: values that are read and written by a type: one of serde's kinds, or of `lsp_types`. `uri`,
+//!   `path`: a path and its URI. `names`: whether a URI names a path. `tokens`: the numbers of semantic tokens.
+//!   `offset`: the place of a position that was read. `lines`: the lines of a text, and whether there is one more.
+//! - `method`: the acts at a message, by LSP's methods. `configuration`: what a client is asked, and what it sends.
+//! - `document`: a notification about an open document.
 //!
-//! If an allocation fails, in a call or in the program, the row has a line `refused: ..`, and is run once more. The program ends with
-//! status 1 if that fails too, or if it has no memory for the table or for a line.
+//! If an allocation fails, in a call or in the program, the row has a line `refused: ..`, and is run again. The program
+//! ends with status 1 if that fails too, or if it has no memory for the table or for a line.
 #![tactic(auto)]
 
 mod boxes;

@@ -5,7 +5,7 @@ use lsp_message::{Message, RequestId, Response, ResponseError};
 use serde_json::Value;
 use std::alloc::{AllocError, Global};
 
-/// The tree of a text that is one. The texts of a table are JSON, so only memory can be wanting.
+/// Reads the tree of a text. The texts of a table are JSON, so only memory can be missing.
 pub fn value_in(alloc: Global, text: &str) -> Result<Value, AllocError> {
     match Value::from_str(alloc, text) {
         Ok(tree) => Ok(tree),
@@ -70,7 +70,7 @@ pub fn id_text(said: &mut Said, text: &str) {
     }
 }
 
-/// Reads the message in a member text, clones it, and gives its texts, its tree and its frame.
+/// Reads the message in a member text, clones it, and says its texts, its tree and its frame.
 pub fn values(said: &mut Said, text: &str) {
     match message_in(said.alloc, text) {
         Ok(Some(message)) => {
@@ -112,8 +112,8 @@ fn say_value(said: &mut Said, made: Result<Value, AllocError>) {
     }
 }
 
-/// `CODE MESSAGE DATA`: the response to the request 1 with this error, which has data: its member text, and the message that is read from
-/// its tree.
+/// `CODE MESSAGE DATA`: says the response to the request 1 with this error, which has data: its member text, and the
+/// message that is read from its tree.
 pub fn error(said: &mut Said, row: &str) {
     let (code, rest) = said.cut(row, " ");
     let (message, data) = said.cut(rest, " ");

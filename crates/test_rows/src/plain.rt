@@ -95,7 +95,7 @@ impl DeserializeOwned for Empty {
     }
 }
 
-/// Says the value that a text of JSON has by a type, as it is written again, or `refused`. It is read straight and through its text; if
+/// Says the value of a JSON text by a type, written again, or `refused`. It is read directly and by way of its text. If
 /// the two differ, it says both.
 fn back<T: Serialize + DeserializeOwned + Drop>(said: &mut Said, text: &str) {
     said.is_wrong = false;
@@ -104,7 +104,7 @@ fn back<T: Serialize + DeserializeOwned + Drop>(said: &mut Said, text: &str) {
     say_both(said, straight, by_text);
 }
 
-/// What was read, as it is written again, or why it was not.
+/// Returns the value that was read, written again, or why it was not.
 fn written<T: Serialize + Drop>(said: &mut Said, read: Result<T, Error>) -> String {
     match read {
         Ok(value) => {
@@ -119,7 +119,7 @@ fn written<T: Serialize + Drop>(said: &mut Said, read: Result<T, Error>) -> Stri
     }
 }
 
-/// Says what was read straight and through its text: once, if the two are the same.
+/// Says the value that was read directly and by way of its text: once, if the two are the same.
 fn say_both(said: &mut Said, straight: String, by_text: String) {
     if straight != by_text {
         said.push(straight.as_str());
@@ -133,7 +133,7 @@ fn say_both(said: &mut Said, straight: String, by_text: String) {
     said.is_wrong = false;
 }
 
-/// The value that a text of JSON has by its type, read through the text.
+/// Reads the value of a JSON text by its type, by way of the text.
 fn read_text<T: DeserializeOwned>(alloc: Global, text: &str) -> Result<T, Error> {
     match Value::from_str(alloc, text) {
         Ok(value) => serde_json::from_value(alloc, value),
@@ -155,7 +155,7 @@ fn reason(said: &mut Said, error: Error) -> String {
     said.made(told, String::new(said.alloc))
 }
 
-/// The value that a text of JSON has by its type, read straight.
+/// Reads the value of a JSON text by its type, directly.
 fn read_typed<T: DeserializeOwned>(alloc: Global, text: &str) -> Result<T, Error> {
     match Value::from_str(alloc, text) {
         Ok(value) => from_value(alloc, value),
@@ -202,7 +202,7 @@ fn composed(said: &mut Said, name: &str, step: &str) {
     }
 }
 
-/// What comes of a type's name and values: each as it is written again, or `refused`.
+/// Says the results for a type's name and values: each written again, or `refused`.
 pub fn answers(said: &mut Said, row: &str) {
     let (name, values) = said.cut(row, ": ");
     said.steps_on(values, Named { name });

@@ -23,7 +23,7 @@ use std::fmt::Write;
 /// Both queues, with a character for each request.
 pub type Queue = ReqQueue<char, char>;
 
-/// What comes of these steps on new queues.
+/// Says the results of these steps on new queues.
 pub fn answers(said: &mut Said, steps: &str) {
     let queue: Queue = ReqQueue::default(said.alloc);
     said.steps_on(steps, queue)
@@ -61,7 +61,7 @@ impl Stepped for Queue {
     }
 }
 
-/// Puts an empty queue of this side there, which has given out so many ids.
+/// Puts an empty queue of this side there, which has used this many ids.
 fn begin_after(said: &mut Said, queue: &mut Queue, word: &str) {
     match u32::try_from(said.count_in(word)) {
         Ok(count) if count <= 2147483648 => {
@@ -123,8 +123,8 @@ fn data_in(said: &mut Said, word: &str) -> char {
     }
 }
 
-/// Params that nest too deep are refused, however often they come. Other params are refused for memory alone, until all ids were given
-/// out.
+/// Registers params. Those that nest too deep are refused, however often they come. Others are refused only for memory,
+/// until all ids were used.
 fn register(said: &mut Said, queue: &mut Queue, verb: &str, words: &str) {
     let (method, rest) = said.cut(words, " ");
     let (params, data) = rest.rsplit_once(" ").unwrap_or((rest, ""));

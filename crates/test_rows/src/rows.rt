@@ -20,7 +20,7 @@ impl Rows {
         }
     }
 
-    /// The lines that come below this row.
+    /// Returns the lines below this row.
     pub fn run(&mut self, line: &str) -> Said {
         let mut lines = Said::new(self.alloc);
         let mut said = Said::new(self.alloc);

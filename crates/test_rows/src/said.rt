@@ -5,7 +5,7 @@ use std::alloc::{AllocError, AllocFailed, Global};
 use std::fmt;
 use std::fmt::Write;
 
-/// A text that grows as a row is run, and what came up meanwhile.
+/// A text that grows while a row is run, and what happened meanwhile.
 #[derive(Drop)]
 pub struct Said {
     pub alloc: Global,
@@ -18,14 +18,14 @@ pub struct Said {
     pub is_wrong: bool,
 }
 
-/// What the steps of a row are taken on.
+/// The state on which the steps of a row are taken.
 pub trait Stepped {
-    /// Takes a step, and says what comes of it.
+    /// Takes a step, and says its result.
     fn step(&mut self, said: &mut Said, step: &str);
 }
 
 impl Said {
-    /// Nothing is said yet.
+    /// Starts with an empty text.
     pub fn new(alloc: Global) -> Said {
         Said {
             alloc,
@@ -36,20 +36,20 @@ impl Said {
         }
     }
 
-    /// Begins anew, for the same row.
+    /// Starts again, for the same row.
     pub fn clear(&mut self) {
         self.text.clear();
         self.is_short = false;
     }
 
-    /// Looks whether something could be done.
+    /// Records whether an allocation failed.
     pub fn note(&mut self, outcome: Result<(), AllocError>) {
         if outcome.is_err() {
             self.is_short = true;
         }
     }
 
-    /// Looks whether a list took an item.
+    /// Records whether a list took an item.
     pub fn kept<T: Drop>(&mut self, pushed: Result<(), AllocFailed<T>>) {
         match pushed {
             Ok(()) => {}
@@ -60,7 +60,7 @@ impl Said {
         }
     }
 
-    /// What was made, or something else.
+    /// Returns the value that was made, or another one.
     pub fn made<T: Drop>(&mut self, made: Result<T, AllocError>, otherwise: T) -> T {
         match made {
             Ok(made) => {
@@ -74,7 +74,7 @@ impl Said {
         }
     }
 
-    /// A text of its own.
+    /// Copies a text.
     pub fn text_of(&mut self, text: &str) -> String {
         let made = String::from_str(self.alloc, text);
         let otherwise = String::new(self.alloc);
@@ -87,7 +87,7 @@ impl Said {
         self.note(told);
     }
 
-    /// Takes the steps of a row, and says what comes of each, in a line of its own.
+    /// Takes the steps of a row, and says the result of each in a line.
     pub fn steps<S: Stepped>(&mut self, steps: &str, state: &mut S) {
         for step in steps.split("; ") {
             self.begin_step();
@@ -101,7 +101,7 @@ impl Said {
         drop(state);
     }
 
-    /// Begins the answer to a step.
+    /// Starts the answer to a step.
     pub fn begin_step(&mut self) {
         if !self.text.is_empty() {
             self.push("\n  ");

@@ -8,18 +8,18 @@ use serde_json::{Map, Value};
 use std::alloc::{AllocError, Global};
 use std::mem;
 
-/// Answers `demo/echo` with its params, knows no other method, and counts what comes.
+/// Answers `demo/echo` with its params, knows no other method, and counts the messages that arrive.
 #[derive(Drop)]
 pub struct Echo {
     alloc: Global,
-    /// How many requests came.
+    /// How many requests arrived.
     pub asked: u32,
-    /// How many notifications came.
+    /// How many notifications arrived.
     pub told: u32,
 }
 
 impl Echo {
-    /// A handler to which nothing came.
+    /// Makes a handler that has received nothing.
     pub fn new(alloc: Global) -> Echo {
         Echo {
             alloc,
@@ -45,7 +45,7 @@ impl Handler for Echo {
     }
 }
 
-/// The outcome that this value was made for.
+/// Returns the outcome for which this value was made.
 fn found<T: Drop, E: Drop>(made: Result<T, AllocError>) -> Result<Result<T, E>, AllocError> {
     match made {
         Ok(value) => Ok(Ok(value)),
@@ -53,7 +53,7 @@ fn found<T: Drop, E: Drop>(made: Result<T, AllocError>) -> Result<Result<T, E>, 
     }
 }
 
-/// Why the server asked its client.
+/// Why the server sent its client a request.
 #[derive(Drop, PartialEq)]
 pub enum Asked {
     /// To answer this request with the reply.
@@ -88,27 +88,29 @@ fn question(alloc: Global, number: u64) -> Result<Act<Asked>, AllocError> {
     }
 }
 
-/// Pushes, asks, and answers late.
+/// Notifies its client, sends it requests, and answers late.
 ///
-/// - It says `demo/hello` first, and asks for the configuration.
-/// - It answers `demo/echo` with its params, asks its client `demo/asked` at `demo/ask` and answers with the reply, keeps `demo/hold`
-///   until the next notification or wake, and knows no other method but those of `typed`.
-/// - At a notification it pushes its params, asks for the configuration and answers what it keeps.
-/// - At a reply with the configuration it pushes the number of the question.
-/// - At a wake it pushes `demo/woken`, and answers what it keeps.
+/// - It sends `demo/hello` first, and asks for the configuration.
+/// - It answers `demo/echo` with its params. At `demo/ask` it sends its client `demo/asked`, and answers with the
+///   reply. It keeps `demo/hold` until the next notification or wake-up. It knows no other method except those of
+///   `typed`.
+/// - At a notification it sends its params to the client, asks for the configuration, and answers the requests that it
+///   keeps.
+/// - At a reply with the configuration it sends the number of the question.
+/// - At a wake-up it sends `demo/woken`, and answers the requests that it keeps.
 #[derive(Drop)]
 pub struct Talker {
     alloc: Global,
     questions: u64,
     held: Vec<RequestId>,
-    /// Whether it does something at a wake.
+    /// Whether it does something at a wake-up.
     pub tells_wakes: bool,
 }
 
 type Acts = Vec<Act<Asked>>;
 
 impl Talker {
-    /// A server to which nothing came.
+    /// Makes a server that has received nothing.
     pub fn new(alloc: Global) -> Talker {
         Talker {
             alloc,
@@ -125,7 +127,7 @@ impl Talker {
         both(self.alloc, told, question(self.alloc, self.questions))
     }
 
-    /// These acts, and the answers to what it keeps.
+    /// Returns these acts, and the answers to the requests that it keeps.
     fn release(&mut self, acts: Result<Acts, AllocError>) -> Result<Acts, AllocError> {
         match acts {
             Ok(mut acts) => match self.release_to(&mut acts) {
@@ -146,7 +148,7 @@ impl Talker {
         Ok(())
     }
 
-    /// Asks the client, whose reply is the answer to this request.
+    /// Sends the client a request, whose reply is the answer to this request.
     fn ask(&self, request: Request) -> Result<Acts, AllocError> {
         let Request { id, method, params } = request;
         drop(method);

@@ -19,11 +19,13 @@ struct Document {
     uri: String,
 }
 
-/// - `typed/uri` gives the document.
-/// - `typed/above` gives the position above, and the error -32803 if there is none.
-/// - `typed/show` shows a text, and gives null.
-/// - `typed/marks` publishes the position as what is wrong with the document, at version 7, and gives null. In the first line nothing
-///   is wrong, at no version.
+/// Answers a request:
+///
+/// - `typed/uri` returns the document.
+/// - `typed/above` returns the position above, and the error -32803 if there is none.
+/// - `typed/show` shows a text, and returns null.
+/// - `typed/marks` publishes the position as a diagnostic of the document, at version 7, and returns null. In the first
+///   line there is no diagnostic, and no version.
 pub fn asked<P: Drop + PartialEq>(
     alloc: Global,
     request: Request,
@@ -72,7 +74,7 @@ pub fn both<T: Drop>(
     }
 }
 
-/// These items, and behind them this one.
+/// Returns these items, followed by this one.
 fn and<T: Drop>(mut items: Vec<T>, item: Result<T, AllocError>) -> Result<Vec<T>, AllocError> {
     let added = match item {
         Ok(item) => kept(items.push(item)),
@@ -87,7 +89,7 @@ fn and<T: Drop>(mut items: Vec<T>, item: Result<T, AllocError>) -> Result<Vec<T>
     }
 }
 
-/// Tells the position, and has the client log a warning.
+/// Notifies the client of the position, and logs a warning in its log.
 pub fn noticed<P: Drop + PartialEq>(
     alloc: Global,
     notification: Notification,
@@ -115,7 +117,7 @@ fn above(alloc: Global, at: Position) -> Result<Result<Position, ResponseError>,
     }
 }
 
-/// The outcome that this error was made for.
+/// Returns the outcome for which this error was made.
 pub fn refused<T: Drop, E: Drop>(made: Result<E, AllocError>) -> Result<Result<T, E>, AllocError> {
     match made {
         Ok(error) => Ok(Err(error)),

@@ -30,7 +30,7 @@ use serde::Serialize;
 use serde_json::{Map, Value, to_value};
 use std::alloc::Global;
 
-/// What comes of a type's name and a value: the value as it is written again, or `refused`.
+/// Says the result for a type's name and a value: the value written again, or `refused`.
 pub fn answer(said: &mut Said, row: &str) {
     let (name, text) = said.cut(row, " ");
     said.is_wrong = false;
@@ -41,7 +41,7 @@ pub fn answer(said: &mut Said, row: &str) {
     }
 }
 
-/// The value that a text of JSON has by its type.
+/// Reads the value of a JSON text by its type.
 pub fn read_typed<T: FromJson>(alloc: Global, text: &str) -> Result<T, Misfit> {
     match value_in(alloc, text) {
         Ok(value) => {
@@ -53,7 +53,7 @@ pub fn read_typed<T: FromJson>(alloc: Global, text: &str) -> Result<T, Misfit> {
     }
 }
 
-/// The value that a text of JSON has by its type, or another.
+/// Reads the value of a JSON text by its type, or returns another.
 pub fn read<T: FromJson>(said: &mut Said, text: &str, otherwise: T) -> T {
     let found = read_typed(said.alloc, text);
     read_or(said, found, otherwise)
@@ -81,7 +81,7 @@ pub fn unfit(said: &mut Said, misfit: Misfit) {
     }
 }
 
-/// Says a type of LSP as JSON writes it.
+/// Says a value of one of LSP's types as JSON.
 pub fn say_json<T: ToJson>(said: &mut Said, value: &T) {
     match value.to_json(said.alloc) {
         Ok(tree) => said.show(tree),
@@ -89,7 +89,7 @@ pub fn say_json<T: ToJson>(said: &mut Said, value: &T) {
     }
 }
 
-/// Says another value as JSON writes it.
+/// Says another value as JSON.
 pub fn say_written<T: Serialize>(said: &mut Said, value: &T) {
     match to_value(said.alloc, value) {
         Ok(tree) => said.show(tree),
@@ -97,7 +97,7 @@ pub fn say_written<T: Serialize>(said: &mut Said, value: &T) {
     }
 }
 
-/// Says the value that a text of JSON has by a type, as it is written again, or `refused`.
+/// Says the value of a JSON text by a type, written again, or `refused`.
 pub fn back<T: ToJson + FromJson>(said: &mut Said, text: &str) {
     match read_typed::<T>(said.alloc, text) {
         Ok(value) => {
@@ -237,8 +237,9 @@ fn of_members(said: &mut Said, name: &str, found: &Value) {
     }
 }
 
-/// What a server can do that keeps its documents, in the encoding that the params of `initialize` agree on: by types, and then by a
-/// tree, in which the members of `server` stand too. The text of a save is asked for if `includeText` says so.
+/// Says the capabilities of a server that keeps its documents, in the encoding that the params of `initialize` agree
+/// on: by types, and then by a tree, which also has the members of `server`. The text of a save is requested if
+/// `includeText` says so.
 fn document_capabilities(said: &mut Said, params: &Value) {
     let none = Value::Null;
     let asked = params.get("includeText").and_then(|asked| asked.as_bool());
@@ -287,7 +288,7 @@ fn progress<T: ToJson + FromJson>(said: &mut Said, found: &Value) {
     }
 }
 
-/// The object that is given as `more`, if one is.
+/// Returns the object that is given as `more`, if there is one.
 fn more(said: &mut Said, found: &Value) -> Option<Value> {
     let more: Option<Map<String, Value>> = get(said, found, "more", None);
     match more {
@@ -296,7 +297,7 @@ fn more(said: &mut Said, found: &Value) -> Option<Value> {
     }
 }
 
-/// A server that can do all that has a field, and what is given as `more`.
+/// Returns a server that can do everything that has a field, and what is given as `more`.
 fn capabilities(said: &mut Said, found: &Value) -> ServerCapabilities {
     ServerCapabilities {
         position_encoding: get(said, found, "positionEncoding", None),

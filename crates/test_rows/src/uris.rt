@@ -8,25 +8,25 @@ use lsp_types::{
 };
 use std::alloc::AllocError;
 
-/// The URI of a path, or why it has none. The path is a text of JSON.
+/// Says the URI of a path, or why it has none. The path is a text of JSON.
 pub fn uri(said: &mut Said, text: &str) {
     let path = read(said, text, String::new(said.alloc));
     say(said, uri_of_path(said.alloc, path.as_str()))
 }
 
-/// The path of a URI as a text of JSON, or why it has none.
+/// Says the path of a URI as a text of JSON, or why it has none.
 pub fn path(said: &mut Said, text: &str) {
     say(said, path_of_uri(said.alloc, text))
 }
 
-/// Whether a URI names a path, which is a text of JSON behind it.
+/// Says whether a URI names a path, which follows it as a text of JSON.
 pub fn names(said: &mut Said, row: &str) {
     let (uri, path) = said.cut(row, " ");
     let path = read(said, path, String::new(said.alloc));
     said.show(names_path(uri, path.as_str()))
 }
 
-/// The paths of the folders that the params of `initialize` name, as a list of JSON.
+/// Says the paths of the folders in the params of `initialize`, as a list of JSON.
 pub fn folders(said: &mut Said, text: &str) {
     match read_typed::<InitializeParams>(said.alloc, text) {
         Ok(params) => {
@@ -53,7 +53,7 @@ fn say(said: &mut Said, outcome: Result<String, FileUriFault>) {
     }
 }
 
-/// The numbers of tokens, each of which is a list of five.
+/// Says the numbers of tokens, each of which is a list of five.
 pub fn tokens(said: &mut Said, text: &str) {
     let lists: Vec<Vec<u32>> = read(said, text, Vec::new(said.alloc));
     let mut tokens = Vec::new(said.alloc);
@@ -85,7 +85,7 @@ fn add_tokens(said: &mut Said, tokens: &mut Vec<SemanticToken>, lists: &[Vec<u32
     }
 }
 
-/// Where a position is in a text, in bytes, by UTF-16. Both are given as JSON, the position first.
+/// Says the place of a position in a text, in bytes, by UTF-16. Both are given as JSON, the position first.
 pub fn offset(said: &mut Said, row: &str) {
     let (position, text) = said.cut(row, " ");
     let position = read(said, position, Position::new(0, 0));
@@ -100,7 +100,8 @@ pub fn offset(said: &mut Said, row: &str) {
     }
 }
 
-/// The lines of a text, which is given as JSON, and whether there is one more: as `Text::new` ends them, and by the standard.
+/// Says the lines of a text, which is given as JSON, and whether there is one more: as `Text::new` ends them, and by
+/// the standard.
 pub fn lines(said: &mut Said, text: &str) {
     let text = read(said, text, String::new(said.alloc));
     let made = Text::new(said.alloc, text.as_str());
