@@ -16,11 +16,11 @@ use Rattle.lsp_queue.specs.Queue.{Pending, Asked, pending_of, count_of, all_ids,
 pub data Act (P : Type 0) : Type 0 where
   -- it sends a notification
   tells : List ℕ → Data → Act P
-  -- it sends a request of its own, and keeps this for the reply
+  -- it sends a request, and keeps this for the reply
   asks : List ℕ → Data → P → Act P
   -- it answers the client's request with this id
   replies : Id → Result Data ErrorObject → Act P
-  -- it cancels each request of its own that keeps such a payload, if it has no reply yet
+  -- it cancels each of its requests that keeps such a payload, if it has no reply yet
   cancels : (P → Bool) → Act P
 
 -- at a wake nothing is done, and nothing changes
@@ -86,9 +86,9 @@ module _ {P : Type 0} where
     sent = d.sent ++ request (number (pos (count_of d.asked))) method params ∷ [];
   }
 
-  -- What an act makes of the queues. A request of the server's own is sent only if an id is left for it. An answer is
-  -- sent only if the request is held, and it is held no more. Requests of the server's own are cancelled that have no
-  -- reply yet, in the order of their ids, and their replies are still awaited.
+  -- What an act does to the queues. A request of the server is sent only if an id is left for it. An answer is sent
+  -- only if the request is held, and then it is no longer held. Requests of the server are cancelled that have no reply
+  -- yet, in the order of their ids, and their replies are still awaited.
   abbrev pub does : Queues P → Act P → Queues P
   does d (tells method params) = with_message d (notification method params)
   does d (asks method params payload) = if is_spent (count_of d.asked) then d

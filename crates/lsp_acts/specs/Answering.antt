@@ -1,4 +1,4 @@
--- What comes of a message whose params are read by type, and what is shown to the user.
+-- The acts at a message whose params are read by type, and those that show something to the user.
 use Rattle.serde.specs.Event.{Event}
 use Rattle.serde_json.specs.Data.{Data, object, member, no_members, string, number, unsigned}
 use Rattle.std.specs.Prelude.{◌≡◌, ◌++◌, ℕ, List, [], ◌∷◌, Option, codes}

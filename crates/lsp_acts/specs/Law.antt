@@ -47,7 +47,7 @@ abbrev pub how_many : (Message → Bool) → List Message → ℕ
 how_many p [] = 0
 how_many p (m ∷ ms) = one_if (p m) + how_many p ms
 
--- 1 if a request is held under the id, else 0
+-- 1 if a request is held under the id, otherwise 0
 abbrev pub held_under : Id → Pending (Unit {0}) → ℕ
 held_under id held = one_if (is_some (map.get held id))
 
@@ -203,8 +203,8 @@ module _ {P : Type 0} where
   abbrev pub brings : Id → List (Sent P) → List (Call P) → Option P
   brings id sent before = if was_given id before then None else kept_under id sent
 
-  -- Of these calls, which follow what was done at `initialized`: each reply of the client comes to the server with the
-  -- payload of its own request, once. One to no such request, or not the first, reaches nobody.
+  -- In these calls, which follow what was done at `initialized`, each reply of the client reaches the server with the
+  -- payload of its own request, once. A reply to no such request, or a second one, reaches nobody.
   abbrev pub GivesOwnPayloads : List (Act P) → List (Call P) → Type 0
   GivesOwnPayloads begun calls =
       (before after : List (Call P)) (call : Call P) (id : Id) → calls ≡ before ++ call ∷ after
@@ -254,8 +254,9 @@ module _ {S P : Type 0} (may : Stated S P) where
   PartsFirst old (x ∷ rest) acts new = PartsAt old x.came x.sent acts new
 
   -- The server's part of a session from `initialized` on, from its state at the result to its last: it did this, then
-  -- took these calls at what came up to `shutdown` or `exit`, and did its last acts at `shutdown`, by its stated
-  -- meaning. What its acts send is all that is sent, each in its place. These are the requests that it sent.
+  -- took these calls at the messages and wake-ups up to `shutdown` or `exit`, and did its last acts at `shutdown`, by
+  -- its stated meaning. The messages of its acts are all that is sent, each in its place. These are the requests that
+  -- it sent.
   pub record TakesPart (start last : S) (opening : Exchange) (later : List Exchange) : Type 0 where
     pub begun : List (Act P)
     pub calls : List (Call P)
@@ -334,9 +335,9 @@ module _ {S P : Type 0} (may : Stated S P) where
     pub once : stop ≢ exhausted → (id : Id) → AnswersLast id all stop held answer
     pub cancelled : (id : Id) → AnswersCancelled id all stop answer
     pub none_held : IsSome shutdown_reply → held ≡ map.empty
-    -- Each reply of the client comes to the server with the payload of its own request, once, and each act is sent in
+    -- Each reply of the client reaches the server with the payload of its own request, once, and each act is sent in
     -- its place, from the server's first state to the one after the last exchange. That is its last state, unless an
-    -- allocation failed at the message that came next.
+    -- allocation failed at the next message.
     pub after : S
     pub payloads : GivesPayloads first after all
     pub kept : (stop ≡ exhausted) ⊎ (last ≡ after)

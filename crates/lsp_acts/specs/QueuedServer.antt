@@ -19,9 +19,10 @@ module _ {S P : Type 0} (may : Stated S P) where
       (after : S × Queues P) × Acts may.takes_back (may.at_initialized old.0) old.1 after
       × (sent ≡ after.1.sent) × (new ≡ (after.0, cleared after.1))
 
-  -- A request is held and handed to the server. A notification is told to it; a held request that it cancels, and that
-  -- the server left, is then answered. A reply to a request of the server's own comes to it with the payload of that
-  -- request, and another reply is dropped. At a wake there is no message, and it does what it stated of one.
+  -- A request is held and passed to the server. The server is notified of a notification. A held request that it
+  -- cancels, and that the server did not answer, is then answered. A reply to a request of the server reaches it with
+  -- the payload of that request, and another reply is dropped. At a wake-up there is no message, and it does what it
+  -- stated about one.
   abbrev pub Works : S × Queues P → Option Message → S × Queues P → Type 0
   Works old (Some (request id method params)) new =
       Acts may.takes_back (may.requested old.0 id method params) (holds old.1 id) new
@@ -50,8 +51,8 @@ module _ {S P : Type 0} (may : Stated S P) where
   PartsSending old id sent new = (after : S × Queues P) × Parts old id after
       × (sent ≡ after.1.sent) × (new ≡ (after.0, cleared after.1))
 
-  -- A server beside its queues, as a service; if an allocation failed nothing is said of it. A reply to a request of
-  -- its own may cross the `shutdown` of its client, so one that comes then is passed over.
+  -- A server with its queues, as a service. If an allocation failed, nothing is said about it. A reply to one of its
+  -- requests may cross the `shutdown` of its client, so one that arrives then is skipped.
   abbrev pub with_queues : Behavior (QueuedServer S P)
   with_queues = record {
     initializes = λ old params outcome new. may.initializes old.server params outcome new.server

@@ -74,8 +74,9 @@ module _ {S J F P : Type 0} (plain : Plain S P) (may : StatedJobs S J F P) where
     pub taken : AreTakenAt later turns
     pub linked : AreTurns plain may start turns now
 
-  -- A wake after these exchanges is the turn that follows theirs. What is done in it is sent, but for what is lost. In
-  -- it nothing is done, or a job that stands there says something, or what a job asked is cancelled.
+  -- A wake-up after these exchanges is the turn that follows theirs. The acts of the turn are sent, except those that
+  -- are lost. In the turn nothing is done, or a job that stands there sends a message, or a request of a job is
+  -- cancelled.
   pub record WakeSends (first : S) (earlier : List Exchange) (output : List Message) : Type 0 where
     pub turns : List (Turn plain may)
     pub turn : Turn plain may

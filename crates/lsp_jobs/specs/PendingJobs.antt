@@ -28,7 +28,7 @@ module _ {A : Type 0} where
   with_job name job pending = λ n. if same_name n name then Some job else pending n
 
 module _ {J F : Type 0} (may : OfJob J F) where
-  -- A pending job reports or asks the client, and goes on; or it came to something, and is pending no more.
+  -- A pending job reports or sends the client a request, and goes on; or it has its result, and is no longer pending.
   abbrev pub Tells : JobName → PendingJobs J → FromJob F → PendingJobs J → Type 0
   Tells name old (reports method params) new =
       (job : J) × (old name ≡ Some job) × may.reports job method params × (new ≡ old)

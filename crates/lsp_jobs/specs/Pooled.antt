@@ -39,13 +39,14 @@ reply_at name came = reply_with name (reply_of came)
 
 -- what a server states of its jobs
 module _ {S J F P : Type 0} (may : StatedJobs S J F P) where
-  -- A job ended so, and is pending no more. The server sees that and does something, and then this reply is sent.
+  -- A job ended with this end, and is no longer pending. The server is notified of it and returns acts, and then this
+  -- reply is sent.
   abbrev pub Ends : JobName → End F → List (Act P) → S × PendingJobs J → List (Act P) → S × PendingJobs J → Type 0
   Ends name end reply old acts new =
       (first : List (Act P)) × SeesEnd may old.0 name end first new.0 × (acts ≡ first ++ reply)
       × (new.1 ≡ unanswered acts old.1)
 
-  -- the same without a reply, behind acts that were done before
+  -- the same without a reply, after acts that were done before
   abbrev pub EndsThen : JobName → End F → S × PendingJobs J × List (Act P) → S × PendingJobs J × List (Act P) → Type 0
   EndsThen name end old new =
       (acts : List (Act P)) × Ends name end [] (old.0, old.1) acts (new.0, new.1) × (new.2 ≡ old.2 ++ acts)
@@ -153,16 +154,16 @@ module _ {S J F P : Type 0} (may : StatedJobs S J F P) where
     pub acts : all ≡ cancels (of_job number) ∷ []
     pub same : new ≡ old
 
-  -- At a wake nothing is done, or a job reports, or asks the client, or came to something. Or what a job asked that
-  -- waits no more is cancelled.
+  -- At a wake-up nothing is done, or a job reports, or sends the client a request, or has its result. Or a request of a
+  -- job is cancelled that no longer waits.
   abbrev pub Wakes : S × PendingJobs J → List (Act (RequestOrigin P)) → S × PendingJobs J → Type 0
   Wakes old all new = ((all ≡ []) × (new ≡ old))
       ⊎ (Reports old all new
       ⊎ (Asks old all new ⊎ (ByServers (λ acts. Finishes old acts new) all ⊎ Withdraws old all new)))
 
-  -- What a server with its jobs may do. A request that the server may call long is answered by a job that is for it,
-  -- or at once; another by the server. A reply to a request of a job is not told to the server. At `shutdown` no job
-  -- is started, and none is pending any more.
+  -- What a server with its jobs may do. A request that the server may call long is answered by a job that is for it, or
+  -- at once; another one by the server. The server is not notified of a reply to a request of a job. At `shutdown` no
+  -- job is started, and none is pending any longer.
   abbrev pub with_jobs : Plain S P → Plain (S × PendingJobs J) (RequestOrigin P)
   with_jobs plain = record {
     initializes = λ old params outcome new. plain.initializes old.0 params outcome new.0

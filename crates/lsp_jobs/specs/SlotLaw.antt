@@ -54,12 +54,12 @@ module _ {J : Type 0} where
   slot_of (Start slot job) = slot
   slot_of (Stop slot) = slot
 
-  -- none of these changes is of this slot
+  -- none of these changes is about this slot
   abbrev pub LeavesAlone : Id → List (SlotChange J) → Type 0
   LeavesAlone slot [] = Unit {0}
   LeavesAlone slot (change ∷ changes) = (same_id slot (slot_of change) ≡ false) × LeavesAlone slot changes
 
-  -- The last of these changes that is of this slot starts this job there.
+  -- The last of these changes that is about this slot starts this job there.
   pub record StartsLast (changes : List (SlotChange J)) (slot : Id) (job : J) : Type 0 where
     pub before : List (SlotChange J)
     pub after : List (SlotChange J)

@@ -63,8 +63,9 @@ pub record BreaksActs (last : List Exchange) (acts : List Act) : Type 0 where
   pub awaited : Awaited (event_of came) waits
   pub are : acts ≡ waits ++ (map took part ++ lost not_sent ∷ [])
 
--- `shutdown` came. The transport took what the service gave then, and the reply was sent, whatever the transport
--- answered, and only then something was awaited: responses that were passed over, and one event, the last one.
+-- `shutdown` arrived. The transport took the messages that the service returned then, and the reply was sent, whatever
+-- the transport answered. Only then the session waited: for responses that were skipped, and for one event, the last
+-- one.
 pub record ShutdownReplyInOrder (shutdown_reply : Message) (stop : Stop) (last : List Exchange)
     (acts : List Act) : Type 0 where
   pub ask : Message
@@ -83,9 +84,9 @@ pub record ShutdownReplyInOrder (shutdown_reply : Message) (stop : Stop) (last :
   pub is : last
       ≡ record { came = Some ask; sent = parting ++ shutdown_reply ∷ [] } ∷ (map passed_over late ++ later)
 
--- The acts at the end of a session after so many whole exchanges, and its last exchanges. If a message decided, nothing
--- else was awaited. If no more came, that was the event, or 2^64 - 1 exchanges were all. If an allocation failed, one
--- more message or wake came.
+-- The acts at the end of a session after this many whole exchanges, and its last exchanges. If a message decided, the
+-- session waited for nothing else. If the messages ended, that was the event, or 2^64 - 1 exchanges were all. If an
+-- allocation failed, there was one more message or wake-up.
 abbrev pub EndsInOrder : ℕ → Stop → Option Message → List Exchange → List Act → Type 0
 EndsInOrder count stop (Some shutdown_reply) last acts =
     ShutdownReplyInOrder shutdown_reply stop last acts

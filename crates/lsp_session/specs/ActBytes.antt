@@ -53,7 +53,7 @@ module _ (limit : Limits) where
   ReadParts (Some end) outcome new parts = (outcome ≡ Ok None) × (new ≡ Some end) × (parts ≡ [])
 
   -- The parts that were taken for an event, before and after which the messages had these ends: those of a message, of
-  -- a content part that was passed over, of the end of the input or of a fault. Once the messages have ended nothing is
+  -- a content part that was skipped, of the end of the input or of a fault. Once the messages have ended nothing is
   -- taken.
   abbrev pub EventParts : Option ReadEnd → Event → Option ReadEnd → Parts → Type 0
   EventParts None (message m) new parts = AreOf (Ok (Some m)) parts
@@ -63,8 +63,8 @@ module _ (limit : Limits) where
   EventParts None event new parts = ⊥
   EventParts (Some end) event new parts = (event ≡ closed) × (parts ≡ [])
 
-  -- What a policy allowed at an event. A wake tells of a content part that is no message, with a fault that the policy
-  -- passes. At each other event the policy stays as it is.
+  -- What a policy allowed at an event. A wake-up reports a content part that is no message, with a fault that the
+  -- policy allows to be skipped. At each other event the policy stays as it is.
   abbrev pub AllowsAt : {L : Type 0} → (L → ReadFault → L → Type 0) → L → Event → L → Parts → Type 0
   AllowsAt passes old woken new parts =
       (fault : ReadFault) × (is_of_content fault ≡ true) × AreOf (Err fault) parts × passes old fault new
@@ -121,8 +121,8 @@ bytes_given [] = []
 bytes_given ((gave event, parts) ∷ notes) = bytes_given notes
 bytes_given ((act, parts) ∷ notes) = concat parts ++ bytes_given notes
 
--- A session in the bytes that passed: the acts are those of the session's exchanges, in order, and the bytes of each
--- are told. It is answered by why it stopped, and by what ended the messages and the writes.
+-- A session in its bytes: the acts are those of the session's exchanges, in order, and the bytes of each are stated.
+-- Its result is why it stopped, and what ended the messages and the writes.
 pub record ToldSession (limit : Limits) (P : SessionPart) (notes : List Note) (result : Result SessionEnd
     SessionFault) : Type 0 where
   pub exchanges : List Exchange

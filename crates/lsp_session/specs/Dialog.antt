@@ -1,4 +1,5 @@
--- A session as its client has it: a client that waits only for what is owed to it is never awaited in vain.
+-- A session as its client sees it: a client that waits only for messages which are due to it is never kept waiting by a
+-- session that waits for it.
 use Rattle.std.specs.Prelude.{◌≡◌, Bool, true, List, [], ◌∷◌, ◌++◌}
 use Rattle.lsp_message.specs.Message.{Message}
 use Rattle.lsp_session.specs.Account.{Act, gave, took, lost}

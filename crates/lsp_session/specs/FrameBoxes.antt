@@ -14,7 +14,7 @@ abbrev pub kept_write : Option WriteFault → Result (Unit {0}) WriteFault
 kept_write None = Ok tt
 kept_write (Some fault) = Err fault
 
--- what a sender is told of a write
+-- what a sender learns about a write
 abbrev pub Told : Result (Unit {0}) SendFault → Option WriteFault → Type 0
 Told (Ok done) None = Unit {0}
 Told (Err (Closed back)) (Some (Output kind)) = Unit {0}

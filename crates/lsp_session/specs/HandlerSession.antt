@@ -11,7 +11,7 @@ initialize_result capabilities = object (member (codes "capabilities") capabilit
 
 module _ {H : Type 0} (answers : H → Id → List ℕ → Data → Result Data ErrorObject → H
     → Type 0) (notes : H → List ℕ → Data → H → Type 0) where
-  -- A request gets one reply, under its id, a notification is told to the handler, and a response is dropped.
+  -- A request gets one reply, under its id, the handler is notified of a notification, and a response is dropped.
   abbrev pub Handles : H → Message → List Message → H → Type 0
   Handles old (request i method params) replies new =
       (outcome : Result Data ErrorObject) × answers old i method params outcome new
@@ -20,9 +20,9 @@ module _ {H : Type 0} (answers : H → Id → List ℕ → Data → Result Data 
       × (replies ≡ [])
   Handles old (response i outcome) replies new = (new ≡ old) × (replies ≡ [])
 
-  -- `initialize` is answered with the capabilities, and nothing is sent at `initialized`, at a wake, or at `shutdown`
-  -- but its reply. These leave the handler alone. After `shutdown` nothing is passed over: it asks nothing, so no
-  -- response is owed to it.
+  -- `initialize` is answered with the capabilities, and nothing is sent at `initialized`, at a wake-up, or at
+  -- `shutdown` except its reply. These leave the handler alone. After `shutdown` no response is skipped: a handler
+  -- sends no requests, so none is due to it.
   abbrev pub of_handler : Data → Behavior H
   of_handler capabilities = record {
     initializes = λ old params outcome new. (outcome ≡ Ok (initialize_result capabilities))

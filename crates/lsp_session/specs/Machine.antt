@@ -72,7 +72,7 @@ abbrev pub reply_of : Stage → Stage → Option Id
 reply_of (Asked id) Serving = Some id
 reply_of new old = None
 
--- how a session ended, or how it ends if it takes no more events
+-- how a session ended, or how it ends if it takes no further event
 abbrev pub outcome_of : Stage → SessionOutcome
 outcome_of Starting = served_by (Err disconnected)
 outcome_of Replied = served_by (Err disconnected)

@@ -1,4 +1,4 @@
--- Content parts that are no messages, and an inbox that passes over them (LSP 3.17, "Base Protocol").
+-- Content parts that are no messages, and an inbox that skips them (LSP 3.17, "Base Protocol").
 use Rattle.std.specs.Prelude.{◌≡◌, Bool, true, false, Option, Some, None, Err}
 use Rattle.lsp_message.specs.declared.frame.ReadFault.{ReadFault}
 use Rattle.lsp_message.specs.declared.frame.ReadFault.TheVariants.{BodyNotText, NoJson, NoMessage, Batch}
@@ -22,9 +22,9 @@ ended_at_content (Some (Fault fault)) = is_of_content fault
 ended_at_content end = false
 
 module _ {L : Type 0} (passes : L → ReadFault → L → Type 0) (limit : Limits) where
-  -- What one receive gives. For a wake the bytes begin with a content part that is no message, the policy passes its
-  -- fault, and what follows it is left. Each other event is that of an inbox which passes over nothing, and the
-  -- policy passes nothing.
+  -- What one receive returns. For a wake-up the bytes begin with a content part that is no message, the policy allows
+  -- its fault to be skipped, and the bytes after it are left. Each other event is that of an inbox which skips nothing,
+  -- and the policy allows nothing.
   abbrev pub TolerantGives : Stream × L → Event → Stream × L → Type 0
   TolerantGives old woken new =
       (fault : ReadFault) × (is_of_content fault ≡ true)

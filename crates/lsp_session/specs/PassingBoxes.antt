@@ -1,4 +1,4 @@
--- An inbox over a reader that may pass over what is no message, as contracts see it.
+-- An inbox on a reader that may skip content parts which are no messages, as contracts see it.
 use Rattle.std.specs.Prelude.{◌≡◌, ◌⊎◌, ℕ, List, true, Option, Some, None, Result, Ok, Err}
 use Rattle.lsp_message.specs.declared.frame.ReadFault.{ReadFault}
 use Rattle.lsp_message.specs.View.{message_view}
@@ -41,8 +41,8 @@ module _ {R L : Type 0} (remaining : R → Option (List ℕ)) where
       (new.reader.ghost_name ≡ old.reader.ghost_name)
       × (new.policy.ghost_name ≡ old.policy.ghost_name) × (new.limits ≡ old.limits)
 
-  -- One read gives a message, or that no more come, or a fault that ends nothing yet. The policy passes nothing. For a
-  -- private clause.
+  -- One read returns a message, or that the messages ended, or a fault that ends nothing yet. The policy allows nothing
+  -- to be skipped. For a private clause.
   abbrev pub ReadsNext : TolerantInbox R L → Result (Option msg.Message) ReadFault
       → TolerantInbox R L → Type 0
   ReadsNext old (Ok next) new =

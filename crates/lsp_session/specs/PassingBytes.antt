@@ -11,7 +11,7 @@ use Rattle.lsp_session.specs.declared.loops.handler.SessionEnd.{SessionEnd}
 use Rattle.lsp_session.specs.declared.loops.stream_session.SessionFault.{SessionFault}
 use Rattle.lsp_session.specs.Passing.{is_of_content}
 
--- a policy with this clause never passes over anything
+-- a policy with this clause never skips anything
 abbrev pub PassesNothingOver : {L : Type 0} → (L → ReadFault → L → Type 0) → Type 0
 PassesNothingOver {L} passes = (old : L) (fault : ReadFault) (new : L) → passes old fault new → ⊥
 
@@ -24,19 +24,19 @@ module _ {L : Type 0} (passes : L → ReadFault → L → Type 0) (limit : Limit
       × (reading_within limit old.0 ≡ record { outcome = Err fault; rest = new.0 })
       × passes old.1 fault new.1
 
-  -- The first frame of the text is this message, and the policy passes nothing; or it is passed over, and the session
-  -- is woken.
+  -- The first frame of the text is this message, and the policy allows nothing to be skipped; or the frame is skipped,
+  -- and the session is woken.
   abbrev pub ReadsFrame : List ℕ × L → Option Message → List ℕ × L → Type 0
   ReadsFrame old (Some m) new = Begins limit old.0 m new.0 × (new.1 ≡ old.1)
   ReadsFrame old None new = PassesOver old new
 
-  -- The policy passes no more, but perhaps of the frame at which an allocation failed.
+  -- The policy allows nothing further to be skipped, except perhaps the frame at which an allocation failed.
   abbrev pub HearsLast : Stop → List ℕ × L → L → Type 0
   HearsLast exhausted now last = (last ≡ now.1) ⊎ ((rest : List ℕ) × PassesOver now (rest, last))
   HearsLast stop now last = last ≡ now.1
 
-  -- A session whose messages and wakes are the first frames of a text. Of its end, of what is left of the text and of
-  -- what was written the same is said as of a session that passes over nothing.
+  -- A session whose messages and wake-ups are the first frames of a text. About its end, the rest of the text and the
+  -- bytes that were written, it says the same as about a session that skips nothing.
   abbrev pub GivesAndTells : SessionPart → List ℕ → Option (List ℕ) → L → L → Option (List ℕ)
       → Option (List ℕ) → Result SessionEnd SessionFault → Type 0
   GivesAndTells P text left first last before after result =

@@ -1,8 +1,8 @@
--- A session over one value with both ends: all that is to be sent for a message is sent before anything else is
--- awaited. So a client may wait for it before it sends on. Of `initialize`, of each request before it and of `shutdown`
--- it is the reply; of a request in between it is the reply if the service answers at once, as `AnswersRequests` says.
--- From `initialized` up to `shutdown` the session waits for wakes too, as its transport says. Of two values, each with
--- one end, this says neither.
+-- A session on one value with both ends: everything that is to be sent for a message is sent before the session waits
+-- for anything else. So a client may wait for it before it sends more. For `initialize`, for each request before it and
+-- for `shutdown` this includes the reply. For a request in between it does if the service answers at once, as
+-- `AnswersRequests` says. From `initialized` up to `shutdown` the session also waits for wake-ups, as its transport
+-- says. About two values, each with one end, this says neither.
 use Rattle.std.specs.List.{FoldsTo, list_all}
 use Rattle.std.specs.Prelude.{◌≡◌, ◌≤◌, ◌-◌, ◌^◌, ◌⊎◌, ◌&&◌, if◌then◌else◌, ℕ, Bool, true, false, List, [], ◌∷◌, ◌++◌}
 use Rattle.std.specs.Prelude.{length, map, Option, Some, None, Ok, Err}
@@ -19,16 +19,16 @@ abbrev pub event_of : Option Message → Event
 event_of None = woken
 event_of (Some m) = message m
 
--- a response after `shutdown` that is passed over: nothing is sent for it
+-- a response after `shutdown` that is skipped: nothing is sent for it
 abbrev pub passed_over : Message → Exchange
 passed_over m = record { came = Some m; sent = [] }
 
--- the events that bring these responses, and one event behind them
+-- the events with these responses, and one event after them
 abbrev pub behind : List Message → Event → List Event
 behind late event = map message late ++ event ∷ []
 
--- After the reply to `shutdown`, and behind responses that are passed over, one event comes. A message decides, and
--- nothing is sent for it, or an allocation fails at it; nothing comes in time; or no more comes.
+-- After the reply to `shutdown`, and after responses that are skipped, there is one event. A message decides, and
+-- nothing is sent for it, or an allocation fails at it; nothing arrives in time; or the messages end.
 abbrev pub StopsAfterShutdown : Event → Stop → List Exchange → Type 0
 StopsAfterShutdown (message m) decided later = later ≡ record { came = Some m; sent = [] } ∷ []
 StopsAfterShutdown (message m) exhausted later = later ≡ []
@@ -86,8 +86,9 @@ module _ {L : Type 0} (receives listens : Receives L) where
       pub taken : FoldsTo (Takes sends) met part mid
       pub refuses : sends mid not_sent (Err fault) new
 
-    -- `shutdown` comes. What the service gives then is taken, and the reply is sent, whatever the transport answers,
-    -- and only then something is received: responses that are passed over, and one event, the last one.
+    -- `shutdown` arrives. The transport takes the messages that the service returns then, and the reply is sent,
+    -- whatever the transport answers. Only then the session receives: responses that are skipped, and one event, the
+    -- last one.
     pub record OffersShutdownReplyFirst (phase : Phase) (shutdown_reply : Message) (stop : Stop)
         (last : List Exchange) (old new : L) : Type 0 where
       pub ask : Message
@@ -108,9 +109,9 @@ module _ {L : Type 0} (receives listens : Receives L) where
       pub is : last
           ≡ record { came = Some ask; sent = parting ++ shutdown_reply ∷ [] } ∷ (map passed_over late ++ later)
 
-    -- How a session ends in this phase, after so many whole exchanges, and the exchanges of that end. If a message
-    -- decided, nothing else is awaited. If no more comes, that is the event, or 2^64 - 1 exchanges were all. If an
-    -- allocation fails, one more message or wake came.
+    -- How a session ends in this phase, after this many whole exchanges, and the exchanges of that end. If a message
+    -- decided, the session waits for nothing else. If the messages end, that is the event, or 2^64 - 1 exchanges were
+    -- all. If an allocation fails, there was one more message or wake-up.
     abbrev pub EndsTalk : Phase → ℕ → Stop → Option Message → List Exchange → L → L → Type 0
     EndsTalk phase count stop (Some shutdown_reply) last old new =
         OffersShutdownReplyFirst phase shutdown_reply stop last old new

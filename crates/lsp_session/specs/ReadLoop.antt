@@ -38,8 +38,8 @@ module _ (limit : Limits) where
   HasRead (up_to next) text ms rest =
       (at : List ℕ) × PassesAll limit text ms at × Begins limit at next rest
 
-  -- The record of what was read of a text, so far, and of what came of it: `Got` is said of its
-  -- messages, `Left` of what follows them.
+  -- The record of what was read of a text so far, and of its result. `Got` is about its messages, `Left` about the
+  -- bytes after them.
   pub record ReadsOver (extent : Extent) (text : List ℕ) (Got : List Message → Type 0)
       (Left : List ℕ → Type 0) : Type 0 where
     pub messages : List Message
@@ -65,7 +65,7 @@ module _ {O : Type 0} (limit : Limits) (sends : Sends O) (text : List ℕ) (old 
   abbrev pub Unread : List ℕ → Type 0
   Unread rest = left ≡ Some rest
 
-  -- a part of the message that follows may be taken, and nothing behind it
+  -- a part of the message that follows may be taken, and nothing after it
   abbrev pub UnreadWithin : List ℕ → Type 0
   UnreadWithin rest = StopsWithin left (reading_within limit rest)
 

@@ -1,4 +1,5 @@
--- A session of a server (LSP 3.17, "Server lifecycle"): what is sent for which message, and where a session may stop.
+-- A session of a server (LSP 3.17, "Server lifecycle"): which messages are sent for which message, and where a session
+-- may stop.
 use Rattle.serde_json.specs.Data.{Data}
 use Rattle.std.specs.Bool.{MatchBool}
 use Rattle.std.specs.List.{filter_map}
@@ -30,7 +31,7 @@ pub record Behavior (S : Type 0) : Type 1 where
   pub at_shutdown : S → Id → List Message → S → Type 0
   -- what it may be if an allocation failed in `initialize` or at `initialized`
   pub after_memory_fault : S → S → Type 0
-  -- whether a response that comes after `shutdown` is passed over
+  -- whether a response that arrives after `shutdown` is skipped
   pub passes_late : Bool
 
 -- A message that came, or none if the service was woken, and what the outbox was offered for it, in order. It took all
@@ -40,7 +41,7 @@ pub record Exchange : Type 0 where
   pub came : Option Message
   pub sent : List Message
 
--- what came, and the messages of that
+-- the messages and wake-ups of the exchanges, and then the messages alone
 abbrev pub came_of : List Exchange → List (Option Message)
 came_of exchanges = map (λ (x : Exchange). x.came) exchanges
 
@@ -58,7 +59,7 @@ SessionAnswer = Result SessionEnd ProtocolFault
 pub data Stop : Type 0 where
   -- the last one decided
   decided : Stop
-  -- no more came
+  -- the messages ended
   no_more : Stop
   -- nothing came in time
   timed_out : Stop
@@ -123,10 +124,10 @@ module _ {S : Type 0} (may : Behavior S) where
       × may.at_shutdown s i parting s' × (sent ≡ parting ++ null_reply i ∷ []) × (next ≡ asked i)
   Leaves s m sent next s' = (sent ≡ []) × (next ≡ ended None (Ok Closed)) × (s' ≡ s)
 
-  -- In this phase this message comes; this is sent for it; this is the next phase, and the service then. Before
-  -- `initialize` each other request is answered with an error, and a notification but `exit` is dropped. With no
-  -- message the service is woken: from `initialized` up to `shutdown`, and nowhere else. After `shutdown` a response is
-  -- passed over, if the service says so.
+  -- In this phase this message arrives; these messages are sent for it; this is the next phase, and the service then.
+  -- Before `initialize` each other request is answered with an error, and a notification except `exit` is dropped. With
+  -- no message the service is woken: from `initialized` up to `shutdown`, and nowhere else. After `shutdown` a response
+  -- is skipped, if the service says so.
   abbrev pub Step : Phase → S → Option Message → List Message → Phase → S → Type 0
   Step starting s (Some (request i method params)) sent next s' =
       MatchBool (is_initialize (request i method params))

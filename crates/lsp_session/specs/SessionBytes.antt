@@ -19,7 +19,7 @@ abbrev pub ReadsMessage : Limits → List ℕ → Option Message → List ℕ �
 ReadsMessage limit text (Some m) rest = Begins limit text m rest
 ReadsMessage limit text None rest = ⊥
 
--- the writer got frames of all of these messages but the last one
+-- the writer got frames of all of these messages except the last one
 abbrev pub GetsAllButLast : List Message → Option (List ℕ) → Option (List ℕ) → Type 0
 GetsAllButLast ms old new = (whole : List Message) × (last : Message) × (ms ≡ whole ++ last ∷ [])
     × GetsFrames whole old new
@@ -30,9 +30,9 @@ IsUnsent stop (Some shutdown_reply) = Unit {0}
 IsUnsent (refused fault) None = Unit {0}
 IsUnsent stop None = ⊥
 
--- A session whose messages and wakes are read from a text, one after another, as `reads` says of each. `Ends` is said
--- of its end and of the rest of the text, `Wrote` of what was written. A session in threads has three tables of its own
--- for this record.
+-- A session whose messages and wake-ups are read from a text, one after another, as `reads` says of each. `Ends` is
+-- about its end and the rest of the text, `Wrote` about the bytes that were written. A session in threads has three
+-- tables of its own for this record.
 pub record SessionOver {At : Type 0} (reads : At → Option Message → At
     → Type 0) (P : SessionPart) (text : At)
     (Ends : SessionAnswer → Stop → Option Message → At → Type 0) (Wrote : Stop → Option Message
@@ -55,8 +55,9 @@ LeftAfter limit no_more at left = (rest : List ℕ)
     × (reading_within limit at ≡ record { outcome = Ok None; rest = rest }) × (left ≡ Some rest)
 LeftAfter limit stop at left = ⊥
 
--- What is left if a write or an allocation failed. If the last message decided, or the outbox refused what was sent for
--- it, all that follows that message is left. Elsewhere a part of what came next may be taken, and nothing behind it.
+-- The bytes that are left if a write or an allocation failed. If the last message decided, or the outbox refused a
+-- message that was sent for it, all bytes after that message are left. Otherwise a part of the next message may be
+-- taken, and nothing after it.
 abbrev pub LeftWithin : Limits → Stop → List ℕ → Option (List ℕ) → Type 0
 LeftWithin limit decided at left = left ≡ Some at
 LeftWithin limit (refused refusal) at left = left ≡ Some at
@@ -81,9 +82,9 @@ Ends limit left (Err (Read fault)) answer stop shutdown_reply at =
 Ends limit left (Err (Write fault)) answer stop shutdown_reply at = LeftWithin limit stop at left
 Ends limit left (Err Memory) answer stop shutdown_reply at = LeftWithin limit stop at left
 
--- What the writer got of all that was sent: frames of it; or, if a write failed, frames of all but the last message,
--- which was not sent, and a beginning of a frame of that one; or, if an allocation failed, frames of all, or of all but
--- the last message, which was not sent.
+-- The bytes that the writer got: frames of all messages that were sent; or, if a write failed, frames of all except the
+-- last one, which was not sent, and a prefix of a frame of that one; or, if an allocation failed, frames of all, or of
+-- all except the last one, which was not sent.
 abbrev pub Wrote : Option (List ℕ) → Option (List ℕ) → Result SessionEnd SessionFault → Stop
     → Option Message → List Message → Type 0
 Wrote old new (Err (Write fault)) stop shutdown_reply sends =

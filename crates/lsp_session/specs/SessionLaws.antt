@@ -148,8 +148,8 @@ WasOffered stop exchanges = Unit {0}
 -- Of a session that passes over responses after `shutdown`, or not, and whose service may speak before the reply to it,
 -- or not.
 module _ (passes_late speaks_last : Bool) where
-  -- After the reply to `shutdown`, which went out under this id, nothing is sent. Responses come that are passed over,
-  -- if any are; then no message comes, or one that decides.
+  -- After the reply to `shutdown`, which was sent under this id, nothing is sent. Responses may arrive, which are
+  -- skipped; then no message arrives, or one that decides.
   abbrev pub AfterShutdown : Id → List Exchange → Stop → SessionAnswer → Type 0
   AfterShutdown id [] stop answer = StopsAt (asked id) stop answer
   AfterShutdown id (x ∷ rest) stop answer = (x.sent ≡ [])

@@ -1,4 +1,4 @@
--- Why a session stopped, as its result tells it.
+-- Why a session stopped, as its result says.
 use Rattle.std.specs.List.{list_all}
 use Rattle.std.specs.Prelude.{◌≡◌, Bool, true, not, List, Result, Ok, Err}
 use Rattle.lsp_message.specs.Message.{Message}
@@ -25,7 +25,7 @@ StopsFor reason exchanges stop shutdown_reply answer = reason ≡ reason_of stop
 abbrev pub is_no_exit : Message → Bool
 is_no_exit m = not (is_exit m)
 
--- A session stops at `exit`: if it stopped since no more messages came, none of those that came was `exit`.
+-- A session stops at `exit`: if it stopped because the messages ended, none of those that arrived was `exit`.
 abbrev pub StopsAtExit : Stop → List Message → Type 0
 StopsAtExit no_more messages = list_all is_no_exit messages ≡ true
 StopsAtExit stop messages = Unit {0}

@@ -22,8 +22,8 @@ abbrev pub is_open : Event → Bool
 is_open closed = false
 is_open event = true
 
--- The events brought these messages and wakes, in order, and no other, and ended as these did. At a failed allocation
--- one more message or wake came. After 2^64 - 1 events or more a session may end as if no more came.
+-- The events brought exactly these messages and wake-ups, in order, and ended as these did. At a failed allocation
+-- there was one more message or wake-up. After 2^64 - 1 events or more a session may end as if the messages had ended.
 abbrev pub Brings : List Event → List (Option Message) → Stop → Type 0
 Brings events came decided = (filter_map came_in events ≡ came) × (list_all is_open events ≡ true)
 Brings events came no_more =
@@ -40,8 +40,8 @@ Brings events came (refused fault) = (filter_map came_in events ≡ came)
 Brings events came exhausted = (next : Option Message)
     × (filter_map came_in events ≡ came ++ next ∷ []) × (list_all is_open events ≡ true)
 
--- `shutdown` came. After its reply responses came that were passed over, each an exchange for which nothing was sent.
--- Then exactly one event was awaited, the last one.
+-- `shutdown` arrived. After its reply responses arrived that were skipped, each an exchange for which nothing was sent.
+-- Then the session waited for exactly one event, the last one.
 pub record AwaitsLast (events : List Event) (shutdown_reply : Message) (stop : Stop)
     (exchanges : List Exchange) : Type 0 where
   pub earlier : List Event
@@ -75,7 +75,7 @@ module _ {O : Type 0} (sends : Sends O) where
   OffersLast old None new = new ≡ old
   OffersLast old (Some shutdown_reply) new = Offers sends shutdown_reply old new
 
-  -- the outbox took all but the last message, and refused that one
+  -- the outbox took all except the last message, and refused that one
   abbrev pub RefusesLast : O → List Message → SendFault → O → Type 0
   RefusesLast old output fault new =
       (taken : List Message) × (reply : Message) × (mid : O)

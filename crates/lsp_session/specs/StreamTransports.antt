@@ -74,7 +74,7 @@ module _ {R W L : Type 0} where
       × Gives parts [] parts (contents old.writer.now) (contents new.writer.now)
       × SentParts old.fault (sending m outcome) new.fault parts)
 
-  -- A session over a transport that was not used yet: the transcript tells it, byte for byte, and the transport has the
+  -- A session on a transport that was not used yet: the transcript has it, byte for byte, and the transport has the
   -- ends that it had. Each content part that was skipped is no message, and the policy allowed that.
   pub record Serves (passes : L → ReadFault → L → Type 0) (P : SessionPart) (old : StreamTransport R W L)
       (result : Result SessionEnd SessionFault) (new : StreamTransport R W L) : Type 0 where

@@ -24,8 +24,8 @@ module _ {I : Type 0} (receives : Receives I) where
 abbrev pub OffersAll : {O : Type 0} → Sends O → O → List Message → O → Type 0
 OffersAll sends = FoldsTo (λ old m new. Offers sends m old new)
 
--- The writer got frames of these messages, in order, and of one more, whose write failed so, a beginning of its frame
--- or nothing.
+-- The writer got frames of these messages, in order, and of one more, whose write failed with this fault, a prefix of
+-- its frame or nothing.
 abbrev pub BreaksOffAt : List Message → Message → WriteFault → Option (List ℕ) → Option (List ℕ)
     → Type 0
 BreaksOffAt ms m (Output kind) old new = GetsFramesAndPart ms m old new
