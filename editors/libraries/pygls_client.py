@@ -54,7 +54,7 @@ async def session(command):
     text = await client.protocol.send_request_async("sums/text", {"textDocument": {"uri": URI}})
     holds("the text", text == TEXT.replace("apple = 3", "😀ü = 3", 1))
     holds("a search", [it.name for it in await client.workspace_symbol_async(lsp.WorkspaceSymbolParams("pri"))] == ["prices"])
-    holds("an unknown method", await error_of(client.protocol.send_request("textDocument/rename", {})) == -32601)
+    holds("an unknown method", await error_of(client.protocol.send_request("sums/unknown", {})) == -32601)
     waiting = [client.protocol.send_request("sums/solved", {"textDocument": {"uri": URI}}) for _ in range(200)]
     for id, future in list(client.protocol._request_futures.items()):
         if future in waiting:

@@ -16,14 +16,20 @@ from gui import COMMAND, HOME, Gui
 PORT = 2087
 
 
-def serve(listener):
-    """Starts the server for the first client, over its socket."""
-    connection, _ = listener.accept()
-    subprocess.run(COMMAND, stdin=connection, stdout=connection, check=False)
+def serve(connection):
+    """Starts the server for a client, once it sends something. Spyder first looks whether somebody listens, and sends nothing then."""
+    if connection.recv(1, socket.MSG_PEEK):
+        subprocess.run(COMMAND, stdin=connection, stdout=connection, check=False)
+    connection.close()
+
+
+def accept(listener):
+    while True:
+        threading.Thread(target=serve, args=[listener.accept()[0]], daemon=True).start()
 
 
 listener = socket.create_server(("127.0.0.1", PORT))
-threading.Thread(target=serve, args=[listener], daemon=True).start()
+threading.Thread(target=accept, args=[listener], daemon=True).start()
 with Gui("spyder", "py") as gui:
     gui.environment.update(QTWEBENGINE_DISABLE_SANDBOX="1", QTWEBENGINE_CHROMIUM_FLAGS="--no-sandbox")
     # The first start writes the settings.
@@ -38,4 +44,7 @@ with Gui("spyder", "py") as gui:
     gui.click(400, 500)
     gui.edits("ctrl+shift+z")
     gui.key("ctrl+w", "ctrl+q")
+    time.sleep(10)
+    # (it may still ask something)
+    spyder.terminate()
     gui.ends(spyder, 1)

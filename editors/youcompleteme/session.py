@@ -62,7 +62,12 @@ keys("uuuuuuuu:w\r")
 keys("\x12\x12\x12:w\r")
 keys(":e dos.sums\r", 3)
 keys("ggOz = 2\x1bGoé = 3\rw = nope\x1b:w\r")
-keys(":call writefile([len(getloclist(0))], 'marks')\r")
+# (the marks come some time after the text)
+for _ in range(10):
+    keys(":YcmForceCompileAndDiagnostics\r", 2)
+    keys(":call writefile([len(getloclist(0))], 'marks')\r")
+    if (HOME / "marks").read_text() == "2\n":
+        break
 keys(":bwipeout!\r\x1b:qa!\r")
 _, status = os.waitpid(process, 0)
 time.sleep(3)
