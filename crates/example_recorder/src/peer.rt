@@ -3,7 +3,8 @@ use lsp_server::transports::StandardOutput;
 use std::io::{self, Write};
 use std::net::{Net, OpenListener, OpenStream, Shutdown, TcpListener, TcpStream};
 
-/// A client or a server: what it sends, and what is sent to it. If it is at a socket, it reads the end when the writer is dropped.
+/// A client or a server: a reader of the bytes that it sends, and a writer to it. If it is at a socket, it reads the end
+/// when the writer is dropped.
 #[derive(Drop)]
 pub struct Peer<F, T> {
     pub reader: F,

@@ -203,7 +203,7 @@ impl Sums {
     }
 
     /// If a body was passed over since the last message, no text is sure: each is lost, and its marks go, until its client sends it whole.
-    /// The client is told so first.
+    /// The first act logs this at the client.
     fn lose_texts(&mut self) -> Result<Acts, AllocError>
         ensures { IfOk result (λ acts. LosesAloud self.old.documents (map act_seen acts.items) self.new.documents) }
     {

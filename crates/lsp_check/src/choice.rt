@@ -30,7 +30,7 @@ pub struct Choice {
 }
 
 impl Choice {
-    /// Whether a breach of a rule by a message of this method is not told.
+    /// Returns whether a breach of a rule by a message of this method is left out of the report.
     pub fn ignores(&self, rule: Rule, method: &str) -> bool {
         self.ignored.iter().any(|it| it.is_for(rule, method))
     }

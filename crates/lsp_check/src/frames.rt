@@ -68,7 +68,7 @@ impl Frames {
         self.contents.push(piece)
     }
 
-    /// The place of what comes next: how many bytes stand before it.
+    /// The place of the next frame: how many bytes stand before it.
     pub fn place(&self) -> u64 {
         self.contents.place()
     }

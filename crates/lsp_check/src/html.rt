@@ -164,7 +164,7 @@ impl Page {
         Ok(())
     }
 
-    /// Takes the lines that were told.
+    /// Takes the lines that were reported.
     fn keep_told(&mut self) -> Result<(), AllocError> {
         let told = std::str::from_utf8(self.told.as_slice()).unwrap_or("");
         for line in told.lines() {

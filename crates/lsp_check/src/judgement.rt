@@ -385,7 +385,7 @@ fn asks(entry: &Entry, method: &str) -> bool
     }
 }
 
-/// Tells a request that has no reply, and says whether that is a breach that is told.
+/// Reports a request that has no reply, and returns whether that is a breach which is reported.
 fn tell_asked<W: Write>(
     asked: &Asked,
     over: Option<Unanswered>,
@@ -422,7 +422,7 @@ fn tell_asked<W: Write>(
     Ok(kind == Kind::Breach)
 }
 
-/// What a breach is about, with a text of its own.
+/// The subject of a breach, with its own copy of the text.
 #[derive(Drop)]
 enum Subject {
     Nothing,

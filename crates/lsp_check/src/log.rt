@@ -6,7 +6,7 @@ use lsp_watch::{LoggedMessage, Rule};
 use std::alloc::Global;
 use std::io::BufRead;
 
-/// What is told of a last line without an end that is no message.
+/// The report about a last line that has no line end and is no message.
 const CUT: &str = "the file is cut here";
 
 const UNREAD: &str = "a message stands here, and can't be read";

@@ -31,7 +31,7 @@ pub fn show_stats<R: Files + Input + AllocGlobal, E: Write, W: Write>(
     Ok(status)
 }
 
-/// Counts the requests of a file, and says whether it had a message. If not, that is told.
+/// Counts the requests of a file, and returns whether it had a message. If it had none, that is reported.
 fn read_stats<R: Files + Input + AllocGlobal, E: Write>(
     rt: &R,
     stats: &mut Stats,

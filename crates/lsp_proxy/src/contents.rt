@@ -3,7 +3,7 @@ use lsp_message::{Front, Limits, front};
 use memchr::memmem;
 use std::alloc::{AllocError, Global};
 
-/// What stands in front of what came.
+/// The frame at the front of the bytes that arrived.
 #[derive(Clone, Copy)]
 pub enum Next<'c> {
     /// A frame with this content part.
@@ -17,7 +17,7 @@ pub enum Next<'c> {
 /// Frames of which pieces come, and their content parts.
 #[derive(Drop)]
 pub struct Contents {
-    /// What came and was not passed.
+    /// The bytes that arrived and were not passed yet.
     bytes: Vec<u8>,
     /// How many bytes were passed.
     passed: u64,

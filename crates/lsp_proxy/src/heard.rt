@@ -1,22 +1,22 @@
-// What a thread that passes bytes on tells of them.
+// The reports of a thread that passes bytes on.
 use crate::passing::Hears;
 use crossbeam_channel::Sender;
 use lsp_watch::Way;
 use std::alloc::AllocError;
 use std::sync::Wait;
 
-/// What is told of one way.
+/// A report about one direction.
 #[derive(Drop)]
 pub enum Heard {
     /// This was read, and is written next.
     Piece(Way, Vec<u8>),
     /// The side that sends this way has closed.
     End(Way),
-    /// There was no memory to tell what passes.
+    /// There was no memory to report bytes that passed.
     Lost,
 }
 
-/// Tells what passes one way. If nobody listens any more, it passes untold.
+/// Reports the bytes that pass in one direction. If nobody receives the reports any longer, the bytes still pass.
 #[derive(Drop)]
 pub struct Teller<R> {
     rt: R,
@@ -25,17 +25,17 @@ pub struct Teller<R> {
 }
 
 impl<R: Wait + AllocGlobal> Teller<R> {
-    /// One that tells what passes this way into the channel.
+    /// Makes one that sends its reports about this direction into the channel.
     pub fn new(rt: R, way: Way, sender: Sender<Heard>) -> Teller<R> {
         Teller { rt, way, sender }
     }
 
-    /// Which way it tells of.
+    /// Returns the direction that it reports about.
     pub fn way(&self) -> Way {
         self.way
     }
 
-    /// Tells that nothing more passes.
+    /// Reports that no more bytes pass.
     pub fn end(&self) {
         drop(self.sender.send(&self.rt, Heard::End(self.way)));
     }

@@ -1,4 +1,4 @@
-//! What stands between a client and a server, passes the bytes of both on unchanged, and tells what passes.
+//! For a program between a client and a server: it passes the bytes of both on unchanged, and reports the bytes that pass.
 #![tactic(auto)]
 
 mod contents;

@@ -34,7 +34,7 @@ pub struct Unanswered {
     pub way: Way,
     /// The place of the request.
     pub place: u64,
-    /// A breach if the server was asked. A client may end before its user has answered, so of a client it cannot be told.
+    /// A breach if the server was asked. A client may end before its user has answered, so this is not known of a client.
     pub verdict: Verdict,
 }
 

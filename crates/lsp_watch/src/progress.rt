@@ -125,7 +125,7 @@ impl Created {
     }
 }
 
-/// Whether a request lets progress of this way be told under a token.
+/// Returns whether a request lets its receiver or its sender report progress in this direction under a token.
 fn is_given(asked: &[Asked], way: Way, name: &LoggedId) -> bool
     ensures { result ≡ list_any (gives way name.now) asked.now }
 {
@@ -179,7 +179,7 @@ fn gives_token(asked: &Asked, way: Way, name: &LoggedId) -> bool
     }
 }
 
-/// Whether progress under a token may be told while an `initialize` waits (LSP 3.17, "Initialize Request"): it is that of the
+/// Returns whether progress under a token may be sent while an `initialize` waits (LSP 3.17, "Initialize Request"): it is that of the
 /// request.
 pub fn may_tell(asked: &[Asked], name: &LoggedId) -> bool
     ensures { result ≡ list_any (opens_under name.now) asked.now }

@@ -16,7 +16,7 @@ use std::fmt;
 /// - `$/cancelRequest` or `window/workDoneProgress/cancel` of what there is not.
 /// - Progress under a token of `window/workDoneProgress/create` before the client has answered that.
 /// - Progress under one token for two things, or in another order than begin, reports, end.
-/// - Progress behind the `end` under a token of a request's params: such a token is valid as long as the request has no reply.
+/// - Progress after the `end` under a token of a request's params: such a token is valid as long as the request has no reply.
 /// - `exit` between the result of `initialize` and `initialized`.
 #[derive(Clone, Copy)]
 pub enum Rule {
@@ -25,7 +25,7 @@ pub enum Rule {
     /// The content of a message is JSON.
     NotJson,
     /// The content was not read: it nests too deeply, or has a text or a number that this reader does not take. Whether it breaks a
-    /// rule cannot be told.
+    /// rule is not known.
     Unreadable,
     /// LSP has no batches.
     Batch,
@@ -73,7 +73,7 @@ pub enum Rule {
     AlreadyOpen,
     /// A document is open when it changes or closes.
     NotOpen,
-    /// The version of a document increases with each change. A version that is missing or null is passed over.
+    /// The version of a document increases with each change. A version that is missing or null is skipped.
     VersionNotHigher,
     /// Progress has a token that is open: of a request that has no reply yet, or of a `window/workDoneProgress/create` that was not
     /// refused.

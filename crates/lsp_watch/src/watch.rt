@@ -205,7 +205,7 @@ impl Watch {
         }
     }
 
-    /// Whether the message begins a new session: an `initialize` behind `exit`, or any `initialize` if the session was seen from its middle
+    /// Whether the message begins a new session: an `initialize` after `exit`, or any `initialize` if the session was seen from its middle
     /// on. Call `finish` then, and go on with a new watch.
     pub fn begins_session(&self, way: Way, message: &LoggedMessage) -> bool
         ensures { (log : Log) → Saw self.now log

@@ -24,7 +24,7 @@ impl Way {
         }
     }
 
-    /// Whether the client sends what goes this way.
+    /// Returns whether the client sends the messages of this direction.
     pub fn is_from_client(self) -> bool
         ensures { result ≡ from_client self }
     {
