@@ -22,7 +22,8 @@ import logs
 PROGRAM = os.environ.get("LSP_CHECK")
 EDITOR_LOGS = sorted(it.name for it in DATA.glob("*.log"))
 RECORDINGS = sorted(it.name for it in DATA.glob("*.lsp"))
-BOTH = ["--fail-on", "both", "--level", "implied"]
+ALL_RULES = ["--rules", "capabilities"]
+BOTH = ["--fail-on", "both", "--level", "implied", *ALL_RULES]
 
 
 def check(*words, given=b""):
@@ -43,8 +44,10 @@ def check_chosen():
             for level in ("must", "should", "implied"):
                 is_strong = ["must", "should", "implied"].index(said.level) <= ["must", "should", "implied"].index(level)
                 is_wanted = rule != "Unreadable" and is_strong and (side == "both" or side in found)
-                expect(f"{rule}: {side} {level}", check("--fail-on", side, "--level", level, name).returncode, int(is_wanted))
+                expect(f"{rule}: {side} {level}", check("--fail-on", side, "--level", level, *ALL_RULES, name).returncode, int(is_wanted))
         expect(f"{rule}: ignored", check(*BOTH, "--ignore", rule, name).returncode, 0)
+    for rule in judge.OF_CAPABILITIES:
+        expect(f"{rule}: not chosen", check("--fail-on", "both", "--level", "implied", f"{rule}_broken.lsp").returncode, 0)
     log = "vscode_text.log"
     expect("a method", check(*BOTH, "--ignore", "AlreadyOpen@textDocument/didOpen", log).returncode, 0)
     expect("another method", check(*BOTH, "--ignore", "AlreadyOpen@textDocument/didClose", log).returncode, 1)
@@ -64,6 +67,8 @@ def check_statuses():
         ("no word", [], b"", 2),
         ("no rule", ["--ignore", "Nothing", "-"], clean, 2),
         ("no side", ["--fail-on", "nobody", "-"], clean, 2),
+        ("no group", ["--rules", "texts", "-"], clean, 2),
+        ("a first line that is no message", ["-"], b"# recorded on a Sunday\n" + clean, 3),
         ("frames of one direction", ["-"], b"Content-Length: 2\r\n\r\n{}", 3),
         ("a line that is no message", ["-"], clean + b"hello\n", 3),
         ("that, and a breach", ["-"], (DATA / "NoReply_broken.lsp").read_bytes() + b"hello\n", 1),
@@ -103,6 +108,7 @@ def check_rules():
     lines = [json.loads(it) for it in check("rules", "--json").stdout.decode().splitlines()]
     came = {it["rule"]: judge.Rule(it["side"], it["level"], it["sentence"], it["section"]) for it in lines}
     expect("the rules", came, judge.RULES)
+    expect("the group of capabilities", {it["rule"] for it in lines if it["group"] == "capabilities"}, judge.OF_CAPABILITIES)
     for line in lines:
         expect("whether both logs are there", [(DATA / line[it]).is_file() for it in ("keeps", "breaks")], [True, True])
     expect("the table", len(check("rules").stdout.decode().splitlines()), len(judge.RULES))

@@ -1,8 +1,8 @@
 #!/usr/bin/env python3
-"""A client of `lsp_demo serve`: one whole session through pipes, then the ways in which a session ends badly.
+"""A client of `lsp_demo serve`: one whole session through pipes, and then sessions with each bad end.
 
-Each reply is compared byte for byte, and so are the exit status and what is printed on standard error. It shows what
-it sent and saw, and ends in status 1 at the first difference. A text that is awaited may end in `..`: its tail is open.
+It compares each reply byte for byte, the exit status, and standard error. It prints the messages that it sent and
+received, and ends in status 1 at the first difference. If an expected text ends in `..`, its end may be any.
 """
 import json
 import sys

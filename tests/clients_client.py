@@ -1,11 +1,11 @@
 #!/usr/bin/env python3
-"""Clients of servers that serve one after another, over a socket: what goes wrong with one is a line on standard error, and the next is
-served as ever. Some come and go, send no message, reset, leave without `shutdown`, or say nothing more; one comes while the program has no
-descriptors, and one reads late while the program is stopped and goes on.
+"""Clients of servers that serve one client after another, over a socket. If a session fails, one line goes to standard error, and the next
+client is served. Some clients connect and close, send no message, reset, leave without `shutdown`, or stop in the middle. One connects while
+the program has no descriptors, and one reads late while the program is stopped and continued.
 
-Then the same servers are started with the words of LSP 3.17 ("Implementation Considerations"): over standard input and output, by a client
-that listens at a port or at a socket file itself, with words that are refused, and at addresses where nobody may listen. It ends in status 1
-at the first difference.
+Then the same servers are started with the arguments of LSP 3.17 ("Implementation Considerations"): over standard input and output, with a
+client that listens at a port or at a socket file, with arguments that are refused, and at addresses where nobody may listen. It ends in
+status 1 at the first difference.
 """
 import json
 import resource

@@ -1,9 +1,9 @@
 #!/usr/bin/env python3
-"""A client that has `lsp_demo serve` keep thousands of requests, cancels half of them in a random order, and releases the rest.
+"""A client that leaves thousands of requests of `lsp_demo serve` pending, cancels half of them in a random order, and releases the rest.
 
-Each id has exactly one reply: the cancelled ones an error with code -32800, in the order of the cancellations, and then the
-others their params, in the order in which the requests came. It also cancels what is not there, sends an id again, and
-ends a session while requests are kept. It ends in status 1 at the first difference.
+Each id has exactly one reply. A cancelled request gets an error with code -32800, in the order of the cancellations. The others then get
+their params, in the order of the requests. The client also cancels requests that do not exist, reuses an id, and ends a session while
+requests are pending. It ends in status 1 at the first difference.
 """
 import random
 import sys

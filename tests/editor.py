@@ -1,12 +1,12 @@
 #!/usr/bin/env python3
-"""Plays an editor: one session with a language server, which `session` below tells. Put your own requests there.
+"""Plays an editor: one session with a language server, which `session` below describes. Put your own requests there.
 
-    tests/editor.py PROGRAM [WORD ..]            starts the program, and speaks with it through pipes
-    tests/editor.py --connect HOST:PORT          connects to a server that runs, as under `rt try -- HOST:PORT`
-    tests/editor.py --socket PROGRAM [WORD ..]   starts it with an address behind its words, for two sessions, one after another
+    tests/editor.py PROGRAM [ARGUMENT ..]            starts the program, and talks to it through pipes
+    tests/editor.py --connect HOST:PORT              connects to a running server, for example under `rt try -- HOST:PORT`
+    tests/editor.py --socket PROGRAM [ARGUMENT ..]   starts it with an address after its arguments, for two sessions, one after the other
 
-Nothing is waited for longer than PATIENCE seconds, 300 if the environment does not say how many. It ends in status 1 at the first difference,
-and says what it was. It needs `lsp.py`, which `tools/new` brings too.
+It waits at most PATIENCE seconds for one thing, 300 if the environment does not set it. At the first difference it prints the difference and
+ends in status 1. It needs `lsp.py`, which `tools/new` copies too.
 """
 import sys
 from pathlib import Path

@@ -1,8 +1,8 @@
 #!/usr/bin/env python3
-"""A client whose answer to a request of the server's own crosses its `shutdown` (LSP 3.17, "Shutdown Request", forbids it requests and
-notifications there, and no response): the server passes the answer over, waits for `exit`, and ends in status 0. So `example_diagnostics` and
-`example_search` in each of its ways. A request in that place ends the session still. And a client whose hover waits when it sends
-`shutdown`: the hover has its reply before that has.
+"""A client whose reply to a request of the server crosses the client's `shutdown`. LSP 3.17 ("Shutdown Request") forbids requests and
+notifications there, and no responses. So the server ignores the reply, waits for `exit`, and ends in status 0: `example_diagnostics`, and
+`example_search` in each of its modes. A request at that place ends the session. Another client sends `shutdown` while its hover waits: the
+hover gets its reply first.
 
 It ends in status 1 at the first difference.
 """

@@ -1,9 +1,10 @@
 #!/usr/bin/env python3
-"""A client of `example_linter` over a socket, which types faster than its texts are looked at.
+"""A client of `example_linter` over a socket, which edits faster than the server analyses.
 
-It keeps each text itself, and works out the marks of each version. The marks of a version that are published are those of its text, all of
-them; none of an older version follows, and those of the last come last. None are of a version that was left behind a whole request ago. A
-closed document has no marks, and gets none. A request whose id is a document's URI, the name of its slot, is answered as ever.
+It keeps each text itself, and computes the marks of each version. The marks that the server publishes for a version are all the marks of
+its text, and no others. No marks of an older version follow them, and those of the last version come last. Once a version was replaced and
+a later request was answered, no marks of that version arrive. A closed document has no marks, and gets none. A request whose id is the URI
+of a document, which is the key of the document's job, gets its reply.
 
 The edits come from a fixed seed. It ends in status 1 at the first difference.
 """

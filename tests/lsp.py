@@ -1,7 +1,6 @@
-"""What all clients share: frames, the start and the end of a program, a client of it, and the verdict.
+"""The code that all clients share: frames, the start and the end of a program, a client of it, and the verdict.
 
-A program is waited for PATIENCE seconds at most, wherever it is waited for. The environment may set fewer, to try what a client
-says of a program that hangs.
+A client waits at most PATIENCE seconds for a program. The environment may set fewer, to try a program that hangs.
 """
 import argparse
 import json

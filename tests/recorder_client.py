@@ -1,7 +1,7 @@
 #!/usr/bin/env python3
-"""A client, `example_recorder` and a server, over TCP on 127.0.0.1 and through pipes: what is recorded, and what a replay says.
+"""A client, `example_recorder` and a server, over TCP on 127.0.0.1 and through pipes: recordings and replays.
 
-Each recording, each reply and each exit status is compared. `lsp_check` judges the recordings of odd messages. It ends in status 1 at the
+It compares each recording, each reply and each exit status. `lsp_check` judges the recordings of odd messages. It ends in status 1 at the
 first difference.
 """
 import json

@@ -1,17 +1,17 @@
 #!/usr/bin/env python3
-"""Plays the clients of recorded sessions, as real editors held them with real servers (`recordings/`), to the servers of this repository.
+"""Plays the clients of recorded sessions of real editors and servers (`recordings/`) to the servers of this repository.
 
-Each message of the client's is sent as soon as what its editor had seen before it has come. One thing is changed: the client counts positions
-as it did with the server of the recording, and offers no other way. Its answers to that server's own requests are left out, and a server that
-asks is told its configuration before anything else. What is looked at:
+It sends each message of the client as soon as the messages arrived that the editor had received before it. One thing is changed: the client
+counts positions as with the server of the recording, and offers no other encoding. Its replies to requests of that server are left out. A
+server that asks for its configuration gets it before anything else. It checks the following:
 
-- each request has one reply, each message has the type that LSP gives it (`typed.py`), and the status is that of LSP 3.17, "Exit Notification":
-  a client that never asks for `shutdown`, or leaves without `exit`, gets 1;
-- the text that `example_search` holds, behind each notification of a document, is that of a model here, and the marks of
-  `example_diagnostics` are those of its lines;
-- a change that can't be read, behind the client's last one, loses the text: none is held and nothing is marked, until it comes whole.
+- Each request has one reply, each message has the type of LSP (`typed.py`), and the status is that of LSP 3.17, "Exit Notification": a client
+  that never sends `shutdown`, or leaves without `exit`, gets 1.
+- After each notification of a document, the text of `example_search` is that of a model here, and the marks of `example_diagnostics` are those
+  of its lines.
+- After a change that can't be read, the text is lost: the server has no text and no marks, until the client sends the whole text.
 
-Then all messages of each recording, of both sides, go through `lsp_demo pump`, which has to give the same trees in the same order. It ends in
+Then all messages of each recording, of both sides, go through `lsp_demo pump`, which has to write the same trees in the same order. It ends in
 status 1 at the first difference.
 """
 import json

@@ -1,13 +1,13 @@
 #!/usr/bin/env python3
-"""A client of `example_search jobs` over a socket, which searches texts while it asks for something else.
+"""A client of `example_search jobs` over a socket, which sends other requests while a search runs.
 
-A hover is answered while a search runs, the search tells how far it is and is answered once, and a cancelled one has the error
--32800 or its outcome, and nothing else (LSP 3.17, "Cancellation Support", "Work Done Progress"). So has one that runs at `shutdown`,
-before that has its reply.
+A hover gets its reply while a search runs. The search reports its progress, and gets one reply. A cancelled search gets the error -32800 or
+its result, and nothing else (LSP 3.17, "Cancellation Support", "Work Done Progress"). So does a search that runs at `shutdown`, before
+`shutdown` gets its reply.
 
-Then it opens a document twice, as an editor does whose mode is called again, and has changes refused: the server's text is the client's
-or none, it tells why, and each way back brings the text back. It saves before it tells its changes, and in another session sends its
-settings unasked. It ends in status 1 at the first difference.
+Then the client opens a document twice, as an editor does whose mode is called again, and has changes refused. The server's text is the
+client's or lost, the server reports why, and each means to bring the text back works. The client saves before it sends its changes, and in
+another session pushes its settings. It ends in status 1 at the first difference.
 """
 import sys
 

@@ -1,7 +1,7 @@
 #!/usr/bin/env python3
-"""Clients that break the rules of a session, or end it, and then stay connected and say nothing: in threads and with jobs too the server
-ends at once, and says why; at `exit` also where it is spelled oddly. Over a socket the next client is served while they stay, and nothing is
-kept for them. One that says nothing at all gives way.
+"""Clients that break the rules of a session or end it, and then stay connected and send nothing. On one thread, in threads and with jobs the
+server ends at once and reports why, also at an `exit` that is spelled oddly. Over a socket the next client is served while they stay, and the
+server keeps nothing for them. A client that never sends anything is dropped.
 
 It ends in status 1 at the first difference.
 """

@@ -1,8 +1,8 @@
 #!/usr/bin/env python3
-"""A client of `lsp_demo tcp` on 127.0.0.1: the sessions of client.py through a socket, and what only a socket can do.
+"""A client of `lsp_demo tcp` on 127.0.0.1: the sessions of client.py through a socket, and cases that only a socket has: clients that send
+single bytes, stall, reset, flood, close one direction or never read.
 
-Each reply is compared byte for byte, and so are the exit status and what is printed on standard error. It ends in
-status 1 at the first difference.
+It compares each reply byte for byte, the exit status, and standard error. It ends in status 1 at the first difference.
 """
 import select
 import socket

@@ -1,11 +1,11 @@
 #!/usr/bin/env python3
-"""Says whether the messages of a language server have the members that LSP 3.17 gives them, by LSP's meta model.
+"""Checks whether the messages of a language server have the members of LSP 3.17, by LSP's meta model.
 
-    tests/typed.py RECORDING ..          what is wrong with the messages of each recording's server, a line each
-    tests/typed.py crates/PROGRAM ..     and with those in `stdout`, as it answers its `stdin`
+    tests/typed.py RECORDING ..          lists the errors in the messages of each recording's server, one on a line
+    tests/typed.py crates/PROGRAM ..     does the same for the messages in `stdout`, which reply to those in `stdin`
 
-A client hands each message that it sends to `Typed.sent`, and each that comes to `Typed.came`, which lists what is wrong with it: a key that
-the type does not have, a member that is missing or of another type, a null where none may be, a method that LSP does not have.
+A client passes each message that it sends to `Typed.sent`, and each that it receives to `Typed.came`. `came` lists the errors: a key that the
+type does not have, a member that is missing or has another type, a null where none is allowed, a method that LSP does not have.
 """
 import json
 import sys

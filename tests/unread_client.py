@@ -1,12 +1,12 @@
 #!/usr/bin/env python3
-"""A client that sends and never reads: how much memory that costs each way to run a session.
+"""A client that sends and never reads: the memory that this costs in each mode of a session.
 
-It sends 60 requests of 256 KB, or of `--length` bytes, which get their params back, and takes no reply. When nothing moves any more it
-notes the peak of the program's resident memory (Linux, `VmHWM`), and reads the first replies, which an idle program would not have.
-Lists of `{"":0}` and lists of lists take the most memory for a byte, and a string the least.
+It sends 60 requests of 256 KB, or of `--length` bytes, whose replies have their params, and reads no reply. When nothing moves any longer, it
+notes the peak of the program's resident memory (Linux, `VmHWM`), and reads the first replies, which shows that the program was busy. Lists of
+`{"":0}` and lists of lists take the most memory for a byte, and a string the least.
 
-With `--searches` it asks `example_search jobs` for so many lists of symbols of 1.3 MB each, takes none, and notes how much more memory the
-program has then than before (`VmRSS`), for each byte of the results. `--times` is how much that may be.
+With `--searches` it requests so many lists of symbols of 1.3 MB each from `example_search jobs`, reads none, and notes how much more memory
+the program has then than before (`VmRSS`), for each byte of the results. `--times` is the most that is allowed.
 """
 import argparse
 import json

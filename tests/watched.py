@@ -1,6 +1,6 @@
-"""Has `lsp_check` judge the sessions of the clients. A client may break rules, to see what comes of it; a server may not.
+"""Has `lsp_check` judge the sessions of the clients. A client may break rules, to test the server. A server may not.
 
-Where this is imported, each message that a client sends or looks at is shown to its session. All are judged at the end.
+If a client imports this, each message that it sends or receives is recorded in its session. All sessions are judged at the end.
 """
 import json
 import subprocess

@@ -19,7 +19,7 @@ OTHERWISE = {
     "WorkspaceSymbol.deprecated": "a `SymbolInformation` has it, and both are one type here",
     "workspace/symbol": "a `SymbolInformation` is read as a `WorkspaceSymbol`",
 }
-# Members that decide nothing, and are read leniently (docs/DECISIONS.md), as tokens of progress are.
+# Members that decide nothing, and are read leniently (docs/TYPES.md), as tokens of progress are.
 LENIENT = """VersionedTextDocumentIdentifier.version TextDocumentItem.languageId TextDocumentItem.version WorkspaceFolder.name
 InitializeParams.processId InitializeParams.clientInfo InitializeParams.locale InitializeParams.rootPath InitializeParams.trace
 CompletionParams.context SignatureHelpParams.context CodeActionContext.diagnostics CodeActionContext.triggerKind""".split()

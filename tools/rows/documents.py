@@ -2,7 +2,7 @@
 
 The model knows nothing of bytes: a text is a list of code points, a line a list of code points with its end, and a column a sum
 of what each code point takes in the encoding. It follows LSP 3.17, "Text Document Synchronization" and "Position", and what
-docs/DECISIONS.md says where they are silent; it was never made to follow the program.
+docs/DOCUMENTS.md says where they are silent; it was never made to follow the program.
 """
 import json
 import random
@@ -139,7 +139,7 @@ def agreed(params):
 
 
 def version_member(item):
-    """A version. None may be given, and any other value is none (docs/DECISIONS.md)."""
+    """A version. None may be given, and any other value is none (docs/DOCUMENTS.md)."""
     return item["version"] if is_whole(item.get("version")) else None
 
 

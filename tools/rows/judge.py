@@ -14,6 +14,7 @@ ASK = 'LSP 3.17, "Request Message"'
 CALLS = "JSON-RPC 2.0, section 4.1, and the method's section of LSP 3.17"
 INITIALIZE, INITIALIZED = 'LSP 3.17, "Initialize Request"', 'LSP 3.17, "Initialized Notification"'
 DOCUMENT = 'LSP 3.17, "DidOpenTextDocument Notification"'
+CAPABILITIES = 'LSP 3.17, "Capabilities"'
 
 # A rule: who breaks it, how strongly it is demanded, what it says, and where.
 Rule = namedtuple("Rule", "side level sentence section")
@@ -47,7 +48,29 @@ RULES = {
     "VersionNotHigher": Rule("client", "must", "the version of the document is not higher", 'LSP 3.17, "VersionedTextDocumentIdentifier"'),
     "NoSuchToken": Rule("sender", "must", "no request has this token, or it is over", 'LSP 3.17, "Work Done Progress" and "Partial Result Progress"'),
     "TokenEnded": Rule("sender", "should", "the progress of this token has ended", 'LSP 3.17, "Creating Work Done Progress"'),
+    "NotAnnounced": Rule("sender", "implied", "the server gives a result for a method that it did not announce or register", CAPABILITIES),
+    "AnnouncedUnknown": Rule("sender", "implied", "the server announced or registered this method, and answers that it does not know it", CAPABILITIES),
+    "ClientCannot": Rule("sender", "implied", "the client did not announce that it answers this request", CAPABILITIES),
+    "NeverOpened": Rule("sender", "implied", "the client never opened the document of these diagnostics", 'LSP 3.17, "PublishDiagnostics Notification"'),
 }
+# By which member of its capabilities a server announces a method, and by which path a client announces that it answers one.
+PROVIDERS = {f"textDocument/{it}": f"{it}Provider" for it in (
+    "hover definition declaration typeDefinition implementation references documentHighlight documentSymbol codeAction codeLens documentLink rename"
+    " foldingRange selectionRange completion signatureHelp inlayHint inlineValue linkedEditingRange moniker diagnostic").split()} | {
+    "textDocument/formatting": "documentFormattingProvider", "textDocument/rangeFormatting": "documentRangeFormattingProvider",
+    "textDocument/onTypeFormatting": "documentOnTypeFormattingProvider", "textDocument/documentColor": "colorProvider",
+    "textDocument/prepareCallHierarchy": "callHierarchyProvider", "textDocument/prepareTypeHierarchy": "typeHierarchyProvider",
+    "textDocument/semanticTokens/full": "semanticTokensProvider", "workspace/symbol": "workspaceSymbolProvider",
+    "workspace/executeCommand": "executeCommandProvider",
+}
+NEEDED = {
+    "window/workDoneProgress/create": "window workDoneProgress", "window/showDocument": "window showDocument support",
+    "workspace/configuration": "workspace configuration", "workspace/workspaceFolders": "workspace workspaceFolders", "workspace/applyEdit": "workspace applyEdit",
+    "workspace/semanticTokens/refresh": "workspace semanticTokens refreshSupport", "workspace/codeLens/refresh": "workspace codeLens refreshSupport",
+    "workspace/inlayHint/refresh": "workspace inlayHint refreshSupport", "workspace/inlineValue/refresh": "workspace inlineValue refreshSupport",
+    "workspace/diagnostic/refresh": "workspace diagnostics refreshSupport",
+}
+OF_CAPABILITIES = {"NotAnnounced", "AnnouncedUnknown", "ClientCannot", "NeverOpened"}
 # `lsp_check` reads no deeper content.
 MOST_DEPTH = 127
 DOCUMENTS, TOKENS = {"AlreadyOpen", "NotOpen", "VersionNotHigher"}, {"NoSuchToken", "TokenEnded"}
@@ -132,11 +155,57 @@ def kind(message):
     return "reply" if key(message.get("id")) else None
 
 
+class Capabilities:
+    """What both sides of one session announced, and what goes against it."""
+
+    def __init__(self):
+        self.server, self.client, self.registered, self.opened = {}, None, set(), set()
+
+    def see(self, way, message, asked):
+        """The rule that a message of the server breaks, and against which message. `asked` is the request that it answers."""
+        if way == "->" or self.client is None:
+            return None
+        sort, method = kind(message), message.get("method")
+        if sort == "request":
+            return ("ClientCannot", None) if method in NEEDED and not is_offered(dig(self.client, *NEEDED[method].split())) else None
+        if sort == "note":
+            uri = dig(message, "params", "uri")
+            is_unopened = method == "textDocument/publishDiagnostics" and isinstance(uri, str) and uri not in self.opened
+            return ("NeverOpened", None) if is_unopened else None
+        if sort != "reply" or not asked or asked["method"] not in PROVIDERS:
+            return None
+        has = is_offered(dig(self.server, PROVIDERS[asked["method"]])) or asked["method"] in self.registered
+        if is_success(message):
+            return None if has else ("NotAnnounced", asked["place"])
+        return ("AnnouncedUnknown", asked["place"]) if has and dig(message, "error", "code") == -32601 else None
+
+    def keep(self, way, message, asked):
+        sort, method = kind(message), message.get("method")
+        if opens(way, message):
+            self.client = dig(message, "params", "capabilities")
+            self.client = {} if self.client is None else self.client
+        if way == "->" and sort == "note" and method == "textDocument/didOpen" and isinstance(dig(message, "params", "textDocument", "uri"), str):
+            self.opened.add(message["params"]["textDocument"]["uri"])
+        if way == "<-" and sort == "request" and method == "client/registerCapability":
+            given = dig(message, "params", "registrations")
+            self.registered |= {it["method"] for it in given if isinstance(dig(it, "method"), str)} if isinstance(given, list) else set()
+        if sort == "reply" and asked and asked["opens"] and is_success(message):
+            self.server = dig(message, "result", "capabilities")
+
+
+def is_offered(value):
+    return value is not None and value is not False
+
+
+def is_success(message):
+    return message.get("error") is None and "result" in message
+
+
 class Judge:
     """Judges one session, message by message."""
 
-    def __init__(self, is_whole=True):
-        self.is_whole = is_whole
+    def __init__(self, is_whole=True, capabilities=None):
+        self.is_whole, self.capabilities = is_whole, capabilities
         self.asked, self.live, self.ended, self.documents = [], set(), {}, {}
         self.result = self.initialized = self.shutdown = self.exit = None
 
@@ -150,6 +219,11 @@ class Judge:
         if kind(message):
             parts = [self.order(way, message) or self.ids(way, message), self.document(place, way, message), self.progress(way, message)]
             found += [(rule, against, self.is_whole or against is not None) for rule, against in filter(None, parts)]
+            if self.capabilities:
+                asked = self.waiting(other(way), key(message["id"])) if kind(message) == "reply" else None
+                against = self.capabilities.see(way, message, asked)
+                found += [(*against, True)] if against else []
+                self.capabilities.keep(way, message, asked)
             self.keep(place, way, message)
         return found
 

@@ -22,8 +22,10 @@ def refuses(way, key, error):
     return line(way, id=key, error=error)
 
 
-ERROR = {"code": -32601, "message": "no such method"}
-INITIALIZE, RESULT = asks("->", 0, "initialize", {"processId": None, "rootUri": None, "capabilities": {}}), replies("<-", 0, {"capabilities": {}})
+ERROR, UNKNOWN = {"code": -32803, "message": "the project is not ready"}, {"code": -32601, "message": "no such method"}
+CAN = {"window": {"workDoneProgress": True}, "workspace": {"inlayHint": {"refreshSupport": True}}}
+INITIALIZE = asks("->", 0, "initialize", {"processId": None, "rootUri": None, "capabilities": CAN})
+RESULT, NOTHING = replies("<-", 0, {"capabilities": {"hoverProvider": True}}), replies("<-", 0, {"capabilities": {}})
 INITIALIZED = tells("->", "initialized", {})
 SHUTDOWN, DONE, EXIT = asks("->", 9, "shutdown"), replies("<-", 9), tells("->", "exit")
 PLACE = {"textDocument": {"uri": "file:///a"}, "position": {"line": 0, "character": 0}}
@@ -31,6 +33,7 @@ HOVER, HOVERED = asks("->", 1, "textDocument/hover", PLACE), replies("<-", 1)
 LOGGED = tells("<-", "window/logMessage", {"type": 3, "message": "ready"})
 OPEN = tells("->", "textDocument/didOpen", {"textDocument": {"uri": "file:///a", "languageId": "a", "version": 1, "text": ""}})
 CLOSE = tells("->", "textDocument/didClose", {"textDocument": {"uri": "file:///a"}})
+PUBLISH = tells("<-", "textDocument/publishDiagnostics", {"uri": "file:///a", "diagnostics": []})
 CREATE, CREATED = asks("<-", 1, "window/workDoneProgress/create", {"token": "t"}), replies("->", 1)
 
 
@@ -78,7 +81,7 @@ LOGS = {
     "NobodyAsked": (within(HOVER, HOVERED), within(HOVER, HOVERED, HOVERED)),
     "IdStillOpen": (within(HOVER, HOVERED, HOVER, HOVERED), within(HOVER, HOVER, HOVERED, HOVERED)),
     "NoReply": (within(HOVER, HOVERED), within(HOVER)),
-    "BeforeResult": ([INITIALIZE, LOGGED, *within()[1:]], [INITIALIZE, tells("<-", "textDocument/publishDiagnostics", {"uri": "file:///a", "diagnostics": []}), *within()[1:]]),
+    "BeforeResult": ([INITIALIZE, LOGGED, *within()[1:]], [INITIALIZE, tells("<-", "$/logTrace", {"message": "ready"}), *within()[1:]]),
     "BeforeInitialized": (within(OPEN), [INITIALIZE, RESULT, OPEN, INITIALIZED, SHUTDOWN, DONE, EXIT]),
     "SentAgain": (within(), within(INITIALIZED)),
     "AfterShutdown": (within(OPEN, CLOSE), [*within(OPEN)[:-1], CLOSE, EXIT]),
@@ -89,6 +92,10 @@ LOGS = {
     "NoSuchToken": (within(CREATE, CREATED, progress("begin"), progress("end")), within(CREATE, refuses("->", 1, ERROR), progress("begin"), progress("end"))),
     "TokenEnded": (within(CREATE, CREATED, progress("begin"), progress("report"), progress("end")),
                    within(CREATE, CREATED, progress("begin"), progress("end"), progress("report"))),
+    "NotAnnounced": (within(HOVER, HOVERED), [INITIALIZE, NOTHING, *within(HOVER, HOVERED)[2:]]),
+    "AnnouncedUnknown": (within(HOVER, refuses("<-", 1, ERROR)), within(HOVER, refuses("<-", 1, UNKNOWN))),
+    "ClientCannot": (within(CREATE, CREATED), within(asks("<-", 1, "workspace/configuration", {"items": []}), replies("->", 1, []))),
+    "NeverOpened": (within(OPEN, PUBLISH), within(PUBLISH)),
 }
 
 

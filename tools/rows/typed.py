@@ -61,7 +61,7 @@ def among(first, last):
 TEXT = kind(lambda value: isinstance(value, str))
 TRUTH = kind(lambda value: isinstance(value, bool))
 INTEGER = kind(is_whole)
-# `uinteger` goes to 2^31 - 1 by the standard. docs/DECISIONS.md says that a number up to 2^32 - 1 is read.
+# `uinteger` goes to 2^31 - 1 by the standard. docs/DOCUMENTS.md says that a number up to 2^32 - 1 is read.
 UNSIGNED = among(0, 2**32 - 1)
 NUMBER_OR_TEXT = kind(is_id)
 ANY = kind(lambda value: True)
@@ -69,7 +69,7 @@ ANY = kind(lambda value: True)
 LINE = Reader(lambda value: max(0, among(-(2**63), 2**32 - 1)(value)))
 # A number with a fraction, as JSON writes it.
 DECIMAL = Reader(lambda value: float(kind(lambda it: isinstance(it, float) or is_number(it))(value)), lambda key: 0.5)
-# A text that only informs. One that does not fit is as if it were the empty one (docs/DECISIONS.md).
+# A text that only informs. One that does not fit is as if it were the empty one (docs/TYPES.md).
 TEXT_OR_EMPTY = Reader(lambda value: value if isinstance(value, str) else "", is_kept=True)
 
 
@@ -103,7 +103,7 @@ def nullable(read):
 
 
 def if_fits(read):
-    """A member that only informs. One that does not fit is as if it were missing (docs/DECISIONS.md)."""
+    """A member that only informs. One that does not fit is as if it were missing (docs/TYPES.md)."""
 
     def or_none(value):
         try:
@@ -115,7 +115,7 @@ def if_fits(read):
 
 
 def those_that_fit(read):
-    """A list, without the items that do not fit (docs/DECISIONS.md)."""
+    """A list, without the items that do not fit (docs/TYPES.md)."""
     return Reader(lambda value: [it for it in items(if_fits(read), value) if it is not None], lambda key: [sample(read, key)])
 
 
@@ -586,14 +586,14 @@ def tokens_answer(text):
 
 def offset_answer(rest):
     """LSP 3.17, "Position": a character past the line's end is that end, and one within a pair is its start. A line ends with `\n` alone
-    (docs/DECISIONS.md)."""
+    (docs/DOCUMENTS.md)."""
     position, _, text = rest.partition(" ")
     found, text = read_as("Position", json.loads(position)), json.loads(text)
     return [str(len(text[: place(text, (found["line"], found["character"]), Counting("utf-16", False))].encode()))]
 
 
 def lines_answer(text):
-    """By docs/DECISIONS.md a line ends with `\\n` or `\\r\\n`, and by LSP 3.17, "Text Documents", also with `\\r`. Behind the last there is none."""
+    """By docs/DOCUMENTS.md a line ends with `\\n` or `\\r\\n`, and by LSP 3.17, "Text Documents", also with `\\r`. Behind the last there is none."""
     return [" ".join(it for ends in ("\r?\n", "\r\n|\n|\r") for it in [*map(quoted, re.split(ends, json.loads(text))), "none"])]
 
 

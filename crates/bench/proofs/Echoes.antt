@@ -5,9 +5,8 @@ use Rattle.lsp_message.specs.Id.{Id}
 use Rattle.lsp_message.specs.Message.{Message, response}
 use Rattle.lsp_acts.specs.Acts.{Act}
 use Rattle.lsp_acts.specs.declared.server.Server.{Ghosts as Plain}
-use Rattle.lsp_session.specs.Session.{Exchange}
-use Rattle.lsp_jobs.specs.Ends.{Came, ComesTo, End, Outcome, ended, found, gave, gave_up, out_of_memory}
-use Rattle.lsp_jobs.specs.Ends.{reply_of}
+use Rattle.lsp_session.specs.Session.{Exchange, offered}
+use Rattle.lsp_jobs.specs.Ends.{Came, ComesTo, End, Outcome, ended, found, gave, gave_up, out_of_memory, reply_of}
 use Rattle.lsp_jobs.specs.JobLaw.{AnswersRequest, LastRequest, RepliesItself}
 use Rattle.lsp_jobs.specs.Stated.{SeesEnd, StatedJobs}
 use Rattle.lsp_jobs.specs.declared.job_server.JobEnd.{JobEnd}
@@ -19,12 +18,13 @@ some_act [] after x e = absurd (cc (e))
 some_act (y ∷ before) after x e = absurd (cc (e))
 
 module _ {S J F P : Type 0} (plain : Plain S P) (may : StatedJobs S J F P)
-    (hears_none : (old : S) (name : JobName) (it : F) (acts : List (Act P)) (new : S) → may.hears old name it acts new
+    (hears_none : (old : S) (name : JobName) (it : F) (acts : List (Act P)) (new : S) → may.found_post old name it acts
+    new
     → acts ≡ [])
     (ends_none : (old : S) (name : JobName) (end : JobEnd) (acts : List (Act P)) (new : S)
-    → may.finishes old name end acts new → acts ≡ [])
+    → may.ended_post old name end acts new → acts ≡ [])
     (echoes : (job : J) (method : List ℕ) (params : Data) (reply : Option Outcome) (it : Option F)
-    → may.is_for job method params → may.comes_to job reply it → reply ≡ Some (Ok params)) where
+    → may.is_for job method params → may.run_post job reply it → reply ≡ Some (Ok params)) where
   -- the server does nothing at the end of a job
   silent : (old : S) (name : JobName) (end : End F) (acts : List (Act P)) (new : S) → SeesEnd may old name end acts new
       → acts ≡ []
@@ -33,7 +33,7 @@ module _ {S J F P : Type 0} (plain : Plain S P) (may : StatedJobs S J F P)
 
   -- a job that gives a result gives the params
   gives : (job : J) (method : List ℕ) (params result : Data) (came : Came F) → may.is_for job method params
-      → ComesTo may.comes_to job came → Ok result ≡ reply_of came → result ≡ params
+      → ComesTo may.run_post job came → Ok result ≡ reply_of came → result ≡ params
   gives job method params result (gave (Some outcome) it) is_for comes same =
       let given : ◌≡◌ {A = Option Outcome} (Some outcome) (Some (Ok params)) =
       echoes job method params (Some outcome) it is_for comes in
@@ -57,8 +57,9 @@ module _ {S J F P : Type 0} (plain : Plain S P) (may : StatedJobs S J F P)
 
   pub echo_at_wakes : (first : S) (exchanges : List Exchange)
       → ((earlier later : List Exchange) (x : Exchange) (before after : List Message) (id : Id) (outcome : Outcome)
-      → exchanges ≡ earlier ++ x ∷ later → x.came ≡ None → x.sent ≡ before ++ response id outcome ∷ after
-      → AnswersRequest plain may first earlier id outcome ⊎ RepliesItself plain may first earlier x.sent id outcome)
+      → exchanges ≡ earlier ++ x ∷ later → x.came ≡ None → offered x ≡ before ++ response id outcome ∷ after
+      → AnswersRequest plain may first earlier id outcome
+      ⊎ RepliesItself plain may first earlier (offered x) id outcome)
       → EchoesAtWakes exchanges
   echo_at_wakes first exchanges law earlier later x before after id result cut woken sent =
-      echoed first earlier x.sent id result (law earlier later x before after id (Ok result) cut woken sent)
+      echoed first earlier (offered x) id result (law earlier later x before after id (Ok result) cut woken sent)

@@ -9,10 +9,10 @@ use crate::speaking::Speaking;
 use crate::threads::ended;
 use lsp_jobs::laws::{requests_are_answered_by_their_jobs, session_with_jobs_keeps_laws};
 use lsp_jobs::{
-    AnsweredBy, Interrupted, Job, JobContext, JobOptions, JobResult, JobServer, NoSlots, PoolSize,
-    run_jobs,
+    AnsweredBy, Interrupted, Job, JobContext, JobOptions, JobResult, JobServer, NoKeyedJobs,
+    PoolSize, run_jobs,
 };
-use lsp_server::policies::EndSession;
+use lsp_server::policies::EndOnBadContent;
 use lsp_server::transports::StandardOutput;
 use lsp_server::{Request, StartFault, Threaded};
 use serde_json::Value;
@@ -29,7 +29,7 @@ struct Computation {
 
 /// Each request is a job.
 impl JobServer<Computation> for Speaking {
-    type Slots = NoSlots;
+    type KeyedJobs = NoKeyedJobs;
 
     fn is_long(&self, _request: &Request) -> bool {
         true
@@ -51,7 +51,7 @@ impl Job for Computation {
 
     ghost is_for = { λ job _ params. view job.params ≡ params };
 
-    ghost comes_to = { λ job reply _. reply ≡ Some (Ok (view job.params)) };
+    ghost run_post = { λ job reply _. reply ≡ Some (Ok (view job.params)) };
 
     fn run<C: JobContext>(self, context: &mut C) -> Result<JobResult<()>, Interrupted> {
         let _ = context;
@@ -95,7 +95,7 @@ where
     R: BufRead + Drop + Send + 'static,
     W: Write + Drop + Send + 'static,
     ensures { IfSome (R.remaining reader) (λ text. IfOk result (λ done.
-        ThreadsGiveOver true no_limit (λ exchanges stop shutdown_reply answer. EchoesAtWakes exchanges)
+        ThreadsGiveOver true no_limit (λ exchanges stop answer. EchoesAtWakes exchanges)
         text (W.contents writer) (W.contents done.writer) done.answer)) }
 {
     session_with_jobs_keeps_laws::<T, Speaking, Computation>();
@@ -105,7 +105,15 @@ where
         is_null: false,
     };
     let options = JobOptions::new(PoolSize::from(workers));
-    let (_, done) = run_jobs(rt, alloc, reader, writer, jobs, &mut EndSession, options);
+    let (_, done) = run_jobs(
+        rt,
+        alloc,
+        reader,
+        writer,
+        jobs,
+        &mut EndOnBadContent,
+        options,
+    );
     done
 }
 

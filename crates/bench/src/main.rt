@@ -12,7 +12,7 @@
 //!     bench all                                   each of these on the same input, under its name
 //!
 //! All but `queues` and `texts` read frames from standard input, and write frames to standard output. `speaking` is a server that speaks
-//! (`QueuedServer`), which gives the same replies. `all` leaves out `drops`, and `jobs`, whose replies come in the order in which they are
+//! (`ServerApplication`), which gives the same replies. `all` leaves out `drops`, and `jobs`, whose replies come in the order in which they are
 //! ready.
 #![tactic(auto)]
 

@@ -30,10 +30,10 @@ impl Handler for Echo {
     ghost use Rattle.serde_json.specs.View.{view};
     ghost use Rattle.std.specs.Prelude.{◌≡◌, Ok, if◌then◌else◌};
 
-    ghost answers = { λ old id method params outcome new. (new ≡ old)
+    ghost answer_post = { λ old id method params outcome new. (new ≡ old)
         × (outcome ≡ Ok (if old.echoes then params else view old.reply)) };
 
-    ghost notes = { λ old method params new. new ≡ old };
+    ghost note_post = { λ old method params new. new ≡ old };
 
     fn answer(&mut self, request: &Request) -> Result<Result<Value, ResponseError>, AllocError> {
         if self.echoes {

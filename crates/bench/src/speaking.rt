@@ -1,10 +1,10 @@
 //! The same session with a `Server`, although it sends nothing first.
 use crate::session::ended;
 use anyhow::Result;
-use lsp_server::policies::EndSession;
+use lsp_server::policies::EndOnBadContent;
 use lsp_server::transports::Transcript;
 use lsp_server::{
-    Act, Limits, Notification, QueuedServer, Request, ResponseError, Server, StreamTransport,
+    Act, Limits, Notification, Request, ResponseError, Server, ServerApplication, StreamTransport,
 };
 use lsp_session::initialize_result;
 use serde_json::{Map, Value};
@@ -25,21 +25,21 @@ impl Server for Speaking {
     ghost use Rattle.std.specs.Prelude.{◌≡◌, ◌∷◌, [], Ok, codes, if◌then◌else◌};
     ghost use Rattle.lsp_acts.specs.Acts.{replies};
 
-    type Payload = ();
+    type PendingData = ();
 
-    ghost initializes = { λ old _ outcome new. (new ≡ old)
+    ghost initialize_post = { λ old _ outcome new. (new ≡ old)
         × (outcome ≡ Ok (object (member (codes "capabilities") (object no_members) no_members))) };
 
-    ghost at_initialized = { λ old acts new. (new ≡ old) × (acts ≡ []) };
+    ghost initialized_post = { λ old acts new. (new ≡ old) × (acts ≡ []) };
 
-    ghost requested = { λ old id _ params acts new. (new ≡ old)
+    ghost request_post = { λ old id _ params acts new. (new ≡ old)
         × (acts ≡ replies id (Ok (if old.is_null then null else params)) ∷ []) };
 
-    ghost notified = { λ old _ _ acts new. (new ≡ old) × (acts ≡ []) };
+    ghost notification_post = { λ old _ _ acts new. (new ≡ old) × (acts ≡ []) };
 
-    ghost replied = { λ old _ _ acts new. (new ≡ old) × (acts ≡ []) };
+    ghost response_post = { λ old _ _ acts new. (new ≡ old) × (acts ≡ []) };
 
-    ghost takes_back = { λ old _ new. new ≡ old };
+    ghost ids_exhausted_post = { λ old _ new. new ≡ old };
 
     fn initialize(&mut self, params: Value) -> Result<Result<Value, ResponseError>, AllocError> {
         drop(params);
@@ -92,7 +92,7 @@ impl Server for Speaking {
         Ok(Vec::new(alloc))
     }
 
-    fn unsent(&mut self, _payload: ()) -> Result<(), AllocError> {
+    fn ids_exhausted(&mut self, _payload: ()) -> Result<(), AllocError> {
         Ok(())
     }
 }
@@ -104,8 +104,8 @@ pub fn serve<R: BufRead, W: Write>(
     writer: &mut W,
     is_null: bool,
 ) -> Result<()> {
-    let mut application = QueuedServer::new(alloc, Speaking { alloc, is_null });
-    let mut policy = EndSession;
+    let mut application = ServerApplication::new(alloc, Speaking { alloc, is_null });
+    let mut policy = EndOnBadContent;
     let mut transcript = Transcript::new();
     let limits = Limits::none();
     let mut transport = StreamTransport::within(

@@ -3,10 +3,10 @@ use crate::session::Echo;
 use crate::speaking::Speaking;
 use crate::{Host, session};
 use anyhow::{Error, Result};
-use lsp_server::policies::EndSession;
+use lsp_server::policies::EndOnBadContent;
 use lsp_server::transports::StandardOutput;
 use lsp_server::{
-    FrameOutbox, QueuedServer, ReadEnd, StartFault, ThreadOptions, Threaded, pump, read_loop,
+    FrameOutbox, ReadEnd, ServerApplication, StartFault, ThreadOptions, Threaded, pump, read_loop,
     run_in_threads, run_threads,
 };
 use serde_json::{Map, Value};
@@ -62,14 +62,14 @@ where
         alloc,
         is_null: false,
     };
-    let mut application = QueuedServer::new(alloc, speaking);
+    let mut application = ServerApplication::new(alloc, speaking);
     let done = run_in_threads(
         rt,
         alloc,
         reader,
         StandardOutput::new(*rt),
         &mut application,
-        &mut EndSession,
+        &mut EndOnBadContent,
         ThreadOptions::new(),
     );
     ended(done)

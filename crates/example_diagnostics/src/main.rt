@@ -8,15 +8,15 @@
 #![tactic(auto)]
 
 ghost use Rattle.lsp_session.specs.StreamTransports.{IsUnused, Serves};
-ghost use Rattle.lsp_acts.specs.QueuedServer.{ServerSession};
+ghost use Rattle.lsp_acts.specs.ServerApplication.{ServerSession};
 
 use anyhow::{Result as Answer, bail};
-use lsp_documents::{Agreed, DocumentUpdate, TextDocuments, UpdateFault};
-use lsp_methods::{Configuration, answer, publish, read, reply};
+use lsp_documents::{DocumentUpdate, SyncOptions, TextDocuments, UpdateFault};
+use lsp_methods::{Configuration, answer, from_value, publish, reply};
 use lsp_server::clients::{ClientOptions, serve_clients};
-use lsp_server::policies::{BadContentPolicy, EndSession};
+use lsp_server::policies::{BadContentPolicy, EndOnBadContent};
 use lsp_server::{
-    Act, Notification, QueuedServer, Request, ResponseError, Server, SessionEnd, SessionFault,
+    Act, Notification, Request, ResponseError, Server, ServerApplication, SessionEnd, SessionFault,
     StreamTransport,
 };
 use lsp_text::{Text, TextDocument};
@@ -60,15 +60,15 @@ impl Server for Checker {
     ghost use Rattle.lsp_acts.specs.Acts.{replies};
 
     // A request changes no document. One that is neither a hover nor a definition gets the error -32601 alone.
-    ghost requested = { λ old id method _ acts new.
+    ghost request_post = { λ old id method _ acts new.
         (new.documents ≡ old.documents)
         × (method ≢ codes "textDocument/hover" → method ≢ codes "textDocument/definition"
         → acts ≡ replies id (Err method_not_found) ∷ []) };
 
-    type Payload = Asked;
+    type PendingData = Asked;
 
     fn initialize(&mut self, params: Value) -> Result<Result<Value, ResponseError>, AllocError> {
-        let params = match read::<InitializeParams>(self.alloc, &params)? {
+        let params = match from_value::<InitializeParams>(self.alloc, &params)? {
             Ok(params) => params,
             Err(error) => return Ok(Err(error)),
         };
@@ -78,7 +78,7 @@ impl Server for Checker {
     }
 
     fn initialized(&mut self) -> Result<Acts, AllocError> {
-        match self.longest.ask(self.alloc, Asked::Configuration)? {
+        match self.longest.send_request(self.alloc, Asked::Configuration)? {
             Some(asks) => {
                 let acts = Act::one(self.alloc, asks)?;
                 self.is_asking = true;
@@ -131,7 +131,7 @@ impl Server for Checker {
         Ok(Vec::new(alloc))
     }
 
-    fn unsent(&mut self, _asked: Asked) -> Result<(), AllocError> {
+    fn ids_exhausted(&mut self, _asked: Asked) -> Result<(), AllocError> {
         self.is_asking = false;
         Ok(())
     }
@@ -143,7 +143,7 @@ impl Checker {
             alloc,
             longest: Configuration::new("lines", 80),
             is_asking: false,
-            documents: TextDocuments::new(alloc, Agreed::unannounced()),
+            documents: TextDocuments::new(alloc, SyncOptions::defaults()),
             complaint: String::new(alloc),
             waiting: Vec::new(alloc),
         }
@@ -152,8 +152,8 @@ impl Checker {
     /// Agrees with the client on how its texts are sent, and returns what the server can do, which announces it.
     fn agree(&mut self, params: &InitializeParams) -> Result<ServerCapabilities, AllocError> {
         let client = &params.capabilities;
-        self.longest.agree(client);
-        let (agreed, can) = Agreed::with_capabilities(self.alloc, client, false)?;
+        self.longest.read_capabilities(client);
+        let (agreed, can) = SyncOptions::with_capabilities(self.alloc, client, false)?;
         self.documents = TextDocuments::new(self.alloc, agreed);
         Ok(ServerCapabilities {
             hover_provider: Some(true),
@@ -166,16 +166,16 @@ impl Checker {
     fn note(&mut self, notification: &Notification, acts: &mut Acts) -> Result<(), AllocError> {
         match self.documents.apply(notification) {
             Some(Ok(update)) => self.follow(update, acts),
-            Some(Err(missed)) => self.complain(missed.unless_memory()?, acts),
+            Some(Err(missed)) => self.complain(missed.or_out_of_memory()?, acts),
             None => Ok(()),
         }
     }
 
     /// Adds the acts after a notification that was applied: the remark about it, and which lines are too long.
     fn follow(&self, update: DocumentUpdate<'_>, acts: &mut Acts) -> Result<(), AllocError> {
-        if update.remark.is_some() {
+        if update.warning.is_some() {
             let line = format!(in self.alloc; "{update}")?;
-            acts.push(Act::log(self.alloc, MessageType::WARNING, line.as_str())?)?;
+            acts.push(Act::log_message(self.alloc, MessageType::WARNING, line.as_str())?)?;
         }
         self.mark(acts, update.uri, self.documents.get(update.uri))
     }
@@ -185,7 +185,7 @@ impl Checker {
     fn complain(&mut self, missed: UpdateFault<'_>, acts: &mut Acts) -> Result<(), AllocError> {
         let line = format!(in self.alloc; "{missed}")?;
         if missed.lost || line.as_str() != self.complaint.as_str() {
-            acts.push(Act::log(self.alloc, MessageType::ERROR, line.as_str())?)?;
+            acts.push(Act::log_message(self.alloc, MessageType::ERROR, line.as_str())?)?;
         }
         self.complaint = line;
         match missed.uri {
@@ -211,7 +211,7 @@ impl Checker {
 
     fn answer_hover(&self, request: Request) -> Result<Acts, AllocError> {
         let alloc = self.alloc;
-        match read::<HoverParams>(alloc, &request.params)? {
+        match from_value::<HoverParams>(alloc, &request.params)? {
             Ok(params) => {
                 let found = self.hover(&params)?;
                 Act::one(alloc, reply::<HoverRequest, _>(alloc, request.id, &found)?)
@@ -304,11 +304,11 @@ fn heading_above(text: &Text, line: u32) -> Option<u32> {
 /// socket: the bytes that were taken are frames of messages, and those that were given are frames of what a session of
 /// a `Checker` sends for them, each before the next byte is taken.
 fn serve<R: BufRead, W: Write>(
-    transport: &mut StreamTransport<'_, R, W, EndSession>,
-    checker: &mut QueuedServer<Checker, Asked>,
+    transport: &mut StreamTransport<'_, R, W, EndOnBadContent>,
+    checker: &mut ServerApplication<Checker, Asked>,
 ) -> Result<SessionEnd, SessionFault>
     requires { IsUnused transport.old }
-    ensures { Serves ⟦<EndSession as BadContentPolicy>⟧.passes
+    ensures { Serves ⟦<EndOnBadContent as BadContentPolicy>⟧.passes
         (ServerSession ⟦<Checker as Server>⟧ checker.old.server checker.new.server) transport.old result transport.new }
 {
     transport.serve(checker)
@@ -319,9 +319,9 @@ fn main(rt: HostRuntime) -> Answer<()> {
     let words: Vec<String> = env::args(&rt)?.skip(1).collect(alloc)?;
     let options = ClientOptions::new();
     let served = serve_clients(&rt, words.as_slice(), options, |mut client| {
-        let mut policy = EndSession;
+        let mut policy = EndOnBadContent;
         let mut transport = client.transport(alloc, &mut policy);
-        let mut application = QueuedServer::new(alloc, Checker::new(alloc));
+        let mut application = ServerApplication::new(alloc, Checker::new(alloc));
         serve(&mut transport, &mut application)
     })?;
     match served? {

@@ -2,7 +2,7 @@
 //! returns the bytes that are to be sent. No session waits, reads or writes.
 //!
 //! A line `NAME SIZE BYTES` of standard input has bytes of a client, which arrive in pieces of SIZE bytes. In it `\r`
-//! and `\n` mean the bytes of a line end. A line `NAME closed` says that the client sends no more, and `NAME timeout`
+//! and `\n` mean the bytes of a line end. A line `NAME closed` says that the client sends nothing more, and `NAME timeout`
 //! that 30 seconds passed.
 #![tactic(auto)]
 
@@ -14,7 +14,7 @@ use serde_json::{Value, json};
 use std::alloc::{AllocError, Global};
 use std::io;
 
-/// The most bytes of a content part, and the most bytes that a session has to send before it takes no more.
+/// The limits of a session: the bytes of a content part, and the bytes of output after which it takes no message.
 const MAX_CONTENT: u64 = 1000;
 
 const MAX_PENDING: usize = 1000;

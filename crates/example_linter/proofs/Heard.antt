@@ -20,19 +20,19 @@ use Rattle.lsp_documents.specs.Held.{documents_of}
 use Rattle.lsp_documents.specs.Notices.{Documents, Failed, FailedSave, Item, Notice, Refused, Took, closes, missed}
 use Rattle.lsp_documents.specs.Notices.{opens, edits, saves, shown}
 use Rattle.lsp_documents.specs.Params.{changes_given, did_change_in, did_close_in, did_open_in, did_save_in}
-use Rattle.lsp_documents.specs.Params.{opened_in, uri_in}
+use Rattle.lsp_documents.specs.Params.{opened_in, uri_from}
 use Rattle.lsp_documents.specs.Params.{document_in, text_in, version_in}
 use Rattle.lsp_documents.specs.declared.documents.TextDocuments.{TextDocuments}
 use Rattle.lsp_documents.specs.declared.fault.DocumentFault.{DocumentFault}
 use Rattle.lsp_documents.specs.declared.fault.DocumentFault.TheVariants.{Memory}
 use Rattle.lsp_documents.specs.declared.fault.DocumentUpdate.{DocumentUpdate}
 use Rattle.lsp_documents.specs.declared.fault.UpdateFault.{UpdateFault}
-use Rattle.lsp_documents.specs.declared.kept.Open.{Open}
+use Rattle.lsp_documents.specs.declared.kept.DocumentState.{DocumentState}
 use Rattle.lsp_documents.specs.declared.method.DocumentMethod.{DocumentMethod}
 use Rattle.lsp_documents.specs.declared.method.DocumentMethod.TheVariants.{DidOpen, DidChange, DidSave, DidClose}
-use Rattle.lsp_jobs.specs.SlotLaw.{LeavesAlone, slot_of}
-use Rattle.lsp_jobs.specs.declared.job_server.SlotChange.{SlotChange}
-use Rattle.lsp_jobs.specs.declared.job_server.SlotChange.TheVariants.{Start, Stop}
+use Rattle.lsp_jobs.specs.KeyedJobLaw.{LeavesAlone, slot_of}
+use Rattle.lsp_jobs.specs.declared.job_server.JobCommand.{JobCommand}
+use Rattle.lsp_jobs.specs.declared.job_server.JobCommand.TheVariants.{Start, Stop}
 use Rattle.lsp_message.specs.Id.{Id, text, same_id}
 use Rattle.lsp_acts.specs.declared.server.Act as rust
 use Rattle.example_linter.proofs.Lists.{in_list, only, some_and}
@@ -49,7 +49,7 @@ refused : (before now : Documents) (n : Notice) (fault : DocumentFault) → Refu
 refused before now n fault (inl made) = made.1.others
 refused before now n fault (inr starved) = starved.misses.others
 
-was_none : (o : Option Open) → missed o ≡ None → o ≡ None
+was_none : (o : Option DocumentState) → missed o ≡ None → o ≡ None
 was_none None e = refl
 was_none (Some o) e = absurd (cc (e))
 
@@ -85,23 +85,23 @@ one of own (Some uri) n e =
     let same : of uri ≡ n = cc (e) in ap Some (sym (own uri) ∙ ap (λ (m : Notice). m.uri) same)
 
 failed_by : (method : DocumentMethod) (before now : Documents) (params : Data) (fault : DocumentFault)
-    → FailedBy method before params fault now → Touches before now (uri_in params)
-failed_by DidOpen before now params fault f = failed before now (did_open_in params) (uri_in params) fault
-    (both (λ uri (d : Item). opens uri d.language_id d.version d.text) (λ uri d. refl) (uri_in params)
+    → FailedBy method before params fault now → Touches before now (uri_from params)
+failed_by DidOpen before now params fault f = failed before now (did_open_in params) (uri_from params) fault
+    (both (λ uri (d : Item). opens uri d.language_id d.version d.text) (λ uri d. refl) (uri_from params)
     (opened_in params)) f
-failed_by DidChange before now params fault f = failed before now (did_change_in params) (uri_in params) fault
+failed_by DidChange before now params fault f = failed before now (did_change_in params) (uri_from params) fault
     (both (λ uri. edits uri (option_and_then version_in (document_in params))) (λ uri list. refl)
-    (uri_in params) (changes_given params)) f
-failed_by DidSave before now params fault f = failed_save before now (did_save_in params) (uri_in params) fault
-    (one (λ uri. saves uri (text_in (codes "text") params)) (λ uri. refl) (uri_in params)) f
-failed_by DidClose before now params fault f = failed before now (did_close_in params) (uri_in params) fault
-    (one closes (λ uri. refl) (uri_in params)) f
+    (uri_from params) (changes_given params)) f
+failed_by DidSave before now params fault f = failed_save before now (did_save_in params) (uri_from params) fault
+    (one (λ uri. saves uri (text_in (codes "text") params)) (λ uri. refl) (uri_from params)) f
+failed_by DidClose before now params fault f = failed before now (did_close_in params) (uri_from params) fault
+    (one closes (λ uri. refl) (uri_from params)) f
 
 pub touched : (method : DocumentMethod) (before now : TextDocuments) (params : Data) (m : DocumentUpdate)
     → Answers method before params (Ok m) now → Touches (documents_of before) (documents_of now) (Some m.uri.now)
 touched method before now params m a =
     let n = some_and (λ (n : Notice). (m.uri.now ≡ n.uri)
-    × Took (documents_of before) n m.remark (documents_of now)) (notice_in method params) a.ok in
+    × Took (documents_of before) n m.warning (documents_of now)) (notice_in method params) a.ok in
     subst (λ (uri : List ℕ). Touches (documents_of before) (documents_of now) (Some uri)) (sym n.2.0) n.2.1.makes.others
 
 pub not_made : (method : DocumentMethod) (before now : TextDocuments) (params : Data) (m : UpdateFault)
@@ -114,19 +114,19 @@ not_made method before now params m a =
 other_slot : (q uri : List ℕ) → same_id (text q) (text uri) ≡ false → bytes_eq q uri ≡ false
 other_slot q uri other = sym (is_eq-slice_cmp q uri) ∙ other
 
-slot_is : (documents : Documents) (uri : List ℕ) (change : SlotChange Analysis)
+slot_is : (documents : Documents) (uri : List ℕ) (change : JobCommand Analysis)
     → IsChangeOf documents uri change → slot_of change ≡ text uri
 slot_is documents uri (Start slot analysis) is = is.1.0 ∙ ap text is.0
 slot_is documents uri (Stop slot) is = is.0
 
-is_current : (documents : Documents) (uri : List ℕ) (change : SlotChange Analysis) (slot : Id)
+is_current : (documents : Documents) (uri : List ℕ) (change : JobCommand Analysis) (slot : Id)
     (analysis : Analysis) → IsChangeOf documents uri change → Start slot analysis ≡ change
     → IsCurrent documents slot analysis
 is_current documents uri change slot analysis is e =
     (subst (IsChangeOf documents uri) (sym e) is).1
 
 -- an analysis is stopped of a document whose text is not known
-is_stopped : (documents : Documents) (uri q : List ℕ) (change : SlotChange Analysis) → IsChangeOf documents uri change
+is_stopped : (documents : Documents) (uri q : List ℕ) (change : JobCommand Analysis) → IsChangeOf documents uri change
     → Stop (text q) ≡ change → option_and_then shown (documents.held q) ≡ None
 is_stopped documents uri q change is e =
     let stop = subst (IsChangeOf documents uri) (sym e) is in
@@ -134,7 +134,7 @@ is_stopped documents uri q change is e =
     ap (λ (u : List ℕ). option_and_then shown (documents.held u)) same ∙ stop.1
 
 -- the analysis of one document follows it
-pub one_follows : (before now : Documents) (uri : List ℕ) (change : SlotChange Analysis)
+pub one_follows : (before now : Documents) (uri : List ℕ) (change : JobCommand Analysis)
     → Touches before now (Some uri) → IsChangeOf now uri change → Follow before (change ∷ []) now
 one_follows before now uri change touches is = record {
   started = λ slot analysis last.
@@ -145,7 +145,7 @@ one_follows before now uri change touches is = record {
 }
 
 -- the same of all
-pub all_follow : (before now : Documents) (changes : List (SlotChange Analysis)) → Touches before now None
+pub all_follow : (before now : Documents) (changes : List (JobCommand Analysis)) → Touches before now None
     → AreChangesOf now changes → Follow before changes now
 all_follow before now changes touches are = record {
   started = λ slot analysis last.
@@ -161,23 +161,23 @@ all_follow before now changes touches are = record {
       ap (option_and_then shown) (gone ∙ sym (touches uri gone));
 }
 
-alone_split : (slot : Id) (some more : List (SlotChange Analysis)) → LeavesAlone slot (some ++ more)
+alone_split : (slot : Id) (some more : List (JobCommand Analysis)) → LeavesAlone slot (some ++ more)
     → LeavesAlone slot some × LeavesAlone slot more
 alone_split slot [] more alone = (tt, alone)
 alone_split slot (change ∷ some) more alone =
     let rest = alone_split slot some more alone.1 in ((alone.0, rest.0), rest.1)
 
 -- what is kept of a URI, among these entries
-abbrev pub found : List ℕ → List (String Global × Open) → Option Open
+abbrev pub found : List ℕ → List (String Global × DocumentState) → Option DocumentState
 found uri entries = lookup (is_at (λ k. slice_cmp nat_cmp uri (string_bytes k))) entries
 
 -- what is kept of a URI is among the entries that are left, if its slot is not changed
-abbrev pub AreLeft : Documents → List (SlotChange Analysis) → List (String Global × Open) → Type 0
+abbrev pub AreLeft : Documents → List (JobCommand Analysis) → List (String Global × DocumentState) → Type 0
 AreLeft documents changes entries =
     (uri : List ℕ) → LeavesAlone (text uri) changes → documents.held uri ≡ found uri entries
 
-pub are_left : (documents : Documents) (changes : List (SlotChange Analysis))
-    (change : SlotChange Analysis) (e : String Global × Open) (entries : List (String Global × Open))
+pub are_left : (documents : Documents) (changes : List (JobCommand Analysis))
+    (change : JobCommand Analysis) (e : String Global × DocumentState) (entries : List (String Global × DocumentState))
     → IsChangeOf documents (string_bytes e.0) change → AreLeft documents changes (e ∷ entries)
     → AreLeft documents (changes ++ change ∷ []) entries
 are_left documents changes change e entries is before uri alone =
@@ -254,20 +254,20 @@ on_ok (Ok it) holds = holds
 on_ok (Err fault) holds = tt
 
 pub follows_one : {A E : Type 0} (r : Result A E) (before held now : TextDocuments)
-    (old new : List (SlotChange Analysis)) (uri : List ℕ)
+    (old new : List (JobCommand Analysis)) (uri : List ℕ)
     → Touches (documents_of before) (documents_of held) (Some uri) → now ≡ held
-    → OnOk r ((change : SlotChange Analysis) × (new ≡ old ++ change ∷ [])
+    → OnOk r ((change : JobCommand Analysis) × (new ≡ old ++ change ∷ [])
     × IsChangeOf (documents_of held) uri change)
     → OnOk r (old ≡ [] → Follow (documents_of before) new (documents_of now))
 follows_one r before held now old new uri touches same = on_ok_weaker r (λ did none.
     let one : new ≡ did.0 ∷ [] = did.1
-    ∙ ap (λ (l : List (SlotChange Analysis)). l ++ did.0 ∷ []) none in
-    subst (λ (x : List (SlotChange Analysis) × TextDocuments). Follow (documents_of before) x.0
+    ∙ ap (λ (l : List (JobCommand Analysis)). l ++ did.0 ∷ []) none in
+    subst (λ (x : List (JobCommand Analysis) × TextDocuments). Follow (documents_of before) x.0
     (documents_of x.1)) (λ k. (sym one k, sym same k))
     (one_follows (documents_of before) (documents_of held) uri did.0 touches did.2))
 
 pub follows_all : {A E : Type 0} (r : Result A E) (before held now : TextDocuments)
-    (old new : List (SlotChange Analysis)) → Touches (documents_of before) (documents_of held) None
+    (old new : List (JobCommand Analysis)) → Touches (documents_of before) (documents_of held) None
     → now ≡ held → OnOk r (old ≡ [] → AreChangesOf (documents_of held) new)
     → OnOk r (old ≡ [] → Follow (documents_of before) new (documents_of now))
 follows_all r before held now old new touches same = on_ok_weaker r (λ did none.

@@ -9,28 +9,28 @@ use Rattle.std.specs.Prelude.{map as map_list, ℤ, IsSomeAnd}
 use Rattle.std.specs.Str.{bytes_eq}
 use Rattle.lsp_documents.specs.Held.{documents_of}
 use Rattle.lsp_documents.specs.Notices.{Documents}
-use Rattle.lsp_documents.specs.declared.known.OpenText.{OpenText}
+use Rattle.lsp_documents.specs.declared.known.DocumentSnapshot.{DocumentSnapshot}
 use Rattle.lsp_jobs.specs.Asking.{by_server, of_job}
 use Rattle.lsp_jobs.specs.Ends.{Came, ComesTo, End, Outcome, end_of, ended, found, gave, gave_up, out_of_memory}
 use Rattle.lsp_jobs.specs.JobLaw.{AnswersByJobs, AreTakenAt}
 use Rattle.lsp_jobs.specs.Pooled.{reply_at}
-use Rattle.lsp_jobs.specs.SlotLaw.{AllLeaveAlone, AreTurns, IsCalled, IsLeft, IsTurn, LastStart, LeavesAlone, Left}
-use Rattle.lsp_jobs.specs.SlotLaw.{MayPass, SeesLeft, Stands, StartsLast, Turn, WakeDoes, at_ends}
+use Rattle.lsp_jobs.specs.KeyedJobLaw.{AllLeaveAlone, AreTurns, IsCalled, IsLeft, IsTurn, LastStart, LeavesAlone, Left}
+use Rattle.lsp_jobs.specs.KeyedJobLaw.{MayPass, SeesLeft, Stands, StartsLast, Turn, WakeDoes, at_ends}
 use Rattle.lsp_jobs.specs.Stated.{SeesEnd, StatedJobs}
 use Rattle.lsp_jobs.specs.declared.asking.RequestOrigin.{RequestOrigin}
 use Rattle.lsp_jobs.specs.declared.job_server.JobEnd.{JobEnd}
 use Rattle.lsp_jobs.specs.declared.job_server.JobEnd.TheVariants.{Cancelled, Done, Failed}
-use Rattle.lsp_jobs.specs.declared.job_server.SlotChange.{SlotChange}
-use Rattle.lsp_jobs.specs.declared.job_server.SlotChange.TheVariants.{Start, Stop}
+use Rattle.lsp_jobs.specs.declared.job_server.JobCommand.{JobCommand}
+use Rattle.lsp_jobs.specs.declared.job_server.JobCommand.TheVariants.{Start, Stop}
 use Rattle.lsp_jobs.specs.declared.names.JobName.{JobName}
-use Rattle.lsp_jobs.specs.declared.names.JobName.TheVariants.{Request, Slot}
+use Rattle.lsp_jobs.specs.declared.names.JobName.TheVariants.{Request, Keyed}
 use Rattle.lsp_message.specs.Id.{Id, text}
 use Rattle.lsp_message.specs.Message.{Message, request, notification, response}
 use Rattle.lsp_message.specs.Methods.{is_initialize}
 use Rattle.lsp_acts.specs.Acts.{Act, TakesBack, tells, asks, replies, cancels}
 use Rattle.lsp_acts.specs.Law.{AnswersInitialize, Initializes}
 use Rattle.lsp_acts.specs.declared.server.Server.{Ghosts as Plain}
-use Rattle.lsp_session.specs.Session.{Exchange, Stop as StopOfSession, came_of}
+use Rattle.lsp_session.specs.Session.{Exchange, Stop as StopOfSession, came_of, offered}
 use Rattle.lsp_text.specs.Documents.{Document}
 use Rattle.lsp_text.specs.Lines.{LinedText}
 use Rattle.lsp_types.specs.declared.diagnostics.Diagnostic.{Diagnostic}
@@ -73,29 +73,29 @@ module _ {P : Type 0} (written : Diagnostic → Data) (plain : Plain Linter P)
   -- what the server and its jobs state, as far as it is needed here
   pub record States : Type 0 where
     pub initialized : (old : Linter) (params : Data) (outcome : Outcome) (new : Linter)
-        → plain.initializes old params outcome new
+        → plain.initialize_post old params outcome new
         → (new.changes ≡ old.changes) × HasNone new.documents
     pub applied : (old : Linter) (method : List ℕ) (params : Data) (acts : List (Act P)) (new : Linter)
-        → plain.notified old method params acts new
+        → plain.notification_post old method params acts new
         → Applies old.documents (Some (notification method params)) new.documents
-    pub began : (old : Linter) (acts : List (Act P)) (new : Linter) → plain.at_initialized old acts new → new ≡ old
+    pub began : (old : Linter) (acts : List (Act P)) (new : Linter) → plain.initialized_post old acts new → new ≡ old
     pub requested : (old : Linter) (id : Id) (method : List ℕ) (params : Data) (acts : List (Act P)) (new : Linter)
-        → plain.requested old id method params acts new → new ≡ old
+        → plain.request_post old id method params acts new → new ≡ old
     pub notified : (old : Linter) (method : List ℕ) (params : Data) (acts : List (Act P)) (new : Linter)
-        → plain.notified old method params acts new → old.changes.items ≡ []
+        → plain.notification_post old method params acts new → old.changes.items ≡ []
         → Follow (documents_of old.documents) new.changes.items (documents_of new.documents)
     pub replied : (old : Linter) (payload : P) (outcome : Outcome) (acts : List (Act P)) (new : Linter)
-        → plain.replied old payload outcome acts new → new ≡ old
-    pub took_back : (old : Linter) (payload : P) (new : Linter) → plain.takes_back old payload new → new ≡ old
-    pub changed : (old : Linter) (changes : List (SlotChange Analysis)) (new : Linter)
-        → may.changes old changes new
+        → plain.response_post old payload outcome acts new → new ≡ old
+    pub took_back : (old : Linter) (payload : P) (new : Linter) → plain.ids_exhausted_post old payload new → new ≡ old
+    pub changed : (old : Linter) (changes : List (JobCommand Analysis)) (new : Linter)
+        → may.take_commands_post old changes new
         → (changes ≡ old.changes.items) × (new.changes.items ≡ []) × (new.documents ≡ old.documents)
     pub heard : (old : Linter) (name : JobName) (found : Findings) (acts : List (Act P)) (new : Linter)
-        → may.hears old name found acts new → Shows written found acts × (new ≡ old)
+        → may.found_post old name found acts new → Shows written found acts × (new ≡ old)
     pub finished : (old : Linter) (name : JobName) (end : JobEnd) (acts : List (Act P)) (new : Linter)
-        → may.finishes old name end acts new → (acts ≡ []) × (new ≡ old)
+        → may.ended_post old name end acts new → (acts ≡ []) × (new ≡ old)
     pub for_none : (job : Analysis) (method : List ℕ) (params : Data) → may.is_for job method params → ⊥
-    pub finds : (job : Analysis) (reply : Option Outcome) (found : Option Findings) → may.comes_to job reply found
+    pub finds : (job : Analysis) (reply : Option Outcome) (found : Option Findings) → may.run_post job reply found
         → FindsMarks written job found
     pub reported : (job : Analysis) (method : List ℕ) (params : Data) → may.reports job method params → ⊥
     pub asked : (job : Analysis) (method : List ℕ) (params : Data) → may.asks job method params → ⊥
@@ -135,7 +135,7 @@ module _ {P : Type 0} (written : Diagnostic → Data) (plain : Plain Linter P)
             )
       ]
 
-  follow_none : (documents : Documents) (changes : List (SlotChange Analysis)) → changes ≡ []
+  follow_none : (documents : Documents) (changes : List (JobCommand Analysis)) → changes ≡ []
       → Follow documents changes documents
   follow_none documents changes none = record {
     started = λ slot analysis last.
@@ -174,9 +174,9 @@ module _ {P : Type 0} (written : Diagnostic → Data) (plain : Plain Linter P)
     sees : (made : Linter) (left : List (Left may)) (new : Linter) → SeesLeft plain may made left new → new ≡ made
     sees made [] new same = same
     sees made (l ∷ ls) new all =
-        sees l.new ls new all.1 ∙ same_at_end l.old (Slot l.slot) l.end l.acts l.new l.saw ∙ all.0
+        sees l.new ls new all.1 ∙ same_at_end l.old (Keyed l.slot) l.end l.acts l.new l.saw ∙ all.0
 
-    taken : (payloads : List P) (old new : Linter) → TakesBack plain.takes_back old payloads new → new ≡ old
+    taken : (payloads : List P) (old new : Linter) → TakesBack plain.ids_exhausted_post old payloads new → new ≡ old
     taken [] old new same = same
     taken (payload ∷ payloads) old new back =
         taken payloads back.0 new back.2 ∙ states.took_back old payload back.0 back.1
@@ -197,7 +197,7 @@ module _ {P : Type 0} (written : Diagnostic → Data) (plain : Plain Linter P)
         record {
           none = ap (λ (s : Linter). s.changes.items) same ∙ gave.1;
           right = right_on (documents_of t.old.documents) (documents_of t.new.documents) earlier t good.right
-              (subst (λ (x : List (SlotChange Analysis) × Documents).
+              (subst (λ (x : List (JobCommand Analysis) × Documents).
               Follow (documents_of t.old.documents) x.0 x.1) (λ k. (sym gave.0 k, sym are k)) follow);
         }
     good_on earlier t good (inr passed) = record {
@@ -209,7 +209,7 @@ module _ {P : Type 0} (written : Diagnostic → Data) (plain : Plain Linter P)
 
     -- the same before the first of these turns, after what the server took back
     good_from : (earlier : List (Turn plain may)) (start now : Linter) → Good earlier start
-        → ((payloads : List P) × TakesBack plain.takes_back start payloads now) → Good earlier now
+        → ((payloads : List P) × TakesBack plain.ids_exhausted_post start payloads now) → Good earlier now
     good_from earlier start now good back =
         subst (Good earlier) (sym (taken back.0 start now back.1)) good
 
@@ -229,9 +229,9 @@ module _ {P : Type 0} (written : Diagnostic → Data) (plain : Plain Linter P)
     nothing_left (l ∷ ls) =
         ap (λ (acts : List (Act P)). acts ++ at_ends may ls) (none l.end l.is_left l.saw) ∙ nothing_left ls
       where
-        none : (end : End Findings) → IsLeft end → SeesEnd may l.old (Slot l.slot) end l.acts l.new → l.acts ≡ []
+        none : (end : End Findings) → IsLeft end → SeesEnd may l.old (Keyed l.slot) end l.acts l.new → l.acts ≡ []
         none (found it) is saw = absurd is
-        none (ended end) is saw = (states.finished l.old (Slot l.slot) end l.acts l.new saw).0
+        none (ended end) is saw = (states.finished l.old (Keyed l.slot) end l.acts l.new saw).0
 
     -- a notification at a wake, after these turns
     module _ (t : Turn plain may) (earlier : List (Turn plain may)) (good : Good earlier t.old)
@@ -251,7 +251,7 @@ module _ {P : Type 0} (written : Diagnostic → Data) (plain : Plain Linter P)
           let current = some_and (IsOf job) (known (documents_of t.old.documents) (string_bytes job.source.uri))
           (good.right slot job stands).1 in
           let source = finds.0 in
-          let version = ap (λ (s : OpenText). s.version) source ∙ current.2.version in
+          let version = ap (λ (s : DocumentSnapshot). s.version) source ∙ current.2.version in
           let same = told method params act (only before after (tells method params) (by_server act) (sym all ∙ at)) in
           record {
             uri = string_bytes job.source.uri;
@@ -265,20 +265,20 @@ module _ {P : Type 0} (written : Diagnostic → Data) (plain : Plain Linter P)
           }
 
       says : (name : JobName) (job : Analysis) (came : Came Findings) (first : List (Act P)) (new : Linter)
-          → Stands plain may earlier name job → ComesTo may.comes_to job came
+          → Stands plain may earlier name job → ComesTo may.run_post job came
           → SeesEnd may t.old name (end_of came) first new
           → t.call.acts ≡ map_list by_server (first ++ reply_at name came) → Held
-      says (Slot slot) job (gave reply (Some it)) first new stands comes saw all =
-          let told_of = (states.heard t.old (Slot slot) it first new saw).0 in
+      says (Keyed slot) job (gave reply (Some it)) first new stands comes saw all =
+          let told_of = (states.heard t.old (Keyed slot) it first new saw).0 in
           published slot job it (shows (string_bytes it.source.uri) it.source.version
           (map_list written it.marks.items)) stands.last (states.finds job reply (Some it) comes) refl
           (all ∙ ap (λ (acts : List (Act P)). map_list by_server (acts ++ [])) told_of)
-      says (Slot slot) job (gave reply None) first new stands comes saw all =
-          silent (none_told first (states.finished t.old (Slot slot) Done first new saw).0 all)
-      says (Slot slot) job out_of_memory first new stands comes saw all =
-          silent (none_told first (states.finished t.old (Slot slot) Failed first new saw).0 all)
-      says (Slot slot) job gave_up first new stands comes saw all =
-          silent (none_told first (states.finished t.old (Slot slot) Cancelled first new saw).0 all)
+      says (Keyed slot) job (gave reply None) first new stands comes saw all =
+          silent (none_told first (states.finished t.old (Keyed slot) Done first new saw).0 all)
+      says (Keyed slot) job out_of_memory first new stands comes saw all =
+          silent (none_told first (states.finished t.old (Keyed slot) Failed first new saw).0 all)
+      says (Keyed slot) job gave_up first new stands comes saw all =
+          silent (none_told first (states.finished t.old (Keyed slot) Cancelled first new saw).0 all)
       says (Request id) job came first new stands comes saw all =
           absurd (states.for_none job stands.method stands.params stands.is_given.2)
 
@@ -367,15 +367,15 @@ module _ {P : Type 0} (written : Diagnostic → Data) (plain : Plain Linter P)
     fresh_start [] old start fresh same = subst Fresh (sym same) fresh
     fresh_start (x ∷ early) old start fresh run = fresh_start early run.0 start (at x.came run.1) run.2
       where
-        by : (b : Bool) (m : Message) → MatchBool b (Initializes plain old m x.sent run.0) (run.0 ≡ old)
+        by : (b : Bool) (m : Message) → MatchBool b (Initializes plain old m (offered x) run.0) (run.0 ≡ old)
             → Fresh run.0
         by true m i =
             let gave = states.initialized old i.params i.outcome run.0 i.gave in
-            (ap (λ (c : Vec (SlotChange Analysis) Global). c.items) gave.0 ∙ fresh.0, gave.1)
+            (ap (λ (c : Vec (JobCommand Analysis) Global). c.items) gave.0 ∙ fresh.0, gave.1)
         by false m same = subst Fresh (sym same) fresh
 
         at : (came : Option Message)
-            → IsSomeAnd came (λ m. MatchBool (is_initialize m) (Initializes plain old m x.sent run.0)
+            → IsSomeAnd came (λ m. MatchBool (is_initialize m) (Initializes plain old m (offered x) run.0)
             (run.0 ≡ old)) → Fresh run.0
         at None never = absurd never
         at (Some m) answered = by (is_initialize m) m answered

@@ -6,9 +6,9 @@ use Rattle.std.specs.List.{All}
 use Rattle.std.specs.Prelude.{◌≡◌, ℕ, ℤ, true, List, [], ◌∷◌, ◌++◌, Option, None, option_and_then, IsSomeAnd}
 use Rattle.std.specs.Prelude.{string_bytes}
 use Rattle.lsp_documents.specs.Notices.{Documents, shown}
-use Rattle.lsp_jobs.specs.SlotLaw.{LeavesAlone, StartsLast}
-use Rattle.lsp_jobs.specs.declared.job_server.SlotChange.{SlotChange}
-use Rattle.lsp_jobs.specs.declared.job_server.SlotChange.TheVariants.{Start, Stop}
+use Rattle.lsp_jobs.specs.KeyedJobLaw.{LeavesAlone, StartsLast}
+use Rattle.lsp_jobs.specs.declared.job_server.JobCommand.{JobCommand}
+use Rattle.lsp_jobs.specs.declared.job_server.JobCommand.TheVariants.{Start, Stop}
 use Rattle.lsp_message.specs.Id.{Id, text}
 use Rattle.lsp_methods.specs.Publishing.{publishes}
 use Rattle.lsp_acts.specs.Acts.{Act}
@@ -38,23 +38,23 @@ IsCurrent documents slot analysis = (slot ≡ text (string_bytes analysis.source
 -- The changes of slots follow the documents, which were these before and are these now: what is started last in a slot
 -- is of its document as it is now, a slot where an analysis is stopped has the name of no document whose text is known,
 -- and a slot that is not changed has the name of none that changed.
-pub record Follow (old : Documents) (changes : List (SlotChange Analysis)) (now : Documents)
+pub record Follow (old : Documents) (changes : List (JobCommand Analysis)) (now : Documents)
     : Type 0 where
   pub started : (slot : Id) (analysis : Analysis) → StartsLast changes slot analysis
       → IsCurrent now slot analysis
-  pub stopped : (uri : List ℕ) (before after : List (SlotChange Analysis)) → changes ≡ before ++ Stop (text uri) ∷ after
+  pub stopped : (uri : List ℕ) (before after : List (JobCommand Analysis)) → changes ≡ before ++ Stop (text uri) ∷ after
       → known now uri ≡ None
   pub others : (uri : List ℕ) → LeavesAlone (text uri) changes → known now uri ≡ known old uri
 
 -- What becomes of the analysis of a document: one of its text takes the place of the one before. Or, if its text is not
 -- known, none goes on.
-abbrev pub IsChangeOf : Documents → List ℕ → SlotChange Analysis → Type 0
+abbrev pub IsChangeOf : Documents → List ℕ → JobCommand Analysis → Type 0
 IsChangeOf documents uri (Start slot analysis) =
     (string_bytes analysis.source.uri ≡ uri) × IsCurrent documents slot analysis
 IsChangeOf documents uri (Stop slot) = (slot ≡ text uri) × (known documents uri ≡ None)
 
 -- the same of each document
-pub record AreChangesOf (documents : Documents) (changes : List (SlotChange Analysis)) : Type 0 where
+pub record AreChangesOf (documents : Documents) (changes : List (JobCommand Analysis)) : Type 0 where
   pub each : All (λ change. (uri : List ℕ) × IsChangeOf documents uri change) changes
   pub all : (uri : List ℕ) → LeavesAlone (text uri) changes → documents.held uri ≡ None
 

@@ -9,7 +9,7 @@ use Rattle.lsp_jobs.specs.Stated.{StatedJobs}
 use Rattle.lsp_message.specs.Message.{Message, notification}
 use Rattle.lsp_acts.specs.Acts.{Act, tells}
 use Rattle.lsp_acts.specs.declared.server.Server.{Ghosts as Plain}
-use Rattle.lsp_session.specs.Session.{Exchange, SessionAnswer, Stop}
+use Rattle.lsp_session.specs.Session.{Exchange, offered, SessionAnswer, Stop}
 use Rattle.lsp_text.specs.Documents.{Document}
 use Rattle.lsp_types.specs.declared.diagnostics.Diagnostic.{Diagnostic}
 use Rattle.example_linter.specs.Followed.{known, shows}
@@ -48,11 +48,10 @@ abbrev pub ShowsOpenTexts : List Exchange → Type 0
 ShowsOpenTexts exchanges =
     (earlier later : List Exchange) (x : Exchange) (before after : List Message) (params : Data)
     → exchanges ≡ earlier ++ x ∷ later → x.came ≡ None
-    → x.sent ≡ before ++ notification shows_marks params ∷ after → ShowsOpen earlier params
+    → offered x ≡ before ++ notification shows_marks params ∷ after → ShowsOpen earlier params
 
 -- A session with jobs keeps the laws of one without, and what it shows at wakes is of the texts that are open then.
 pub record LintSession (T : Type 0) {S J F P : Type 0} (plain : Plain S P) (may : StatedJobs S J F P) (first last : S)
-    (exchanges : List Exchange) (stop : Stop) (shutdown_reply : Option Message)
-    (answer : SessionAnswer) : Type 0 where
-  pub session : LawfulJobSession T plain may first last exchanges stop shutdown_reply answer
+    (exchanges : List Exchange) (stop : Stop) (answer : SessionAnswer) : Type 0 where
+  pub session : LawfulJobSession T plain may first last exchanges stop answer
   pub shows : ShowsOpenTexts exchanges

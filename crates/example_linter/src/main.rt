@@ -10,7 +10,7 @@ ghost use Rattle.std.specs.List.{All};
 ghost use Rattle.std.specs.Prelude.{◌≡◌, ◌<◌, ◌∷◌, ◌++◌, [], List, IfOk, OnOk, Option, Some, false, map, string_bytes, true};
 ghost use Rattle.lsp_documents.specs.Held.{documents_of};
 ghost use Rattle.lsp_jobs.specs.JobLaw.{LawfulJobSession};
-ghost use Rattle.lsp_jobs.specs.declared.job_server.SlotChange.{SlotChange as ChangeOfSlot};
+ghost use Rattle.lsp_jobs.specs.declared.job_server.JobCommand.{JobCommand as ChangeOfSlot};
 ghost use Rattle.lsp_message.specs.Message.{Message, notification as told};
 ghost use Rattle.lsp_session.specs.Session.{Exchange, SessionAnswer, Stop};
 ghost use Rattle.lsp_threads.specs.Passing.{GivenTo, OfTaken, TakenFrom, noted};
@@ -21,15 +21,15 @@ ghost use Rattle.example_linter.specs.Opened.{Applies, HasNone};
 ghost use Rattle.example_linter.specs.Shown.{LintSession, ShowsOpenTexts};
 
 use anyhow::{Result as Answer, bail};
-use lsp_documents::{Agreed, OpenText, TextDocuments};
+use lsp_documents::{DocumentSnapshot, SyncOptions, TextDocuments};
 use lsp_jobs::laws::session_with_jobs_keeps_laws;
 use lsp_jobs::{
-    AnsweredBy, Interrupted, Job, JobContext, JobEnd, JobName, JobOptions, JobResult, JobServer,
-    PoolSize, Slot, SlotChange, Slots, run_jobs,
+    AnsweredBy, Interrupted, Job, JobCommand, JobContext, JobEnd, JobKey, JobName, JobOptions,
+    JobResult, JobServer, KeyedJobs, PoolSize, run_jobs,
 };
 use lsp_methods::publish;
 use lsp_server::clients::{ClientOptions, serve_clients};
-use lsp_server::policies::{BadContentPolicy, EndSession};
+use lsp_server::policies::{BadContentPolicy, EndOnBadContent};
 use lsp_server::transports::ClientStreams;
 use lsp_server::{
     Act, Notification, Request, ResponseError, Server, SessionEnd, StartFault, Threaded,
@@ -48,13 +48,13 @@ use std::{env, mem};
 #[derive(Drop)]
 struct Analysis {
     alloc: Global,
-    source: OpenText,
+    source: DocumentSnapshot,
 }
 
-/// What an analysis finds in a text.
+/// The result of an analysis.
 #[derive(Drop)]
 struct Findings {
-    source: OpenText,
+    source: DocumentSnapshot,
     marks: Vec<Diagnostic>,
 }
 
@@ -68,31 +68,31 @@ struct Linter {
 
 type Acts = Vec<Act<()>>;
 
-type Change = SlotChange<Analysis>;
+type Change = JobCommand<Analysis>;
 
 impl Job for Analysis {
     ghost use Rattle.example_linter.specs.Marks.{FindsMarks};
 
     type Found = Findings;
 
-    // It answers no request, says nothing while it runs, and asks nothing.
+    // It answers no request, reports nothing while it runs, and sends no requests.
     ghost is_for = { λ _ _ _. ⊥ };
 
-    ghost comes_to = { λ analysis _ found. FindsMarks ⟦<Diagnostic as ToJson>⟧.stands analysis found };
+    ghost run_post = { λ analysis _ found. FindsMarks ⟦<Diagnostic as ToJson>⟧.stands analysis found };
 
     ghost reports = { λ _ _ _. ⊥ };
 
     ghost asks = { λ _ _ _. ⊥ };
 
     fn run<C: JobContext>(self, context: &mut C) -> Result<JobResult<Findings>, Interrupted> {
-        context.rest(Duration::from_millis(PAUSE))?;
+        context.sleep(Duration::from_millis(PAUSE))?;
         let marks = marks_in(self.alloc, &*self.source.text, context)?;
         let source = self.source;
         Ok(JobResult::found(Findings { source, marks }))
     }
 }
 
-/// An analysis begins when nothing was edited for so many milliseconds.
+/// How many milliseconds an analysis sleeps before it begins.
 const PAUSE: u64 = 50;
 
 /// A mark at each line that has a `NOTE`.
@@ -127,10 +127,10 @@ fn mark(alloc: Global, number: u32, line: &str) -> Result<Diagnostic, AllocError
 }
 
 impl JobServer<Analysis> for Linter {
-    type Slots = Linter;
+    type KeyedJobs = Linter;
 
     // No request is long.
-    ghost sorts = { λ _ _ _ is_long. is_long ≡ false };
+    ghost is_long_post = { λ _ _ _ is_long. is_long ≡ false };
 
     fn is_long(&self, _request: &Request) -> bool {
         false
@@ -142,17 +142,17 @@ impl JobServer<Analysis> for Linter {
     }
 }
 
-impl Slots<Linter, Analysis> for Linter {
+impl KeyedJobs<Linter, Analysis> for Linter {
     ghost use Rattle.example_linter.specs.Shown.{Shows};
 
-    ghost changes = { λ old changes new.
+    ghost take_commands_post = { λ old changes new.
         (changes ≡ old.changes.items) × (new.changes.items ≡ []) × (new.documents ≡ old.documents) };
 
-    ghost hears = { λ old _ found acts new. Shows ⟦<Diagnostic as ToJson>⟧.stands found acts × (new ≡ old) };
+    ghost found_post = { λ old _ found acts new. Shows ⟦<Diagnostic as ToJson>⟧.stands found acts × (new ≡ old) };
 
-    ghost finishes = { λ old _ _ acts new. (acts ≡ []) × (new ≡ old) };
+    ghost ended_post = { λ old _ _ acts new. (acts ≡ []) × (new ≡ old) };
 
-    fn take_changes(server: &mut Linter, alloc: Global) -> Result<Vec<Change>, AllocError> {
+    fn take_commands(server: &mut Linter, alloc: Global) -> Result<Vec<Change>, AllocError> {
         Ok(mem::replace(&mut server.changes, Vec::new(alloc)))
     }
 
@@ -189,30 +189,31 @@ impl Server for Linter {
     ghost use Rattle.lsp_message.specs.Message.{notification};
     ghost use Rattle.lsp_acts.specs.Acts.{replies};
 
-    type Payload = ();
+    type PendingData = ();
 
     // No document is open at first.
-    ghost initializes = { λ old _ _ new. (new.changes ≡ old.changes) × HasNone new.documents };
+    ghost initialize_post = { λ old _ _ new. (new.changes ≡ old.changes) × HasNone new.documents };
 
-    ghost at_initialized = { λ old acts new. (acts ≡ []) × (new ≡ old) };
+    ghost initialized_post = { λ old acts new. (acts ≡ []) × (new ≡ old) };
 
-    ghost requested = { λ old id _ _ acts new. (acts ≡ replies id (Err method_not_found) ∷ []) × (new ≡ old) };
+    ghost request_post = { λ old id _ _ acts new. (acts ≡ replies id (Err method_not_found) ∷ []) × (new ≡ old) };
 
-    // A notification makes of the documents what it says. The analyses follow the documents, and the marks go of what is not known any more.
-    ghost notified = { λ old method params acts new.
+    // A notification changes the documents as LSP says. The analyses follow the documents. The marks of a text that is no longer known are
+    // removed.
+    ghost notification_post = { λ old method params acts new.
         Applies old.documents (Some (notification method params)) new.documents
         × (old.changes.items ≡ [] → Follow (documents_of old.documents) new.changes.items (documents_of new.documents))
         × All (Clears (documents_of new.documents)) acts };
 
-    ghost replied = { λ old _ _ acts new. (acts ≡ []) × (new ≡ old) };
+    ghost response_post = { λ old _ _ acts new. (acts ≡ []) × (new ≡ old) };
 
-    ghost at_shutdown = { λ old acts new. (acts ≡ []) × (new ≡ old) };
+    ghost shutdown_post = { λ old acts new. (acts ≡ []) × (new ≡ old) };
 
-    ghost takes_back = { λ old _ new. new ≡ old };
+    ghost ids_exhausted_post = { λ old _ new. new ≡ old };
 
     fn initialize(&mut self, params: Value) -> Result<Result<Value, ResponseError>, AllocError> {
         let mut can = Value::Null;
-        let agreed = Agreed::announced(self.alloc, &params, false, &mut can)?;
+        let agreed = SyncOptions::negotiate(self.alloc, &params, false, &mut can)?;
         self.documents = TextDocuments::new(self.alloc, agreed);
         Ok(Ok(json!(in self.alloc; { "capabilities": can, "serverInfo": { "name": "notes" } })?))
     }
@@ -247,7 +248,7 @@ impl Server for Linter {
         Ok(Vec::new(alloc))
     }
 
-    fn unsent(&mut self, _asked: ()) -> Result<(), AllocError> {
+    fn ids_exhausted(&mut self, _asked: ()) -> Result<(), AllocError> {
         Ok(())
     }
 }
@@ -259,12 +260,12 @@ impl Linter {
     {
         Linter {
             alloc,
-            documents: TextDocuments::new(alloc, Agreed::unannounced()),
+            documents: TextDocuments::new(alloc, SyncOptions::defaults()),
             changes: Vec::new(alloc),
         }
     }
 
-    /// Has the analyses follow a notification of a document. If it names none, each text may be lost.
+    /// Starts or stops analyses after a notification about a document. If it names none, each text may be lost.
     fn note(&mut self, notification: &Notification, acts: &mut Acts) -> Result<(), AllocError>
         requires { acts.old.items ≡ [] }
         ensures applies { OnOk result (Applies self.old.documents (Some (told (string_bytes notification.now.method)
@@ -275,7 +276,7 @@ impl Linter {
     {
         match self.documents.apply(notification) {
             Some(Ok(update)) => self.look_at(update.uri, acts),
-            Some(Err(missed)) => match missed.unless_memory()?.uri {
+            Some(Err(missed)) => match missed.or_out_of_memory()?.uri {
                 Some(uri) => self.look_at(uri, acts),
                 None => self.look_at_all(acts),
             },
@@ -283,7 +284,7 @@ impl Linter {
         }
     }
 
-    /// Has the analysis of a document follow it.
+    /// Starts or stops the analysis of a document.
     fn look_at(&mut self, uri: &str, acts: &mut Acts) -> Result<(), AllocError>
         ensures same { self.new.documents ≡ self.old.documents }
         ensures change { OnOk result ((change : ChangeOfSlot Analysis)
@@ -297,7 +298,7 @@ impl Linter {
         Ok(())
     }
 
-    /// The same of each document that is open.
+    /// Does the same for each open document.
     fn look_at_all(&mut self, acts: &mut Acts) -> Result<(), AllocError>
         ensures same { self.new.documents ≡ self.old.documents }
         ensures changes { OnOk result (self.old.changes.items ≡ []
@@ -313,8 +314,8 @@ impl Linter {
     }
 }
 
-/// What becomes of the analysis of a document: one of its text takes the place of the one before. If its text is not known any more, none
-/// goes on, and no marks stay.
+/// Starts an analysis of a document's text in place of the one before. If the text is no longer known, the analysis is stopped, and its marks
+/// are removed.
 fn change_of(
     alloc: Global,
     documents: &TextDocuments,
@@ -325,23 +326,23 @@ fn change_of(
     ensures clear { OnOk result (All (Clears (documents_of documents.now)) (map act_seen acts.old.items)
         → All (Clears (documents_of documents.now)) (map act_seen acts.new.items)) }
 {
-    let slot = Slot::from(String::from_str(alloc, uri)?);
+    let slot = JobKey::from(String::from_str(alloc, uri)?);
     let Some(document) = documents.get(uri) else {
         acts.push(publish(alloc, uri, None, Vec::new(alloc))?)?;
-        return Ok(SlotChange::Stop(slot));
+        return Ok(JobCommand::Stop(slot));
     };
-    let source = OpenText::new(alloc, uri, document)?;
-    Ok(SlotChange::Start(slot, Analysis { alloc, source }))
+    let source = DocumentSnapshot::new(alloc, uri, document)?;
+    Ok(JobCommand::Start(slot, Analysis { alloc, source }))
 }
 
 /// Serves a client. The session keeps the laws of a session of a server with jobs, whatever the analyses find and when. The marks that the
-/// client gets at a wake are those of its text: see `marks_are_of_held_texts`.
+/// client gets at a wake-up are those of its text: see `marks_are_of_held_texts`.
 fn serve<T, R, W>(
     rt: &T,
     alloc: Global,
     client: ClientStreams<R, W>,
     linter: Linter,
-    policy: &mut EndSession,
+    policy: &mut EndOnBadContent,
 ) -> (Linter, Result<Threaded<W>, StartFault>)
 where
     T: Threads + Wait + Copy + Drop + Send + 'static,
@@ -350,16 +351,16 @@ where
     requires changes { linter.changes.items ≡ [] }
     requires documents { HasNone linter.documents }
     ensures told { IfOk result.1 (λ done. OfTaken done.taken.parts (λ text.
-        ThreadsTellOver true ⟦<EndSession as BadContentPolicy>⟧.passes client.limits (LintSession T ⟦<Linter as Server>⟧
+        ThreadsTellOver true ⟦<EndOnBadContent as BadContentPolicy>⟧.passes client.limits (LintSession T ⟦<Linter as Server>⟧
         (record {
-          sorts = ⟦<Linter as JobServer<Analysis>>⟧.sorts;
-          gives = ⟦<Linter as JobServer<Analysis>>⟧.gives;
-          knows = ⟦<Linter as JobServer<Analysis>>⟧.knows;
-          changes = ⟦<Linter as Slots<Linter, Analysis>>⟧.changes;
-          hears = ⟦<Linter as Slots<Linter, Analysis>>⟧.hears;
-          finishes = ⟦<Linter as Slots<Linter, Analysis>>⟧.finishes;
+          is_long_post = ⟦<Linter as JobServer<Analysis>>⟧.is_long_post;
+          job_post = ⟦<Linter as JobServer<Analysis>>⟧.job_post;
+          job_reply_post = ⟦<Linter as JobServer<Analysis>>⟧.job_reply_post;
+          take_commands_post = ⟦<Linter as KeyedJobs<Linter, Analysis>>⟧.take_commands_post;
+          found_post = ⟦<Linter as KeyedJobs<Linter, Analysis>>⟧.found_post;
+          ended_post = ⟦<Linter as KeyedJobs<Linter, Analysis>>⟧.ended_post;
           is_for = ⟦<Analysis as Job>⟧.is_for;
-          comes_to = ⟦<Analysis as Job>⟧.comes_to;
+          run_post = ⟦<Analysis as Job>⟧.run_post;
           reports = ⟦<Analysis as Job>⟧.reports;
           asks = ⟦<Analysis as Job>⟧.asks;
         }) linter result.0)
@@ -376,26 +377,26 @@ where
     run_jobs(rt, alloc, reader, writer, linter, policy, options)
 }
 
-/// Of a session with jobs, from a server that holds no documents: the marks that are published at a wake are all the marks of the text that
-/// the server holds at that moment for the document, under its URI and with its version. They are never those of an older text, nor of a
-/// document that was closed. The text is what the client's notifications since the result of `initialize` made of no documents.
+/// In a session with jobs, which begins with no documents, the marks that are published at a wake-up are all the marks of the text that the
+/// server holds at that moment for the document, under its URI and with its version. They are never those of an older text, nor of a
+/// document that was closed. The client's notifications since the result of `initialize` made this text.
 fn marks_are_of_held_texts<T: Wait + Drop>()
-    ensures { (first last : Linter) (exchanges : List Exchange) (stop : Stop) (shutdown_reply : Option Message)
+    ensures { (first last : Linter) (exchanges : List Exchange) (stop : Stop)
         (answer : SessionAnswer) → first.changes.items ≡ [] → HasNone first.documents
         → LawfulJobSession T ⟦<Linter as Server>⟧
         (record {
-          sorts = ⟦<Linter as JobServer<Analysis>>⟧.sorts;
-          gives = ⟦<Linter as JobServer<Analysis>>⟧.gives;
-          knows = ⟦<Linter as JobServer<Analysis>>⟧.knows;
-          changes = ⟦<Linter as Slots<Linter, Analysis>>⟧.changes;
-          hears = ⟦<Linter as Slots<Linter, Analysis>>⟧.hears;
-          finishes = ⟦<Linter as Slots<Linter, Analysis>>⟧.finishes;
+          is_long_post = ⟦<Linter as JobServer<Analysis>>⟧.is_long_post;
+          job_post = ⟦<Linter as JobServer<Analysis>>⟧.job_post;
+          job_reply_post = ⟦<Linter as JobServer<Analysis>>⟧.job_reply_post;
+          take_commands_post = ⟦<Linter as KeyedJobs<Linter, Analysis>>⟧.take_commands_post;
+          found_post = ⟦<Linter as KeyedJobs<Linter, Analysis>>⟧.found_post;
+          ended_post = ⟦<Linter as KeyedJobs<Linter, Analysis>>⟧.ended_post;
           is_for = ⟦<Analysis as Job>⟧.is_for;
-          comes_to = ⟦<Analysis as Job>⟧.comes_to;
+          run_post = ⟦<Analysis as Job>⟧.run_post;
           reports = ⟦<Analysis as Job>⟧.reports;
           asks = ⟦<Analysis as Job>⟧.asks;
         })
-        first last exchanges stop shutdown_reply answer
+        first last exchanges stop answer
         → ShowsOpenTexts exchanges }
 {}
 
@@ -407,7 +408,13 @@ fn main(rt: HostRuntime) -> Answer<()> {
         words.as_slice(),
         ClientOptions::new(),
         |client| -> Answer<SessionEnd> {
-            let (_linter, done) = serve(&rt, alloc, client, Linter::new(alloc), &mut EndSession);
+            let (_linter, done) = serve(
+                &rt,
+                alloc,
+                client,
+                Linter::new(alloc),
+                &mut EndOnBadContent,
+            );
             Ok(done?.answer?)
         },
     );

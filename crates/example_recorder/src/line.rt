@@ -1,7 +1,7 @@
 // The lines of a recording.
 use anyhow::{Result, bail};
 use lsp_server::Message;
-use lsp_watch::Way;
+use lsp_watch::Direction;
 use memchr::memchr2;
 use std::alloc::Global;
 use std::io::{self, BufRead, Write};
@@ -13,7 +13,7 @@ const NO_BLANK: u8 = 0x0b;
 /// Writes a content part as a line.
 pub fn write_line<W: Write>(
     log: &mut W,
-    way: Way,
+    way: Direction,
     content: &[u8],
     is_json: bool,
 ) -> io::Result<()> {
@@ -40,12 +40,12 @@ fn write_body<W: Write>(log: &mut W, content: &[u8], line_end: u8) -> io::Result
     Ok(())
 }
 
-/// Reads the next line into `line`, in place of the last one, and gives its way and its body. There is none at the end.
+/// Reads the next line into `line`, in place of the last one, and returns its direction and its content. There is none at the end.
 pub fn read_line<'l, B: BufRead>(
     alloc: Global,
     reader: &mut B,
     line: &'l mut Vec<u8>,
-) -> Result<Option<(Way, &'l [u8])>> {
+) -> Result<Option<(Direction, &'l [u8])>> {
     line.clear();
     if reader.read_until(b'\n', line)? == 0 {
         return Ok(None);
@@ -53,10 +53,10 @@ pub fn read_line<'l, B: BufRead>(
     let line = line.as_slice();
     let line = line.strip_suffix(b"\n").unwrap_or(line);
     if let Some(body) = line.strip_prefix(b"-> ") {
-        return Ok(Some((Way::ToServer, body)));
+        return Ok(Some((Direction::ToServer, body)));
     }
     match line.strip_prefix(b"<- ") {
-        Some(body) => Ok(Some((Way::ToClient, body))),
+        Some(body) => Ok(Some((Direction::ToClient, body))),
         None => bail!(
             "no line of a recording: {}",
             String::from_utf8_lossy(alloc, line)?

@@ -4,7 +4,7 @@ use crate::record::Until;
 use anyhow::{Result, bail};
 use crossbeam_channel::Receiver;
 use lsp_proxy::{Contents, Heard, Next};
-use lsp_watch::{LoggedMessage, Rule, Watch, Way};
+use lsp_watch::{Direction, LoggedMessage, Rule, Watch};
 use std::alloc::{AllocError, Global};
 use std::io::Write;
 use std::sync::Wait;
@@ -23,7 +23,7 @@ pub fn write_lines<R: Wait + AllocGlobal + Eprint, W: Write>(
     written
 }
 
-/// One way of a recording.
+/// One direction of a recording.
 #[derive(Drop)]
 struct Side {
     contents: Contents,
@@ -108,7 +108,7 @@ impl Lines {
     fn write_contents<R: AllocGlobal + Eprint, W: Write>(
         &mut self,
         rt: &R,
-        way: Way,
+        way: Direction,
         log: &mut W,
     ) -> Result<()> {
         for _ in 0..u64::MAX {
@@ -123,7 +123,7 @@ impl Lines {
     fn write_content<R: AllocGlobal + Eprint, W: Write>(
         &mut self,
         rt: &R,
-        way: Way,
+        way: Direction,
         log: &mut W,
     ) -> Result<bool> {
         let side = self.side(way);
@@ -142,32 +142,32 @@ impl Lines {
         Ok(true)
     }
 
-    /// Shows a message to the watch, and tells the rules that it breaks.
+    /// Shows a message to the watch, and reports the rules that it breaks.
     fn tell_breaches<R: Eprint>(
         &mut self,
         rt: &R,
-        way: Way,
+        way: Direction,
         message: &LoggedMessage,
     ) -> Result<()> {
         self.number = self.number.saturating_add(1);
         let number = self.number;
-        let found = self.watch.pass(number, way, message)?;
+        let found = self.watch.observe(number, way, message)?;
         for breach in found.iter() {
             eprintln!(rt; "{number}: {way} {breach}")?;
         }
         Ok(())
     }
 
-    /// Tells why nothing more of a way is written.
-    fn break_off<R: Eprint>(&mut self, rt: &R, way: Way, why: &str) -> Result<()> {
+    /// Reports why nothing more of a direction is written.
+    fn break_off<R: Eprint>(&mut self, rt: &R, way: Direction, why: &str) -> Result<()> {
         self.side(way).is_broken = true;
         Ok(eprintln!(rt; "{way} {why}: the rest is not recorded")?)
     }
 
-    fn side(&mut self, way: Way) -> &mut Side {
+    fn side(&mut self, way: Direction) -> &mut Side {
         match way {
-            Way::ToServer => &mut self.client,
-            Way::ToClient => &mut self.server,
+            Direction::ToServer => &mut self.client,
+            Direction::ToClient => &mut self.server,
         }
     }
 }
@@ -176,12 +176,17 @@ impl Lines {
 fn is_end(heard: &Heard, until: Until) -> bool {
     match until {
         Until::BothClose => false,
-        Until::ServerCloses => matches!(heard, Heard::End(Way::ToClient)),
+        Until::ServerCloses => matches!(heard, Heard::End(Direction::ToClient)),
     }
 }
 
 /// Writes the line of a content part, and gives its message.
-fn logged<W: Write>(alloc: Global, way: Way, content: &[u8], log: &mut W) -> Result<LoggedMessage> {
+fn logged<W: Write>(
+    alloc: Global,
+    way: Direction,
+    content: &[u8],
+    log: &mut W,
+) -> Result<LoggedMessage> {
     let message = LoggedMessage::from_content(alloc, content)?;
     match write_line(log, way, content, is_json(&message)) {
         Ok(()) => Ok(message),

@@ -6,9 +6,10 @@
 //!     example_recorder replay FILE SERVER           send them to a server, and compare what it answers
 //!
 //! LISTEN and SERVER are addresses, such as 127.0.0.1:9257, and `-` is standard input and output. A line of a recording is `->` and a
-//! body for a message to the server, `<-` and a body for one to the client. The body is the content part, on one line. While it records, it
-//! tells on standard error which line breaks a rule of `lsp_watch`. The bytes pass unchanged, also if they are no message. A replay to a
-//! server ends at a line that is no `Message` of `lsp_server`.
+//! content part to the server, or `<-` and one to the client. A space replaces each line end of the content. If the content is no JSON, a
+//! vertical tab replaces it, so that the line is no JSON either. While it records, standard error names each line that breaks a rule of
+//! `lsp_watch`. The bytes pass unchanged, also if they are no message. A replay to a server ends at a line that is no `Message` of
+//! `lsp_server`.
 #![tactic(auto)]
 
 mod line;
@@ -70,7 +71,7 @@ where
     }
 }
 
-/// Plays a recording to a server, and gives how many answers were compared.
+/// Plays a recording to a server, and returns how many messages of the server were compared.
 fn replay_to<R, B: BufRead>(rt: &R, recording: &mut B, server: &str) -> Result<u64>
 where
     R: Net + Threads + Wait + Clock + AllocGlobal + Print + Copy + Drop + Send + 'static,

@@ -1,15 +1,15 @@
-// The recorder: a thread for each way, and a log of what both pass on.
+// The recorder: a thread for each direction, and a log of the bytes that both pass on.
 use crate::lines::write_lines;
 use crate::peer::Peer;
 use anyhow::Result;
 use crossbeam_channel::bounded;
 use lsp_proxy::{Ended, Teller, pass_on};
-use lsp_watch::Way;
+use lsp_watch::Direction;
 use std::io::{self, Read, Write};
 use std::sync::Wait;
 use std::thread::{Builder, JoinHandle, Threads};
 
-/// How many pieces may wait for the log. Beyond these what passes waits for it too.
+/// How many pieces may wait for the log. Beyond these the bytes that pass wait too.
 const ROOM: usize = 1024;
 
 /// When a recording is over.
@@ -17,16 +17,16 @@ const ROOM: usize = 1024;
 pub enum Until {
     /// Both sides have closed.
     BothClose,
-    /// The server has closed. A client that reads standard output learns of it only when the program ends, so what it still sends is
-    /// let go.
+    /// The server has closed. A client that reads standard output learns of it only when the program ends, so its further bytes are
+    /// dropped.
     ServerCloses,
 }
 
 /// Passes the bytes of a client and a server on to each other, and writes a line for each content part, until the recording is over.
 ///
-/// The bytes pass unchanged, whatever they are. A piece of them goes to the log before it is sent on, so an answer never stands before
-/// its request. Each way ends by itself: when a side has closed, the rest of what it sent is passed on, and then the other side reads
-/// the end. So nothing is lost, also if one side closes first. What is sent to a side that is gone is only logged.
+/// The bytes pass unchanged, whatever they are. A piece of them goes to the log before it is sent on, so a reply never stands before its
+/// request. Each direction ends by itself: when a side has closed, the rest of its bytes is passed on, and then the other side reads the
+/// end. So nothing is lost, also if one side closes first. Bytes to a side that is gone are only logged.
 pub fn record<R, F, T, G, U, W: Write>(
     rt: &R,
     client: Peer<F, T>,
@@ -42,8 +42,8 @@ where
     U: Write + Drop + Send + 'static,
 {
     let (sender, heard) = bounded(rt.alloc(), ROOM)?;
-    let upward = Teller::new(*rt, Way::ToServer, sender.clone()?);
-    let downward = Teller::new(*rt, Way::ToClient, sender);
+    let upward = Teller::new(*rt, Direction::ToServer, sender.clone()?);
+    let downward = Teller::new(*rt, Direction::ToClient, sender);
     let upward = start(rt, upward, client.reader, server.writer)?;
     let downward = start(rt, downward, server.reader, client.writer)?;
     write_lines(rt, &heard, log, until)?;
@@ -55,7 +55,7 @@ where
     Ok(())
 }
 
-/// Starts a thread that passes on what one side sends.
+/// Starts a thread that passes on the bytes of one side.
 fn start<R, F, T>(rt: &R, tell: Teller<R>, from: F, to: T) -> io::Result<JoinHandle<()>>
 where
     R: Threads + Wait + AllocGlobal + Copy + Drop + Send + 'static,
@@ -65,7 +65,7 @@ where
     Builder::new().spawn(rt, move || pass_way(tell, from, to))
 }
 
-/// Passes on what one side sends, up to its end. If the other side is gone, the rest is only told.
+/// Passes on the bytes of one side, up to their end. If the other side is gone, the rest is only logged.
 fn pass_way<R, F, T>(tell: Teller<R>, from: F, to: T)
 where
     R: Wait + AllocGlobal + Drop,

@@ -3,14 +3,14 @@ use crate::line::{message_of, read_line};
 use anyhow::{Context, Error, Result, bail};
 use crossbeam_channel::{Receiver, Sender};
 use lsp_server::{Connection, ErrorCode, Message, RequestId, Response};
-use lsp_watch::Way;
+use lsp_watch::Direction;
 use serde_json::Value;
 use std::alloc::{AllocError, Global};
 use std::io::{self, BufRead, Write};
 use std::sync::Wait;
 use std::time::{Clock, Duration};
 
-/// How many seconds an answer is awaited.
+/// How many seconds the replay waits for a message.
 const PATIENCE: u64 = 10;
 
 /// Writes the client's messages of a recording as frames.
@@ -22,8 +22,8 @@ pub fn write_frames<B: BufRead, W: Write>(
     let mut line = Vec::new(alloc);
     for _ in 0..u64::MAX {
         match read_line(alloc, recording, &mut line)? {
-            Some((Way::ToServer, body)) => write_frame(body, writer)?,
-            Some((Way::ToClient, _)) => {}
+            Some((Direction::ToServer, body)) => write_frame(body, writer)?,
+            Some((Direction::ToClient, _)) => {}
             None => break,
         }
     }
@@ -36,13 +36,12 @@ fn write_frame<W: Write>(content: &[u8], writer: &mut W) -> io::Result<()> {
     writer.write_all(content)
 }
 
-/// Sends the client's messages of a recording, compares what the server says with what it said then, and counts that.
+/// Sends the client's messages of a recording, compares the server's messages with those of the recording, and counts them.
 ///
-/// If the recording has a message of the server, it is awaited. A reply may come earlier or later than it did, since requests may
-/// take other times. So may parts of a result, those of one token in their order. The server's other notifications and requests keep
-/// their order. How far a request is (`$/progress` of work done) is not compared. A request that the client cancels may come to what it
-/// came to, or to -32800 (LSP 3.17, "Cancellation Support"). The first difference goes to `report`, and is an error. The connection is
-/// closed at the end.
+/// The replay waits for each message of the server. A reply may arrive earlier or later than in the recording, since requests may take
+/// other times. So may parts of a result, those of one token in their order. The server's other notifications and requests keep their
+/// order. Work done progress (`$/progress`) is not compared. A request that the client cancels may get the recorded reply, or -32800 (LSP
+/// 3.17, "Cancellation Support"). The first difference goes to `report`, and is an error. The connection is closed at the end.
 pub fn compare<R: Wait + Clock + AllocGlobal, B: BufRead, W: Write>(
     rt: &R,
     recording: &mut B,
@@ -102,15 +101,15 @@ impl Replay {
     fn play_line<R: Wait + Clock + AllocGlobal, W: Write>(
         &mut self,
         rt: &R,
-        way: Way,
+        way: Direction,
         body: &[u8],
         connection: &Connection,
         report: &mut W,
     ) -> Result<()> {
         let message = message_of(rt.alloc(), body)?;
         match way {
-            Way::ToServer => self.send(rt, &connection.sender, message),
-            Way::ToClient => {
+            Direction::ToServer => self.send(rt, &connection.sender, message),
+            Direction::ToClient => {
                 let met = self.meet(rt, &connection.receiver, &message, report);
                 drop(message);
                 met
@@ -136,7 +135,7 @@ impl Replay {
         Ok(())
     }
 
-    /// Awaits what the server says in the place of a recorded message, and compares it.
+    /// Waits for the server's message in the place of a recorded one, and compares the two.
     fn meet<R: Wait + Clock + AllocGlobal, W: Write>(
         &mut self,
         rt: &R,
@@ -159,7 +158,7 @@ impl Replay {
         compared
     }
 
-    /// Sees that the server says nothing more, and gives how many messages were compared.
+    /// Checks that the server sends nothing more, and returns how many messages were compared.
     fn end<R: Wait + Clock + AllocGlobal, W: Write>(
         &self,
         rt: &R,
@@ -273,8 +272,7 @@ fn token_of(message: &Message) -> Option<(Option<&str>, Option<i64>)> {
     Some((token.as_str(), token.as_i64()))
 }
 
-/// Compares what was found with what was recorded, as both are written here: spaces and the order of members do not count. With nothing
-/// recorded nothing is to be found.
+/// Compares a message with the recorded one. Spaces and the order of members do not count. If nothing was recorded, nothing may be found.
 fn expect<W: Write>(
     alloc: Global,
     found: Option<&Message>,

@@ -13,13 +13,13 @@ use Rattle.lsp_documents.specs.declared.documents.TextDocuments.{TextDocuments}
 use Rattle.lsp_jobs.specs.Asking.{by_server}
 use Rattle.lsp_jobs.specs.Ends.{Came, ComesTo, End, Outcome, end_of, ended, found, gave, gave_up, out_of_memory}
 use Rattle.lsp_jobs.specs.JobLaw.{AnswersRequest, AreTakenAt, RepliesItself, SendsSo}
-use Rattle.lsp_jobs.specs.SlotLaw.{AreTurns, IsCalled, IsTurn, Left, MayPass, SeesLeft, Turn, at_ends}
+use Rattle.lsp_jobs.specs.KeyedJobLaw.{AreTurns, IsCalled, IsTurn, Left, MayPass, SeesLeft, Turn, at_ends}
 use Rattle.lsp_jobs.specs.Stated.{SeesEnd, StatedJobs}
 use Rattle.lsp_jobs.specs.declared.asking.RequestOrigin.{RequestOrigin}
 use Rattle.lsp_jobs.specs.declared.job_server.JobEnd.{JobEnd}
-use Rattle.lsp_jobs.specs.declared.job_server.SlotChange.{SlotChange}
+use Rattle.lsp_jobs.specs.declared.job_server.JobCommand.{JobCommand}
 use Rattle.lsp_jobs.specs.declared.names.JobName.{JobName}
-use Rattle.lsp_jobs.specs.declared.names.JobName.TheVariants.{Slot}
+use Rattle.lsp_jobs.specs.declared.names.JobName.TheVariants.{Keyed}
 use Rattle.lsp_message.specs.Id.{Id}
 use Rattle.lsp_message.specs.Message.{Message, request, notification, response}
 use Rattle.lsp_message.specs.Methods.{is_initialize}
@@ -28,7 +28,7 @@ use Rattle.lsp_acts.specs.Answering.{logs_error}
 use Rattle.lsp_acts.specs.Law.{AnswersInitialize, Initializes}
 use Rattle.lsp_acts.specs.SentByActs.{acts_done_at}
 use Rattle.lsp_acts.specs.declared.server.Server.{Ghosts as Plain}
-use Rattle.lsp_session.specs.Session.{Exchange}
+use Rattle.lsp_session.specs.Session.{Exchange, offered, came_of}
 use Rattle.example_search.proofs.Symbols.{answered}
 use Rattle.example_search.specs.Open.{AnswersSearch, Applies, HasNone, Hears, HearsAll, LogsLost, SearchesOpenTexts}
 use Rattle.example_search.specs.Open.{SendsLost, all_lost}
@@ -44,13 +44,13 @@ stays old new came applies = record { left = old; loses = inl refl; applies = ap
 -- the client is told otherwise
 told_so : {Told Other : Type 0} (old new : TextDocuments) (came : Option Message) → (Told → Other)
     → Hears old came Told new → Hears old came Other new
-told_so old new came so hears = record {
-  left = hears.left;
-  loses = elim hears.loses [
+told_so old new came so found_post = record {
+  left = found_post.left;
+  loses = elim found_post.loses [
     | inl kept ↦ inl kept
     | inr lost ↦ inr (lost.0, so lost.1)
   ];
-  applies = hears.applies;
+  applies = found_post.applies;
 }
 
 -- `initialized` is no notification of a document
@@ -68,32 +68,33 @@ module _ {F P : Type 0} (plain : Plain Sums P) (may : StatedJobs Sums Search F P
   -- what the server and its jobs state, as far as it is needed here
   pub record States : Type 0 where
     pub initialized : (old : Sums) (params : Data) (outcome : Outcome) (new : Sums)
-        → plain.initializes old params outcome new → HasNone new.documents
-    pub began : (old : Sums) (acts : List (Act P)) (new : Sums) → plain.at_initialized old acts new
+        → plain.initialize_post old params outcome new → HasNone new.documents
+    pub began : (old : Sums) (acts : List (Act P)) (new : Sums) → plain.initialized_post old acts new
         → new.documents ≡ old.documents
     pub requested : (old : Sums) (id : Id) (method : List ℕ) (params : Data) (acts : List (Act P)) (new : Sums)
-        → plain.requested old id method params acts new
+        → plain.request_post old id method params acts new
         → Hears old.documents (Some (request id method params)) (LogsLost acts) new.documents
     pub notified : (old : Sums) (method : List ℕ) (params : Data) (acts : List (Act P)) (new : Sums)
-        → plain.notified old method params acts new
+        → plain.notification_post old method params acts new
         → Hears old.documents (Some (notification method params)) (LogsLost acts) new.documents
     pub replied : (old : Sums) (payload : P) (outcome : Outcome) (acts : List (Act P)) (new : Sums)
-        → plain.replied old payload outcome acts new → new.documents ≡ old.documents
-    pub took_back : (old : Sums) (payload : P) (new : Sums) → plain.takes_back old payload new
+        → plain.response_post old payload outcome acts new → new.documents ≡ old.documents
+    pub took_back : (old : Sums) (payload : P) (new : Sums) → plain.ids_exhausted_post old payload new
         → new.documents ≡ old.documents
-    pub changed : (old : Sums) (changes : List (SlotChange Search)) (new : Sums) → may.changes old changes new
+    pub changed : (old : Sums) (changes : List (JobCommand Search)) (new : Sums) → may.take_commands_post old changes
+        new
         → new ≡ old
     pub heard : (old : Sums) (name : JobName) (found : F) (acts : List (Act P)) (new : Sums)
-        → may.hears old name found acts new → (acts ≡ []) × (new ≡ old)
+        → may.found_post old name found acts new → (acts ≡ []) × (new ≡ old)
     pub finished : (old : Sums) (name : JobName) (end : JobEnd) (acts : List (Act P)) (new : Sums)
-        → may.finishes old name end acts new → (acts ≡ []) × (new ≡ old)
-    pub is_search : (old : Sums) (method : List ℕ) (params : Data) → may.sorts old method params true
+        → may.ended_post old name end acts new → (acts ≡ []) × (new ≡ old)
+    pub is_search : (old : Sums) (method : List ℕ) (params : Data) → may.is_long_post old method params true
         → method ≡ codes "workspace/symbol"
     pub gives : (old : Sums) (id : Id) (method : List ℕ) (params : Data) (job : Search)
-        → may.gives old id method params job → copied job.sources.items ≡ texts_of old.documents
+        → may.job_post old id method params job → copied job.sources.items ≡ texts_of old.documents
     pub is_for : (job : Search) (method : List ℕ) (params : Data) → may.is_for job method params
         → word_in params ≡ Some (string_bytes job.query)
-    pub finds : (job : Search) (reply : Option Outcome) (it : Option F) → may.comes_to job reply it
+    pub finds : (job : Search) (reply : Option Outcome) (it : Option F) → may.run_post job reply it
         → RepliesSymbols (copied job.sources.items) (string_bytes job.query) reply
 
   module _ (states : States) where
@@ -106,7 +107,7 @@ module _ {F P : Type 0} (plain : Plain Sums P) (may : StatedJobs Sums Search F P
     sees : (made : Sums) (left : List (Left may)) (new : Sums) → SeesLeft plain may made left new → new ≡ made
     sees made [] new same = same
     sees made (l ∷ ls) new all =
-        sees l.new ls new all.1 ∙ (at_end l.old (Slot l.slot) l.end l.acts l.new l.saw).1 ∙ all.0
+        sees l.new ls new all.1 ∙ (at_end l.old (Keyed l.slot) l.end l.acts l.new l.saw).1 ∙ all.0
 
     -- what a turn makes of the documents
     called : (old : Sums) (came : Option Message) (at : Option JobName) (acts : List (Act P)) (now : Sums)
@@ -155,18 +156,19 @@ module _ {F P : Type 0} (plain : Plain Sums P) (may : StatedJobs Sums Search F P
 
     -- and is sent first
     sent_first : (x : Exchange) (acts : List (Act (RequestOrigin P)))
-        → SendsSo (acts_done_at x.came acts) x.sent → LogsLost acts → SendsLost x.sent
+        → SendsSo (acts_done_at x.came acts) (offered x) → LogsLost acts → SendsLost (offered x)
     sent_first x acts sends lost =
-        by x.came (subst (λ (l : List (Act (RequestOrigin P))). SendsSo (acts_done_at x.came l) x.sent) lost.1 sends)
+        by x.came (subst (λ (l : List (Act (RequestOrigin P))). SendsSo (acts_done_at x.came l) (offered x)) lost.1
+        sends)
       where
-        by : (came : Option Message) → SendsSo (acts_done_at came (logs_error all_lost ∷ lost.0)) x.sent
-            → SendsLost x.sent
+        by : (came : Option Message) → SendsSo (acts_done_at came (logs_error all_lost ∷ lost.0)) (offered x)
+            → SendsLost (offered x)
         by None so = (_, sym so.1)
         by (Some (request id method params)) so = (_, sym so.1)
         by (Some (notification method params)) so = (_, sym so.1)
         by (Some (response id outcome)) so = (_, sym so.1)
 
-    taken : (payloads : List P) (old new : Sums) → TakesBack plain.takes_back old payloads new
+    taken : (payloads : List P) (old new : Sums) → TakesBack plain.ids_exhausted_post old payloads new
         → new.documents ≡ old.documents
     taken [] old new same = ap (λ (s : Sums). s.documents) same
     taken (payload ∷ payloads) old new back =
@@ -192,18 +194,18 @@ module _ {F P : Type 0} (plain : Plain Sums P) (may : StatedJobs Sums Search F P
     none_open [] old start none same = subst (λ (s : Sums). HasNone s.documents) (sym same) none
     none_open (x ∷ early) old start none run = none_open early run.0 start (at x.came run.1) run.2
       where
-        by : (b : Bool) (m : Message) → MatchBool b (Initializes plain old m x.sent run.0) (run.0 ≡ old)
+        by : (b : Bool) (m : Message) → MatchBool b (Initializes plain old m (offered x) run.0) (run.0 ≡ old)
             → HasNone run.0.documents
         by true m i = states.initialized old i.params i.outcome run.0 i.gave
         by false m same = subst (λ (s : Sums). HasNone s.documents) (sym same) none
 
         at : (came : Option Message)
-            → IsSomeAnd came (λ m. MatchBool (is_initialize m) (Initializes plain old m x.sent run.0)
+            → IsSomeAnd came (λ m. MatchBool (is_initialize m) (Initializes plain old m (offered x) run.0)
             (run.0 ≡ old)) → HasNone run.0.documents
         at None never = absurd never
         at (Some m) answered = by (is_initialize m) m answered
 
-    comes_so : (job : Search) (came : Came F) → ComesTo may.comes_to job came
+    comes_so : (job : Search) (came : Came F) → ComesTo may.run_post job came
         → ComesTo (λ (j : Search) reply (it : Option F). RepliesSymbols (copied job.sources.items)
         (string_bytes job.query) reply) job came
     comes_so job (gave reply it) comes = states.finds job reply it comes
@@ -221,10 +223,10 @@ module _ {F P : Type 0} (plain : Plain Sums P) (may : StatedJobs Sums Search F P
           params = g.params;
           last = record {
             before = g.last.before;
-            sent = g.last.sent;
+            asking = g.last.asking;
             since = g.last.since;
-            came = g.last.came ∙ ap (λ (method : List ℕ). g.last.before
-                ++ record { came = Some (request id method g.params); sent = g.last.sent } ∷ g.last.since) is;
+            cut = g.last.cut;
+            came = g.last.came ∙ ap (λ (method : List ℕ). Some (request id method g.params)) is;
             unanswered = g.last.unanswered;
             quiet = g.last.quiet;
           };
@@ -248,8 +250,9 @@ module _ {F P : Type 0} (plain : Plain Sums P) (may : StatedJobs Sums Search F P
     -- by what a law of the library says of each reply
     pub searches : (first : Sums) (exchanges : List Exchange) → HasNone first.documents
         → ((earlier later : List Exchange) (x : Exchange) (before after : List Message) (id : Id) (outcome : Outcome)
-        → exchanges ≡ earlier ++ x ∷ later → x.came ≡ None → x.sent ≡ before ++ response id outcome ∷ after
-        → AnswersRequest plain may first earlier id outcome ⊎ RepliesItself plain may first earlier x.sent id outcome)
+        → exchanges ≡ earlier ++ x ∷ later → x.came ≡ None → offered x ≡ before ++ response id outcome ∷ after
+        → AnswersRequest plain may first earlier id outcome ⊎ RepliesItself plain may first earlier (offered x) id
+        outcome)
         → SearchesOpenTexts exchanges
     searches first exchanges none law earlier later x before after id outcome cut woken sent =
         elim (law earlier later x before after id outcome cut woken sent) [

@@ -17,7 +17,7 @@ use Rattle.lsp_message.specs.Id.{Id}
 use Rattle.lsp_message.specs.Message.{Message, notification, response}
 use Rattle.lsp_acts.specs.Acts.{Act, replies, tells}
 use Rattle.lsp_acts.specs.Answering.{error_type, log_method, logs_error, message_params}
-use Rattle.lsp_session.specs.Session.{Exchange}
+use Rattle.lsp_session.specs.Session.{Exchange, offered, came_of}
 use Rattle.lsp_session.specs.SessionLaws.{EndsWithResult}
 use Rattle.lsp_text.specs.Lines.{LinedText}
 use Rattle.example_search.specs.Sources.{Answers, AnswersNow}
@@ -59,7 +59,7 @@ SendsLost sent = (rest : List Message)
 abbrev pub HearsAll : TextDocuments → List Exchange → TextDocuments → Type 0
 HearsAll before [] now = now ≡ before
 HearsAll before (x ∷ rest) now =
-    (mid : TextDocuments) × Hears before x.came (SendsLost x.sent) mid × HearsAll mid rest now
+    (mid : TextDocuments) × Hears before x.came (SendsLost (offered x)) mid × HearsAll mid rest now
 
 -- These texts are open after these exchanges, each beside its URI: what the client's notifications since the result of
 -- `initialize` made, where no document was open.
@@ -87,7 +87,7 @@ pub record AnswersSearch (earlier : List Exchange) (id : Id) (outcome : Outcome)
 abbrev pub SearchesOpenTexts : List Exchange → Type 0
 SearchesOpenTexts exchanges =
     (earlier later : List Exchange) (x : Exchange) (before after : List Message) (id : Id) (outcome : Outcome)
-    → exchanges ≡ earlier ++ x ∷ later → x.came ≡ None → x.sent ≡ before ++ response id outcome ∷ after
+    → exchanges ≡ earlier ++ x ∷ later → x.came ≡ None → offered x ≡ before ++ response id outcome ∷ after
     → AnswersSearch earlier id outcome
 
 -- this act sends a notification

@@ -5,7 +5,7 @@ use Rattle.lsp_jobs.specs.Stated.{StatedJobs}
 use Rattle.lsp_message.specs.Id.{Id}
 use Rattle.lsp_message.specs.Message.{Message}
 use Rattle.lsp_acts.specs.Law.{how_many, is_request_under, IsWhole, NeverMore, OnceOrEnded}
-use Rattle.lsp_acts.specs.QueuedServer.{ServerSession, held_by}
+use Rattle.lsp_acts.specs.ServerApplication.{ServerSession, held_by}
 use Rattle.lsp_acts.specs.declared.server.Server.{Ghosts as Plain}
 use Rattle.lsp_session.specs.Session.{Exchange, messages_of, SessionAnswer, Stop}
 use Rattle.example_search.specs.Open.{SearchesOpenTexts}
@@ -15,9 +15,9 @@ use Rattle.example_search.specs.Open.{SearchesOpenTexts}
 -- the server still keeps it, or the session ended at it, since the lifecycle does not allow it. If a write or an
 -- allocation failed, replies may be missing.
 pub record AnswersOnce {S P : Type 0} (may : Plain S P) (first last : S)
-    (exchanges : List Exchange) (stop : Stop) (shutdown_reply : Option Message)
+    (exchanges : List Exchange) (stop : Stop)
     (answer : SessionAnswer) : Type 0 where
-  pub session : ServerSession may first last exchanges stop shutdown_reply answer
+  pub session : ServerSession may first last exchanges stop answer
   pub no_more : (id : Id) → NeverMore id exchanges
   pub answered : IsWhole stop → (id : Id)
       → how_many (is_request_under id) (messages_of exchanges) ≡ 1
@@ -25,7 +25,7 @@ pub record AnswersOnce {S P : Type 0} (may : Plain S P) (first last : S)
 
 -- A session with jobs keeps the laws of one without, and its searches are of the texts that were open.
 pub record SearchSession (T : Type 0) {S J F P : Type 0} (plain : Plain S P) (may : StatedJobs S J F P) (first last : S)
-    (exchanges : List Exchange) (stop : Stop) (shutdown_reply : Option Message)
+    (exchanges : List Exchange) (stop : Stop)
     (answer : SessionAnswer) : Type 0 where
-  pub session : LawfulJobSession T plain may first last exchanges stop shutdown_reply answer
+  pub session : LawfulJobSession T plain may first last exchanges stop answer
   pub searches : SearchesOpenTexts exchanges

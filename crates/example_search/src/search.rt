@@ -7,26 +7,26 @@ ghost use Rattle.lsp_documents.specs.Known.{copied};
 ghost use Rattle.example_search.specs.Found.{AreSymbolsOf, IsHeadingWith, name_in, symbol_at, symbol_of};
 ghost use Rattle.example_search.specs.Sources.{AreFound, FindsSymbols};
 
-use lsp_documents::OpenText;
+use lsp_documents::DocumentSnapshot;
 use lsp_jobs::{Interrupted, Job, JobContext, JobResult, WorkDone};
 use lsp_server::Notification;
 use serde_json::{Value, json};
 use std::alloc::{AllocError, Global};
 
-/// A search, with all that it needs.
+/// A search, with all data that it needs.
 #[derive(Drop)]
 pub struct Search {
-    /// For what it allocates.
+    /// The allocator.
     pub alloc: Global,
-    /// The word that a heading is to contain.
+    /// The word that the headings have.
     pub query: String,
-    /// The texts that are searched, as they were when it was asked for.
-    pub sources: Vec<OpenText>,
-    /// Tells the client how far it is.
+    /// The texts that are searched, as they were when the request arrived.
+    pub sources: Vec<DocumentSnapshot>,
+    /// Reports the progress to the client.
     pub work: WorkDone,
 }
 
-/// Nobody hears how far a search is, or cancels it.
+/// A search that reports no progress, and that nobody cancels.
 #[derive(Drop)]
 pub struct Silence;
 
@@ -53,10 +53,10 @@ impl Job for Search {
 
     ghost is_for = { λ search _ params. word_in params ≡ Some (string_bytes search.query) };
 
-    ghost comes_to = { λ search reply _.
+    ghost run_post = { λ search reply _.
         RepliesSymbols (copied search.sources.items) (string_bytes search.query) reply };
 
-    // It asks the client nothing.
+    // It sends no requests to the client.
     ghost asks = { λ _ _ _. ⊥ };
 
     fn run<C: JobContext>(self, context: &mut C) -> Result<JobResult<()>, Interrupted> {
@@ -66,7 +66,7 @@ impl Job for Search {
 }
 
 impl Search {
-    /// All headings of its texts that have the word, as a list (LSP 3.17, "Workspace Symbols Request"). It tells how far it is.
+    /// Returns a list of all headings of its texts that have the word (LSP 3.17, "Workspace Symbols Request"). It reports its progress.
     pub fn symbols<C: JobContext>(self, context: &mut C) -> Result<Value, Interrupted>
         requires { (method : List ℕ) (params : Data) → C.may method params }
         ensures { IfOk result (λ tree.
@@ -79,10 +79,10 @@ impl Search {
     }
 }
 
-/// All headings of these documents that have the word. It tells how far it is.
+/// Returns all headings of these documents that have the word. It reports its progress.
 fn find_all<C: JobContext>(
     alloc: Global,
-    sources: &[OpenText],
+    sources: &[DocumentSnapshot],
     word: &str,
     work: &WorkDone,
     context: &mut C,
@@ -101,16 +101,16 @@ fn find_all<C: JobContext>(
     Ok(found)
 }
 
-/// How much of so many are done, if there are any.
+/// Returns how many percent of the documents are done, if there are any.
 fn percentage(done: usize, count: usize) -> Option<u32> {
     let percentage = done.saturating_mul(100).checked_div(count)?;
     u32::try_from(percentage).ok()
 }
 
-/// All headings of a document that have the word.
+/// Returns all headings of a document that have the word.
 fn headings_with<C: JobContext>(
     alloc: Global,
-    source: &OpenText,
+    source: &DocumentSnapshot,
     word: &str,
     context: &C,
 ) -> Result<Vec<Value>, Interrupted>
@@ -147,7 +147,7 @@ fn add_heading(
     Ok(())
 }
 
-/// The name of the heading that a line is, if it is one that has the word.
+/// Returns the name of a heading, if the line is a heading that has the word.
 fn heading_with<'l>(line: &'l str, word: &str) -> Option<&'l str>
     ensures { MatchOption result (IsHeadingWith word.now line.now → ⊥)
         (λ name. IsHeadingWith word.now line.now × (name.now ≡ name_in line.now)) }
@@ -160,7 +160,7 @@ fn heading_with<'l>(line: &'l str, word: &str) -> Option<&'l str>
     }
 }
 
-/// A heading of a document (LSP 3.17, "Workspace Symbols Request").
+/// Makes the symbol of a heading (LSP 3.17, "Workspace Symbols Request").
 fn symbol(alloc: Global, name: &str, uri: &str, line: u32) -> Result<Value, AllocError>
     ensures { IfOk result (λ symbol. view symbol ≡ symbol_at name.now uri.now line) }
 {

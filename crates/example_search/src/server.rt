@@ -1,4 +1,4 @@
-// The server: the texts that are open, what the client is told, and what it asks.
+// The server: the open texts, the messages to the client, and the requests to it.
 ghost use Rattle.serde_json.specs.View.{view};
 ghost use Rattle.std.specs.List.{All};
 ghost use Rattle.std.specs.Prelude.{◌≡◌, [], ◌∷◌, ◌++◌, None, Some, IfOk, IfSome, List, MatchOption, OnOk, codes, map, option_map, string_bytes};
@@ -15,9 +15,11 @@ ghost use Rattle.example_search.specs.Sources.{AnswersNow, FindsSymbols, which_w
 
 use crate::search::{Search, Silence};
 use crate::sums::{Problem, Word, sheet_of, value_of, word_at};
-use lsp_documents::{Agreed, DocumentUpdate, TextDocuments, UpdateFault, position_in, uri_in};
-use lsp_jobs::{AnsweredBy, JobServer, NoSlots, WorkDone};
-use lsp_server::policies::PassedOver;
+use lsp_documents::{
+    DocumentUpdate, SyncOptions, TextDocuments, UpdateFault, position_from, uri_from,
+};
+use lsp_jobs::{AnsweredBy, JobServer, NoKeyedJobs, WorkDone};
+use lsp_server::policies::SkipAndFlag;
 use lsp_server::{Act, ErrorCode, Notification, Request, RequestId, ResponseError, Server};
 use lsp_text::{Text, TextDocument};
 use serde_json::{Value, json, to_value};
@@ -25,13 +27,13 @@ use std::alloc::{AllocError, Global};
 use std::fmt::Display;
 use std::mem;
 
-/// What the server can do, beside keeping texts.
+/// The capabilities of the server, beside those of `SyncOptions`.
 const CAPABILITIES: &str = r#"{
     "hoverProvider": true,
     "workspaceSymbolProvider": { "workDoneProgress": true }
 }"#;
 
-/// What is asked for of the client's configuration.
+/// The section of the client's configuration that the server asks for.
 const SECTIONS: &str = r#"{ "items": [{ "section": "sums" }] }"#;
 
 /// A server for texts of sums.
@@ -43,11 +45,11 @@ pub struct Sums {
     /// Whether the client can be asked for its configuration.
     configures: bool,
     documents: TextDocuments,
-    /// Whether a body was passed over, which may have told of any text.
-    passed_over: PassedOver,
-    /// What was last logged of a notification that was not applied.
+    /// Whether the session skipped bad content, which may have been a change of any text.
+    passed_over: SkipAndFlag,
+    /// The last log line about a notification that was not applied.
     complaint: String,
-    /// The requests that are answered when nothing is wrong with a text.
+    /// The requests that wait until a text has no diagnostics.
     waiting: Vec<Request>,
 }
 
@@ -59,25 +61,25 @@ impl Server for Sums {
     ghost use Rattle.lsp_documents.specs.Held.{texts_of};
     ghost use Rattle.example_search.specs.Open.{AnswersAtOnce, HasNone, Hears, LogsLost};
 
-    // No document is open at first, and each message makes of the documents what it says. They are lost before it only if the client is told
-    // so first. A search is answered at once.
-    ghost initializes = { λ _ _ _ new. HasNone new.documents };
+    // No document is open at first. Each message changes the documents as LSP says. They are lost before a message only if the server first
+    // logs this at the client. A search is answered at once.
+    ghost initialize_post = { λ _ _ _ new. HasNone new.documents };
 
-    ghost at_initialized = { λ old _ new. new.documents ≡ old.documents };
+    ghost initialized_post = { λ old _ new. new.documents ≡ old.documents };
 
-    ghost requested = { λ old id method params acts new.
+    ghost request_post = { λ old id method params acts new.
         Hears old.documents (Some (request id method params)) (LogsLost acts) new.documents
         × (method ≡ codes "workspace/symbol" → AnswersAtOnce (texts_of new.documents) id params acts) };
 
-    ghost notified = { λ old method params acts new.
+    ghost notification_post = { λ old method params acts new.
         Hears old.documents (Some (notification method params)) (LogsLost acts) new.documents };
 
-    ghost replied = { λ old _ _ _ new. new.documents ≡ old.documents };
+    ghost response_post = { λ old _ _ _ new. new.documents ≡ old.documents };
 
-    ghost takes_back = { λ old _ new. new.documents ≡ old.documents };
+    ghost ids_exhausted_post = { λ old _ new. new.documents ≡ old.documents };
 
-    // The configuration is all that the server asks for.
-    type Payload = ();
+    // The server requests nothing but the configuration.
+    type PendingData = ();
 
     fn initialize(&mut self, params: Value) -> Result<Result<Value, ResponseError>, AllocError> {
         let path = "/capabilities/workspace/configuration";
@@ -126,26 +128,26 @@ impl Server for Sums {
         Ok(Vec::new(alloc))
     }
 
-    fn unsent(&mut self, _asked: ()) -> Result<(), AllocError> {
+    fn ids_exhausted(&mut self, _asked: ()) -> Result<(), AllocError> {
         Ok(())
     }
 }
 
-/// In `run_jobs` a job answers each search. All else is answered by `Server::request`.
+/// In `run_jobs` a job answers each search. `Server::request` answers the other requests.
 impl JobServer<Search> for Sums {
     ghost use Rattle.std.specs.Prelude.{◌≡◌, Err, None, codes, true};
     ghost use Rattle.lsp_documents.specs.Held.{texts_of};
     ghost use Rattle.lsp_documents.specs.Known.{copied};
     ghost use Rattle.example_search.specs.Sources.{which_word, word_in};
 
-    type Slots = NoSlots;
+    type KeyedJobs = NoKeyedJobs;
 
-    ghost sorts = { λ _ method _ is_long. is_long ≡ true → method ≡ codes "workspace/symbol" };
+    ghost is_long_post = { λ _ method _ is_long. is_long ≡ true → method ≡ codes "workspace/symbol" };
 
-    // A search is of the texts that are open when its request comes.
-    ghost gives = { λ old _ _ _ search. copied search.sources.items ≡ texts_of old.documents };
+    // A search reads the texts that are open when its request arrives.
+    ghost job_post = { λ old _ _ _ search. copied search.sources.items ≡ texts_of old.documents };
 
-    ghost knows = { λ _ _ _ params outcome. (word_in params ≡ None) × (outcome ≡ Err which_word) };
+    ghost job_reply_post = { λ _ _ _ params outcome. (word_in params ≡ None) × (outcome ≡ Err which_word) };
 
     fn is_long(&self, request: &Request) -> bool {
         // If texts are to be lost first, the server does both.
@@ -161,32 +163,32 @@ impl JobServer<Search> for Sums {
 }
 
 impl Sums {
-    /// A server before its session.
-    pub fn new(alloc: Global, passed_over: PassedOver) -> Sums
+    /// Makes a server for one session.
+    pub fn new(alloc: Global, passed_over: SkipAndFlag) -> Sums
         ensures { HasNone result.documents }
     {
         Sums {
             alloc,
             largest: i64::MAX,
             configures: false,
-            documents: TextDocuments::new(alloc, Agreed::unannounced()),
+            documents: TextDocuments::new(alloc, SyncOptions::defaults()),
             passed_over,
             complaint: String::new(alloc),
             waiting: Vec::new(alloc),
         }
     }
 
-    /// Agrees with the client on how its texts are told, and gives the result of `initialize`, which announces it.
+    /// Agrees with the client on the encoding and the notifications about texts, and returns the result of `initialize`.
     fn agree(&mut self, params: &Value) -> Result<Value, AllocError>
         ensures { OnOk result (HasNone self.new.documents) }
     {
         let mut can = tree(Value::from_str(self.alloc, CAPABILITIES))?;
-        let agreed = Agreed::announced(self.alloc, params, true, &mut can)?;
+        let agreed = SyncOptions::negotiate(self.alloc, params, true, &mut can)?;
         self.documents = TextDocuments::new(self.alloc, agreed);
         json!(in self.alloc; { "capabilities": can, "serverInfo": { "name": "sums" } })
     }
 
-    /// What is done at a request.
+    /// Returns the acts for a request.
     fn reply_to(&mut self, request: Request) -> Result<Acts, AllocError>
         ensures same { self.new.documents ≡ self.old.documents }
         ensures search { IfOk result (λ acts. string_bytes request.method ≡ codes "workspace/symbol" → (outcome : Outcome)
@@ -202,8 +204,8 @@ impl Sums {
         }
     }
 
-    /// If a body was passed over since the last message, no text is sure: each is lost, and its marks go, until its client sends it whole.
-    /// The first act logs this at the client.
+    /// If the session skipped bad content since the last message, each text is lost, and its diagnostics are removed, until the client sends
+    /// it whole. The first act logs this at the client.
     fn lose_texts(&mut self) -> Result<Acts, AllocError>
         ensures { IfOk result (λ acts. LosesAloud self.old.documents (map act_seen acts.items) self.new.documents) }
     {
@@ -214,27 +216,27 @@ impl Sums {
         self.documents.invalidate_all();
         self.complaint.clear();
         let lost = "a body was no message: no text is known";
-        acts.push(Act::log(self.alloc, 1u32, lost)?)?;
+        acts.push(Act::log_message(self.alloc, 1u32, lost)?)?;
         self.mark_all(&mut acts)?;
         Ok(acts)
     }
 
-    /// The reply to a request.
+    /// Makes the reply to a request.
     fn reply(&self, id: RequestId, found: Value) -> Result<Acts, AllocError> {
         Act::one(self.alloc, Act::Reply(id, Ok(found)))
     }
 
-    /// The error for a request whose params lack something.
+    /// Makes the error for a request whose params lack a member.
     fn refuse(&self, id: RequestId, why: &str) -> Result<Acts, AllocError> {
-        let refusal = Act::refuse(self.alloc, id, ErrorCode::InvalidParams, why)?;
+        let refusal = Act::reply_error(self.alloc, id, ErrorCode::InvalidParams, why)?;
         Act::one(self.alloc, refusal)
     }
 
-    /// Keeps a request until nothing is wrong with its text.
+    /// Keeps a request until its text has no diagnostics.
     fn wait(&mut self, request: Request) -> Result<Acts, AllocError>
         ensures { self.new.documents ≡ self.old.documents }
     {
-        if uri_in(&request.params).is_none() {
+        if uri_from(&request.params).is_none() {
             return self.refuse(request.id, "which text?");
         }
         self.waiting.push(request)?;
@@ -259,14 +261,14 @@ impl Sums {
         }
     }
 
-    /// The error for a search without a word.
+    /// Makes the error for a search without a word.
     fn no_word(&self) -> Result<ResponseError, AllocError>
         ensures { IfOk result (λ error. error_view error ≡ which_word) }
     {
         ResponseError::new(self.alloc, ErrorCode::InvalidParams, "which word?")
     }
 
-    /// The search that a client asks for, over the texts as they are now. Without a word there is none.
+    /// Returns the search that a client requests, over the texts as they are now. Without a word there is none.
     fn search_in(&self, params: &Value) -> Result<Option<Search>, AllocError>
         ensures asked { IfOk result (λ found. MatchOption found (word_in (view params.now) ≡ None)
             (λ search. word_in (view params.now) ≡ Some (string_bytes search.query))) }
@@ -280,7 +282,7 @@ impl Sums {
             alloc: self.alloc,
             query: String::from_str(self.alloc, query)?,
             sources: self.documents.snapshot()?,
-            work: WorkDone::of(self.alloc, params)?,
+            work: WorkDone::from_params(self.alloc, params)?,
         }))
     }
 
@@ -289,12 +291,12 @@ impl Sums {
         if self.configures {
             let params = tree(Value::from_str(self.alloc, SECTIONS))?;
             let method = String::from_str(self.alloc, "workspace/configuration")?;
-            acts.push(Act::Ask(method, params, ()))?;
+            acts.push(Act::SendRequest(method, params, ()))?;
         }
         Ok(())
     }
 
-    /// Asks for the configuration again, or takes the settings that come from a client which can't be asked (LSP 3.17,
+    /// Asks for the configuration again, or takes the settings of a client that can't be asked (LSP 3.17,
     /// "DidChangeConfiguration Notification"). Without the section `sums` nothing changes.
     fn configure(&mut self, params: &Value, acts: &mut Acts) -> Result<(), AllocError>
         ensures { self.new.documents ≡ self.old.documents }
@@ -308,7 +310,7 @@ impl Sums {
         }
     }
 
-    /// Takes the greatest value that the user allows: any, if none is set. The marks of each text follow.
+    /// Takes the greatest value that the user allows. If none is set, any value is allowed. It publishes the diagnostics of each text again.
     fn set(&mut self, largest: Option<&Value>, acts: &mut Acts) -> Result<(), AllocError>
         ensures { self.new.documents ≡ self.old.documents }
     {
@@ -316,14 +318,14 @@ impl Sums {
         self.mark_all(acts)
     }
 
-    /// What the client is told after a notification.
+    /// Adds the acts after a notification.
     fn note(&mut self, notification: &Notification, acts: &mut Acts) -> Result<(), AllocError>
         ensures { OnOk result (Applies self.old.documents (Some (told (string_bytes notification.now.method)
             (view notification.now.params))) self.new.documents) }
     {
         match self.documents.apply(notification) {
             Some(Ok(update)) => self.follow(update, acts),
-            Some(Err(missed)) => self.complain(missed.unless_memory()?, acts),
+            Some(Err(missed)) => self.complain(missed.or_out_of_memory()?, acts),
             None => match notification.method.as_str() {
                 "workspace/didChangeConfiguration" => self.configure(&notification.params, acts),
                 _ => Ok(()),
@@ -331,18 +333,18 @@ impl Sums {
         }
     }
 
-    /// What the client is told after a notification that was applied: what there is to say of it, and what is wrong with the text.
+    /// Adds the acts after a notification that was applied: the warning about it, and the diagnostics of the text.
     fn follow(&mut self, update: DocumentUpdate<'_>, acts: &mut Acts) -> Result<(), AllocError>
         ensures { self.new.documents ≡ self.old.documents }
     {
-        if update.remark.is_some() {
+        if update.warning.is_some() {
             self.log(2, &update, acts)?;
         }
         self.check(update.uri, acts)
     }
 
-    /// What the client is told after a notification that was not applied: why, but not at each keystroke anew, and no marks of a text that
-    /// was lost by it. Each may be, if no URI is named.
+    /// Adds the acts after a notification that was not applied: the reason, but not again at each keystroke, and no diagnostics for a text that
+    /// is lost now. If no URI is named, each text may be lost.
     fn complain(&mut self, missed: UpdateFault<'_>, acts: &mut Acts) -> Result<(), AllocError>
         ensures { self.new.documents ≡ self.old.documents }
     {
@@ -358,15 +360,15 @@ impl Sums {
         }
     }
 
-    /// Has the client log this.
+    /// Adds a line to the client's log.
     fn log<D: Display>(&self, kind: u32, what: &D, acts: &mut Acts) -> Result<(), AllocError> {
         let line = format!(in self.alloc; "{what}")?;
-        acts.push(Act::log(self.alloc, kind, line.as_str())?)?;
+        acts.push(Act::log_message(self.alloc, kind, line.as_str())?)?;
         Ok(())
     }
 
-    /// What the client is told of a text that is open, or was: what is wrong with it, and the replies that waited for it to be
-    /// right.
+    /// Adds the acts for a text that is or was open: its diagnostics, and, if it has none, the replies that waited for
+    /// this.
     fn check(&mut self, uri: &str, acts: &mut Acts) -> Result<(), AllocError>
         ensures { self.new.documents ≡ self.old.documents }
     {
@@ -377,7 +379,7 @@ impl Sums {
         Ok(())
     }
 
-    /// Shows what is wrong with each text that is open.
+    /// Publishes the diagnostics of each open text.
     fn mark_all(&self, acts: &mut Acts) -> Result<(), AllocError>
         ensures { OnOk result ((more : List (RustAct Unit)) × (acts.new.items ≡ acts.old.items ++ more)
             × All IsToldBy more) }
@@ -388,7 +390,7 @@ impl Sums {
         Ok(())
     }
 
-    /// Shows what is wrong with a text, and says whether it is right: no marks, if it is closed or lost (LSP 3.17,
+    /// Publishes the diagnostics of a text, and returns whether there are none. A text that is closed or lost gets none (LSP 3.17,
     /// "PublishDiagnostics Notification").
     fn mark(
         &self,
@@ -406,11 +408,11 @@ impl Sums {
         let marks = Value::Array(marks);
         let params = json!(in self.alloc; { "diagnostics": marks, "uri": uri })?;
         let method = String::from_str(self.alloc, "textDocument/publishDiagnostics")?;
-        acts.push(Act::Tell(Notification { method, params }))?;
+        acts.push(Act::SendNotification(Notification { method, params }))?;
         Ok(right)
     }
 
-    /// What is wrong with a text, as the client shows it.
+    /// Makes the diagnostics of a text.
     fn marks_in(&self, text: &Text) -> Result<Vec<Value>, AllocError> {
         let sheet = sheet_of(self.alloc, text, self.largest)?;
         let mut marks = Vec::new(self.alloc);
@@ -431,15 +433,15 @@ impl Sums {
         })
     }
 
-    /// A text as the server holds it, or null.
+    /// Returns a text as the server holds it, or null.
     fn text(&self, params: &Value) -> Result<Value, AllocError> {
-        match uri_in(params).and_then(|uri| self.documents.get(uri)) {
+        match uri_from(params).and_then(|uri| self.documents.get(uri)) {
             Some(document) => Value::try_from_str(self.alloc, document.text().as_str()),
             None => Ok(Value::Null),
         }
     }
 
-    /// The name at a place of a text and its value, or null (LSP 3.17, "Hover Request").
+    /// Returns the name at a place of a text and its value, or null (LSP 3.17, "Hover Request").
     fn hover(&self, params: &Value) -> Result<Value, AllocError> {
         let Some((document, offset)) = self.place_in(params) else {
             return Ok(Value::Null);
@@ -451,13 +453,13 @@ impl Sums {
         }
     }
 
-    /// The place that params name, if the text is known.
+    /// Returns the place that params name, if the text is known.
     fn place_in(&self, params: &Value) -> Option<(&TextDocument, usize)> {
-        let position = position_in(params.get("position")?)?;
-        self.documents.place(uri_in(params)?, position)
+        let position = position_from(params.get("position")?)?;
+        self.documents.resolve(uri_from(params)?, position)
     }
 
-    /// What is shown of a word, if it has a value.
+    /// Returns the text of a hover on a word, if the word has a value.
     fn shown(&self, text: &Text, word: Word<'_>) -> Result<Value, AllocError> {
         let sheet = sheet_of(self.alloc, text, i64::MAX)?;
         match value_of(sheet.names.as_slice(), word.text) {
@@ -474,14 +476,14 @@ impl Sums {
         })
     }
 
-    /// Where a word stands, as the client counts it.
+    /// Returns the range of a word in the client's units.
     fn range_of(&self, text: &Text, word: Word<'_>) -> Result<Value, AllocError> {
         let range = self.documents.range_of(text, word.start..word.end());
         tree(to_value(self.alloc, &range))
     }
 }
 
-/// Replies to the requests that waited for a text to be right, and gives those that wait for others.
+/// Replies to the requests that waited for this text, and returns those that wait for others.
 fn still_waiting(
     alloc: Global,
     waiting: Vec<Request>,
@@ -490,7 +492,7 @@ fn still_waiting(
 ) -> Result<Vec<Request>, AllocError> {
     let mut others = Vec::new(alloc);
     for request in waiting {
-        if uri_in(&request.params) == Some(uri) {
+        if uri_from(&request.params) == Some(uri) {
             acts.push(Act::Reply(request.id, Ok(Value::Bool(true))))?;
         } else {
             others.push(request)?;
@@ -499,7 +501,7 @@ fn still_waiting(
     Ok(others)
 }
 
-/// A tree that only lack of memory can keep from being made.
+/// Makes a JSON tree. Only a failed allocation is an error.
 fn tree(made: Result<Value, serde_json::Error>) -> Result<Value, AllocError> {
     match made {
         Ok(tree) => Ok(tree),
@@ -507,7 +509,7 @@ fn tree(made: Result<Value, serde_json::Error>) -> Result<Value, AllocError> {
     }
 }
 
-/// What a search finds that nobody cancels: only an allocation can fail.
+/// Returns the result of a search that nobody cancels. Only a failed allocation is an error.
 fn found_by(search: Search) -> Result<Value, AllocError>
     ensures { IfOk result (λ tree.
         FindsSymbols (copied search.sources.items) (string_bytes search.query) (view tree)) }
@@ -518,7 +520,7 @@ fn found_by(search: Search) -> Result<Value, AllocError>
     }
 }
 
-/// The word that a client searches for, if it gives one.
+/// Returns the word that a client searches for, if it gives one.
 fn query_in(params: &Value) -> Option<&str>
     ensures { option_map (λ query. query.now) result ≡ word_in (view params.now) }
 {

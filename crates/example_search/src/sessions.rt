@@ -12,57 +12,57 @@ ghost use Rattle.example_search.specs.Promise.{AnswersOnce, SearchSession};
 use crate::search::Search;
 use crate::server::Sums;
 use lsp_jobs::laws::{requests_are_answered_by_their_jobs, session_with_jobs_keeps_laws};
-use lsp_jobs::{Job, JobOptions, JobServer, NoSlots, PoolSize, Slots, run_jobs};
+use lsp_jobs::{Job, JobOptions, JobServer, KeyedJobs, NoKeyedJobs, PoolSize, run_jobs};
 use lsp_server::laws::server_keeps_laws;
-use lsp_server::policies::{BadContentPolicy, PassedOver};
+use lsp_server::policies::{BadContentPolicy, SkipAndFlag};
 use lsp_server::transports::ClientStreams;
 use lsp_server::{
-    QueuedServer, Server, SessionEnd, SessionFault, StartFault, StreamTransport, ThreadOptions,
-    Threaded, run_in_threads,
+    Server, ServerApplication, SessionEnd, SessionFault, StartFault, StreamTransport,
+    ThreadOptions, Threaded, run_in_threads,
 };
 use std::alloc::Global;
 use std::io::{BufRead, Write};
 use std::sync::Wait;
 use std::thread::Threads;
 
-/// Runs a session, and gives the server back.
+/// Runs a session, and returns the server.
 ///
-/// Its author knows by a law of the library, with no word about what `Sums` does: at no beginning of the session has a client got more
-/// replies under an id than it sent requests. A request whose id it used once has exactly one reply. Or it has none: the server keeps it, as a
-/// `sums/solved` whose text still has an error; or the session ended at it, since the lifecycle does not allow it. If a write or an
+/// A law of the library says the following, whatever `Sums` does. In no prefix of the session does a client get more replies under an id than
+/// it sent requests. A request whose id it used once has exactly one reply, with two exceptions. The server may still hold the request, such as
+/// a `sums/solved` whose text still has an error. Or the session ended at the request, since the lifecycle does not allow it. If a write or an
 /// allocation failed, replies may be missing.
 ///
-/// This is of whatever reader and writer, also of standard input and output or a socket: the transcript of the transport tells the bytes that
-/// were taken and given. A body that is no message is passed over, and `sums` loses all texts for it.
+/// This holds for every reader and writer, also for standard input and output or a socket: the transcript of the transport lists the bytes that
+/// were taken and given. Content that is no message is skipped, and `sums` loses all texts then.
 pub fn serve<R: BufRead, W: Write>(
     alloc: Global,
-    transport: &mut StreamTransport<'_, R, W, PassedOver>,
+    transport: &mut StreamTransport<'_, R, W, SkipAndFlag>,
     sums: Sums,
 ) -> (Sums, Result<SessionEnd, SessionFault>)
     requires { IsUnused transport.old }
-    ensures { Serves ⟦<PassedOver as BadContentPolicy>⟧.passes (AnswersOnce ⟦<Sums as Server>⟧ sums result.0)
+    ensures { Serves ⟦<SkipAndFlag as BadContentPolicy>⟧.passes (AnswersOnce ⟦<Sums as Server>⟧ sums result.0)
         transport.old result.1 transport.new }
 {
     server_keeps_laws::<Sums>();
-    let mut application = QueuedServer::new(alloc, sums);
+    let mut application = ServerApplication::new(alloc, sums);
     let answer = transport.serve(&mut application);
     (application.server, answer)
 }
 
-/// `serve` with a thread that reads and one that writes. Its author knows the same of it, but for the order between reading and writing.
+/// Does what `serve` does, with a thread that reads and one that writes. The same holds for it, except the order between reads and writes.
 pub fn serve_in_threads<T, R, W>(
     rt: &T,
     alloc: Global,
     client: ClientStreams<R, W>,
     sums: Sums,
-    passed_over: &mut PassedOver,
+    passed_over: &mut SkipAndFlag,
 ) -> (Sums, Result<Threaded<W>, StartFault>)
 where
     T: Threads + Wait + Copy + Drop + Send + 'static,
     R: BufRead + Drop + Send + 'static,
     W: Write + Drop + Send + 'static,
     ensures told { IfOk result.1 (λ done. OfTaken done.taken.parts (λ text.
-        ThreadsTell ⟦<PassedOver as BadContentPolicy>⟧.passes client.limits (AnswersOnce ⟦<Sums as Server>⟧ sums result.0)
+        ThreadsTell ⟦<SkipAndFlag as BadContentPolicy>⟧.passes client.limits (AnswersOnce ⟦<Sums as Server>⟧ sums result.0)
         text passed_over.old passed_over.new (Some []) (noted done.given) done.answer)) }
     ensures passed { IfOk result.1 (λ done. TakenFrom (R.remaining client.reader) done.taken.parts
         × GivenTo (W.contents client.writer) done.given.parts (W.contents done.writer)) }
@@ -71,7 +71,7 @@ where
     let mut options = ThreadOptions::new();
     options.limits = client.limits;
     let (reader, writer) = (client.reader, client.writer);
-    let mut application = QueuedServer::new(alloc, sums);
+    let mut application = ServerApplication::new(alloc, sums);
     let done = run_in_threads(
         rt,
         alloc,
@@ -91,14 +91,14 @@ const SIZE: PoolSize = PoolSize {
     stack: None,
 };
 
-/// `serve_in_threads` with a pool whose threads search. The session keeps the laws of a session without jobs, whatever the searches come to
-/// and when. What they find is of the texts that were open when their requests came: see `symbols_are_of_open_texts`.
+/// Does what `serve_in_threads` does, with a pool whose threads search. The session keeps the laws of a session without jobs, whatever the
+/// searches return and when. They search the texts that were open when their requests arrived: see `symbols_are_of_open_texts`.
 pub fn serve_with_jobs<T, R, W>(
     rt: &T,
     alloc: Global,
     client: ClientStreams<R, W>,
     sums: Sums,
-    passed_over: &mut PassedOver,
+    passed_over: &mut SkipAndFlag,
 ) -> (Sums, Result<Threaded<W>, StartFault>)
 where
     T: Threads + Wait + Copy + Drop + Send + 'static,
@@ -106,16 +106,16 @@ where
     W: Write + Drop + Send + 'static,
     requires { HasNone sums.documents }
     ensures told { IfOk result.1 (λ done. OfTaken done.taken.parts (λ text.
-        ThreadsTellOver true ⟦<PassedOver as BadContentPolicy>⟧.passes client.limits (SearchSession T ⟦<Sums as Server>⟧
+        ThreadsTellOver true ⟦<SkipAndFlag as BadContentPolicy>⟧.passes client.limits (SearchSession T ⟦<Sums as Server>⟧
         (record {
-          sorts = ⟦<Sums as JobServer<Search>>⟧.sorts;
-          gives = ⟦<Sums as JobServer<Search>>⟧.gives;
-          knows = ⟦<Sums as JobServer<Search>>⟧.knows;
-          changes = ⟦<NoSlots as Slots<Sums, Search>>⟧.changes;
-          hears = ⟦<NoSlots as Slots<Sums, Search>>⟧.hears;
-          finishes = ⟦<NoSlots as Slots<Sums, Search>>⟧.finishes;
+          is_long_post = ⟦<Sums as JobServer<Search>>⟧.is_long_post;
+          job_post = ⟦<Sums as JobServer<Search>>⟧.job_post;
+          job_reply_post = ⟦<Sums as JobServer<Search>>⟧.job_reply_post;
+          take_commands_post = ⟦<NoKeyedJobs as KeyedJobs<Sums, Search>>⟧.take_commands_post;
+          found_post = ⟦<NoKeyedJobs as KeyedJobs<Sums, Search>>⟧.found_post;
+          ended_post = ⟦<NoKeyedJobs as KeyedJobs<Sums, Search>>⟧.ended_post;
           is_for = ⟦<Search as Job>⟧.is_for;
-          comes_to = ⟦<Search as Job>⟧.comes_to;
+          run_post = ⟦<Search as Job>⟧.run_post;
           reports = ⟦<Search as Job>⟧.reports;
           asks = ⟦<Search as Job>⟧.asks;
         }) sums result.0)
@@ -131,27 +131,27 @@ where
     run_jobs(rt, alloc, reader, writer, sums, passed_over, options)
 }
 
-/// Of a session with jobs, from a server that holds no documents: each reply at a wake is to the last request under its id,
-/// which is a search. It has all headings with the request's word, of the texts that were open when the request came, and no others. These are what
-/// the client's notifications before it made of no documents. The texts were lost before a message only if the client was told so. Or the
+/// In a session with jobs, which begins with no documents, each reply at a wake-up is to the last request under its id, which is a search. The
+/// reply has all headings with the request's word, in the texts that were open when the request arrived, and no others. The client's
+/// notifications before the request made these texts. They were lost before a message only if the server logged that at the client. Or the
 /// reply is the error of a failed allocation, or of a cancellation.
 fn symbols_are_of_open_texts<T: Wait + Drop>()
-    ensures { (first last : Sums) (exchanges : List Exchange) (stop : Stop) (shutdown_reply : Option Message)
+    ensures { (first last : Sums) (exchanges : List Exchange) (stop : Stop)
         (answer : SessionAnswer) → HasNone first.documents
         → LawfulJobSession T ⟦<Sums as Server>⟧
         (record {
-          sorts = ⟦<Sums as JobServer<Search>>⟧.sorts;
-          gives = ⟦<Sums as JobServer<Search>>⟧.gives;
-          knows = ⟦<Sums as JobServer<Search>>⟧.knows;
-          changes = ⟦<NoSlots as Slots<Sums, Search>>⟧.changes;
-          hears = ⟦<NoSlots as Slots<Sums, Search>>⟧.hears;
-          finishes = ⟦<NoSlots as Slots<Sums, Search>>⟧.finishes;
+          is_long_post = ⟦<Sums as JobServer<Search>>⟧.is_long_post;
+          job_post = ⟦<Sums as JobServer<Search>>⟧.job_post;
+          job_reply_post = ⟦<Sums as JobServer<Search>>⟧.job_reply_post;
+          take_commands_post = ⟦<NoKeyedJobs as KeyedJobs<Sums, Search>>⟧.take_commands_post;
+          found_post = ⟦<NoKeyedJobs as KeyedJobs<Sums, Search>>⟧.found_post;
+          ended_post = ⟦<NoKeyedJobs as KeyedJobs<Sums, Search>>⟧.ended_post;
           is_for = ⟦<Search as Job>⟧.is_for;
-          comes_to = ⟦<Search as Job>⟧.comes_to;
+          run_post = ⟦<Search as Job>⟧.run_post;
           reports = ⟦<Search as Job>⟧.reports;
           asks = ⟦<Search as Job>⟧.asks;
         })
-        first last exchanges stop shutdown_reply answer
+        first last exchanges stop answer
         → SearchesOpenTexts exchanges }
 {
     requests_are_answered_by_their_jobs::<Sums, Search>();

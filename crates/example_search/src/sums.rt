@@ -1,13 +1,13 @@
-// The language: what its words are, what its names stand for, and what is wrong with a text.
+// The language: its words, the values of its names, and the errors in a text.
 use lsp_text::{Position, PositionEncoding, Text};
 use std::alloc::{AllocError, Global};
 
 /// A name, a number or a sign of a text.
 #[derive(Clone, Copy)]
 pub struct Word<'t> {
-    /// As it is written.
+    /// The text of the word.
     pub text: &'t str,
-    /// Where it begins in the whole text, in bytes.
+    /// Where the word begins in the whole text, in bytes.
     pub start: usize,
 }
 
@@ -18,30 +18,30 @@ pub struct Named<'t> {
     value: i64,
 }
 
-/// What is wrong, and the word that shows it.
+/// An error, and the word at which it is.
 #[derive(Clone, Copy)]
 pub struct Problem<'t> {
     /// The word.
     pub word: Word<'t>,
-    /// What to say of it.
+    /// The message about it.
     pub what: &'static str,
 }
 
-/// What a text says.
+/// The names and the errors of a text.
 #[derive(Drop)]
 pub struct Sheet<'t> {
     /// The names that have a value.
     pub names: Vec<Named<'t>>,
-    /// In the order of the lines, one for each line at most.
+    /// The errors in the order of the lines, at most one for each line.
     pub problems: Vec<Problem<'t>>,
 }
 
-/// How many lines a text has, as positions count them.
+/// Returns how many lines a text has, as positions count them.
 pub fn line_count(text: &Text) -> u32 {
     u32::try_from(text.line_count()).unwrap_or(u32::MAX)
 }
 
-/// The words of a line, up to its comment.
+/// Returns the words of a line, up to its comment.
 pub fn words_of(alloc: Global, text: &Text, line: u32) -> Result<Vec<Word<'_>>, AllocError> {
     let place = text.offset_at(Position::new(line, 0), PositionEncoding::Utf8);
     let line = text.line(line).unwrap_or("");
@@ -70,7 +70,7 @@ pub fn words_of(alloc: Global, text: &Text, line: u32) -> Result<Vec<Word<'_>>, 
     Ok(words)
 }
 
-/// The word at a place of a text, which is given in bytes.
+/// Returns the word at a place of a text, which is given in bytes.
 pub fn word_at(alloc: Global, text: &Text, offset: usize) -> Result<Option<Word<'_>>, AllocError> {
     let line = text.position_at(offset, PositionEncoding::Utf8).line;
     for word in words_of(alloc, text, line)? {
@@ -81,12 +81,12 @@ pub fn word_at(alloc: Global, text: &Text, offset: usize) -> Result<Option<Word<
     Ok(None)
 }
 
-/// Whether names and numbers may have the character.
+/// Returns whether names and numbers may have the character.
 fn of_name(letter: char) -> bool {
     letter.is_alphanumeric() || letter == '_'
 }
 
-/// What a text says. A value above the largest is a problem, and the name has it all the same.
+/// Reads a text. A value above the largest is an error, and the name has the value all the same.
 pub fn sheet_of(alloc: Global, text: &Text, largest: i64) -> Result<Sheet<'_>, AllocError> {
     let mut sheet = Sheet {
         names: Vec::new(alloc),
@@ -123,7 +123,7 @@ impl<'t> Sheet<'t> {
     }
 }
 
-/// The value of a name, or of a number.
+/// Returns the value of a name, or of a number.
 pub fn value_of(names: &[Named<'_>], text: &str) -> Option<i64> {
     for named in names {
         if named.name == text {
@@ -134,12 +134,12 @@ pub fn value_of(names: &[Named<'_>], text: &str) -> Option<i64> {
 }
 
 impl<'t> Word<'t> {
-    /// The place behind it.
+    /// Returns the place after the word.
     pub fn end(self) -> usize {
         self.start.saturating_add(self.text.len())
     }
 
-    /// Whether it has the characters of names and numbers. Else it is one other character.
+    /// Returns whether it has the characters of names and numbers. Otherwise it is one other character.
     fn is_name(self) -> bool {
         self.text.chars().next().is_some_and(of_name)
     }
@@ -149,7 +149,7 @@ impl<'t> Word<'t> {
     }
 }
 
-/// The value that the rest of a line gives the name that it begins with.
+/// Returns the value that the rest of a line gives to the name at its start.
 fn value_in<'t>(
     names: &[Named<'t>],
     name: Word<'t>,
@@ -170,7 +170,7 @@ fn value_in<'t>(
     sum_of(names, *equals, terms)
 }
 
-/// The sum behind an equals sign.
+/// Returns the sum after an equals sign.
 fn sum_of<'t>(
     names: &[Named<'t>],
     equals: Word<'t>,

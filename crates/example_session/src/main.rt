@@ -10,7 +10,7 @@ ghost use Rattle.lsp_session.specs.StreamTransports.{IsUnused, Serves};
 
 use anyhow::{Result, bail};
 use lsp_server::laws::sessions::session_answers_requests;
-use lsp_server::policies::{BadContentPolicy, EndSession};
+use lsp_server::policies::{BadContentPolicy, EndOnBadContent};
 use lsp_server::transports::ClientStreams;
 use lsp_server::{
     Handler, HandlerApplication, Notification, Request, ResponseError, SessionEnd, SessionFault,
@@ -35,11 +35,11 @@ impl Handler for Documents {
 
     // A request changes nothing, and the count is told who asks for it. `didOpen` adds one, up to the greatest number that there is, and
     // `didClose` takes one away, down to zero. No other notification changes anything.
-    ghost answers = { λ old _ method _ outcome new.
+    ghost answer_post = { λ old _ method _ outcome new.
         (new ≡ old) × (method ≡ codes "demo/openDocuments"
         → outcome ≡ Ok (number (unsigned old.open_count))) };
 
-    ghost notes = { λ old method _ new.
+    ghost note_post = { λ old method _ new.
         (method ≡ codes "textDocument/didOpen" → new.open_count ≡ min (old.open_count + 1) (2 ^ 32 - 1))
         × (method ≡ codes "textDocument/didClose" → new.open_count ≡ old.open_count - 1)
         × (method ≢ codes "textDocument/didOpen" → method ≢ codes "textDocument/didClose" → new ≡ old) };
@@ -65,12 +65,12 @@ impl Handler for Documents {
 /// bytes that were taken are frames of messages, and those that were given are frames of what a session of `Documents`
 /// sends for them, each before the next byte is taken. Each request gets one reply.
 fn serve<R: BufRead, W: Write>(
-    transport: &mut StreamTransport<'_, R, W, EndSession>,
+    transport: &mut StreamTransport<'_, R, W, EndOnBadContent>,
     documents: &mut HandlerApplication<Documents>,
 ) -> Result<SessionEnd, SessionFault>
     requires { IsUnused transport.old }
-    ensures { Serves ⟦<EndSession as BadContentPolicy>⟧.passes
-        (Both (SessionOut (of_handler ⟦<Documents as Handler>⟧.answers ⟦<Documents as Handler>⟧.notes
+    ensures { Serves ⟦<EndOnBadContent as BadContentPolicy>⟧.passes
+        (Both (SessionOut (of_handler ⟦<Documents as Handler>⟧.answer_post ⟦<Documents as Handler>⟧.note_post
         (view documents.old.capabilities)) documents.old.handler documents.new.handler) AnswersRequests)
         transport.old result transport.new }
 {
@@ -80,7 +80,7 @@ fn serve<R: BufRead, W: Write>(
 
 fn main(rt: HostRuntime) -> Result<()> {
     let alloc = rt.alloc();
-    // The client is to tell what it opens and closes.
+    // The client is to notify the server when it opens or closes a document.
     let capabilities = json!(in alloc; { "textDocumentSync": { "openClose": true } })?;
     let documents = Documents {
         alloc,
@@ -89,7 +89,7 @@ fn main(rt: HostRuntime) -> Result<()> {
     let mut application = HandlerApplication::new(alloc, capabilities, documents);
     let reader = BufReader::new(alloc, rt.reader())?;
     let mut client = ClientStreams::new(reader, io::writer(&rt));
-    let mut policy = EndSession;
+    let mut policy = EndOnBadContent;
     let mut transport = client.transport(alloc, &mut policy);
     match serve(&mut transport, &mut application)? {
         SessionEnd::ShutDown => Ok(()),

@@ -21,9 +21,9 @@ use std::io;
 /// Runs the steps of both sides, in the order in which they are given. It returns whether each side took everything
 /// that the other one wrote. If so, and only then, nothing is left in the links.
 fn run_through(alloc: Global, steps: Vec<Step>) -> Result<(World, Vec<Outcome>, bool), WorldFault>
-    // What each side took is a beginning of what the other wrote, and all of it if the answer says so. A watch finds no broken rule of ids.
+    // Each side took a prefix of the messages that the other wrote, and all of them if the result says so. A watch finds no broken rule of ids.
     ensures took { IfOk result (λ r. Exchanged steps.items r.1.items r.0 r.2) }
-    // Each reply gives back the payload of its own request, once.
+    // Each reply returns the payload of its own request, once.
     ensures facts { IfOk result (λ r. FactsOf steps.items r.1.items) }
 {
     peers_keep_ids();

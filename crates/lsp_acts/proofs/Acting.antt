@@ -8,7 +8,7 @@ use Rattle.lsp_acts.specs.Acts.{Act, tells, replies, cancels, answers_cancelled,
 use Rattle.lsp_acts.specs.Acts.{ends_all, Queues, does, does_all, unsent, given, released, cleared, TakesBack, Acts}
 use Rattle.lsp_acts.specs.Acts.{ids_after, unsent_by, with_message, cancel_all, cancel_method, cancel_params}
 use Rattle.lsp_acts.specs.Law.{Handed}
-use Rattle.lsp_acts.specs.QueuedServer.{WorksSending, Works, PartsSending}
+use Rattle.lsp_acts.specs.ServerApplication.{WorksSending, Works, PartsSending}
 use Rattle.lsp_acts.specs.SentByActs.{brought_by, sends_by, all_sends, queues_at, cancelled_answer, acts_done_at}
 use Rattle.lsp_acts.specs.SentByActs.{ActsAt, ActsAtShutdown}
 use Rattle.lsp_acts.specs.declared.server.Server.{Ghosts as Stated}
@@ -56,7 +56,7 @@ module _ {S P : Type 0} (may : Stated S P) where
   acts_so : (old : S × Queues P) (m : Option Message) (sent : List Message) (new : S × Queues P) (payload : Option P)
       (acts : List (Act P)) (did : S)
       (after : S × Queues P) → payload ≡ brought_by old.1 m → Handed may old.0 m payload acts did
-      → TakesBack may.takes_back did (unsent (count_of old.1.asked) acts) after.0
+      → TakesBack may.ids_exhausted_post did (unsent (count_of old.1.asked) acts) after.0
       → after.1 ≡ does_all (queues_at old.1 m payload) (acts_done_at m acts) → sent ≡ after.1.sent → new
       ≡ (after.0, cleared after.1)
       → ActsAt may old m sent new
@@ -101,7 +101,8 @@ module _ {S P : Type 0} (may : Stated S P) where
   acts_at old (Some (response id outcome)) sent new gives = at (map.get (pending_of old.1.asked) id) refl gives.1
     where
       at : (o : Option P) → map.get (pending_of old.1.asked) id ≡ o
-          → MatchOption o (gives.0 ≡ old) (λ payload. Acts may.takes_back (may.replied old.0 payload outcome)
+          → MatchOption o (gives.0 ≡ old) (λ payload. Acts may.ids_exhausted_post
+          (may.response_post old.0 payload outcome)
           (given old.1 id) gives.0)
           → ActsAt may old (Some (response id outcome)) sent new
       at None kept same =
@@ -168,13 +169,14 @@ unsent_push d (x ∷ acts) act =
     (unsent_by (count_of (does_all (does d x) acts).asked) act))
 
 -- more is taken back
-pub takes_more : {S P : Type 0} (takes_back : S → P → S → Type 0) (old mid new : S) (xs ys : List P)
-    → TakesBack takes_back old xs mid → TakesBack takes_back mid ys new → TakesBack takes_back old (xs ++ ys) new
-takes_more takes_back old mid new [] ys first second = rw first at second
-takes_more takes_back old mid new (x ∷ xs) ys first second = (
+pub takes_more : {S P : Type 0} (ids_exhausted_post : S → P → S → Type 0) (old mid new : S) (xs ys : List P)
+    → TakesBack ids_exhausted_post old xs mid → TakesBack ids_exhausted_post mid ys new → TakesBack ids_exhausted_post
+    old (xs ++ ys) new
+takes_more ids_exhausted_post old mid new [] ys first second = rw first at second
+takes_more ids_exhausted_post old mid new (x ∷ xs) ys first second = (
   first.0,
   first.1,
-  takes_more takes_back first.0 mid new xs
+  takes_more ids_exhausted_post first.0 mid new xs
       ys first.2 second,
 )
 

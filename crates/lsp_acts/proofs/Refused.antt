@@ -10,17 +10,18 @@ use Rattle.lsp_acts.proofs.Acting.{acts_at}
 use Rattle.lsp_acts.specs.Acts.{Act, asks, tells, Queues, cancelled_by, does, empty_queues, ends_all, released, stays}
 use Rattle.lsp_acts.specs.Law.{one_if, acts_of, all_sent, kept_under, was_given, is_reply_under, is_request_under}
 use Rattle.lsp_acts.specs.Law.{how_many, held_under, AnswersCancelled, AnswersLast, NeverMore, OnceOrEnded}
+use Rattle.lsp_acts.specs.Law.{GetsShutdownReply}
 use Rattle.lsp_acts.specs.Law.{WasToSend, Call, SendsActs, TakesCalls, TakesPart, GivesOwnPayloads, KeepsLaws}
-use Rattle.lsp_acts.specs.QueuedServer.{with_queues, ServerSession, WorksSending}
+use Rattle.lsp_acts.specs.ServerApplication.{with_queues, ServerSession, WorksSending}
 use Rattle.lsp_acts.specs.declared.server.Server.{Ghosts as Stated}
 use Rattle.lsp_acts.specs.SentByActs.{ActsAtShutdown, all_sends, acts_done_at, cancelled_answer, queues_at}
 use Rattle.lsp_acts.specs.View.{seen}
-use Rattle.lsp_acts.specs.declared.queued_server.QueuedServer.{QueuedServer}
+use Rattle.lsp_acts.specs.declared.server_application.ServerApplication.{ServerApplication}
 use Rattle.lsp_session.proofs.Ran.{Ran, StepCase, row, at_initialize, at_initialized, at_served, at_woken, at_shutdown}
-use Rattle.lsp_session.proofs.Ran.{idle, reaches_ran, no_one}
+use Rattle.lsp_session.proofs.Ran.{idle, ran, no_one}
 use Rattle.lsp_session.proofs.Refused.{served_first}
 use Rattle.lsp_session.specs.Session.{Exchange, messages_of, sends_of, SessionAnswer, Stop, decided, exhausted, Phase}
-use Rattle.lsp_session.specs.Session.{starting}
+use Rattle.lsp_session.specs.Session.{starting, offered}
 use Rattle.lsp_session.specs.declared.loops.handler.SessionEnd.{SessionEnd}
 use Rattle.lsp_session.specs.declared.loops.handler.SessionEnd.TheVariants.{Closed}
 use Rattle.serde_json.specs.Data.{Data}
@@ -41,27 +42,34 @@ replies_one id outcome = ap (λ (b : Bool). one_if b + 0) (same id)
 
 -- a request under this id, for which this is sent
 abbrev asked : Id → List ℕ → Data → List Message → Exchange
-asked id method params sent = record { came = Some (request id method params); sent = sent }
+asked id method params sent = record { came = Some (request id method params); sent = sent; not_sent = None }
 
 -- ---- no more replies than requests
 
 -- a reply goes out for a notification that comes first
 pub replies_to_nobody : (id : Id) (method : List ℕ) (params : Data) (outcome : Result Data ErrorObject)
     (more : List Exchange)
-    → NeverMore id (record { came = Some (notification method params); sent = response id outcome ∷ [] } ∷ more) → ⊥
+    → NeverMore id (record {
+      came = Some (notification method params);
+      sent = response id outcome ∷ [];
+      not_sent =
+          None;
+    } ∷ more) → ⊥
 replies_to_nobody id method params outcome more never =
     let none : 1 ≤ 0 = subst (λ (n : ℕ). n ≤ 0) (replies_one id outcome)
-    (never (record { came = Some (notification method params); sent = response id outcome ∷ [] } ∷ []) more refl) in
+    (never (record { came = Some (notification method params); sent = response id outcome ∷ []; not_sent = None } ∷
+    []) more refl) in
     omega (arith, none)
 
 -- a reply goes out at a wake, and no request has come
 pub replies_woken : (id : Id) (outcome : Result Data ErrorObject) (more : List Exchange)
-    → NeverMore id (record { came = None; sent = response id outcome ∷ [] } ∷ more) → ⊥
+    → NeverMore id (record { came = None; sent = response id outcome ∷ []; not_sent = None } ∷ more) → ⊥
 replies_woken id outcome more never =
     let none : 1 ≤ 0 = subst (λ (n : ℕ). n ≤ 0) (replies_one id outcome) (never (record {
       came = None;
       sent = response
           id outcome ∷ [];
+      not_sent = None;
     } ∷ []) more refl) in
     omega (arith, none)
 
@@ -115,6 +123,7 @@ pub leaves_cancelled : (id : Id) (method given : List ℕ) (params cancel : Data
     → AnswersCancelled id (before ++ asked id method params [] ∷ record {
       came = Some (notification given cancel);
       sent = [];
+      not_sent = None;
     } ∷ later) stop (Ok end) → ⊥
 leaves_cancelled id method given params cancel before later stop end cancels answers =
     elim (answers (before ++ asked id method params [] ∷ []) cancelling later (sym (append_assoc before (asked id method
@@ -124,24 +133,26 @@ leaves_cancelled id method given params cancel before later stop end cancels ans
     ]
   where
     cancelling : Exchange
-    cancelling = record { came = Some (notification given cancel); sent = [] }
+    cancelling = record { came = Some (notification given cancel); sent = []; not_sent = None }
 
 -- ---- `shutdown`
 
 -- A request came, it has no reply, and `shutdown` got its reply: the session left somebody waiting.
 pub leaves_waiting : {S P : Type 0} (may : Stated S P) (first last : S) (held : Pending (Unit {0})) (id : Id)
     (method : List ℕ) (params : Data) (sent : List Message) (before since : List Exchange)
-    (reply : Message) (end : SessionEnd) → how_many (is_request_under id) (messages_of since) ≡ 0
+    (end : SessionEnd) → how_many (is_request_under id) (messages_of since) ≡ 0
     → how_many (is_reply_under id) (sends_of (asked id method params sent ∷ since)) ≡ 0
-    → KeepsLaws may first last held (before ++ asked id method params sent ∷ since) decided (Some reply) (Ok end) → ⊥
-leaves_waiting may first last held id method params sent before since reply end none silent laws =
+    → GetsShutdownReply (before ++ asked id method params sent ∷ since)
+    → KeepsLaws may first last held (before ++ asked id method params sent ∷ since) decided (Ok end) → ⊥
+leaves_waiting may first last held id method params sent before since end none silent replied laws =
     drops_last id method params sent before since decided held end none silent
-    (ap (held_under id) (laws.none_held refl) ∙ ap (λ o. one_if (is_some o)) (get-empty id_cmp id))
+    (ap (held_under id) (laws.none_held (subst GetsShutdownReply (sym laws.to_send) replied)) ∙ ap (λ o. one_if
+    (is_some o)) (get-empty id_cmp id))
     (subst (λ l. AnswersLast id l decided held (Ok end)) laws.to_send (laws.once (λ e. cc (e)) id))
 
 -- The server states that it tells something last, and nothing is sent before the reply to `shutdown`.
 pub parts_silently : {S P : Type 0} (may : Stated S P) (old new : S × Queues P) (id : Id)
-    → ((old new : S) (acts : List (Act P)) → may.at_shutdown old acts new → (method : List ℕ) × (params : Data)
+    → ((old new : S) (acts : List (Act P)) → may.shutdown_post old acts new → (method : List ℕ) × (params : Data)
     × (more : List (Act P)) × (acts ≡ tells method params ∷ more))
     → ActsAtShutdown may old id [] new → ⊥
 parts_silently may old new id tells_first at =
@@ -190,13 +201,14 @@ module _ {P : Type 0} where
 
 module _ {S P : Type 0} (may : Stated S P) where
   -- a wake came, and the server did nothing, though it states that it acts
-  pub does_nothing_woken : ((old new : S) → may.wakes old [] new → ⊥) → (count : ℕ) (old new : S) (payload : Option P)
+  pub does_nothing_woken : ((old new : S) → may.woken_post old [] new → ⊥) → (count : ℕ) (old new : S)
+      (payload : Option P)
       (more : List (Call P))
       → TakesCalls may count old (record { came = None; payload = payload; acts = [] } ∷ more) new → ⊥
   does_nothing_woken acts count old new payload more took = acts old took.0 took.2.0
 
   -- at each wake the server states that it tells something first
-  module _ (tells_first : (old new : S) (acts : List (Act P)) → may.wakes old acts new → (method : List ℕ)
+  module _ (tells_first : (old new : S) (acts : List (Act P)) → may.woken_post old acts new → (method : List ℕ)
       × (params : Data) × (more : List (Act P)) × (acts ≡ tells method params ∷ more)) where
     -- at a wake nothing is sent
     silent_wake : (old new : S × Queues P) → WorksSending may old None [] new → ⊥
@@ -207,9 +219,9 @@ module _ {S P : Type 0} (may : Stated S P) where
         ∙ ap (λ (acts : List (Act P)). old.1.sent ++ all_sends old.1 acts) first.3 in
         no_one old.1.sent _ (notification first.0 first.1) (sym e)
 
-    silent_among : (stop : Stop) (before after : List Exchange) (p q : Phase) (w w' : QueuedServer S P)
-        → Ran (with_queues may) stop p w (before ++ record { came = None; sent = [] } ∷ after) q w' → ⊥
-    silent_among stop [] after p q w w' run = by (row (with_queues may) p run.4 w run.5 None run.0 run.6)
+    silent_among : (before after : List Exchange) (p q : Phase) (w w' : ServerApplication S P)
+        → Ran (with_queues may) p w (before ++ record { came = None; sent = []; not_sent = None } ∷ after) q w' → ⊥
+    silent_among [] after p q w w' run = by (row (with_queues may) p run.4 w run.5 None run.0 run.6)
       where
         by : StepCase (with_queues may) p w None run.0 run.4 run.5 → ⊥
         by (at_initialize i method params outcome here there is_asked gave sent next) = cc (there)
@@ -220,17 +232,16 @@ module _ {S P : Type 0} (may : Stated S P) where
             (seen run.5)) (run.3 refl) gave)
         by (at_shutdown i method params parting here there is gave output next) = cc (there)
         by (idle m there stays_so step idles) = cc (there)
-    silent_among stop (x ∷ before) after p q w w' run = silent_among stop before after run.4 q run.5 w' run.8
+    silent_among (x ∷ before) after p q w w' run = silent_among before after run.4 q run.5 w' run.8
 
     -- a session in which a wake came, and nothing was sent for it
-    pub sleeps : (first last : S) (before after : List Exchange) (stop : Stop) (shutdown_reply : Option Message)
-        (answer : SessionAnswer)
-        → ServerSession may first last (before ++ record { came = None; sent = [] } ∷ after) stop shutdown_reply
+    pub sleeps : (first last : S) (before after : List Exchange) (stop : Stop) (answer : SessionAnswer)
+        → ServerSession may first last (before ++ record { came = None; sent = []; not_sent = None } ∷ after) stop
         answer → ⊥
-    sleeps first last before after stop shutdown_reply answer session =
+    sleeps first last before after stop answer session =
         let out = session.out in
-        silent_among stop before after starting out.last session.old out.after (reaches_ran (with_queues may) stop
-        starting out.last session.old out.after _ out.reached)
+        let way = ran (with_queues may) starting out.last session.old out.after _ out.reached in
+        silent_among before after starting way.0 session.old out.after way.1
 
 -- ---- acts that are not sent, or not in their place
 
@@ -246,7 +257,8 @@ module _ {S P : Type 0} (may : Stated S P) (method : List ℕ) (params : Data) (
   -- the server tells something at a message or a wake, and nothing is sent there, whatever is sent later
   pub tells_too_late : (old new : S × Queues P) (came : Option Message) (call : Call P) (calls : List (Call P))
       (xs : List Exchange)
-      → call.acts ≡ tells method params ∷ more → SendsActs may old (call ∷ calls) (record { came = came; sent = [] }
+      → call.acts ≡ tells method params ∷ more
+      → SendsActs may old (call ∷ calls) (record { came = came; sent = []; not_sent = None }
       ∷ xs) new → ⊥
   tells_too_late old new came call calls xs did sends =
       let at = sends.1 in
@@ -258,7 +270,7 @@ module _ {S P : Type 0} (may : Stated S P) (method : List ℕ) (params : Data) (
       (sym (at.sent ∙ ap (λ l. old.1.sent ++ all_sends (queues_at old.1 came at.payload) l) done))
 
   -- the server tells something at `initialized`, and nothing is sent there
-  pub opens_silently : (start last : S) (opening : Exchange) (later : List Exchange) → opening.sent ≡ []
+  pub opens_silently : (start last : S) (opening : Exchange) (later : List Exchange) → offered opening ≡ []
       → (part : TakesPart may start last opening later) → part.begun ≡ tells method params ∷ more → ⊥
   opens_silently start last opening later silent part did =
       let e : [] ≡ notification method params ∷ all_sends (does empty_queues (tells method params)) more = sym silent
@@ -266,7 +278,8 @@ module _ {S P : Type 0} (may : Stated S P) (method : List ℕ) (params : Data) (
       cc (e)
 
 -- a server that waits for nothing did something at a wake
-pub acts_unwoken : {S P : Type 0} (may : Stated S P) → ((old new : S) (acts : List (Act P)) → may.wakes old acts new
+pub acts_unwoken : {S P : Type 0} (may : Stated S P) → ((old new : S) (acts : List (Act P)) → may.woken_post old acts
+    new
     → stays old acts new)
     → (count : ℕ) (old new : S) (payload : Option P) (act : Act P) (acts : List (Act P)) (more : List (Call P))
     → TakesCalls may count old (record { came = None; payload = payload; acts = act ∷ acts } ∷ more) new → ⊥
@@ -275,13 +288,12 @@ acts_unwoken may waits count old new payload act acts more took = cc ((waits old
 -- ---- all of it
 
 module _ {S P : Type 0} (may : Stated S P) (first last : S) (held : Pending (Unit {0})) (exchanges more : List Exchange)
-    (stop : Stop) (shutdown_reply : Option Message) (answer : SessionAnswer) where
+    (stop : Stop) (answer : SessionAnswer) where
   -- before `initialize` a request gets a result
   pub serves_first : (id : Id) (method : List ℕ) (params result : Data) → is_initialize (request id method
       params) ≡ false
-      → KeepsLaws may first last held (asked id method params (response id (Ok result) ∷ []) ∷ more) stop shutdown_reply
-      answer → ⊥
-  serves_first id method params result other laws = served_first true true stop shutdown_reply answer id method params
+      → KeepsLaws may first last held (asked id method params (response id (Ok result) ∷ []) ∷ more) stop answer → ⊥
+  serves_first id method params result other laws = served_first true true stop answer id method params
       result more other laws.order
 
   -- a request gets its result, a second one under the same id gets nothing and is not held, and then `exit` comes
@@ -289,7 +301,7 @@ module _ {S P : Type 0} (may : Stated S P) (first last : S) (held : Pending (Uni
       → answer ≡ Ok Closed
       → KeepsLaws may first last held (more ++ asked id method params (response id (Ok result) ∷ [])
       ∷ asked id method params []
-      ∷ record { came = Some (notification (codes "exit") given); sent = [] } ∷ []) stop shutdown_reply answer → ⊥
+      ∷ record { came = Some (notification (codes "exit") given); sent = []; not_sent = None } ∷ []) stop answer → ⊥
   drops_reused id method params result given free decides closes laws =
       drops_last id method params [] (more ++ answered ∷ []) (exit ∷ []) decided held Closed refl refl free
       (subst (λ l. AnswersLast id l decided held (Ok Closed)) cut
@@ -300,7 +312,7 @@ module _ {S P : Type 0} (may : Stated S P) (first last : S) (held : Pending (Uni
       answered = asked id method params (response id (Ok result) ∷ [])
 
       exit : Exchange
-      exit = record { came = Some (notification (codes "exit") given); sent = [] }
+      exit = record { came = Some (notification (codes "exit") given); sent = []; not_sent = None }
 
       enough : stop ≡ exhausted → ⊥
       enough out = let e : decided ≡ exhausted = sym decides ∙ out in cc (e)
@@ -311,6 +323,6 @@ module _ {S P : Type 0} (may : Stated S P) (first last : S) (held : Pending (Uni
           ∙ sym (append_assoc more (answered ∷ []) (asked id method params [] ∷ exit ∷ []))
 
   -- the server is left in a state that its last exchange did not lead to
-  pub forgets : (stop ≡ exhausted → ⊥) → (laws : KeepsLaws may first last held exchanges stop shutdown_reply answer)
+  pub forgets : (stop ≡ exhausted → ⊥) → (laws : KeepsLaws may first last held exchanges stop answer)
       → (last ≡ laws.after → ⊥) → ⊥
   forgets enough laws other = elim laws.kept [ inl ran ↦ enough ran | inr kept ↦ other kept ]

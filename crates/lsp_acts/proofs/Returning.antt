@@ -11,15 +11,15 @@ use Rattle.lsp_message.specs.Id.{Id, id_cmp, number}
 use Rattle.lsp_message.specs.IdLaws.{id_total, id_decides}
 use Rattle.lsp_message.specs.Message.{Message, ErrorObject, request, notification, response}
 use Rattle.lsp_queue.specs.Queue.{Asked, pending_of, count_of, ids_where}
-use Rattle.lsp_session.specs.Session.{Exchange, came_of, sends_of}
+use Rattle.lsp_session.specs.Session.{offered, Exchange, came_of, sends_of}
 use Rattle.lsp_acts.specs.Acts.{Act, tells, asks, cancels, cancelled_by, ends_all, Queues, is_spent, sends_request}
 use Rattle.lsp_acts.specs.Acts.{does, does_all, ids_after, cancel_all}
 use Rattle.lsp_acts.specs.Law.{came_with, is_reply_under, Sent, Call, requests_in, request_of, ids_after_all}
 use Rattle.lsp_acts.specs.Law.{sent_by, all_sent, kept_under, acts_of, was_given, brings, GivesOwnPayloads}
 use Rattle.lsp_acts.specs.Law.{SendsActs, TakesCalls}
-use Rattle.lsp_acts.specs.QueuedServer.{WorksSending}
+use Rattle.lsp_acts.specs.ServerApplication.{WorksSending}
 use Rattle.lsp_acts.specs.View.{seen, queues_of}
-use Rattle.lsp_acts.specs.declared.queued_server.QueuedServer.{QueuedServer}
+use Rattle.lsp_acts.specs.declared.server_application.ServerApplication.{ServerApplication}
 use Rattle.lsp_acts.specs.SentByActs.{brought_by, queues_at, cancelled_answer, acts_done_at}
 use Rattle.lsp_acts.proofs.Acting.{acts_at, at_count, at_sent, sent_so, ids_counted}
 use Rattle.lsp_acts.specs.declared.server.Server.{Ghosts as Stated}
@@ -293,13 +293,14 @@ module _ {P : Type 0} where
 
 module _ {S P : Type 0} (may : Stated S P) where
   -- the server has these calls, and this is sent at each
-  abbrev pub GivesAll : QueuedServer S P → List Exchange → QueuedServer S P → Type 0
+  abbrev pub GivesAll : ServerApplication S P → List Exchange → ServerApplication S P → Type 0
   GivesAll w [] w' = w' ≡ w
-  GivesAll w (x ∷ xs) w' = (mid : QueuedServer S P) × WorksSending may (seen w) x.came x.sent (seen mid)
+  GivesAll w (x ∷ xs) w' = (mid : ServerApplication S P) × WorksSending may (seen w) x.came (offered x) (seen mid)
       × GivesAll mid xs w'
 
   -- they are as many calls
-  pub record Turned (w w' : QueuedServer S P) (xs : List Exchange) (asked : List (Sent P)) (before : List (Call P)) :
+  pub record Turned (w w' : ServerApplication S P) (xs : List Exchange) (asked : List (Sent P))
+      (before : List (Call P)) :
       Type 0 where
     pub calls : List (Call P)
     pub came_are : map_list (λ (call : Call P). call.came) calls ≡ came_of xs
@@ -311,22 +312,22 @@ module _ {S P : Type 0} (may : Stated S P) where
     pub counted : count_of (queues_of w'.queues).asked ≡ ids_after_all (count_of (queues_of w.queues).asked)
         (acts_of calls)
 
-  pub call_all : (w w' : QueuedServer S P) (xs : List Exchange) (sent : List (Sent P)) (before : List (Call P))
+  pub call_all : (w w' : ServerApplication S P) (xs : List Exchange) (sent : List (Sent P)) (before : List (Call P))
       → (queues_of w.queues).sent ≡ []
       → Agrees sent before (queues_of w.queues).asked → GivesAll w xs w' → Turned w w' xs sent before
   call_all w w' [] sent before silent agrees all = record {
     calls = [];
     came_are = refl;
-    took = ap (λ (x : QueuedServer S P). x.server) all;
+    took = ap (λ (x : ServerApplication S P). x.server) all;
     sent = refl;
     fits = tt;
-    acted = ap (λ (x : QueuedServer S P). seen x) all;
-    counted = ap (λ (x : QueuedServer S P). count_of (queues_of x.queues).asked) all;
+    acted = ap (λ (x : ServerApplication S P). seen x) all;
+    counted = ap (λ (x : ServerApplication S P). count_of (queues_of x.queues).asked) all;
   }
   call_all w w' (x ∷ xs) sent before silent agrees all =
       let mid = all.0 in
       let d : Queues P = queues_of w.queues in
-      let a = acts_at may (seen w) x.came x.sent (seen mid) all.1 in
+      let a = acts_at may (seen w) x.came (offered x) (seen mid) all.1 in
       let call : Call P = record { came = x.came; payload = a.payload; acts = a.acts } in
       let start : Queues P = queues_at d x.came a.payload in
       let acts = acts_done_at x.came a.acts in
@@ -345,8 +346,8 @@ module _ {S P : Type 0} (may : Stated S P) where
       agrees))) in
       let rest = call_all mid w' xs (sent ++ all_sent n a.acts) (before ++ call ∷ []) (ap (λ (d : Queues P). d.sent)
       a.queues) agrees' all.2 in
-      let now : requests_in x.sent ≡ map_list request_of (all_sent n a.acts) =
-      ap requests_in (sent_so may (seen w) x.came x.sent (seen mid) a) ∙ sent_all start acts
+      let now : requests_in (offered x) ≡ map_list request_of (all_sent n a.acts) =
+      ap requests_in (sent_so may (seen w) x.came (offered x) (seen mid) a) ∙ sent_all start acts
       ∙ (λ i. requests_in ((at_sent d x.came a.payload ∙ silent) i) ++ map_list request_of (sends i)) in
       let later : requests_in (sends_of xs) ≡ map_list request_of (all_sent (ids_after_all n a.acts)
       (acts_of rest.calls)) =
@@ -362,7 +363,7 @@ module _ {S P : Type 0} (may : Stated S P) where
           subst (λ k. TakesCalls may k mid.server rest.calls w'.server) count
               rest.took,
         );
-        sent = requests-append x.sent (sends_of xs) ∙ (λ i. now i ++ later i)
+        sent = requests-append (offered x) (sends_of xs) ∙ (λ i. now i ++ later i)
             ∙ sym (ap (λ l. map_list request_of l) (sent-append n a.acts (acts_of rest.calls))
             ∙ map-append request_of (all_sent n a.acts) (all_sent (ids_after_all n a.acts) (acts_of rest.calls)));
         fits = (

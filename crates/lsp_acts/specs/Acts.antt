@@ -165,11 +165,11 @@ module _ {P : Type 0} where
   abbrev pub cleared : Queues P → Queues P
   cleared d = record { held = d.held; asked = d.asked; sent = [] }
 
-module _ {S P : Type 0} (takes_back : S → P → S → Type 0) where
+module _ {S P : Type 0} (ids_exhausted_post : S → P → S → Type 0) where
   -- the server takes these back, one after another
   abbrev pub TakesBack : S → List P → S → Type 0
   TakesBack old [] new = new ≡ old
-  TakesBack old (payload ∷ payloads) new = (mid : S) × takes_back old payload mid
+  TakesBack old (payload ∷ payloads) new = (mid : S) × ids_exhausted_post old payload mid
       × TakesBack mid payloads new
 
   -- What the server did takes it and its queues from old to new. What it was to keep for a request that found no id it

@@ -4,7 +4,7 @@ use Rattle.serde_json.specs.Data.{Data}
 use Rattle.std.specs.FinMap as map
 use Rattle.std.specs.Ordering.{eq_by_cmp}
 use Rattle.std.specs.Prelude.{◌≡◌, ◌≢◌, ◌≤◌, ◌⊎◌, ◌+◌, ◌||◌, ◌&&◌, ℕ, pos, Bool, true, false, List, [], ◌∷◌, ◌++◌}
-use Rattle.std.specs.Prelude.{map as map_list, fold, Option, Some, None, is_some, IsSome, IsSomeAnd, Result, Ok, Err}
+use Rattle.std.specs.Prelude.{map as map_list, fold, Option, Some, None, is_some, IsSomeAnd, Result, Ok, Err}
 use Rattle.std.specs.Prelude.{IsErrAnd, if◌then◌else◌}
 use Rattle.std.specs.Bool.{MatchBool}
 use Rattle.std.specs.List.{list_all}
@@ -15,12 +15,12 @@ use Rattle.lsp_queue.specs.Queue.{Pending}
 use Rattle.lsp_session.specs.Finish.{is_initialized}
 use Rattle.lsp_session.specs.ProtocolError.{ShowsUnallowed, is_disconnected}
 use Rattle.lsp_session.specs.Replies.{null_reply}
-use Rattle.lsp_session.specs.Session.{Exchange, came_of, messages_of, sends_of, SessionAnswer, SessionPart, Stop}
-use Rattle.lsp_session.specs.Session.{decided, refused, exhausted, is_served}
+use Rattle.lsp_session.specs.Session.{Exchange, came_of, messages_of, offered, sends_of, SessionAnswer, SessionPart}
+use Rattle.lsp_session.specs.Session.{Stop, decided, refused, exhausted, is_served, is_shutdown}
 use Rattle.lsp_session.specs.SessionLaws.{EndsWithResult, KeepsOrder, AllRefused}
 use Rattle.lsp_acts.specs.Acts.{Act, Queues, asks, cancelled_by, cleared, does_all, empty_queues, is_spent}
 use Rattle.lsp_acts.specs.Acts.{ids_after, unsent, TakesBack}
-use Rattle.lsp_acts.specs.QueuedServer.{ServerSession, held_by}
+use Rattle.lsp_acts.specs.ServerApplication.{ServerSession, held_by}
 use Rattle.lsp_acts.specs.SentByActs.{ActsAt, ActsAtShutdown, all_sends}
 pub use Rattle.lsp_acts.specs.SentByActs.{Handed}
 use Rattle.lsp_acts.specs.declared.server.Server.{Ghosts as Stated}
@@ -113,11 +113,23 @@ AnswersCancelled id exchanges stop answer =
 -- follow it for the same message or wake, which was lost.
 abbrev pub WasToSend : Stop → List Exchange → List Exchange → Type 0
 WasToSend (refused fault) exchanges all =
-    (earlier : List Exchange) × (came : Option Message) × (sent : List Message)
-    × (lost : List Message)
-    × (exchanges ≡ earlier ++ record { came = came; sent = sent } ∷ [])
-    × (all ≡ earlier ++ record { came = came; sent = sent ++ lost } ∷ [])
+    (earlier : List Exchange) × (last : Exchange) × (lost : List Message) × (exchanges ≡ earlier ++ last ∷ [])
+    × (all ≡ earlier ++ record { came = last.came; sent = offered last ++ lost; not_sent = None } ∷ [])
 WasToSend stop exchanges all = all ≡ exchanges
+
+-- `shutdown` came and got its reply, if the outbox took that or not
+pub record GetsShutdownReply (exchanges : List Exchange) : Type 0 where
+  pub before : List Exchange
+  pub asking : Exchange
+  pub after : List Exchange
+  pub id : Id
+  pub method : List ℕ
+  pub params : Data
+  pub parting : List Message
+  pub cut : exchanges ≡ before ++ asking ∷ after
+  pub came : asking.came ≡ Some (request id method params)
+  pub asks : is_shutdown (request id method params) ≡ true
+  pub gets : offered asking ≡ parting ++ null_reply id ∷ []
 
 -- The client is gone: the session ended well, or it ended since the client was lost.
 abbrev pub IsGone : SessionAnswer → Type 0
@@ -227,7 +239,7 @@ module _ {S P : Type 0} (may : Stated S P) where
   TakesCalls count old [] new = new ≡ old
   TakesCalls count old (call ∷ calls) new =
       (did : S) × (mid : S) × Handed may old call.came call.payload call.acts did
-      × TakesBack may.takes_back did (unsent count call.acts) mid
+      × TakesBack may.ids_exhausted_post did (unsent count call.acts) mid
       × TakesCalls (ids_after_all count call.acts) mid calls new
 
   -- The calls take the server and its queues from old to new, each at its exchange: what its acts send, in their order,
@@ -235,7 +247,7 @@ module _ {S P : Type 0} (may : Stated S P) where
   abbrev pub SendsActs : S × Queues P → List (Call P) → List Exchange → S × Queues P → Type 0
   SendsActs old [] [] new = new ≡ old
   SendsActs old (call ∷ calls) (x ∷ exchanges) new =
-      (mid : S × Queues P) × (at : ActsAt may old x.came x.sent mid)
+      (mid : S × Queues P) × (at : ActsAt may old x.came (offered x) mid)
       × (call ≡ record { came = x.came; payload = at.payload; acts = at.acts })
       × SendsActs mid calls exchanges new
   SendsActs old calls exchanges new = ⊥
@@ -251,7 +263,7 @@ module _ {S P : Type 0} (may : Stated S P) where
   -- the same of the first of these exchanges, if there is one
   abbrev pub PartsFirst : S × Queues P → List Exchange → List (Act P) → S × Queues P → Type 0
   PartsFirst old [] acts new = (acts ≡ []) × (new ≡ old)
-  PartsFirst old (x ∷ rest) acts new = PartsAt old x.came x.sent acts new
+  PartsFirst old (x ∷ rest) acts new = PartsAt old x.came (offered x) acts new
 
   -- The server's part of a session from `initialized` on, from its state at the result to its last: it did this, then
   -- took these calls at the messages and wake-ups up to `shutdown` or `exit`, and did its last acts at `shutdown`, by
@@ -268,11 +280,11 @@ module _ {S P : Type 0} (may : Stated S P) where
     pub ended : IsUnserved (came_of rest)
     pub did : S
     pub first : S
-    pub began : may.at_initialized start begun did
-    pub took_back : TakesBack may.takes_back did (unsent 0 begun) first
+    pub began : may.initialized_post start begun did
+    pub took_back : TakesBack may.ids_exhausted_post did (unsent 0 begun) first
     pub called : S
     pub took_calls : TakesCalls (ids_after_all 0 begun) first calls called
-    pub opened : opening.sent ≡ all_sends empty_queues begun
+    pub opened : offered opening ≡ all_sends empty_queues begun
     pub queues : Queues P
     pub acted : SendsActs (first, cleared (does_all empty_queues begun)) calls at_calls
         (called, queues)
@@ -299,7 +311,7 @@ module _ {S P : Type 0} (may : Stated S P) where
     pub params : Data
     pub outcome : Result Data ErrorObject
     pub came : m ≡ request id method params
-    pub gave : may.initializes old params outcome new
+    pub gave : may.initialize_post old params outcome new
     pub told : sent ≡ response id outcome ∷ []
 
   -- messages up to the result of `initialize` take the server from old to new: no other message changes it
@@ -307,7 +319,7 @@ module _ {S P : Type 0} (may : Stated S P) where
   AnswersInitialize old [] new = new ≡ old
   AnswersInitialize old (x ∷ xs) new =
       (mid : S) × IsSomeAnd x.came (λ m.
-      MatchBool (is_initialize m) (Initializes old m x.sent mid) (mid ≡ old))
+      MatchBool (is_initialize m) (Initializes old m (offered x) mid) (mid ≡ old))
       × AnswersInitialize mid xs new
 
   -- Nothing but errors is sent. Or errors first, then the result of `initialize`, and the session goes on from there.
@@ -320,13 +332,13 @@ module _ {S P : Type 0} (may : Stated S P) where
 
   -- the laws of a session, in whose end these requests are held
   pub record KeepsLaws (first last : S) (held : Pending (Unit {0})) (exchanges : List Exchange)
-      (stop : Stop) (shutdown_reply : Option Message) (answer : SessionAnswer)
+      (stop : Stop) (answer : SessionAnswer)
       : Type 0 where
     -- under no id are there ever more replies than requests that came before: no reply goes to anything else, and none
     -- comes twice
     pub never_more : (id : Id) → NeverMore id exchanges
     -- before `initialized` nothing is sent but one reply for each request, and nothing follows the reply to `shutdown`
-    pub order : KeepsOrder true true exchanges stop shutdown_reply answer
+    pub order : KeepsOrder true true exchanges stop answer
     -- these exchanges with all that was to be sent at them, of which the rest is said
     pub all : List Exchange
     pub to_send : WasToSend stop exchanges all
@@ -334,7 +346,7 @@ module _ {S P : Type 0} (may : Stated S P) where
     -- Once `shutdown` got its reply none is held.
     pub once : stop ≢ exhausted → (id : Id) → AnswersLast id all stop held answer
     pub cancelled : (id : Id) → AnswersCancelled id all stop answer
-    pub none_held : IsSome shutdown_reply → held ≡ map.empty
+    pub none_held : GetsShutdownReply all → held ≡ map.empty
     -- Each reply of the client reaches the server with the payload of its own request, once, and each act is sent in
     -- its place, from the server's first state to the one after the last exchange. That is its last state, unless an
     -- allocation failed at the next message.
@@ -344,6 +356,6 @@ module _ {S P : Type 0} (may : Stated S P) where
 
   -- a session of a server, which keeps the laws
   abbrev pub LawfulSession : S → S → SessionPart
-  LawfulSession first last exchanges stop shutdown_reply answer =
-      (session : ServerSession may first last exchanges stop shutdown_reply answer)
-      × KeepsLaws first last (held_by may session) exchanges stop shutdown_reply answer
+  LawfulSession first last exchanges stop answer =
+      (session : ServerSession may first last exchanges stop answer)
+      × KeepsLaws first last (held_by may session) exchanges stop answer

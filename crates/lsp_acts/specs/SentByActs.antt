@@ -51,13 +51,13 @@ module _ {S P : Type 0} (may : Stated S P) where
   -- The server is handed a message, a reply with a payload, or woken, and does this: what it stated, at each of them.
   abbrev pub Handed : S → Option Message → Option P → List (Act P) → S → Type 0
   Handed old (Some (request id method params)) payload acts new =
-      may.requested old id method params acts new × (payload ≡ None)
+      may.request_post old id method params acts new × (payload ≡ None)
   Handed old (Some (notification method params)) payload acts new =
-      may.notified old method params acts new × (payload ≡ None)
+      may.notification_post old method params acts new × (payload ≡ None)
   Handed old (Some (response id outcome)) (Some payload) acts new =
-      may.replied old payload outcome acts new
+      may.response_post old payload outcome acts new
   Handed old (Some (response id outcome)) None acts new = (new ≡ old) × (acts ≡ [])
-  Handed old None payload acts new = may.wakes old acts new × (payload ≡ None)
+  Handed old None payload acts new = may.woken_post old acts new × (payload ≡ None)
 
   -- At a message or a wake the server, which stated what it may do, did this, and what these acts send is all that is
   -- sent. These are the queues afterwards, and the server, which took back what found no id.
@@ -68,7 +68,7 @@ module _ {S P : Type 0} (may : Stated S P) where
     pub did : S
     pub brought : payload ≡ brought_by old.1 came
     pub handed : Handed old.0 came payload acts did
-    pub back : TakesBack may.takes_back did (unsent (count_of old.1.asked) acts) new.0
+    pub back : TakesBack may.ids_exhausted_post did (unsent (count_of old.1.asked) acts) new.0
     pub sent : output ≡ old.1.sent
         ++ all_sends (queues_at old.1 came payload) (acts_done_at came acts)
     pub queues : new.1 ≡ cleared (does_all (queues_at old.1 came payload) (acts_done_at came acts))
@@ -80,8 +80,8 @@ module _ {S P : Type 0} (may : Stated S P) where
       × Queues P) : Type 0 where
     pub acts : List (Act P)
     pub did : S
-    pub stated : may.at_shutdown old.0 acts did
-    pub back : TakesBack may.takes_back did (unsent (count_of old.1.asked) acts) new.0
+    pub stated : may.shutdown_post old.0 acts did
+    pub back : TakesBack may.ids_exhausted_post did (unsent (count_of old.1.asked) acts) new.0
     pub ids : List Id
     pub sent : output
         ≡ old.1.sent ++ all_sends (released old.1 id) (acts ++ ends_all ids)

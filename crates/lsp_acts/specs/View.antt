@@ -5,14 +5,14 @@ use Rattle.lsp_message.specs.View.{outcome_view}
 use Rattle.lsp_session.specs.OutputView.{sent_view}
 use Rattle.lsp_acts.specs.Acts.{Queues, Act, tells, asks, replies, cancels}
 use Rattle.lsp_acts.specs.declared.server.Act as rust
-use Rattle.lsp_acts.specs.declared.server.Act.TheVariants.{Tell, Ask, Reply, ReplyText, Cancel}
-use Rattle.lsp_acts.specs.declared.queued_server.Queues as rust_queues
-use Rattle.lsp_acts.specs.declared.queued_server.QueuedServer.{QueuedServer}
+use Rattle.lsp_acts.specs.declared.server.Act.TheVariants.{SendNotification, SendRequest, Reply, ReplyText, Cancel}
+use Rattle.lsp_acts.specs.declared.server_application.Queues as rust_queues
+use Rattle.lsp_acts.specs.declared.server_application.ServerApplication.{ServerApplication}
 
 -- an act of a server whose payloads are equal so
 abbrev pub act_view : {P : Type 0} → (P → P → Bool) → rust.Act P → Act P
-act_view same (Tell n) = tells (string_bytes n.method) (view n.params)
-act_view same (Ask method params payload) = asks (string_bytes method) (view params) payload
+act_view same (SendNotification n) = tells (string_bytes n.method) (view n.params)
+act_view same (SendRequest method params payload) = asks (string_bytes method) (view params) payload
 act_view same (Reply id outcome) = replies id (outcome_view outcome)
 act_view same (ReplyText id text) = replies id (Ok (view text))
 act_view same (Cancel payload) = cancels (λ kept. same kept payload)
@@ -31,5 +31,5 @@ queues_of queues =
           sent_view queues.sent.items;
     }
 
-abbrev pub seen : {S P : Type 0} → QueuedServer S P → S × Queues P
+abbrev pub seen : {S P : Type 0} → ServerApplication S P → S × Queues P
 seen working = (working.server, queues_of working.queues)

@@ -19,7 +19,7 @@ impl<P: Drop + PartialEq> Act<P> {
     /// any type that `serde` writes; `publish` of `lsp_methods` takes those of `lsp_types`.
     ///
     /// If a diagnostic nests more than 127 levels, or its type refuses to be written, the act writes an error into the
-    /// client's log instead, as `tell` does. `Err` means that an allocation failed.
+    /// client's log instead, as `send_notification` does. `Err` means that an allocation failed.
     pub fn publish<T: Serialize>(
         alloc: Global,
         uri: &str,
@@ -34,7 +34,7 @@ impl<P: Drop + PartialEq> Act<P> {
             Ok(found) => {
                 let params = publish_params(alloc, uri, version, found)?;
                 let method = String::from_str(alloc, method)?;
-                Ok(Act::Tell(Notification { method, params }))
+                Ok(Act::SendNotification(Notification { method, params }))
             }
             Err(error) => Act::log_error(alloc, method, " was not sent: ", error.message.as_str()),
         }

@@ -84,7 +84,7 @@ impl<P: Drop + PartialEq> Act<P> {
     ///
     /// `Err` means that an allocation failed. No contract says what `act` changes through its captures. If your server
     /// promises something about that, call `Request::params_as`.
-    pub fn of_request<T, F>(
+    pub fn from_request<T, F>(
         alloc: Global,
         request: Request,
         act: F,
@@ -110,7 +110,7 @@ impl<P: Drop + PartialEq> Act<P> {
     ///
     /// `Err` means that an allocation failed. No contract says what `act` changes through its captures. If your server
     /// promises something about that, call `Notification::params_as`.
-    pub fn of_notification<T, F>(
+    pub fn from_notification<T, F>(
         alloc: Global,
         notification: Notification,
         act: F,

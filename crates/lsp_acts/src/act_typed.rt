@@ -20,13 +20,17 @@ impl<P: Drop + PartialEq> Act<P> {
     /// the reason.
     ///
     /// `Err` means that an allocation failed. No contract says which values can't be written.
-    pub fn tell<T: Serialize>(alloc: Global, method: &str, params: &T) -> Result<Act<P>, AllocError>
+    pub fn send_notification<T: Serialize>(
+        alloc: Global,
+        method: &str,
+        params: &T,
+    ) -> Result<Act<P>, AllocError>
         ensures { IfOk result (λ act. Notifies (T.writes params.now) method.now (act_view P.eq act)) }
     {
         match write_as(alloc, params)? {
             Ok(params) => {
                 let method = String::from_str(alloc, method)?;
-                Ok(Act::Tell(Notification { method, params }))
+                Ok(Act::SendNotification(Notification { method, params }))
             }
             Err(error) => Act::log_error(alloc, method, " was not sent: ", error.message.as_str()),
         }
@@ -37,7 +41,7 @@ impl<P: Drop + PartialEq> Act<P> {
     /// session goes on.
     ///
     /// `Err(AllocError)` means that an allocation failed.
-    pub fn ask<T: Serialize>(
+    pub fn send_request<T: Serialize>(
         alloc: Global,
         method: &str,
         params: &T,
@@ -49,7 +53,7 @@ impl<P: Drop + PartialEq> Act<P> {
         match write_as(alloc, params)? {
             Ok(params) => {
                 let method = String::from_str(alloc, method)?;
-                Ok(Ok(Act::Ask(method, params, payload)))
+                Ok(Ok(Act::SendRequest(method, params, payload)))
             }
             Err(error) => Ok(Err(error)),
         }
@@ -76,7 +80,7 @@ impl<P: Drop + PartialEq> Act<P> {
     /// text for people, and no data (JSON-RPC 2.0, section 5.1).
     ///
     /// `Err` means that an allocation failed.
-    pub fn refuse(
+    pub fn reply_error(
         alloc: Global,
         id: RequestId,
         code: ErrorCode,

@@ -17,7 +17,11 @@ impl<P: Drop + PartialEq> Act<P> {
     /// message. `MessageType` of `lsp_types` has these numbers.
     ///
     /// `Err` means that an allocation failed.
-    pub fn log<K: Into<u32>>(alloc: Global, kind: K, message: &str) -> Result<Act<P>, AllocError>
+    pub fn log_message<K: Into<u32>>(
+        alloc: Global,
+        kind: K,
+        message: &str,
+    ) -> Result<Act<P>, AllocError>
         ensures { IfOk result (λ act. (number : ℕ) × K.converts kind number
             × (act_view P.eq act ≡ tells log_method (message_params_spec number message.now))) }
     {
@@ -25,10 +29,14 @@ impl<P: Drop + PartialEq> Act<P> {
     }
 
     /// Makes the notification that shows a text to the user: `window/showMessage` (LSP 3.17, "ShowMessage
-    /// Notification"). `kind` is as for `log`.
+    /// Notification"). `kind` is as for `log_message`.
     ///
     /// `Err` means that an allocation failed.
-    pub fn show<K: Into<u32>>(alloc: Global, kind: K, message: &str) -> Result<Act<P>, AllocError>
+    pub fn show_message<K: Into<u32>>(
+        alloc: Global,
+        kind: K,
+        message: &str,
+    ) -> Result<Act<P>, AllocError>
         ensures { IfOk result (λ act. (number : ℕ) × K.converts kind number
             × (act_view P.eq act ≡ tells show_method (message_params_spec number message.now))) }
     {
@@ -64,7 +72,7 @@ fn told<P: Drop + PartialEq>(
 {
     let method = String::from_str(alloc, method)?;
     let params = message_params(alloc, kind, message)?;
-    Ok(Act::Tell(Notification { method, params }))
+    Ok(Act::SendNotification(Notification { method, params }))
 }
 
 /// Makes the params of both notifications.

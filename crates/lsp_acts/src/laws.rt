@@ -9,14 +9,14 @@ ghost use Rattle.lsp_session.specs.SessionLaws.{Implies};
 ghost use Rattle.lsp_acts.specs.Acts.{Queues, empty_queues};
 ghost use Rattle.lsp_acts.specs.Law.{is_request_under, how_many, AnswersLast, AnswersLastInFull, IsGone, IsOwedWhatIsHeld, IsWhole, KeepsLaws, LawfulSession, NeverMore, OnceOrEnded, WasToSend};
 ghost use Rattle.lsp_acts.specs.SentByActs.{ActsAt};
-ghost use Rattle.lsp_acts.specs.QueuedServer.{with_queues, ServerSession, WorksSending, held_by};
+ghost use Rattle.lsp_acts.specs.ServerApplication.{with_queues, ServerSession, WorksSending, held_by};
 ghost use Rattle.lsp_acts.specs.View.{seen};
-ghost use Rattle.lsp_acts.specs.declared.queued_server.QueuedServer.{QueuedServer as QueuedOf};
+ghost use Rattle.lsp_acts.specs.declared.server_application.ServerApplication.{ServerApplication as QueuedOf};
 
 use crate::server::Server;
 
 /// The contract of a server's session implies these laws. They apply to the exchanges of each session of a
-/// `QueuedServer`, and so to the session in each form.
+/// `ServerApplication`, and so to the session in each form.
 ///
 /// - In each prefix of the session, the replies under an id are no more than the client's requests under it. So no
 ///   reply goes to anything else, and none is sent twice.
@@ -35,32 +35,30 @@ use crate::server::Server;
 /// not pending reaches nobody. These statements are about the server's states, from the first to the last (unless an
 /// allocation failed). Each state follows from the one before by what the server stated.
 pub fn server_keeps_laws<S: Server>()
-    ensures exchanges { (first last : S) (exchanges : List Exchange) (stop : Stop)
-        (shutdown_reply : Option Message) (answer : SessionAnswer)
-        → (session : ServerSession S.Server first last exchanges stop shutdown_reply
-        answer)
+    ensures exchanges { (first last : S) (exchanges : List Exchange) (stop : Stop) (answer : SessionAnswer)
+        → (session : ServerSession S.Server first last exchanges stop answer)
         → KeepsLaws S.Server first last (held_by S.Server session) exchanges
-        stop shutdown_reply answer }
+        stop answer }
     ensures lawful { (first last : S) → Implies (ServerSession S.Server first last) (LawfulSession S.Server first last) }
 {}
 
 /// A session of a server with its queues is a session of the server. This applies to the exchanges of each session that
-/// was run with a `QueuedServer` as a service. The queues are empty at first (`QueuedServer::new`). As an application,
-/// the `QueuedServer` promises this itself.
-pub fn queued_server_runs_its_server<S: Server>()
-    ensures { (old new : QueuedOf S S.Payload) (server : S) (exchanges : List Exchange)
-        (stop : Stop) (shutdown_reply : Option Message) (answer : SessionAnswer)
+/// was run with a `ServerApplication` as a service. The queues are empty at first (`ServerApplication::new`). As an application,
+/// the `ServerApplication` promises this itself.
+pub fn server_application_runs_its_server<S: Server>()
+    ensures { (old new : QueuedOf S S.PendingData) (server : S) (exchanges : List Exchange)
+        (stop : Stop) (answer : SessionAnswer)
         → seen old ≡ (server, empty_queues)
-        → SessionOut (with_queues S.Server) old new exchanges stop shutdown_reply answer
-        → ServerSession S.Server server new.server exchanges stop shutdown_reply answer }
+        → SessionOut (with_queues S.Server) old new exchanges stop answer
+        → ServerSession S.Server server new.server exchanges stop answer }
 {}
 
 /// What a server stated about a message or a wake-up is what it did, and the messages of its acts, in their order, are
 /// all that is sent: each notification, each request for which an id is left, the answer to each request that is held,
 /// and the cancellation of each of its own requests that has no reply yet.
 pub fn call_sends_its_acts<S: Server>()
-    ensures { (old : S × Queues S.Payload) (came : Option Message) (sent : List Message) (new : S
-        × Queues S.Payload)
+    ensures { (old : S × Queues S.PendingData) (came : Option Message) (sent : List Message) (new : S
+        × Queues S.PendingData)
         → WorksSending S.Server old came sent new
         → ActsAt S.Server old came sent new }
 {}

@@ -1,14 +1,14 @@
 // What passes between clients and a server, judged while it passes.
 use crate::frames::Frames;
-use crate::judgement::{Ends, Judgement};
 use crate::merged::tell_stop;
-use crate::outcome::Outcome;
-use crate::passed::Passing;
-use crate::report::{Report, SECOND};
 use anyhow::Result;
 use crossbeam_channel::{Receiver, bounded};
+use lsp_judge::judgement::{Ends, Judgement};
+use lsp_judge::outcome::Outcome;
+use lsp_judge::passed::Passing;
+use lsp_judge::report::{Report, SECOND};
 use lsp_proxy::{Ended, Heard, Teller, pass_on};
-use lsp_watch::Way;
+use lsp_watch::Direction;
 use std::alloc::AllocError;
 use std::io::{self, Read, Write};
 use std::net::{Net, OpenStream, Shutdown};
@@ -38,8 +38,8 @@ where
     drop(client.set_nodelay(true));
     drop(server.set_nodelay(true));
     let (sender, heard) = bounded(rt.alloc(), ROOM)?;
-    let upward = Teller::new(*rt, Way::ToServer, sender.clone()?);
-    let downward = Teller::new(*rt, Way::ToClient, sender);
+    let upward = Teller::new(*rt, Direction::ToServer, sender.clone()?);
+    let downward = Teller::new(*rt, Direction::ToClient, sender);
     let ends = (client.try_clone()?, server.try_clone()?);
     let upward = start(rt, upward, client.try_clone()?, server.try_clone()?)?;
     let downward = match start(rt, downward, server, client) {
@@ -83,8 +83,8 @@ where
         pass_on(&mut tell, &mut from, &mut io::sink());
     }
     let how = match tell.way() {
-        Way::ToServer => Shutdown::Write,
-        Way::ToClient => Shutdown::Both,
+        Direction::ToServer => Shutdown::Write,
+        Direction::ToClient => Shutdown::Both,
     };
     drop(to.shutdown(how));
     tell.end();
@@ -173,7 +173,7 @@ impl Ways {
     /// Judges the messages that a piece ends.
     fn see<W: Write>(
         &mut self,
-        way: Way,
+        way: Direction,
         piece: &[u8],
         report: &Report<'_>,
         out: &mut W,
@@ -194,7 +194,7 @@ impl Ways {
     }
 
     /// Tells what is wrong with the frame that comes next, if it is bad. Then nothing more is judged.
-    fn stop<W: Write>(&mut self, way: Way, report: &Report<'_>, out: &mut W) -> Result<()> {
+    fn stop<W: Write>(&mut self, way: Direction, report: &Report<'_>, out: &mut W) -> Result<()> {
         if !tell_stop(self.side(way), begin_of(way), report, out)? {
             self.is_over = true;
         }
@@ -202,26 +202,26 @@ impl Ways {
     }
 
     /// A side has closed.
-    fn end(&mut self, way: Way) {
+    fn end(&mut self, way: Direction) {
         match way {
-            Way::ToServer => self.is_client_over = true,
-            Way::ToClient => self.is_server_first = !self.is_client_over,
+            Direction::ToServer => self.is_client_over = true,
+            Direction::ToClient => self.is_server_first = !self.is_client_over,
         }
         self.side(way).end();
     }
 
-    fn side(&mut self, way: Way) -> &mut Frames {
+    fn side(&mut self, way: Direction) -> &mut Frames {
         match way {
-            Way::ToServer => &mut self.client,
-            Way::ToClient => &mut self.server,
+            Direction::ToServer => &mut self.client,
+            Direction::ToClient => &mut self.server,
         }
     }
 }
 
 /// Where the places of a way begin.
-fn begin_of(way: Way) -> u64 {
+fn begin_of(way: Direction) -> u64 {
     match way {
-        Way::ToServer => 0,
-        Way::ToClient => SECOND,
+        Direction::ToServer => 0,
+        Direction::ToClient => SECOND,
     }
 }

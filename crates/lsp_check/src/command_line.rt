@@ -1,8 +1,8 @@
 // The command line.
-use crate::choice::{Choice, FailOn, Ignored};
-use crate::report::Form;
 use anyhow::{Result, bail};
 use clap::{Arg, ArgAction, ArgMatches, Command};
+use lsp_judge::choice::{Choice, FailOn, Ignored};
+use lsp_judge::report::Form;
 use lsp_watch::{Level, Rule, rules};
 use std::alloc::{AllocError, Global};
 
@@ -49,11 +49,12 @@ frame nothing more is judged, and the bytes still pass. A place counts the bytes
 pub fn command<'a>(alloc: Global) -> Result<Command<'a>, AllocError> {
     let command = Command::new(alloc, "lsp_check")
         .about(ABOUT)
-        .version("0.23.0")
+        .version("0.24.0")
         .after_help(MORE)
         .arg(fail_on(alloc)?)?
         .arg(level(alloc)?)?
         .arg(ignore(alloc))?
+        .arg(group(alloc))?
         .arg(flag(alloc, "json", "Reports in lines of JSON"))?
         .arg(flag(alloc, "sarif", "Reports as SARIF 2.1.0").conflicts_with("json")?)?
         .arg(
@@ -122,6 +123,15 @@ fn ignore<'a>(alloc: Global) -> Arg<'a> {
         .value_name("RULE[@METHOD]")
         .action(ArgAction::Append)
         .help("Does not report breaches of this rule, or those by messages of a method")
+}
+
+fn group<'a>(alloc: Global) -> Arg<'a> {
+    Arg::new(alloc, "rules")
+        .long("rules")
+        .value_name("GROUP")
+        .help(
+            "Which rules are judged in recordings and logs: session, or capabilities, which adds what both sides announced [default: session]",
+        )
 }
 
 fn between<'a>(alloc: Global) -> Result<Command<'a>, AllocError> {
@@ -198,6 +208,11 @@ pub fn choice_of(alloc: Global, matches: &ArgMatches<'_>) -> Result<Choice> {
         "implied" => Level::Implied,
         _ => bail!("--level is must, should or implied"),
     };
+    let capabilities = match group_of(matches) {
+        "session" => false,
+        "capabilities" => true,
+        _ => bail!("--rules is session or capabilities"),
+    };
     let mut ignored = Vec::new(alloc);
     for word in matches.get_strs("ignore").unwrap_or(&[]) {
         ignored.push(ignored_of(alloc, word)?)?;
@@ -206,7 +221,13 @@ pub fn choice_of(alloc: Global, matches: &ArgMatches<'_>) -> Result<Choice> {
         fail_on,
         level,
         ignored,
+        capabilities,
     })
+}
+
+/// Which group of rules is chosen. `between` has no such argument.
+fn group_of<'a>(matches: &ArgMatches<'a>) -> &'a str {
+    matches.get_str("rules").unwrap_or("session")
 }
 
 /// `RULE` or `RULE@METHOD`.

@@ -1,15 +1,15 @@
 // The judgement of files.
-use crate::choice::Choice;
 use crate::command_line::form_of;
-use crate::format::KNOWN;
 use crate::frames::Frames;
-use crate::lines::judge_lines;
 use crate::merged::{Side, judge_frames};
-use crate::outcome::Outcome;
 use crate::refuse;
-use crate::report::{Form, Places, Report, SECOND};
 use anyhow::Result;
 use clap::ArgMatches;
+use lsp_judge::choice::Choice;
+use lsp_judge::format::KNOWN;
+use lsp_judge::lines::judge_lines;
+use lsp_judge::outcome::Outcome;
+use lsp_judge::report::{Form, Places, Report, SECOND};
 use std::alloc::Global;
 use std::cell::Cell;
 use std::fs;

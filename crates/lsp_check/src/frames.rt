@@ -19,7 +19,7 @@ pub enum Next {
     Bad(&'static str),
 }
 
-/// Frames, and what comes next.
+/// Frames, and the next message.
 #[derive(Drop)]
 pub struct Frames {
     alloc: Global,
@@ -51,7 +51,7 @@ impl Frames {
         }
     }
 
-    /// Looks what comes next, by the pieces that came.
+    /// Looks for the next message in the pieces that arrived.
     pub fn look(&mut self) -> Result<(), AllocError> {
         self.next = match self.contents.next() {
             proxy::Next::Content(content) => {
@@ -84,7 +84,7 @@ impl Frames {
         }
     }
 
-    /// Reads pieces until it is known what comes next.
+    /// Reads pieces until the next message is known.
     pub fn look_on<R: BufRead>(&mut self, reader: &mut R) -> io::Result<()> {
         for _ in 0..u64::MAX {
             self.look()?;

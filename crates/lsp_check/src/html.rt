@@ -1,14 +1,14 @@
 // A page that shows the session of a log: a bar for each request, and what breaks a rule. It has nothing from elsewhere.
-use crate::choice::Choice;
-use crate::junit::put_escaped;
-use crate::log::{Log, Step};
 use crate::pairs::{Pair, Pairs};
-use crate::passed::Passing;
-use crate::reader::Found;
-use crate::report::{Form, Places, Report};
-use crate::sessions::Sessions;
 use anyhow::Result;
-use lsp_watch::{LoggedMessage, Way};
+use lsp_judge::choice::Choice;
+use lsp_judge::junit::put_escaped;
+use lsp_judge::log::{Log, Step};
+use lsp_judge::passed::Passing;
+use lsp_judge::reader::Found;
+use lsp_judge::report::{Form, Places, Report};
+use lsp_judge::sessions::Sessions;
+use lsp_watch::{Direction, LoggedMessage};
 use std::alloc::{AllocError, Global};
 use std::cell::Cell;
 use std::collections::BTreeMap;
@@ -211,13 +211,18 @@ impl Page {
     }
 
     fn write_legend<W: Write>(&self, out: &mut W) -> Result<()> {
-        let unit = match (self.first, self.last) {
+        let scale = match (self.first, self.last) {
             (Some(first), Some(last)) => {
-                format!(in self.alloc; "{} ms", last.saturating_sub(first))?
+                format!(in self.alloc; "The time line is {} ms wide.", last.saturating_sub(first))?
             }
-            _ => format!(in self.alloc; "{} lines: the log has no times", self.lines)?,
+            _ => {
+                format!(in self.alloc;
+                    "The time line is {} lines wide, since the log has no times.",
+                    self.lines
+                )?
+            }
         };
-        writeln!(out, "<h2>Requests</h2>\n<p>The bars are {unit} wide.")?;
+        writeln!(out, "<h2>Requests</h2>\n<p>{scale}")?;
         for (class, what) in [
             ("b", "the client asked"),
             ("b s", "the server asked"),
@@ -236,8 +241,8 @@ impl Page {
             _ if bar.end.is_none() => "b o",
             _ if bar.is_cancelled => "b c",
             _ if bar.is_error => "b e",
-            Way::ToServer => "b",
-            Way::ToClient => "b s",
+            Direction::ToServer => "b",
+            Direction::ToClient => "b s",
         };
         write!(
             out,

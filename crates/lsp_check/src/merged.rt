@@ -1,11 +1,11 @@
 // The judgement of two files of frames, one of each way, which do not say what passed first.
 use crate::frames::{Frames, Next};
-use crate::judgement::{Ends, Judgement};
-use crate::outcome::Outcome;
-use crate::passed::{Order, Passing};
-use crate::report::Report;
 use anyhow::Result;
-use lsp_watch::Way;
+use lsp_judge::judgement::{Ends, Judgement};
+use lsp_judge::outcome::Outcome;
+use lsp_judge::passed::{Order, Passing};
+use lsp_judge::report::Report;
+use lsp_watch::Direction;
 use std::io::{BufRead, Write};
 
 /// A file of frames, and where its places begin.
@@ -43,13 +43,13 @@ fn judge_all<C: BufRead, S: BufRead, W: Write>(
     server.frames.look_on(&mut server.reader)?;
     for _ in 0..u64::MAX {
         match next_way(judged, &client.frames.next, &server.frames.next)? {
-            Some(Way::ToServer) => {
+            Some(Direction::ToServer) => {
                 let order = order_beside(&server.frames.next);
-                pass(judged, Way::ToServer, order, client, report, out)?;
+                pass(judged, Direction::ToServer, order, client, report, out)?;
             }
-            Some(Way::ToClient) => {
+            Some(Direction::ToClient) => {
                 let order = order_beside(&client.frames.next);
-                pass(judged, Way::ToClient, order, server, report, out)?;
+                pass(judged, Direction::ToClient, order, server, report, out)?;
             }
             None => break,
         }
@@ -84,24 +84,24 @@ fn order_beside(other: &Next) -> Order {
     }
 }
 
-/// The way of the next message. None is judged that breaks a rule where the other file ends too early: what is lost may
-/// have been what it needs.
-fn next_way(judged: &Judgement, client: &Next, server: &Next) -> Result<Option<Way>> {
-    if fits(judged, Way::ToClient, server)? {
-        return Ok(Some(Way::ToClient));
+/// The direction of the next message. No message is judged that breaks a rule where the other file ends too early: the lost
+/// part may have had the message that it needs.
+fn next_way(judged: &Judgement, client: &Next, server: &Next) -> Result<Option<Direction>> {
+    if fits(judged, Direction::ToClient, server)? {
+        return Ok(Some(Direction::ToClient));
     }
-    if fits(judged, Way::ToServer, client)? {
-        return Ok(Some(Way::ToServer));
+    if fits(judged, Direction::ToServer, client)? {
+        return Ok(Some(Direction::ToServer));
     }
     Ok(match (client, server) {
-        (Next::Message(_), Next::Message(_) | Next::End) => Some(Way::ToServer),
-        (Next::End, Next::Message(_)) => Some(Way::ToClient),
+        (Next::Message(_), Next::Message(_) | Next::End) => Some(Direction::ToServer),
+        (Next::End, Next::Message(_)) => Some(Direction::ToClient),
         _ => None,
     })
 }
 
 /// Whether there is a message that breaks no rule.
-fn fits(judged: &Judgement, way: Way, next: &Next) -> Result<bool> {
+fn fits(judged: &Judgement, way: Direction, next: &Next) -> Result<bool> {
     match next {
         Next::Message(message) => Ok(judged.fits(way, message)?),
         Next::More | Next::End | Next::Cut | Next::Bad(_) => Ok(false),
@@ -111,7 +111,7 @@ fn fits(judged: &Judgement, way: Way, next: &Next) -> Result<bool> {
 /// Judges the next message of a file, and looks for the one after it.
 fn pass<R: BufRead, W: Write>(
     judged: &mut Judgement,
-    way: Way,
+    way: Direction,
     order: Order,
     side: &mut Side<R>,
     report: &Report<'_>,

@@ -1,7 +1,7 @@
 // Requests with their replies.
-use crate::log::Log;
-use crate::reader::Found;
-use lsp_watch::{Kind, LoggedMessage, Way};
+use lsp_judge::log::Log;
+use lsp_judge::reader::Found;
+use lsp_watch::{Direction, Kind, LoggedMessage};
 use serde_json::Value;
 use std::alloc::{AllocError, Global};
 use std::collections::BTreeMap;
@@ -15,7 +15,7 @@ const CANCELLED: [i64; 2] = [-32800, -32802];
 /// A request, and its reply if there is one.
 #[derive(Drop)]
 pub struct Pair {
-    pub way: Way,
+    pub way: Direction,
     pub method: String,
     /// The line of the request, and of the reply.
     pub line: u64,
@@ -112,7 +112,7 @@ impl Pairs {
     }
 
     /// The key of a request: its way, the server and the id.
-    fn key(&self, way: Way, log: &Log, id: Option<&Value>) -> Result<String, AllocError> {
+    fn key(&self, way: Direction, log: &Log, id: Option<&Value>) -> Result<String, AllocError> {
         let name = std::str::from_utf8(log.name()).unwrap_or("");
         match id {
             Some(id) => {

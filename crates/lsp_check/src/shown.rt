@@ -1,12 +1,12 @@
 // What is shown of logs: statistics, and a page.
-use crate::choice::{Choice, FailOn};
 use crate::command_line::form_of;
-use crate::format::KNOWN;
 use crate::html::Page;
 use crate::refuse;
 use crate::stats::Stats;
 use anyhow::Result;
 use clap::ArgMatches;
+use lsp_judge::choice::{Choice, FailOn};
+use lsp_judge::format::KNOWN;
 use lsp_watch::Level;
 use std::fs;
 use std::io::{BufReader, Write};
@@ -74,6 +74,7 @@ pub fn show_html<R: Files + Input + AllocGlobal, E: Write, W: Write>(
         fail_on: FailOn::Both,
         level: Level::Implied,
         ignored: Vec::new(rt.alloc()),
+        capabilities: false,
     };
     let mut page = Page::new(rt.alloc());
     let has_message = if *file == "-" {

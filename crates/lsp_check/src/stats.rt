@@ -1,10 +1,10 @@
 // How often each method was asked for, and how long the replies took.
-use crate::json::{quoted, side_name};
-use crate::log::{Log, Step};
 use crate::pairs::{Pair, Pairs};
-use crate::report::Form;
 use anyhow::Result;
-use lsp_watch::Way;
+use lsp_judge::json::{quoted, side_name};
+use lsp_judge::log::{Log, Step};
+use lsp_judge::report::Form;
+use lsp_watch::Direction;
 use std::alloc::{AllocError, Global};
 use std::collections::BTreeMap;
 use std::io::{BufRead, Write};
@@ -18,7 +18,7 @@ const OTHERS: &str = "(others)";
 /// What is counted of the requests of a method.
 #[derive(Drop)]
 struct Row {
-    way: Way,
+    way: Direction,
     count: u64,
     cancelled: u64,
     open: u64,
@@ -121,7 +121,7 @@ impl Stats {
 }
 
 impl Row {
-    fn new(alloc: Global, way: Way) -> Row {
+    fn new(alloc: Global, way: Direction) -> Row {
         Row {
             way,
             count: 0,

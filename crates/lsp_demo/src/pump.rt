@@ -7,7 +7,7 @@ ghost use Rattle.lsp_threads.specs.Passing.{OfTaken, noted};
 
 use crate::report::{report, report_usage};
 use lsp_message::{Limits, Passed};
-use lsp_threads::{PumpFault, pump_telling};
+use lsp_threads::{PumpFault, pump_traced};
 use std::alloc::Global;
 use std::io::{BufRead, Write};
 use std::sync::Wait;
@@ -61,7 +61,7 @@ where
             given: Passed::new(),
         };
     };
-    let pumped = pump_telling(rt, Builder::new(), alloc, reader, writer, limit);
+    let pumped = pump_traced(rt, Builder::new(), alloc, reader, writer, limit);
     PumpStatus {
         status: status_of(errors, pumped.answer),
         taken: pumped.taken,

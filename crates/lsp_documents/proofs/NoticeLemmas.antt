@@ -12,11 +12,11 @@ use Rattle.lsp_text.specs.Lines.{LinedText, lined}
 use Rattle.lsp_text.specs.declared.line_ends.LineEnds.{LineEnds}
 use Rattle.lsp_text.specs.declared.position.PositionEncoding.{PositionEncoding}
 use Rattle.lsp_text.specs.declared.position.Range.{Range}
-use Rattle.lsp_documents.specs.declared.agreed.Agreed.{Agreed}
+use Rattle.lsp_documents.specs.declared.negotiation.SyncOptions.{SyncOptions}
 use Rattle.lsp_documents.specs.declared.fault.DocumentFault.{DocumentFault}
 use Rattle.lsp_documents.specs.declared.fault.DocumentFault.TheVariants.{NotOpen, OutOfOrder, Memory}
-use Rattle.lsp_documents.specs.declared.kept.Open.{Open}
-use Rattle.lsp_documents.specs.declared.kept.Open.TheVariants.{Known, Lost}
+use Rattle.lsp_documents.specs.declared.kept.DocumentState.{DocumentState}
+use Rattle.lsp_documents.specs.declared.kept.DocumentState.TheVariants.{Known, Lost}
 use Rattle.serde_json.specs.Data.{Data, Items, no_items, item}
 use Rattle.serde_json.specs.View.{view, items_view}
 use Rattle.serde_json.specs.declared.value.Value.{Value}
@@ -68,7 +68,8 @@ ends_kept : (e : PositionEncoding) (t : LinedText) (r : Option Range) (new : Lis
 ends_kept e t None new = refl
 ends_kept e t (Some range) new = refl
 
-whole_text : (a : Agreed) (cs : List Change) (s : List ℕ) → has_whole cs ≡ true → edited_by a.encoding (text_by a []) cs
+whole_text : (a : SyncOptions) (cs : List Change) (s : List ℕ) → has_whole cs ≡ true → edited_by a.encoding
+    (text_by a []) cs
     ≡ edited_by a.encoding (text_by a s) cs
 whole_text a cs s h = whole_ends a.encoding cs (text_by a []) (text_by a s) refl h
 
@@ -102,7 +103,7 @@ ends_stay e ends [] s = refl
 ends_stay e ends (c ∷ cs) s = ends_first e ends s c.range c.text cs (ends_stay e ends cs)
 
 -- what changes make of a client's text is what they make of it as it is kept
-edited_is : (a : Agreed) (cs : List Change) (s : List ℕ) → edited_by a.encoding (text_by a s) cs
+edited_is : (a : SyncOptions) (cs : List Change) (s : List ℕ) → edited_by a.encoding (text_by a s) cs
     ≡ text_by a (edited_text a s cs)
 edited_is a cs s = ends_stay a.encoding a.options.line_ends cs s
 
@@ -110,26 +111,27 @@ same_version : (v : Option ℤ) → IsVersion v v
 same_version None = tt
 same_version (Some v) = refl
 
-none_changed : (a : Agreed) (l : List ℕ) (r : Remains) (version : Option ℤ) (list : List Change) (w : Bool) →
+none_changed : (a : SyncOptions) (l : List ℕ) (r : Remains) (version : Option ℤ) (list : List Change) (w : Bool) →
     Agrees a (if w then Some (text_item [] version (edited_text a [] list)) else None)
     (Some (if w then told_whole (begun_by a l version list) else Lost r))
 none_changed a l r version list true = (edited_is a list [], same_version version)
 none_changed a l r version list false = tt
 
-some_changed : (a : Agreed) (c : Item) (l : List ℕ) (r : Remains) (version : Option ℤ) (list : List Change) (w : Bool)
+some_changed : (a : SyncOptions) (c : Item) (l : List ℕ) (r : Remains) (version : Option ℤ) (list : List Change)
+    (w : Bool)
     → (w ≡ true → edited_by a.encoding (text_by a []) list ≡ edited_by a.encoding (text_by a c.text) list) →
     Agrees a (Some (text_item c.language_id version (edited_text a c.text list)))
     (Some (if w then told_whole (begun_by a l version list) else Lost r))
 some_changed a c l r version list true whole = (whole refl ∙ edited_is a list c.text, same_version version)
 some_changed a c l r version list false whole = tt
 
-none_opened : (a : Agreed) (version : Option ℤ) (list : List Change) (w : Bool) →
+none_opened : (a : SyncOptions) (version : Option ℤ) (list : List Change) (w : Bool) →
     Agrees a (if w then Some (text_item [] version (edited_text a [] list)) else None) (if w then Some
     (told_whole (begun_by a [] version list)) else None)
 none_opened a version list true = (edited_is a list [], same_version version)
 none_opened a version list false = tt
 
-some_opened : (a : Agreed) (c : Item) (version : Option ℤ) (list : List Change) (w : Bool)
+some_opened : (a : SyncOptions) (c : Item) (version : Option ℤ) (list : List Change) (w : Bool)
     → (w ≡ true → edited_by a.encoding (text_by a []) list ≡ edited_by a.encoding (text_by a c.text) list) →
     Agrees a (Some (text_item c.language_id version (edited_text a c.text list))) (if w then Some
     (told_whole (begun_by a [] version list)) else None)
@@ -137,14 +139,15 @@ some_opened a c version list true whole = (whole refl ∙ edited_is a list c.tex
 some_opened a c version list false whole = tt
 
 -- late changes leave nothing to look at
-or_late : (a : Agreed) (client : Option Item) (o next : Open) (late : Bool) → Agrees a client (Some next)
+or_late : (a : SyncOptions) (client : Option Item) (o next : DocumentState) (late : Bool) → Agrees a client (Some next)
     → Agrees a client (Some (if late then doubted o else next))
 or_late a client (Known d) next true h = tt
 or_late a client (Lost r) next true h = tt
 or_late a client o next false h = h
 
 -- a text that comes with a save, if it was asked for, and if not
-saved_step : (a : Agreed) (asked : Bool) (client : Option Item) (kept : Option Open) (text : List ℕ) → (asked ≡ true
+saved_step : (a : SyncOptions) (asked : Bool) (client : Option Item) (kept : Option DocumentState) (text : List ℕ) →
+    (asked ≡ true
     → IsSomeAnd client (λ c. c.text ≡ text)) → Agrees a client kept →
     Agrees a client (if asked then option_map (λ o. saved_in a o text) kept else kept)
 saved_step a false client kept text s h = h
@@ -153,7 +156,8 @@ saved_step a true client (Some (Known k)) text s h = h
 saved_step a true None (Some (Lost r)) text s h = absurd (s refl)
 saved_step a true (Some c) (Some (Lost r)) text s h = (ap (text_by a) (sym (s refl)), tt)
 
-made_step : (a : Agreed) (client : Option Item) (kept : Option Open) (kind : NoticeKind) → SavesOwn a client kind
+made_step : (a : SyncOptions) (client : Option Item) (kept : Option DocumentState) (kind : NoticeKind) → SavesOwn a
+    client kind
     → Agrees a client kept → Agrees a (told a client kind) (after a kept kind)
 made_step a client kept (opened c) s h = (refl, same_version c.version)
 made_step a None None (changed version list) s h = none_opened a version list (has_whole list)
@@ -177,46 +181,50 @@ made_step a client kept (saved None) s h = h
 made_step a client kept (saved (Some text)) s h = saved_step a a.include_text client kept text s h
 made_step a client kept closed s h = tt
 
-missed_agrees : (a : Agreed) (client : Option Item) (kept : Option Open) → Agrees a client (missed kept)
+missed_agrees : (a : SyncOptions) (client : Option Item) (kept : Option DocumentState) → Agrees a client (missed kept)
 missed_agrees a client None = tt
 missed_agrees a client (Some (Known d)) = tt
 missed_agrees a client (Some (Lost r)) = tt
 
-told_append : (a : Agreed) (c : Option Item) (xs ys : List NoticeKind) → told_all a c (xs ++ ys)
+told_append : (a : SyncOptions) (c : Option Item) (xs ys : List NoticeKind) → told_all a c (xs ++ ys)
     ≡ told_all a (told_all a c xs) ys
 told_append a c [] ys = refl
 told_append a c (x ∷ xs) ys = told_append a (told a c x) xs ys
 
-saves_append : (a : Agreed) (c : Option Item) (xs ys : List NoticeKind) → SavesItsText a c (xs ++ ys) → SavesItsText a c
+saves_append : (a : SyncOptions) (c : Option Item) (xs ys : List NoticeKind) → SavesItsText a c (xs ++ ys) →
+    SavesItsText a c
     xs × SavesItsText a (told_all a c xs) ys
 saves_append a c [] ys h = (tt, h)
 saves_append a c (x ∷ xs) ys h = let r = saves_append a (told a c x) xs ys h.1 in ((h.0, r.0), r.1)
 
-own_step : (a : Agreed) (b : Bool) (c : Option Item) (k : Option Open) (kind : NoticeKind) → Agrees a c k
+own_step : (a : SyncOptions) (b : Bool) (c : Option Item) (k : Option DocumentState) (kind : NoticeKind) → Agrees a c k
     → SavesItsText a c (if b then kind ∷ [] else []) →
     Agrees a (told_all a c (if b then kind ∷ [] else [])) (if b then after a k kind else k)
 own_step a true c k kind h s = made_step a c k kind s.0 h
 own_step a false c k kind h s = h
 
-unmade_agrees : (a : Agreed) (c : Option Item) (k : Option Open) (kind : NoticeKind) → Agrees a c k →
+unmade_agrees : (a : SyncOptions) (c : Option Item) (k : Option DocumentState) (kind : NoticeKind) → Agrees a c k →
     Agrees a (told a c kind) (after_unmade k kind)
 unmade_agrees a c k (opened d) h = missed_agrees a (told a c (opened d)) k
 unmade_agrees a c k (changed version list) h = missed_agrees a (told a c (changed version list)) k
 unmade_agrees a c k (saved text) h = h
 unmade_agrees a c k closed h = missed_agrees a (told a c closed) k
 
-unmade_step : (a : Agreed) (b : Bool) (c : Option Item) (k : Option Open) (kind : NoticeKind) → Agrees a c k →
+unmade_step : (a : SyncOptions) (b : Bool) (c : Option Item) (k : Option DocumentState) (kind : NoticeKind) → Agrees a
+    c k →
     Agrees a (told_all a c (if b then kind ∷ [] else [])) (if b then after_unmade k kind else k)
 unmade_step a true c k kind h = unmade_agrees a c k kind h
 unmade_step a false c k kind h = h
 
-sent_step : (a : Agreed) (uri : List ℕ) (c : Option Item) (k : Option Open) (s : Sent) → Agrees a c k → SavesItsText a c
+sent_step : (a : SyncOptions) (uri : List ℕ) (c : Option Item) (k : Option DocumentState) (s : Sent) → Agrees a c k →
+    SavesItsText a c
     (kinds_in uri (notices_of s)) → Agrees a (told_all a c (kinds_in uri (notices_of s))) (kept_after a uri k s)
 sent_step a uri c k (made n) h s = own_step a (bytes_eq uri n.uri) c k n.kind h s
 sent_step a uri c k (unmade n) h s = unmade_step a (bytes_eq uri n.uri) c k n.kind h
 sent_step a uri c k (unread notices) h s = missed_agrees a (told_all a c (kinds_in uri notices)) k
 
-all_steps : (a : Agreed) (uri : List ℕ) (c : Option Item) (k : Option Open) (sent : List Sent) → Agrees a c k
+all_steps : (a : SyncOptions) (uri : List ℕ) (c : Option Item) (k : Option DocumentState) (sent : List Sent) → Agrees a
+    c k
     → SavesItsText a c (kinds_of uri sent) → Agrees a (told_all a c (kinds_of uri sent)) (kept_after_all a uri k sent)
 all_steps a uri c k [] g h = g
 all_steps a uri c k (s ∷ ss) g h =
@@ -228,7 +236,8 @@ all_steps a uri c k (s ∷ ss) g h =
 
 -- ---- all that is held
 
-put_step : (before now : Documents) (uri q : List ℕ) (f : Option Open → Option Open) → now.held q ≡ f (before.held q)
+put_step : (before now : Documents) (uri q : List ℕ) (f : Option DocumentState → Option DocumentState) → now.held q ≡ f
+    (before.held q)
     → (bytes_eq uri q ≡ false → now.held uri ≡ before.held uri) → now.held uri
     ≡ (if bytes_eq uri q then f (before.held uri) else before.held uri)
 put_step before now uri q f own other =
@@ -266,20 +275,21 @@ all_agree before client sent now h uri a s =
 
 -- ---- what is sure, whatever saves say
 
-abbrev HasEnds : Agreed → Option Document → Type 0
+abbrev HasEnds : SyncOptions → Option Document → Type 0
 HasEnds a None = Unit {0}
 HasEnds a (Some d) = d.text.ends ≡ a.options.line_ends
 
 -- the lines of what is shown end as was agreed on, and what is not doubtful is the client's
-abbrev IsSure : Agreed → Option Item → Option Open → Type 0
+abbrev IsSure : SyncOptions → Option Item → Option DocumentState → Type 0
 IsSure a client kept = HasEnds a (option_and_then shown kept) × IsClients a client (option_and_then sure kept)
 
-sure_clients : (a : Agreed) (client : Option Item) (d : Document) (doubtful : Bool) → IsClients a client (Some d)
+sure_clients : (a : SyncOptions) (client : Option Item) (d : Document) (doubtful : Bool) → IsClients a client (Some d)
     → IsClients a client (if doubtful then None else Some d)
 sure_clients a client d true h = tt
 sure_clients a client d false h = h
 
-agrees_sure : (a : Agreed) (client : Option Item) (kept : Option Open) → Agrees a client kept → IsSure a client kept
+agrees_sure : (a : SyncOptions) (client : Option Item) (kept : Option DocumentState) → Agrees a client kept → IsSure a
+    client kept
 agrees_sure a client None h = (tt, tt)
 agrees_sure a client (Some (Lost r)) h = (tt, tt)
 agrees_sure a None (Some (Known k)) h = absurd h
@@ -293,17 +303,18 @@ edited_ends : (e : PositionEncoding) (t : LinedText) (cs : List Change) → (edi
 edited_ends e t [] = refl
 edited_ends e t (c ∷ cs) = edited_ends e (edited e t c.range c.text) cs ∙ sym (ends_kept e t c.range c.text)
 
-lost_sure : (a : Agreed) (client : Option Item) (o : Open) → IsSure a client (Some (doubted o))
+lost_sure : (a : SyncOptions) (client : Option Item) (o : DocumentState) → IsSure a client (Some (doubted o))
 lost_sure a client (Known k) = (tt, tt)
 lost_sure a client (Lost r) = (tt, tt)
 
-or_late_sure : (a : Agreed) (client : Option Item) (o next : Open) (late : Bool) → IsSure a client (Some next)
+or_late_sure : (a : SyncOptions) (client : Option Item) (o next : DocumentState) (late : Bool) → IsSure a client
+    (Some next)
     → IsSure a client (Some (if late then doubted o else next))
 or_late_sure a client o next true h = lost_sure a client o
 or_late_sure a client o next false h = h
 
 -- what a client's document is after changes, where the server may have another text before them
-told_clients : (a : Agreed) (client : Option Item) (t : LinedText) (l : List ℕ) (version : Option ℤ)
+told_clients : (a : SyncOptions) (client : Option Item) (t : LinedText) (l : List ℕ) (version : Option ℤ)
     (list : List Change) → t.ends ≡ a.options.line_ends → has_whole list ≡ true
     → IsClients a (told a client (changed version list)) (Some (document l version (edited_by a.encoding t list)))
 told_clients a None t l version list ends w =
@@ -314,7 +325,7 @@ told_clients a (Some c) t l version list ends w =
     (whole_ends a.encoding list t (text_by a c.text) ends w ∙ edited_is a list c.text, same_version version)
 
 -- changes of a text that is sure
-edited_sure : (a : Agreed) (client : Option Item) (d : Document) (version : Option ℤ) (list : List Change)
+edited_sure : (a : SyncOptions) (client : Option Item) (d : Document) (version : Option ℤ) (list : List Change)
     → IsClients a client (Some d) → IsClients a (told a client (changed version list)) (Some (changed_to a.encoding d
     version list))
 edited_sure a None d version list h = absurd h
@@ -324,14 +335,15 @@ edited_sure a (Some c) d version list h = (
 )
 
 -- changes of one that is doubtful
-doubt_sure : (a : Agreed) (client : Option Item) (d : Document) (version : Option ℤ) (list : List Change) (w : Bool)
+doubt_sure : (a : SyncOptions) (client : Option Item) (d : Document) (version : Option ℤ) (list : List Change)
+    (w : Bool)
     → has_whole list ≡ w → d.text.ends ≡ a.options.line_ends → IsClients a (told a client (changed version list))
     (if is_by_save (if w then Told else BySaveChanged) then None else Some (changed_to a.encoding d version list))
 doubt_sure a client d version list true e ends =
     told_clients a client d.text d.language_id version list ends e
 doubt_sure a client d version list false e ends = tt
 
-origin_sure : (a : Agreed) (client : Option Item) (d : Document) (origin : Origin) (version : Option ℤ)
+origin_sure : (a : SyncOptions) (client : Option Item) (d : Document) (origin : Origin) (version : Option ℤ)
     (list : List Change) → d.text.ends ≡ a.options.line_ends → IsClients a client (if is_by_save origin then None else
     Some d) → IsClients a (told a client (changed version list)) (if is_by_save (origin_after (has_whole list) origin)
     then None else Some (changed_to a.encoding d version list))
@@ -341,8 +353,8 @@ origin_sure a client d BySaveChanged version list ends h =
     doubt_sure a client d version list (has_whole list) refl ends
 
 -- changes that begin a document, where nothing is known of it
-begun_sure : (a : Agreed) (client : Option Item) (l : List ℕ) (version : Option ℤ) (list : List Change) (w : Bool)
-    (other : Option Open) → has_whole list ≡ w → IsSure a (told a client (changed version list)) other
+begun_sure : (a : SyncOptions) (client : Option Item) (l : List ℕ) (version : Option ℤ) (list : List Change) (w : Bool)
+    (other : Option DocumentState) → has_whole list ≡ w → IsSure a (told a client (changed version list)) other
     → IsSure a (told a client (changed version list)) (if w then Some (told_whole (begun_by a l version list))
     else other)
 begun_sure a client l version list true other e h = (
@@ -351,20 +363,21 @@ begun_sure a client l version list true other e h = (
 )
 begun_sure a client l version list false other e h = h
 
-lost_begun : (a : Agreed) (client : Option Item) (r : Remains) (version : Option ℤ) (list : List Change) (w : Bool)
+lost_begun : (a : SyncOptions) (client : Option Item) (r : Remains) (version : Option ℤ) (list : List Change) (w : Bool)
     → IsSure a client (if w then Some (told_whole (begun_by a r.language_id version list)) else Some (Lost r))
     → IsSure a client (Some (if w then told_whole (begun_by a r.language_id version list) else Lost r))
 lost_begun a client r version list true h = h
 lost_begun a client r version list false h = h
 
-saved_sure : (a : Agreed) (asked : Bool) (client : Option Item) (kept : Option Open) (text : List ℕ)
+saved_sure : (a : SyncOptions) (asked : Bool) (client : Option Item) (kept : Option DocumentState) (text : List ℕ)
     → IsSure a client kept → IsSure a client (if asked then option_map (λ o. saved_in a o text) kept else kept)
 saved_sure a false client kept text h = h
 saved_sure a true client None text h = h
 saved_sure a true client (Some (Known k)) text h = h
 saved_sure a true client (Some (Lost r)) text h = (refl, tt)
 
-made_sure : (a : Agreed) (client : Option Item) (kept : Option Open) (kind : NoticeKind) → IsSure a client kept
+made_sure : (a : SyncOptions) (client : Option Item) (kept : Option DocumentState) (kind : NoticeKind) → IsSure a
+    client kept
     → IsSure a (told a client kind) (after a kept kind)
 made_sure a client kept (opened c) h = (refl, (refl, same_version c.version))
 made_sure a client None (changed version list) h =
@@ -383,35 +396,37 @@ made_sure a client kept (saved None) h = h
 made_sure a client kept (saved (Some text)) h = saved_sure a a.include_text client kept text h
 made_sure a client kept closed h = (tt, tt)
 
-missed_sure : (a : Agreed) (client : Option Item) (kept : Option Open) → IsSure a client (missed kept)
+missed_sure : (a : SyncOptions) (client : Option Item) (kept : Option DocumentState) → IsSure a client (missed kept)
 missed_sure a client None = (tt, tt)
 missed_sure a client (Some (Known k)) = (tt, tt)
 missed_sure a client (Some (Lost r)) = (tt, tt)
 
-own_sure : (a : Agreed) (b : Bool) (c : Option Item) (k : Option Open) (kind : NoticeKind) → IsSure a c k
+own_sure : (a : SyncOptions) (b : Bool) (c : Option Item) (k : Option DocumentState) (kind : NoticeKind) → IsSure a c k
     → IsSure a (told_all a c (if b then kind ∷ [] else [])) (if b then after a k kind else k)
 own_sure a true c k kind h = made_sure a c k kind h
 own_sure a false c k kind h = h
 
-unmade_is_sure : (a : Agreed) (c : Option Item) (k : Option Open) (kind : NoticeKind) → IsSure a c k
+unmade_is_sure : (a : SyncOptions) (c : Option Item) (k : Option DocumentState) (kind : NoticeKind) → IsSure a c k
     → IsSure a (told a c kind) (after_unmade k kind)
 unmade_is_sure a c k (opened d) h = missed_sure a (told a c (opened d)) k
 unmade_is_sure a c k (changed version list) h = missed_sure a (told a c (changed version list)) k
 unmade_is_sure a c k (saved text) h = h
 unmade_is_sure a c k closed h = missed_sure a (told a c closed) k
 
-unmade_sure : (a : Agreed) (b : Bool) (c : Option Item) (k : Option Open) (kind : NoticeKind) → IsSure a c k
+unmade_sure : (a : SyncOptions) (b : Bool) (c : Option Item) (k : Option DocumentState) (kind : NoticeKind) → IsSure a
+    c k
     → IsSure a (told_all a c (if b then kind ∷ [] else [])) (if b then after_unmade k kind else k)
 unmade_sure a true c k kind h = unmade_is_sure a c k kind h
 unmade_sure a false c k kind h = h
 
-sent_sure : (a : Agreed) (uri : List ℕ) (c : Option Item) (k : Option Open) (s : Sent) → IsSure a c k
+sent_sure : (a : SyncOptions) (uri : List ℕ) (c : Option Item) (k : Option DocumentState) (s : Sent) → IsSure a c k
     → IsSure a (told_all a c (kinds_in uri (notices_of s))) (kept_after a uri k s)
 sent_sure a uri c k (made n) h = own_sure a (bytes_eq uri n.uri) c k n.kind h
 sent_sure a uri c k (unmade n) h = unmade_sure a (bytes_eq uri n.uri) c k n.kind h
 sent_sure a uri c k (unread notices) h = missed_sure a (told_all a c (kinds_in uri notices)) k
 
-steps_sure : (a : Agreed) (uri : List ℕ) (c : Option Item) (k : Option Open) (sent : List Sent) → IsSure a c k
+steps_sure : (a : SyncOptions) (uri : List ℕ) (c : Option Item) (k : Option DocumentState) (sent : List Sent) → IsSure
+    a c k
     → IsSure a (told_all a c (kinds_of uri sent)) (kept_after_all a uri k sent)
 steps_sure a uri c k [] g = g
 steps_sure a uri c k (s ∷ ss) g =
@@ -432,11 +447,12 @@ all_sure before client sent now h uri a =
 -- ---- a document of which all was made
 
 -- the client's document is known, with this version, and is the one that is shown
-abbrev pub IsCurrent : Agreed → Option ℤ → Option Item → Option Open → Type 0
+abbrev pub IsCurrent : SyncOptions → Option ℤ → Option Item → Option DocumentState → Type 0
 IsCurrent a version client kept = (c : Item) × (client ≡ Some c)
     × (option_and_then shown kept ≡ Some (kept_by a c)) × (c.version ≡ version)
 
-saved_current : (a : Agreed) (asked : Bool) (c : Item) (kept : Option Open) (text : List ℕ) → option_and_then shown kept
+saved_current : (a : SyncOptions) (asked : Bool) (c : Item) (kept : Option DocumentState) (text : List ℕ) →
+    option_and_then shown kept
     ≡ Some (kept_by a c) → IsCurrent a c.version (Some c) (if asked then option_map (λ o. saved_in a o text) kept else
     kept)
 saved_current a false c kept text h = (c, refl, h, refl)
@@ -444,7 +460,7 @@ saved_current a true c None text h = none_value h
 saved_current a true c (Some (Known k)) text h = (c, refl, h, refl)
 saved_current a true c (Some (Lost r)) text h = none_value h
 
-not_late : (a : Agreed) (c : Item) (k : Kept) (version : Option ℤ) (list : List Change) (late : Bool) → k.document
+not_late : (a : SyncOptions) (c : Item) (k : Kept) (version : Option ℤ) (list : List Change) (late : Bool) → k.document
     ≡ kept_by a c → not late ≡ true → IsCurrent a version (told a (Some c) (changed version list)) (Some (if late then
     doubted (Known k) else changed_in a (Known k) version list))
 not_late a c k version list true e h = never h
@@ -456,7 +472,8 @@ not_late a c k version list false e h = (
   refl,
 )
 
-own_current : (a : Agreed) (c : Item) (kept : Option Open) (kind : NoticeKind) → option_and_then shown kept
+own_current : (a : SyncOptions) (c : Item) (kept : Option DocumentState) (kind : NoticeKind) → option_and_then shown
+    kept
     ≡ Some (kept_by a c) → goes_on a c.version kind ≡ true → IsCurrent a (version_after c.version kind) (told a (Some c)
     kind) (after a kept kind)
 own_current a c kept (opened o) e h = (o, refl, refl, refl)
@@ -478,10 +495,10 @@ not_and : (b c : Bool) → not b && c ≡ true → (b ≡ false) × (c ≡ true)
 not_and true c h = never h
 not_and false c h = (refl, h)
 
-abbrev pub IsCurrentAt : Agreed → Option Item → Option Open → Type 0
+abbrev pub IsCurrentAt : SyncOptions → Option Item → Option DocumentState → Type 0
 IsCurrentAt a client kept = (c : Item) × (client ≡ Some c) × (option_and_then shown kept ≡ Some (kept_by a c))
 
-go_on : (a : Agreed) (uri : List ℕ) (version : Option ℤ) (client : Option Item) (kept : Option Open)
+go_on : (a : SyncOptions) (uri : List ℕ) (version : Option ℤ) (client : Option Item) (kept : Option DocumentState)
     (kinds : List NoticeKind) (ss : List Sent) → IsCurrent a version client kept →
     ((c : Item) → option_and_then shown kept ≡ Some (kept_by a c) → c.version ≡ version → IsCurrentAt a (told_all a
     (Some c) kinds) (kept_after_all a uri kept ss)) → IsCurrentAt a (told_all a client kinds) (kept_after_all a uri kept
@@ -489,11 +506,12 @@ go_on : (a : Agreed) (uri : List ℕ) (version : Option ℤ) (client : Option It
 go_on a uri version client kept kinds ss i rest =
     let r = rest i.0 i.2 i.3 in (r.0, ap (λ x. told_all a x kinds) i.1 ∙ r.1, r.2)
 
-made_current : (a : Agreed) (uri : List ℕ) (own : Bool) (kind : NoticeKind) (ss : List Sent) (c : Item)
-    (kept : Option Open) → option_and_then shown kept ≡ Some (kept_by a c)
+made_current : (a : SyncOptions) (uri : List ℕ) (own : Bool) (kind : NoticeKind) (ss : List Sent) (c : Item)
+    (kept : Option DocumentState) → option_and_then shown kept ≡ Some (kept_by a c)
     → (if own then goes_on a c.version kind && is_current a uri (version_after c.version kind) ss else is_current a uri
     c.version ss) ≡ true →
-    ((c : Item) (kept : Option Open) (version : Option ℤ) → option_and_then shown kept ≡ Some (kept_by a c) → c.version
+    ((c : Item) (kept : Option DocumentState) (version : Option ℤ) → option_and_then shown kept ≡ Some (kept_by a c) →
+    c.version
     ≡ version → is_current a uri version ss ≡ true → IsCurrentAt a (told_all a (Some c) (kinds_of uri ss))
     (kept_after_all a uri kept ss)) →
     IsCurrentAt a (told_all a (Some c) ((if own then kind ∷ [] else []) ++ kinds_of uri ss)) (kept_after_all a uri
@@ -504,15 +522,16 @@ made_current a uri true kind ss c kept e h rest =
     (own_current a c kept kind e p.0) (λ d s v. rest d (after a kept kind) (version_after c.version kind) s v p.1)
 made_current a uri false kind ss c kept e h rest = rest c kept c.version e refl h
 
-unmade_current : (a : Agreed) (uri : List ℕ) (own : Bool) (kind : NoticeKind) (ss : List Sent) (c : Item)
-    (kept : Option Open) → own ≡ false → IsCurrentAt a (told_all a (Some c) (kinds_of uri ss))
+unmade_current : (a : SyncOptions) (uri : List ℕ) (own : Bool) (kind : NoticeKind) (ss : List Sent) (c : Item)
+    (kept : Option DocumentState) → own ≡ false → IsCurrentAt a (told_all a (Some c) (kinds_of uri ss))
     (kept_after_all a uri kept
     ss) → IsCurrentAt a (told_all a (Some c) ((if own then kind ∷ [] else []) ++ kinds_of uri ss)) (kept_after_all a uri
     (if own then after_unmade kept kind else kept) ss)
 unmade_current a uri true kind ss c kept h rest = never (sym h)
 unmade_current a uri false kind ss c kept h rest = rest
 
-all_current : (a : Agreed) (uri : List ℕ) (sent : List Sent) (c : Item) (kept : Option Open) (version : Option ℤ)
+all_current : (a : SyncOptions) (uri : List ℕ) (sent : List Sent) (c : Item) (kept : Option DocumentState)
+    (version : Option ℤ)
     → option_and_then shown kept ≡ Some (kept_by a c) → c.version ≡ version → is_current a uri version sent ≡ true
     → IsCurrentAt a (told_all a (Some c) (kinds_of uri sent)) (kept_after_all a uri kept sent)
 all_current a uri [] c kept version e v h = (c, refl, e)
@@ -541,13 +560,14 @@ opened_current before uri language_id version text sent now h i =
           ∙ ap (λ o. kept_after_all before.agreed uri o sent) h.1.own) ∙ r.2,
     )
 
-late_is : (t : Bool) (o next : Open) → t ≡ true → option_and_then shown (Some (if t then doubted o else next)) ≡ None
+late_is : (t : Bool) (o next : DocumentState) → t ≡ true → option_and_then shown (Some (if t then doubted o else next))
+    ≡ None
 late_is true (Known d) next h = refl
 late_is true (Lost r) next h = refl
 late_is false o next h = never h
 
 -- late changes leave no text to look at
-pub late_unshown : (before : Documents) (uri : List ℕ) (version : Option ℤ) (list : List Change) (o : Open)
+pub late_unshown : (before : Documents) (uri : List ℕ) (version : Option ℤ) (list : List Change) (o : DocumentState)
     (now : Documents) → before.held uri ≡ Some o → is_late before.agreed version (has_whole list) (version_of o) ≡ true
     → Makes before (edits uri version list) now →
     option_and_then shown (now.held uri) ≡ None
@@ -556,7 +576,7 @@ late_unshown before uri version list o now b late h =
     ∙ late_is (is_late before.agreed version (has_whole list) (version_of o)) o
     (changed_in before.agreed o version list) late
 
-not_late_whole : (a : Agreed) (o : Open) (version : Option ℤ) (list : List Change) (w : Bool) → w ≡ true
+not_late_whole : (a : SyncOptions) (o : DocumentState) (version : Option ℤ) (list : List Change) (w : Bool) → w ≡ true
     → has_whole list
     ≡ w → (if is_late a version w (version_of o) then Some OutOfOrder else step_fault o w) ≡ None
 not_late_whole a (Known d) version list true h e = refl
@@ -568,12 +588,13 @@ none_wrong true h = refl
 none_wrong false h = never h
 
 -- changes with a whole text among them are made, and leave a text of their version
-whole_right : (a : Agreed) (k : Option Open) (version : Option ℤ) (list : List Change) → has_whole list ≡ true
+whole_right : (a : SyncOptions) (k : Option DocumentState) (version : Option ℤ) (list : List Change) → has_whole list ≡
+    true
     → fault_of a k (changed version list) ≡ None
 whole_right a None version list h = none_wrong (has_whole list) h
 whole_right a (Some o) version list h = not_late_whole a o version list (has_whole list) h refl
 
-some_shown : (a : Agreed) (o : Open) (version : Option ℤ) (list : List Change) (w : Bool) → w ≡ true
+some_shown : (a : SyncOptions) (o : DocumentState) (version : Option ℤ) (list : List Change) (w : Bool) → w ≡ true
     → has_whole list ≡ w
     → IsSomeAnd (option_and_then shown (Some (if is_late a version w (version_of o) then doubted o else changed_in a o
     version list))) (λ d. d.version ≡ version)
@@ -581,14 +602,15 @@ some_shown a (Known d) version list true h e = refl
 some_shown a (Lost r) version list true h e = rw e refl
 some_shown a o version list false h e = never h
 
-none_shown : (a : Agreed) (version : Option ℤ) (list : List Change) (w : Bool) → w ≡ true
+none_shown : (a : SyncOptions) (version : Option ℤ) (list : List Change) (w : Bool) → w ≡ true
     → IsSomeAnd (option_and_then shown (if w then Some (told_whole (begun_by a [] version list))
     else None)) (λ d. d.version
     ≡ version)
 none_shown a version list true h = refl
 none_shown a version list false h = never h
 
-whole_shown : (a : Agreed) (k : Option Open) (version : Option ℤ) (list : List Change) → has_whole list ≡ true
+whole_shown : (a : SyncOptions) (k : Option DocumentState) (version : Option ℤ) (list : List Change) → has_whole list ≡
+    true
     → IsSomeAnd (option_and_then shown (after a k (changed version list))) (λ d. d.version ≡ version)
 whole_shown a None version list h = none_shown a version list (has_whole list) h
 whole_shown a (Some o) version list h = some_shown a o version list (has_whole list) h refl
@@ -608,30 +630,34 @@ whole_made before uri version list now h = (
 none_is : {P : Type 0} {fault : DocumentFault} → None ≡ Some fault → P
 none_is h = grind (arith, h)
 
-step_same : (a : Agreed) (o : Open) (version : Option ℤ) (list : List Change) (w : Bool) (fault : DocumentFault)
+step_same : (a : SyncOptions) (o : DocumentState) (version : Option ℤ) (list : List Change) (w : Bool)
+    (fault : DocumentFault)
     → step_fault o w ≡ Some fault → has_whole list ≡ w → changed_in a o version list ≡ o
 step_same a (Known d) version list w fault h e = none_is h
 step_same a (Lost r) version list true fault h e = none_is h
 step_same a (Lost r) version list false fault h e = rw e refl
 
-late_same : (a : Agreed) (o : Open) (version : Option ℤ) (list : List Change) (late : Bool) (fault : DocumentFault)
+late_same : (a : SyncOptions) (o : DocumentState) (version : Option ℤ) (list : List Change) (late : Bool)
+    (fault : DocumentFault)
     → (if late then Some OutOfOrder else step_fault o (has_whole list)) ≡ Some fault → (fault ≡ OutOfOrder → ⊥) →
     Some (if late then doubted o else changed_in a o version list) ≡ Some o
 late_same a o version list true fault h other = absurd (other (sym (some_value h)))
 late_same a o version list false fault h other = ap Some (step_same a o version list (has_whole list) fault h refl)
 
-none_same : (a : Agreed) (version : Option ℤ) (list : List Change) (w : Bool) (fault : DocumentFault)
+none_same : (a : SyncOptions) (version : Option ℤ) (list : List Change) (w : Bool) (fault : DocumentFault)
     → (if w then None else Some NotOpen) ≡ Some fault → (if w then Some (told_whole (begun_by a [] version list)) else
     None) ≡ None
 none_same a version list true fault h = none_is h
 none_same a version list false fault h = refl
 
-saved_same : (a : Agreed) (asked : Bool) (text : List ℕ) → (if asked then option_map (λ o. saved_in a o text) None else
+saved_same : (a : SyncOptions) (asked : Bool) (text : List ℕ) →
+    (if asked then option_map (λ o. saved_in a o text) None else
     None) ≡ None
 saved_same a true text = refl
 saved_same a false text = refl
 
-wrong_same : (a : Agreed) (k : Option Open) (kind : NoticeKind) (fault : DocumentFault) → fault_of a k kind ≡ Some fault
+wrong_same : (a : SyncOptions) (k : Option DocumentState) (kind : NoticeKind) (fault : DocumentFault) → fault_of a k
+    kind ≡ Some fault
     → (fault ≡ OutOfOrder → ⊥) → after a k kind ≡ k
 wrong_same a k (opened c) fault h other = none_is h
 wrong_same a None (changed version list) fault h other = none_same a version list (has_whole list) fault h
@@ -645,31 +671,35 @@ wrong_same a None closed fault h other = refl
 wrong_same a (Some o) closed fault h other = none_is h
 
 -- what a refusal of changes leaves is what they make
-left_none : (a : Agreed) (version : Option ℤ) (list : List Change) (w : Bool) (fault : DocumentFault)
+left_none : (a : SyncOptions) (version : Option ℤ) (list : List Change) (w : Bool) (fault : DocumentFault)
     → (if w then None else Some NotOpen) ≡ Some fault → left_by fault None
     ≡ (if w then Some (told_whole (begun_by a [] version list)) else None)
 left_none a version list true fault h = none_is h
 left_none a version list false fault h = ap (λ f. left_by f None) (sym (some_value h))
 
-left_step : (a : Agreed) (o : Open) (version : Option ℤ) (list : List Change) (w : Bool) (fault : DocumentFault)
+left_step : (a : SyncOptions) (o : DocumentState) (version : Option ℤ) (list : List Change) (w : Bool)
+    (fault : DocumentFault)
     → step_fault o w ≡ Some fault → has_whole list ≡ w → left_by fault (Some o) ≡ Some (changed_in a o version list)
 left_step a (Known d) version list w fault h e = none_is h
 left_step a (Lost r) version list true fault h e = none_is h
 left_step a (Lost r) version list false fault h e = ap (λ f. left_by f (Some (Lost r))) (sym (some_value h)) ∙ rw e refl
 
-left_some : (a : Agreed) (o : Open) (version : Option ℤ) (list : List Change) (late : Bool) (fault : DocumentFault)
+left_some : (a : SyncOptions) (o : DocumentState) (version : Option ℤ) (list : List Change) (late : Bool)
+    (fault : DocumentFault)
     → (if late then Some OutOfOrder else step_fault o (has_whole list)) ≡ Some fault →
     left_by fault (Some o) ≡ Some (if late then doubted o else changed_in a o version list)
 left_some a o version list true fault h = ap (λ f. left_by f (Some o)) (sym (some_value h))
 left_some a o version list false fault h = left_step a o version list (has_whole list) fault h refl
 
-pub left_is : (a : Agreed) (k : Option Open) (version : Option ℤ) (list : List Change) (fault : DocumentFault)
+pub left_is : (a : SyncOptions) (k : Option DocumentState) (version : Option ℤ) (list : List Change)
+    (fault : DocumentFault)
     → change_fault a k version (has_whole list) ≡ Some fault → left_by fault k ≡ after a k (changed version list)
 left_is a None version list fault h = left_none a version list (has_whole list) fault h
 left_is a (Some o) version list fault h = left_some a o version list (is_late a version (has_whole list)
     (version_of o)) fault h
 
-keeps_at : (uri : List ℕ) (f g : List ℕ → Option Open) → f uri ≡ g uri → ((q : List ℕ) → bytes_eq q uri ≡ false → f q
+keeps_at : (uri : List ℕ) (f g : List ℕ → Option DocumentState) → f uri ≡ g uri →
+    ((q : List ℕ) → bytes_eq q uri ≡ false → f q
     ≡ g q) → (q : List ℕ) → f q ≡ g q
 keeps_at uri f g own others q =
     by_test (bytes_eq q uri) (λ same. (let s : q ≡ uri = (bytes_eq-Decides q uri).0 same in ap f s ∙ own

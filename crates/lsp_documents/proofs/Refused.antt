@@ -10,16 +10,16 @@ use Rattle.lsp_text.specs.Lines.{LinedText}
 use Rattle.lsp_text.specs.declared.position.PositionEncoding.{PositionEncoding}
 use Rattle.serde_json.specs.Data.{Data, no_items, item}
 use Rattle.lsp_documents.specs.Params.{change_in, changes_in, values_since_whole}
-use Rattle.lsp_documents.specs.declared.fault.Remark.{Remark}
-use Rattle.lsp_documents.specs.declared.fault.Remark.TheVariants.{OpenAlready, VersionNotHigher, PastEnd}
-use Rattle.lsp_documents.specs.declared.fault.Remark.TheVariants.{SavedTextDiffers, WasNotOpen, BroughtBackBySave}
+use Rattle.lsp_documents.specs.declared.fault.SyncWarning.{SyncWarning}
+use Rattle.lsp_documents.specs.declared.fault.SyncWarning.TheVariants.{OpenAlready, VersionNotHigher, PastEnd}
+use Rattle.lsp_documents.specs.declared.fault.SyncWarning.TheVariants.{SavedTextDiffers, WasNotOpen, BroughtBackBySave}
 use Rattle.lsp_documents.specs.declared.kept_document.Origin.{Origin}
 use Rattle.lsp_documents.specs.declared.kept_document.Origin.TheVariants.{Told, BySave}
-use Rattle.lsp_documents.specs.declared.kept.Open.{Open}
-use Rattle.lsp_documents.specs.declared.kept.Open.TheVariants.{Known, Lost}
+use Rattle.lsp_documents.specs.declared.kept.DocumentState.{DocumentState}
+use Rattle.lsp_documents.specs.declared.kept.DocumentState.TheVariants.{Known, Lost}
 use Rattle.lsp_documents.specs.declared.fault.DocumentFault.{DocumentFault}
 use Rattle.lsp_documents.specs.declared.fault.DocumentFault.TheVariants.{NotOpen, OutOfOrder, Memory}
-use Rattle.lsp_documents.specs.declared.agreed.Agreed.{Agreed}
+use Rattle.lsp_documents.specs.declared.negotiation.SyncOptions.{SyncOptions}
 use Rattle.lsp_documents.specs.Remains.{Remains, Kept, kept_as}
 use Rattle.lsp_documents.specs.Notices.{text_item, begun_by, doubted, version_of, is_late, step_fault, NoticeKind}
 use Rattle.lsp_documents.specs.Notices.{NoticeKind.opened, NoticeKind.changed, NoticeKind.saved, NoticeKind.closed}
@@ -34,10 +34,10 @@ use Rattle.lsp_documents.proofs.SessionLemmas.{no_save}
 never : {P : Type 0} → false ≡ true → P
 never h = grind (arith, h)
 
-abbrev shows : Option Open → Bool
+abbrev shows : Option DocumentState → Bool
 shows kept = is_some (option_and_then shown kept)
 
-missed_shows : (kept : Option Open) → shows (missed kept) ≡ false
+missed_shows : (kept : Option DocumentState) → shows (missed kept) ≡ false
 missed_shows None = refl
 missed_shows (Some (Known d)) = refl
 missed_shows (Some (Lost r)) = refl
@@ -55,7 +55,8 @@ unread_shown : (before now : Documents) (notices : List Notice) (uri : List ℕ)
 unread_shown before now notices uri d h k = never (sym (missed_shows (before.held uri))
     ∙ ap shows (sym (h.held uri) ∙ k))
 
-in_lost : (a : Agreed) (r : Remains) (version : Option ℤ) (list : List Change) (late w : Bool) → has_whole list ≡ w → w
+in_lost : (a : SyncOptions) (r : Remains) (version : Option ℤ) (list : List Change) (late w : Bool) → has_whole list ≡
+    w → w
     ≡ false → shows (Some (if late then doubted (Lost r) else (if w then told_whole
     (begun_by a r.language_id version list)
     else Lost r))) ≡ false
@@ -72,14 +73,15 @@ edited_older before now uri r version list d b w h k =
     (has_whole list) refl w)
     ∙ ap shows (ap (λ o. after before.agreed o (changed version list)) (sym b) ∙ sym h.own ∙ k))
 
-late_shows : (late : Bool) (o next : Open) → late ≡ true → shows (Some (if late then doubted o else next)) ≡ false
+late_shows : (late : Bool) (o next : DocumentState) → late ≡ true → shows (Some (if late then doubted o else next)) ≡
+    false
 late_shows true (Known d) next h = refl
 late_shows true (Lost r) next h = refl
 late_shows false o next h = never h
 
 -- an older version taken over a newer one, by edits of the text that it had, where the author did not choose it; also
 -- over one that was lost for that
-older_taken : (before now : Documents) (uri : List ℕ) (version : Option ℤ) (list : List Change) (o : Open)
+older_taken : (before now : Documents) (uri : List ℕ) (version : Option ℤ) (list : List Change) (o : DocumentState)
     (d : Kept) → before.held uri ≡ Some o → is_late before.agreed version (has_whole list) (version_of o)
     ≡ true
     → Takes before (made (edits uri version list)) now → now.held uri ≡ Some (Known d) → ⊥
@@ -100,20 +102,23 @@ opened_other : (before now : Documents) (uri q l text : List ℕ) (version : Opt
     ≡ Some (Known d) → ⊥
 opened_other before now uri q l text version d b apart h k = never (ap shows (sym b ∙ sym (h.others q apart) ∙ k))
 
-in_whole : (a : Agreed) (o : Open) (version : Option ℤ) (list : List Change) (w : Bool) → w ≡ true → has_whole list ≡ w
+in_whole : (a : SyncOptions) (o : DocumentState) (version : Option ℤ) (list : List Change) (w : Bool) → w ≡ true →
+    has_whole list ≡ w
     → shows (Some (if is_late a version w (version_of o) then doubted o else changed_in a o version list)) ≡ true
 in_whole a (Known d) version list true h e = refl
 in_whole a (Lost r) version list true h e = rw e refl
 in_whole a o version list false h e = never h
 
-never_late : (a : Agreed) (o : Open) (version : Option ℤ) (w : Bool) → w ≡ true → change_fault a (Some o) version w
+never_late : (a : SyncOptions) (o : DocumentState) (version : Option ℤ) (w : Bool) → w ≡ true → change_fault a (Some o)
+    version w
     ≡ Some OutOfOrder → ⊥
 never_late a (Known d) version true h e = grind (arith, e)
 never_late a (Lost r) version true h e = grind (arith, e)
 never_late a o version false h e = never h
 
 -- a document that stays out of step after a whole text, whatever its version is
-whole_lost : (before now : Documents) (uri : List ℕ) (r : Remains) (o : Open) (version : Option ℤ) (list : List Change)
+whole_lost : (before now : Documents) (uri : List ℕ) (r : Remains) (o : DocumentState) (version : Option ℤ)
+    (list : List Change)
     → before.held uri ≡ Some o → has_whole list ≡ true → Takes before (made (edits uri version list)) now → now.held uri
     ≡ Some (Lost r) → ⊥
 whole_lost before now uri r o version list b w h k =
@@ -121,11 +126,11 @@ whole_lost before now uri r o version list b w h k =
     o version list (has_whole list) w refl)
 
 -- a whole text that is refused for its version
-whole_late : (a : Agreed) (o : Open) (version : Option ℤ) (list : List Change) → has_whole list ≡ true
+whole_late : (a : SyncOptions) (o : DocumentState) (version : Option ℤ) (list : List Change) → has_whole list ≡ true
     → change_fault a (Some o) version (has_whole list) ≡ Some OutOfOrder → ⊥
 whole_late a o version list w h = never_late a o version (has_whole list) w h
 
-abbrev text_of : Option Open → List ℕ
+abbrev text_of : Option DocumentState → List ℕ
 text_of None = []
 text_of (Some (Known d)) = d.document.text.bytes
 text_of (Some (Lost l)) = []
@@ -141,7 +146,8 @@ closed_shown : (before now : Documents) (uri : List ℕ) (d : Kept) → Takes be
     → now.held uri ≡ Some (Known d) → ⊥
 closed_shown before now uri d h k = never (ap shows (sym h.own ∙ k))
 
-in_step : (a : Agreed) (asked : Bool) (d : Kept) (text : List ℕ) → text_of (if asked then option_map (λ o. saved_in a o
+in_step : (a : SyncOptions) (asked : Bool) (d : Kept) (text : List ℕ) → text_of
+    (if asked then option_map (λ o. saved_in a o
     text) (Some (Known d)) else Some (Known d)) ≡ d.document.text.bytes
 in_step a true d text = refl
 in_step a false d text = refl
@@ -154,7 +160,7 @@ saved_other before now uri text d o b h k other =
     other (ap text_of (sym k ∙ h.own ∙ ap (λ x. after before.agreed x (saved (Some text))) b) ∙ in_step before.agreed
     before.agreed.include_text d text)
 
-unasked_lost : (a : Agreed) (asked : Bool) (r : Remains) (text : List ℕ) → asked ≡ false
+unasked_lost : (a : SyncOptions) (asked : Bool) (r : Remains) (text : List ℕ) → asked ≡ false
     → shows (if asked then option_map (λ o. saved_in a o text) (Some (Lost r)) else Some (Lost r)) ≡ false
 unasked_lost a true r text h = never (sym h)
 unasked_lost a false r text h = refl
@@ -169,19 +175,19 @@ unasked_taken before now uri text r d b asked h k =
 
 -- ---- what calls say
 
-abbrev saved_of : Option Open → Option (List ℕ)
+abbrev saved_of : Option DocumentState → Option (List ℕ)
 saved_of None = None
 saved_of (Some (Known k)) = k.saved
 saved_of (Some (Lost r)) = None
 
-abbrev no_remark : Option Remark
+abbrev no_remark : Option SyncWarning
 no_remark = None
 
 unsaid : (asked : Bool) → (if asked then no_remark else None) ≡ None
 unsaid true = refl
 unsaid false = refl
 
-abbrev differs : Option Remark → Bool
+abbrev differs : Option SyncWarning → Bool
 differs None = false
 differs (Some OpenAlready) = false
 differs (Some WasNotOpen) = false
@@ -200,7 +206,8 @@ differs_not false false true = refl
 differs_not false false false = refl
 
 -- a second open of which nothing is said
-opened_unsaid : (before now : Documents) (uri l text : List ℕ) (version : Option ℤ) (o : Open) → before.held uri
+opened_unsaid : (before now : Documents) (uri l text : List ℕ) (version : Option ℤ) (o : DocumentState) → before.held
+    uri
     ≡ Some o → Took before (opens uri l version text) None now → ⊥
 opened_unsaid before now uri l text version o b h = never (ap is_some (h.remarks ∙ ap (λ k. remark_of before.agreed k
     (opened (text_item l version text))) b))
@@ -223,7 +230,8 @@ saved_forgotten before now uri text d o b asked p h k none =
     ∙ ap (λ (w : Bool). if w then option_map (λ o. saved_in before.agreed o text) (Some (Known d)) else Some (Known d))
     asked) ∙ ap (λ (w : Bool). if w then None else Some text) p))
 
-said : (past : Bool) (doubt : Remark) (not_higher : Bool) → is_some (change_remark past (Some doubt) not_higher) ≡ true
+said : (past : Bool) (doubt : SyncWarning) (not_higher : Bool) → is_some (change_remark past (Some doubt) not_higher) ≡
+    true
 said true doubt not_higher = refl
 said false doubt not_higher = refl
 
@@ -253,9 +261,10 @@ brought_unsaid before now uri before_text version list d b w h =
     (is_not_higher version d.version))
 
 -- a saved text that differs, of which something is said at once: the change that leads to it may come next
-saved_early : (before now : Documents) (uri text : List ℕ) (d : Document) (origin : Origin) (remark : Remark)
-    → before.held uri ≡ Some (Known (kept_as d None origin)) → Took before (saves uri (Some text)) (Some remark) now → ⊥
-saved_early before now uri text d origin remark b h =
+saved_early : (before now : Documents) (uri text : List ℕ) (d : Document) (origin : Origin) (warning : SyncWarning)
+    → before.held uri ≡ Some (Known (kept_as d None origin)) → Took before (saves uri (Some text)) (Some warning) now →
+    ⊥
+saved_early before now uri text d origin warning b h =
     never (ap is_none (h.remarks ∙ ap (λ k. remark_of before.agreed k (saved (Some text))) b
     ∙ unsaid before.agreed.include_text))
 
@@ -270,12 +279,12 @@ led_said before now uri text version list d b p h =
     ∙ ap (λ (w : Bool). change_remark (past_by before.agreed.encoding d.text (since_whole list)) (if has_whole list then
     no_remark else (if w then None else Some SavedTextDiffers)) (is_not_higher version d.version)) p)))
 
-no_memory_in : (o : Open) (w : Bool) → step_fault o w ≡ Some Memory → ⊥
+no_memory_in : (o : DocumentState) (w : Bool) → step_fault o w ≡ Some Memory → ⊥
 no_memory_in (Known d) w h = grind (arith, h)
 no_memory_in (Lost r) true h = grind (arith, h)
 no_memory_in (Lost r) false h = grind (arith, h)
 
-no_memory_late : (late : Bool) (o : Open) (w : Bool) → (if late then Some OutOfOrder else step_fault o w)
+no_memory_late : (late : Bool) (o : DocumentState) (w : Bool) → (if late then Some OutOfOrder else step_fault o w)
     ≡ Some Memory → ⊥
 no_memory_late true o w h = grind (arith, h)
 no_memory_late false o w h = no_memory_in o w h
@@ -284,7 +293,8 @@ no_memory_open : (w : Bool) → (if w then None else Some NotOpen) ≡ Some Memo
 no_memory_open true h = grind (arith, h)
 no_memory_open false h = grind (arith, h)
 
-no_memory : (a : Agreed) (before : Option Open) (kind : NoticeKind) → fault_of a before kind ≡ Some Memory → ⊥
+no_memory : (a : SyncOptions) (before : Option DocumentState) (kind : NoticeKind) → fault_of a before kind ≡ Some
+    Memory → ⊥
 no_memory a before (opened c) h = grind (arith, h)
 no_memory a None (changed version list) h = no_memory_open (has_whole list) h
 no_memory a (Some o) (changed version list) h = no_memory_late (is_late a version (has_whole list)

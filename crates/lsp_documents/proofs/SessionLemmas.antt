@@ -17,8 +17,8 @@ use Rattle.lsp_documents.specs.Notices.{NoticeKind.opened, NoticeKind.changed, N
 use Rattle.lsp_documents.specs.Notices.{after_unmade, missed, Puts, SavesItsText, Sent, Sent.made, Sent.unmade}
 use Rattle.lsp_documents.specs.Notices.{Sent.unread, Takes, TakesAll, Took, kinds_in, kinds_of, notices_of, saves}
 use Rattle.lsp_documents.specs.Notices.{told_all}
-use Rattle.lsp_documents.specs.Params.{did_change_in, did_close_in, did_open_in, did_save_in, uri_in}
-use Rattle.lsp_documents.specs.declared.kept.Open.{Open}
+use Rattle.lsp_documents.specs.Params.{did_change_in, did_close_in, did_open_in, did_save_in, uri_from}
+use Rattle.lsp_documents.specs.declared.kept.DocumentState.{DocumentState}
 use Rattle.lsp_documents.specs.Sessions.{Applies, AppliesAll, Arrived, HasNone, Loses, MayMean, Means, MeansAll}
 use Rattle.lsp_documents.specs.Sessions.{is_save}
 use Rattle.lsp_documents.specs.declared.documents.TextDocuments.{TextDocuments}
@@ -68,7 +68,7 @@ abbrev MeantBy : DocumentMethod → Option Notice → Option (List ℕ) → List
 MeantBy method read uri own = MatchOption read (MayMean method uri own) (λ n. own ≡ n ∷ [])
 
 -- what is missed of a notice is what was missed, unless it is a save
-pub no_save : (k : Option Open) (kind : NoticeKind) → is_save kind ≡ false → missed k ≡ after_unmade k kind
+pub no_save : (k : Option DocumentState) (kind : NoticeKind) → is_save kind ≡ false → missed k ≡ after_unmade k kind
 no_save k (opened c) h = refl
 no_save k (changed version list) h = refl
 no_save k (saved text) h = grind (arith, h)
@@ -85,22 +85,22 @@ misses before next uri own missed_it m = (
 
 failed : (method : DocumentMethod) (before next : Documents) (params : Data) (fault : DocumentFault)
     (own : List Notice) → FailedBy method before params fault next
-    → MeantBy method (notice_in method params) (uri_in params) own → Step before own next
-failed DidOpen before next params fault own f m = by (did_open_in params) (uri_in params) f m
+    → MeantBy method (notice_in method params) (uri_from params) own → Step before own next
+failed DidOpen before next params fault own f m = by (did_open_in params) (uri_from params) f m
   where
     by : (read : Option Notice) (uri : Option (List ℕ)) → Failed before read uri fault next
         → MeantBy DidOpen read uri own → Step before own next
     by (Some n) uri f m = subst (λ (l : List Notice). Step before l next) (sym m) (refused before next n fault f)
     by None (Some uri) f m = misses before next uri own f.1 m
     by None None f m = (unread own, refl, f.1)
-failed DidChange before next params fault own f m = by (did_change_in params) (uri_in params) f m
+failed DidChange before next params fault own f m = by (did_change_in params) (uri_from params) f m
   where
     by : (read : Option Notice) (uri : Option (List ℕ)) → Failed before read uri fault next
         → MeantBy DidChange read uri own → Step before own next
     by (Some n) uri f m = subst (λ (l : List Notice). Step before l next) (sym m) (refused before next n fault f)
     by None (Some uri) f m = misses before next uri own f.1 m
     by None None f m = (unread own, refl, f.1)
-failed DidSave before next params fault own f m = by (did_save_in params) (uri_in params) f m
+failed DidSave before next params fault own f m = by (did_save_in params) (uri_from params) f m
   where
     by : (read : Option Notice) (uri : Option (List ℕ)) → FailedSave before read fault next
         → MeantBy DidSave read uri own → Step before own next
@@ -110,7 +110,7 @@ failed DidSave before next params fault own f m = by (did_save_in params) (uri_i
       sym m.1,
       record { agreed = f.1.agreed; own = f.1.held m.0; others = λ q other. f.1.held q },
     )
-failed DidClose before next params fault own f m = by (did_close_in params) (uri_in params) f m
+failed DidClose before next params fault own f m = by (did_close_in params) (uri_from params) f m
   where
     by : (read : Option Notice) (uri : Option (List ℕ)) → Failed before read uri fault next
         → MeantBy DidClose read uri own → Step before own next
@@ -120,13 +120,13 @@ failed DidClose before next params fault own f m = by (did_close_in params) (uri
 
 answered : (method : DocumentMethod) (before next : TextDocuments) (params : Data)
     (heard : Result DocumentUpdate UpdateFault) (own : List Notice) → Answers method before params heard next
-    → MeantBy method (notice_in method params) (uri_in params) own
+    → MeantBy method (notice_in method params) (uri_from params) own
     → Step (documents_of before) own (documents_of next)
 answered method before next params (Ok update) own a m = by (notice_in method params) a.ok m
   where
     by : (read : Option Notice) → IsSomeAnd read (λ n.
-        (update.uri.now ≡ n.uri) × Took (documents_of before) n update.remark (documents_of next))
-        → MeantBy method read (uri_in params) own → Step (documents_of before) own (documents_of next)
+        (update.uri.now ≡ n.uri) × Took (documents_of before) n update.warning (documents_of next))
+        → MeantBy method read (uri_from params) own → Step (documents_of before) own (documents_of next)
     by None never m = absurd never
     by (Some n) took m = (made n, sym m, took.1.makes)
 answered method before next params (Err fault) own a m =
@@ -149,7 +149,7 @@ step before next now (Some (notification method params)) own rest applies means 
   where
     by : (found : Option DocumentMethod) → MatchOption found (next ≡ before)
         (λ m. (heard : Result DocumentUpdate UpdateFault) × Answers m before params heard next)
-        → MatchOption found (own ≡ []) (λ m. MeantBy m (notice_in m params) (uri_in params) own)
+        → MatchOption found (own ≡ []) (λ m. MeantBy m (notice_in m params) (uri_from params) own)
         → TakenAs (documents_of before) (own ++ rest) (documents_of now)
     by None same none = none_told before next now own rest same none taken
     by (Some m) applies means =

@@ -6,7 +6,7 @@ use Rattle.lsp_text.specs.Characters.{encoding_name}
 use Rattle.lsp_types.specs.declared.capabilities.ServerCapabilities.{ServerCapabilities}
 use Rattle.lsp_types.specs.declared.capabilities.TextDocumentSyncOptions.{TextDocumentSyncOptions}
 use Rattle.lsp_text.specs.declared.line_ends.LineEnds.TheVariants.{LineFeed}
-use Rattle.lsp_documents.specs.declared.agreed.Agreed.{Agreed}
+use Rattle.lsp_documents.specs.declared.negotiation.SyncOptions.{SyncOptions}
 use Rattle.lsp_documents.specs.declared.options.DocumentOptions.{DocumentOptions}
 
 -- how a client is read of which the author says nothing: lines end as editors count them, and late changes are not made
@@ -22,13 +22,13 @@ sync_of include_text = object
     no_members)))
 
 -- the members of capabilities, with the encoding that was agreed on and what the client is to tell of
-abbrev pub announced_members : Agreed → Members → Members
+abbrev pub announced_members : SyncOptions → Members → Members
 announced_members agreed can =
     put (codes "textDocumentSync") (sync_of agreed.include_text)
     (put (codes "positionEncoding") (string (encoding_name agreed.encoding)) can)
 
 -- the capabilities with these. What is no object has no members
-abbrev pub announced : Agreed → Data → Data
+abbrev pub announced : SyncOptions → Data → Data
 announced agreed can = object (announced_members agreed (unwrap_or (as_object can) no_members))
 
 -- the same by types
@@ -41,7 +41,7 @@ options_of include_text = record {
   save = Some (record { include_text = Some include_text });
 }
 
-pub record IsAnnounced (agreed : Agreed) (can : ServerCapabilities) : Type 0 where
+pub record IsAnnounced (agreed : SyncOptions) (can : ServerCapabilities) : Type 0 where
   pub encoding : option_map string_bytes can.position_encoding
       ≡ Some (encoding_name agreed.encoding)
   pub sync : can.text_document_sync ≡ Some (options_of agreed.include_text)

@@ -8,15 +8,15 @@ use Rattle.lsp_text.specs.Documents.{Document}
 use Rattle.lsp_text.specs.Lines.{LinedText}
 use Rattle.lsp_types.specs.FileUris.{Names}
 use Rattle.lsp_documents.specs.Notices.{shown, document}
-use Rattle.lsp_documents.specs.declared.kept.Open.{Open}
-use Rattle.lsp_documents.specs.declared.known.OpenText.{OpenText}
+use Rattle.lsp_documents.specs.declared.kept.DocumentState.{DocumentState}
+use Rattle.lsp_documents.specs.declared.known.DocumentSnapshot.{DocumentSnapshot}
 
 -- the URI and the document of an entry, if its text is known
-abbrev pub known_at : String Global × Open → Option (List ℕ × Document)
+abbrev pub known_at : String Global × DocumentState → Option (List ℕ × Document)
 known_at entry = option_map (λ d. (string_bytes entry.0, d)) (shown entry.1)
 
 -- the same of each entry, in their order
-abbrev pub known_in : List (String Global × Open) → List (List ℕ × Document)
+abbrev pub known_in : List (String Global × DocumentState) → List (List ℕ × Document)
 known_in entries = filter_map known_at entries
 
 -- the URIs and the texts of documents
@@ -37,11 +37,11 @@ pub record IsFirstOf (path : List ℕ) (known : List (List ℕ × Document))
   pub is_first : NoneNames path before
 
 -- the URIs and the texts of copies
-abbrev pub copied : List OpenText → List (List ℕ × LinedText)
+abbrev pub copied : List DocumentSnapshot → List (List ℕ × LinedText)
 copied copies = map (λ copy. (string_bytes copy.uri, arc_value copy.text)) copies
 
 -- the same with the languages and the versions
-abbrev pub copied_whole : List OpenText → List (List ℕ × Document)
+abbrev pub copied_whole : List DocumentSnapshot → List (List ℕ × Document)
 copied_whole copies = map (λ copy. (
   string_bytes copy.uri,
   document (string_bytes copy.language_id) copy.version (arc_value copy.text),

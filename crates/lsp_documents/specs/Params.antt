@@ -43,23 +43,23 @@ version_in d =
 
 -- ---- changes
 
-abbrev pub position_in : Data → Option Position
-position_in d =
+abbrev pub position_from : Data → Option Position
+position_from d =
     option_and_then (λ line.
     option_map (λ character. record { line = line; character = character })
     (count_in (codes "character") d)) (line_in d)
 
-abbrev pub range_in : Data → Option Range
-range_in d = option_and_then (λ start.
+abbrev pub range_from : Data → Option Range
+range_from d = option_and_then (λ start.
     option_map (λ end. record { start = start; end = end })
-    (option_and_then position_in (get (codes "end") d)))
-    (option_and_then position_in (get (codes "start") d))
+    (option_and_then position_from (get (codes "end") d)))
+    (option_and_then position_from (get (codes "start") d))
 
 -- the range of a change. None may be given, and `null` is none
 abbrev pub given_range : Option Data → Option (Option Range)
 given_range None = Some None
 given_range (Some null) = Some None
-given_range (Some d) = option_map Some (range_in d)
+given_range (Some d) = option_map Some (range_from d)
 
 abbrev pub change_in : Data → Option Change
 change_in d =
@@ -92,8 +92,8 @@ values_since_whole (item d ds) = if whole_among ds then values_since_whole ds el
 abbrev pub document_in : Data → Option Data
 document_in params = get (codes "textDocument") params
 
-abbrev pub uri_in : Data → Option (List ℕ)
-uri_in params = option_and_then (text_in (codes "uri")) (document_in params)
+abbrev pub uri_from : Data → Option (List ℕ)
+uri_from params = option_and_then (text_in (codes "uri")) (document_in params)
 
 -- the document that `textDocument/didOpen` tells of. A language that is no text is the empty one
 abbrev pub item_in : Data → Option Item
@@ -108,7 +108,7 @@ abbrev pub did_open_in : Data → Option Notice
 did_open_in params =
     option_and_then (λ uri.
     option_map (λ d. opens uri d.language_id d.version d.text) (opened_in params))
-    (uri_in params)
+    (uri_from params)
 
 -- the values that are listed as changes, and of these the ones that decide
 abbrev pub values_given : Data → Option Items
@@ -122,13 +122,13 @@ abbrev pub did_change_in : Data → Option Notice
 did_change_in params =
     option_and_then (λ uri.
     option_map (edits uri (option_and_then version_in (document_in params))) (changes_given params))
-    (uri_in params)
+    (uri_from params)
 
 abbrev pub did_save_in : Data → Option Notice
-did_save_in params = option_map (λ uri. saves uri (text_in (codes "text") params)) (uri_in params)
+did_save_in params = option_map (λ uri. saves uri (text_in (codes "text") params)) (uri_from params)
 
 abbrev pub did_close_in : Data → Option Notice
-did_close_in params = option_map closes (uri_in params)
+did_close_in params = option_map closes (uri_from params)
 
 -- ---- the encoding
 

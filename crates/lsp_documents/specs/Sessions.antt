@@ -13,7 +13,7 @@ use Rattle.lsp_documents.specs.Held.{documents_of}
 use Rattle.lsp_documents.specs.Methods.{method_named}
 use Rattle.lsp_documents.specs.Notices.{MissesAll, Notice, saves, NoticeKind, NoticeKind.opened, NoticeKind.changed}
 use Rattle.lsp_documents.specs.Notices.{NoticeKind.saved, NoticeKind.closed}
-use Rattle.lsp_documents.specs.Params.{uri_in}
+use Rattle.lsp_documents.specs.Params.{uri_from}
 
 -- no document is open
 abbrev pub HasNone : TextDocuments → Type 0
@@ -59,7 +59,7 @@ MayMean method (Some uri) meant =
 -- what a client told of its documents by a message
 abbrev pub Means : Option Message → List Notice → Type 0
 Means (Some (notification method params)) meant = MatchOption (method_named method) (meant ≡ [])
-    (λ m. MatchOption (notice_in m params) (MayMean m (uri_in params) meant) (λ n. meant ≡ n ∷ []))
+    (λ m. MatchOption (notice_in m params) (MayMean m (uri_from params) meant) (λ n. meant ≡ n ∷ []))
 Means came meant = meant ≡ []
 
 -- What it told by all these. Where the server took each text for lost, the client may have told anything before.

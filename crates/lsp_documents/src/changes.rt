@@ -2,7 +2,7 @@
 ghost use Rattle.std.specs.Prelude.{◌≡◌};
 ghost use Rattle.lsp_documents.specs.Notices.{has_whole as has_whole_text, since_whole as since_whole_text, is_not_higher as is_below, change_remark as remark_of_change};
 
-use crate::fault::Remark;
+use crate::fault::SyncWarning;
 use lsp_text::ContentChange;
 
 /// Returns whether one of the changes is a whole text.
@@ -35,17 +35,21 @@ pub fn is_not_higher(version: Option<i32>, before: Option<i32>) -> bool
     }
 }
 
-/// Returns the remark about changes that were applied, from three facts: whether a position is past an end, what is
+/// Returns the warning about changes that were applied, from three facts: whether a position is past an end, what is
 /// doubtful, and whether the version is not higher. The first that applies decides.
-pub fn change_remark(past: bool, doubt: Option<Remark>, not_higher: bool) -> Option<Remark>
+pub fn change_remark(
+    past: bool,
+    doubt: Option<SyncWarning>,
+    not_higher: bool,
+) -> Option<SyncWarning>
     ensures { result ≡ remark_of_change past doubt not_higher }
 {
     if past {
-        Some(Remark::PastEnd)
+        Some(SyncWarning::PastEnd)
     } else if doubt.is_some() {
         doubt
     } else if not_higher {
-        Some(Remark::VersionNotHigher)
+        Some(SyncWarning::VersionNotHigher)
     } else {
         None
     }

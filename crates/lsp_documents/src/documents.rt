@@ -10,19 +10,19 @@ ghost use Rattle.lsp_documents.specs.Held.{documents_of, known_of, texts_of, has
 ghost use Rattle.lsp_documents.specs.Known.{copied, copied_whole, NoneNames, IsFirstOf};
 ghost use Rattle.lsp_documents.specs.Methods.{method_named};
 ghost use Rattle.lsp_documents.specs.Notices.{document, told_whole, text_item, text_by, begun_by, opens, edits, closes, saves, shown, lost, lost_at, missed, left_by, is_late as late, has_doubt, is_needed, changes_remark, save_remark as remark_of_save, changed_or_late, saved_in, step_fault as fault_in, change_fault, has_whole as has_whole_text, has_changes, is_known, MissesAll, Took, Refused, Failed, FailedSave};
-ghost use Rattle.lsp_documents.specs.declared.kept.Open.TheVariants.{Known};
+ghost use Rattle.lsp_documents.specs.declared.kept.DocumentState.TheVariants.{Known};
 ghost use Rattle.lsp_documents.specs.declared.fault.DocumentFault.TheVariants.{Params};
-ghost use Rattle.lsp_documents.specs.Params.{uri_in, did_open_in, did_change_in, did_save_in, did_close_in};
+ghost use Rattle.lsp_documents.specs.Params.{uri_from, did_open_in, did_change_in, did_save_in, did_close_in};
 ghost use Rattle.lsp_text.specs.Places.{position_of};
 
-use crate::agreed::Agreed;
 use crate::changes::{change_remark, has_whole, is_not_higher};
-use crate::fault::{DocumentFault, DocumentUpdate, Remark, UpdateFault};
-use crate::kept::Open;
+use crate::fault::{DocumentFault, DocumentUpdate, SyncWarning, UpdateFault};
+use crate::kept::DocumentState;
 use crate::kept_document::KeptDocument;
-use crate::known::{KnownDocuments, OpenText};
+use crate::known::{DocumentSnapshot, KnownDocuments};
 use crate::lost::LostDocument;
 use crate::method::DocumentMethod;
+use crate::negotiation::SyncOptions;
 use crate::params;
 use lsp_message::Notification;
 use lsp_text::{ContentChange, Position, PositionEncoding, Range, Text, TextDocument};
@@ -42,13 +42,13 @@ use std::{mem, ops};
 #[derive(Drop)]
 pub struct TextDocuments {
     alloc: Global,
-    agreed: Agreed,
-    documents: BTreeMap<String, Open>,
+    agreed: SyncOptions,
+    documents: BTreeMap<String, DocumentState>,
 }
 
 impl TextDocuments {
     /// Makes documents of a client with which this was agreed on. None is open.
-    pub fn new(alloc: Global, agreed: Agreed) -> TextDocuments
+    pub fn new(alloc: Global, agreed: SyncOptions) -> TextDocuments
         ensures agreed { result.agreed ≡ agreed }
         ensures none { (uri : List ℕ) → (documents_of result).held uri ≡ None }
     {
@@ -60,7 +60,7 @@ impl TextDocuments {
     }
 
     /// Returns what was agreed on with the client.
-    pub fn agreed(&self) -> Agreed
+    pub fn sync_options(&self) -> SyncOptions
         ensures { result ≡ self.now.agreed }
     {
         self.agreed
@@ -89,14 +89,14 @@ impl TextDocuments {
     }
 
     /// Goes over all open documents in the order of their URIs: the URI, and what is kept of the document.
-    pub fn iter(&self) -> Iter<'_, String, Open>
+    pub fn iter(&self) -> Iter<'_, String, DocumentState>
         ensures { result ≡ self.now.documents.entries }
     {
         self.documents.iter()
     }
 
     /// Goes over the documents whose text is known in the order of their URIs: the URI and the document.
-    pub fn known(&self) -> KnownDocuments<'_>
+    pub fn in_sync(&self) -> KnownDocuments<'_>
         ensures { result ≡ known_of self.now }
     {
         KnownDocuments { open: self.iter() }
@@ -105,11 +105,11 @@ impl TextDocuments {
     /// Returns the document of a path, if its text is known: the first, in the order of the URIs, whose URI names the
     /// path, as `lsp_types::names_path` decides. Editors spell the URI of a path in several ways, so
     /// `get(uri_of_path(path))` misses some.
-    pub fn at_path(&self, path: &str) -> Option<(&str, &TextDocument)>
+    pub fn get_by_path(&self, path: &str) -> Option<(&str, &TextDocument)>
         ensures { MatchOption result (NoneNames path.now (known_of self.now))
             (λ found. IsFirstOf path.now (known_of self.now) (found.0.now, found.1.now)) }
     {
-        for (uri, document) in self.known() {
+        for (uri, document) in self.in_sync() {
             if names_path(uri, path) {
                 return Some((uri, document));
             }
@@ -120,13 +120,13 @@ impl TextDocuments {
     /// Copies each document whose text is known, with its URI, in the order of the URIs. Use it for a job, which goes
     /// on while the documents change. The texts are shared: a document's next change copies its text, if the copy still
     /// exists then.
-    pub fn snapshot(&self) -> Result<Vec<OpenText>, AllocError>
+    pub fn snapshot(&self) -> Result<Vec<DocumentSnapshot>, AllocError>
         ensures texts { IfOk result (λ texts. copied texts.items ≡ texts_of self.now) }
         ensures whole { IfOk result (λ texts. copied_whole texts.items ≡ known_of self.now) }
     {
         let mut texts = Vec::new(self.alloc);
-        for (uri, document) in self.known() {
-            texts.push(OpenText::new(self.alloc, uri, document)?)?;
+        for (uri, document) in self.in_sync() {
+            texts.push(DocumentSnapshot::new(self.alloc, uri, document)?)?;
         }
         Ok(texts)
     }
@@ -134,7 +134,7 @@ impl TextDocuments {
     /// Returns the document of a URI, if its text is known, and the offset of a position in its text, in bytes of
     /// UTF-8. The position is in the encoding that was agreed on. A position past an end counts as `Text::offset_at`
     /// says.
-    pub fn place(&self, uri: &str, position: Position) -> Option<(&TextDocument, usize)>
+    pub fn resolve(&self, uri: &str, position: Position) -> Option<(&TextDocument, usize)>
         ensures document { option_map (λ found. found.0.now) result
             ≡ option_and_then shown ((documents_of self.now).held uri.now) }
         ensures offset { IfSome result (λ found. found.1
@@ -203,7 +203,7 @@ impl TextDocuments {
             .any(|open| open.document().is_some())
     }
 
-    /// Opens a document. If the URI has one already, this one replaces it, and the remark is `OpenAlready`. If memory
+    /// Opens a document. If the URI has one already, this one replaces it, and the warning is `OpenAlready`. If memory
     /// runs out, the fault is `Memory`, and the text of the old document is lost.
     pub fn open(
         &mut self,
@@ -211,21 +211,21 @@ impl TextDocuments {
         language_id: &str,
         version: Option<i32>,
         text: &str,
-    ) -> Result<Option<Remark>, DocumentFault>
-        ensures ok { IfOk result (λ remark.
-            Took (documents_of self.old) (opens uri.now language_id.now version text.now) remark
+    ) -> Result<Option<SyncWarning>, DocumentFault>
+        ensures ok { IfOk result (λ warning.
+            Took (documents_of self.old) (opens uri.now language_id.now version text.now) warning
             (documents_of self.new)) }
         ensures err { IfErr result (λ fault.
             Refused (documents_of self.old) (opens uri.now language_id.now version text.now) fault
             (documents_of self.new)) }
     {
-        let remark = if self.documents.contains_key(uri) {
-            Some(Remark::OpenAlready)
+        let warning = if self.documents.contains_key(uri) {
+            Some(SyncWarning::OpenAlready)
         } else {
             None
         };
         match self.insert(uri, language_id, version, text) {
-            Ok(()) => Ok(remark),
+            Ok(()) => Ok(warning),
             Err(_) => {
                 self.invalidate(uri);
                 Err(DocumentFault::Memory)
@@ -290,7 +290,7 @@ impl TextDocuments {
     {
         let uri = String::from_str(self.alloc, uri)?;
         let kept = KeptDocument::told(document);
-        self.documents.insert(uri, Open::Known(kept))?;
+        self.documents.insert(uri, DocumentState::Known(kept))?;
         Ok(())
     }
 
@@ -328,7 +328,7 @@ impl TextDocuments {
     /// Applies the changes of one notification to a document, each to the text that the one before it left. A whole
     /// text replaces everything before it.
     ///
-    /// The remark is the first of these that applies:
+    /// The warning is the first of these that applies:
     ///
     /// - `WasNotOpen`: there was no document of the URI, and a change of the whole text opened it.
     /// - `PastEnd`: a position of a change after the last whole text is past its line's end, or past the place after
@@ -350,9 +350,9 @@ impl TextDocuments {
         uri: &str,
         version: Option<i32>,
         changes: &[ContentChange],
-    ) -> Result<Option<Remark>, DocumentFault>
-        ensures ok { IfOk result (λ remark.
-            Took (documents_of self.old) (edits uri.now version changes.now) remark
+    ) -> Result<Option<SyncWarning>, DocumentFault>
+        ensures ok { IfOk result (λ warning.
+            Took (documents_of self.old) (edits uri.now version changes.now) warning
             (documents_of self.new)) }
         ensures err { IfErr result (λ fault.
             Refused (documents_of self.old) (edits uri.now version changes.now) fault
@@ -364,23 +364,23 @@ impl TextDocuments {
         }
         if !self.documents.contains_key(uri) {
             self.insert_changed(uri, version, changes)?;
-            return Ok(Some(Remark::WasNotOpen));
+            return Ok(Some(SyncWarning::WasNotOpen));
         }
         Ok(self.edit(uri, version, changes)?)
     }
 
     /// Applies changes to the document of a URI, if there is one: to the text that is known, or from the whole text on
-    /// that is among them. It returns the remark about them.
+    /// that is among them. It returns the warning about them.
     fn edit(
         &mut self,
         uri: &str,
         version: Option<i32>,
         changes: &[ContentChange],
-    ) -> Result<Option<Remark>, AllocError>
+    ) -> Result<Option<SyncWarning>, AllocError>
         requires { change_fault self.old.agreed ((documents_of self.old).held uri.now) version
             (has_whole_text changes.now) ≡ None }
-        ensures remark { IfOk result (λ remark. IfSome ((documents_of self.old).held uri.now)
-            (λ o. remark ≡ changes_remark self.old.agreed o version changes.now)) }
+        ensures warning { IfOk result (λ warning. IfSome ((documents_of self.old).held uri.now)
+            (λ o. warning ≡ changes_remark self.old.agreed o version changes.now)) }
         ensures own { OnOk result ((documents_of self.new).held uri.now
             ≡ option_map (λ o. changed_or_late self.old.agreed o version changes.now)
             ((documents_of self.old).held uri.now)) }
@@ -426,19 +426,23 @@ impl TextDocuments {
         });
     }
 
-    /// Notes that a document was saved. A text is used only if the client was asked for it (`Agreed`), since some
+    /// Notes that a document was saved. A text is used only if the client was asked for it (`SyncOptions`), since some
     /// clients send a part of it unasked. It replaces a text that is lost, and is doubtful then (`is_doubtful`).
     ///
     /// If it differs from a text that is known, the two are compared again after the next notification about the
-    /// document: some clients save before they send their last changes. If they still differ then, the remark of that
+    /// document: some clients save before they send their last changes. If they still differ then, the warning of that
     /// notification is `SavedTextDiffers`. This has three exceptions: changes with a whole text among them, a save with
     /// the same text again, and a second `didOpen`. A `didClose` drops the saved text.
     ///
     /// Without a document of the URI the fault is `NotOpen`. If memory runs out, the fault is `Memory`. Nothing is
     /// changed in either case.
-    pub fn save(&mut self, uri: &str, text: Option<&str>) -> Result<Option<Remark>, DocumentFault>
-        ensures ok { IfOk result (λ remark.
-            Took (documents_of self.old) (saves uri.now (option_map (λ s. s.now) text.entry)) remark
+    pub fn save(
+        &mut self,
+        uri: &str,
+        text: Option<&str>,
+    ) -> Result<Option<SyncWarning>, DocumentFault>
+        ensures ok { IfOk result (λ warning.
+            Took (documents_of self.old) (saves uri.now (option_map (λ s. s.now) text.entry)) warning
             (documents_of self.new)) }
         ensures err { IfErr result (λ fault.
             Refused (documents_of self.old) (saves uri.now (option_map (λ s. s.now) text.entry))
@@ -453,9 +457,9 @@ impl TextDocuments {
         if !self.agreed.include_text() {
             return Ok(None);
         }
-        let remark = save_remark(open, text);
+        let warning = save_remark(open, text);
         self.renew(uri, text)?;
-        Ok(remark)
+        Ok(warning)
     }
 
     /// Puts a text into the document of a URI, if there is one whose text is lost. A text that is known is to be
@@ -492,7 +496,7 @@ impl TextDocuments {
     }
 
     /// Takes out the document of a URI.
-    fn remove(&mut self, uri: &str) -> Option<Open>
+    fn remove(&mut self, uri: &str) -> Option<DocumentState>
         ensures value { result ≡ (documents_of self.old).held uri.now }
         ensures own { (documents_of self.new).held uri.now ≡ None }
         ensures others { (q : List ℕ) → bytes_eq q uri.now ≡ false
@@ -539,16 +543,16 @@ impl TextDocuments {
     pub fn did_open<'v>(&mut self, params: &'v Value) -> Result<DocumentUpdate<'v>, UpdateFault<'v>>
         ensures ok { IfOk result (λ m.
             IsSomeAnd (did_open_in (view params.now)) (λ n. (m.uri.now ≡ n.uri)
-            × Took (documents_of self.old) n m.remark (documents_of self.new))) }
+            × Took (documents_of self.old) n m.warning (documents_of self.new))) }
         ensures err { IfErr result (λ m.
             Failed (documents_of self.old) (did_open_in (view params.now))
-            (uri_in (view params.now)) m.fault (documents_of self.new)) }
+            (uri_from (view params.now)) m.fault (documents_of self.new)) }
         ensures named { IfErr result (λ m.
-            option_map (λ s. s.now) m.uri ≡ uri_in (view params.now)) }
+            option_map (λ s. s.now) m.uri ≡ uri_from (view params.now)) }
         ensures lost { IfErr result (λ m.
-            m.lost ≡ loses self.old (uri_in (view params.now)) self.new) }
+            m.lost ≡ loses self.old (uri_from (view params.now)) self.new) }
     {
-        let Some(uri) = params::uri_in(params) else {
+        let Some(uri) = params::uri_from(params) else {
             return Err(self.missed_all());
         };
         let known = self.knows(uri);
@@ -556,7 +560,7 @@ impl TextDocuments {
             return Err(self.missed(uri, known, DocumentFault::Params));
         };
         match self.open(uri, item.language_id, item.version, item.text) {
-            Ok(remark) => Ok(DocumentUpdate { uri, remark }),
+            Ok(warning) => Ok(DocumentUpdate { uri, warning }),
             Err(fault) => Err(self.unmade(uri, known, fault)),
         }
     }
@@ -570,16 +574,16 @@ impl TextDocuments {
     ) -> Result<DocumentUpdate<'v>, UpdateFault<'v>>
         ensures ok { IfOk result (λ m.
             IsSomeAnd (did_change_in (view params.now)) (λ n. (m.uri.now ≡ n.uri)
-            × Took (documents_of self.old) n m.remark (documents_of self.new))) }
+            × Took (documents_of self.old) n m.warning (documents_of self.new))) }
         ensures err { IfErr result (λ m.
             Failed (documents_of self.old) (did_change_in (view params.now))
-            (uri_in (view params.now)) m.fault (documents_of self.new)) }
+            (uri_from (view params.now)) m.fault (documents_of self.new)) }
         ensures named { IfErr result (λ m.
-            option_map (λ s. s.now) m.uri ≡ uri_in (view params.now)) }
+            option_map (λ s. s.now) m.uri ≡ uri_from (view params.now)) }
         ensures lost { IfErr result (λ m.
-            m.lost ≡ loses self.old (uri_in (view params.now)) self.new) }
+            m.lost ≡ loses self.old (uri_from (view params.now)) self.new) }
     {
-        let Some(uri) = params::uri_in(params) else {
+        let Some(uri) = params::uri_from(params) else {
             return Err(self.missed_all());
         };
         let known = self.knows(uri);
@@ -593,7 +597,7 @@ impl TextDocuments {
         }
         match params::content_changes(self.alloc, params) {
             Ok(Some(changes)) => match self.change(uri, version, changes.as_slice()) {
-                Ok(remark) => Ok(DocumentUpdate { uri, remark }),
+                Ok(warning) => Ok(DocumentUpdate { uri, warning }),
                 Err(fault) => Err(self.unmade(uri, known, fault)),
             },
             Ok(None) => Err(self.missed(uri, known, DocumentFault::Params)),
@@ -607,19 +611,19 @@ impl TextDocuments {
     pub fn did_save<'v>(&mut self, params: &'v Value) -> Result<DocumentUpdate<'v>, UpdateFault<'v>>
         ensures ok { IfOk result (λ m.
             IsSomeAnd (did_save_in (view params.now)) (λ n. (m.uri.now ≡ n.uri)
-            × Took (documents_of self.old) n m.remark (documents_of self.new))) }
+            × Took (documents_of self.old) n m.warning (documents_of self.new))) }
         ensures err { IfErr result (λ m.
             FailedSave (documents_of self.old) (did_save_in (view params.now)) m.fault
             (documents_of self.new)) }
         ensures named { IfErr result (λ m.
-            option_map (λ s. s.now) m.uri ≡ uri_in (view params.now)) }
+            option_map (λ s. s.now) m.uri ≡ uri_from (view params.now)) }
         ensures lost { IfErr result (λ m. m.lost ≡ false) }
     {
-        let Some(uri) = params::uri_in(params) else {
+        let Some(uri) = params::uri_from(params) else {
             return Err(update_fault(None, DocumentFault::Params, false));
         };
         match self.save(uri, params::saved_text(params)) {
-            Ok(remark) => Ok(DocumentUpdate { uri, remark }),
+            Ok(warning) => Ok(DocumentUpdate { uri, warning }),
             Err(fault) => Err(update_fault(Some(uri), fault, false)),
         }
     }
@@ -633,26 +637,26 @@ impl TextDocuments {
     ) -> Result<DocumentUpdate<'v>, UpdateFault<'v>>
         ensures ok { IfOk result (λ m.
             IsSomeAnd (did_close_in (view params.now)) (λ n. (m.uri.now ≡ n.uri)
-            × Took (documents_of self.old) n m.remark (documents_of self.new))) }
+            × Took (documents_of self.old) n m.warning (documents_of self.new))) }
         ensures err { IfErr result (λ m.
             Failed (documents_of self.old) (did_close_in (view params.now))
-            (uri_in (view params.now)) m.fault (documents_of self.new)) }
+            (uri_from (view params.now)) m.fault (documents_of self.new)) }
         ensures named { IfErr result (λ m.
-            option_map (λ s. s.now) m.uri ≡ uri_in (view params.now)) }
+            option_map (λ s. s.now) m.uri ≡ uri_from (view params.now)) }
         ensures lost { IfErr result (λ m.
-            m.lost ≡ loses self.old (uri_in (view params.now)) self.new) }
+            m.lost ≡ loses self.old (uri_from (view params.now)) self.new) }
     {
-        let Some(uri) = params::uri_in(params) else {
+        let Some(uri) = params::uri_from(params) else {
             return Err(self.missed_all());
         };
         let known = self.knows(uri);
         match self.close(uri) {
-            Ok(()) => Ok(DocumentUpdate { uri, remark: None }),
+            Ok(()) => Ok(DocumentUpdate { uri, warning: None }),
             Err(fault) => Err(self.unmade(uri, known, fault)),
         }
     }
 
-    /// Makes the text of a URI lost, and returns why. `known` says whether it was known before.
+    /// Makes the text of a URI lost, and returns why. `in_sync` says whether it was known before.
     fn missed<'v>(&mut self, uri: &'v str, known: bool, fault: DocumentFault) -> UpdateFault<'v>
         requires { known ≡ is_known (documents_of self.old) uri.now }
         ensures named { option_map (λ s. s.now) result.uri ≡ Some uri.now }
@@ -680,7 +684,7 @@ impl TextDocuments {
         update_fault(None, DocumentFault::Params, known)
     }
 
-    /// Returns that a notification about a document was not applied. `known` says whether its text was known before.
+    /// Returns that a notification about a document was not applied. `in_sync` says whether its text was known before.
     fn unmade<'v>(&self, uri: &'v str, known: bool, fault: DocumentFault) -> UpdateFault<'v>
         ensures named { option_map (λ s. s.now) result.uri ≡ Some uri.now }
         ensures why { result.fault ≡ fault }
@@ -691,21 +695,21 @@ impl TextDocuments {
 }
 
 /// Makes the text of a document lost, if it is not yet, and keeps this version.
-fn lose_text(alloc: Global, kept: &mut Open, version: Option<i32>)
+fn lose_text(alloc: Global, kept: &mut DocumentState, version: Option<i32>)
     ensures { kept.new ≡ lost_at version kept.old }
 {
     let gone = LostDocument {
         language_id: String::new(alloc),
         version: None,
     };
-    let before = mem::replace(kept, Open::Lost(gone));
+    let before = mem::replace(kept, DocumentState::Lost(gone));
     *kept = before.into_lost(version);
 }
 
 /// Makes a document from changes, one of which is a whole text.
 fn begun(
     alloc: Global,
-    agreed: Agreed,
+    agreed: SyncOptions,
     language_id: &str,
     version: Option<i32>,
     changes: &[ContentChange],
@@ -718,34 +722,34 @@ fn begun(
     Ok(document)
 }
 
-/// Applies changes to what is kept of a document, and returns the remark about them. If memory runs out, its text is
+/// Applies changes to what is kept of a document, and returns the warning about them. If memory runs out, its text is
 /// lost.
 fn change_open(
     alloc: Global,
-    kept: &mut Open,
+    kept: &mut DocumentState,
     version: Option<i32>,
-    agreed: Agreed,
+    agreed: SyncOptions,
     changes: &[ContentChange],
-) -> Result<Option<Remark>, AllocError>
+) -> Result<Option<SyncWarning>, AllocError>
     requires { change_fault agreed (Some kept.old) version (has_whole_text changes.now) ≡ None }
-    ensures remark { IfOk result (λ remark.
-        remark ≡ changes_remark agreed kept.old version changes.now) }
+    ensures warning { IfOk result (λ warning.
+        warning ≡ changes_remark agreed kept.old version changes.now) }
     ensures ok { OnOk result (kept.new ≡ changed_or_late agreed kept.old version changes.now) }
     ensures err { OnErr result (kept.new ≡ lost kept.old) }
     ensures needed { OnErr result (has_changes changes.now ≡ true) }
 {
     match kept {
-        Open::Known(known) => {
+        DocumentState::Known(known) => {
             let changed = known.change(alloc, version, agreed, changes);
             if changed.is_err() {
                 lose_text(alloc, kept, None);
             }
             changed
         }
-        Open::Lost(document) => {
+        DocumentState::Lost(document) => {
             let not_higher = is_not_higher(version, document.version());
             let whole = begun(alloc, agreed, document.language_id(), version, changes)?;
-            *kept = Open::Known(KeptDocument::told(whole));
+            *kept = DocumentState::Known(KeptDocument::told(whole));
             Ok(change_remark(false, None, not_higher))
         }
     }
@@ -753,17 +757,22 @@ fn change_open(
 
 /// Puts a text into what is kept of a document, if its own is lost. A text that is known is to be compared with it. If
 /// memory runs out, nothing is changed.
-fn renew_open(alloc: Global, agreed: Agreed, kept: &mut Open, text: &str) -> Result<(), AllocError>
+fn renew_open(
+    alloc: Global,
+    agreed: SyncOptions,
+    kept: &mut DocumentState,
+    text: &str,
+) -> Result<(), AllocError>
     ensures ok { OnOk result (kept.new ≡ saved_in agreed kept.old text.now) }
     ensures err { OnErr result (kept.new ≡ kept.old) }
     ensures needed { OnErr result (is_needed kept.old text.now ≡ true) }
 {
     match kept {
-        Open::Known(known) => known.save(alloc, text),
-        Open::Lost(document) => {
+        DocumentState::Known(known) => known.save(alloc, text),
+        DocumentState::Lost(document) => {
             let ends = agreed.options().line_ends;
             let saved = TextDocument::new(alloc, document.language_id(), None, text, ends)?;
-            *kept = Open::Known(KeptDocument::by_save(saved));
+            *kept = DocumentState::Known(KeptDocument::by_save(saved));
             Ok(())
         }
     }
@@ -771,7 +780,7 @@ fn renew_open(alloc: Global, agreed: Agreed, kept: &mut Open, text: &str) -> Res
 
 /// Returns whether changes to a version come late: they are ranges, and the document's version is higher. `whole` says
 /// whether a whole text is among them.
-fn is_late(agreed: Agreed, version: Option<i32>, whole: bool, before: Option<i32>) -> bool
+fn is_late(agreed: SyncOptions, version: Option<i32>, whole: bool, before: Option<i32>) -> bool
     ensures { result ≡ late agreed version whole before }
 {
     match (version, before) {
@@ -783,22 +792,22 @@ fn is_late(agreed: Agreed, version: Option<i32>, whole: bool, before: Option<i32
 }
 
 /// Returns why changes are refused for a document. `whole` says whether a whole text is among them.
-fn step_fault(kept: &Open, whole: bool) -> Option<DocumentFault>
+fn step_fault(kept: &DocumentState, whole: bool) -> Option<DocumentFault>
     ensures { result ≡ fault_in kept.now whole }
 {
     match kept {
-        Open::Lost(_) if !whole => Some(DocumentFault::OutOfStep),
+        DocumentState::Lost(_) if !whole => Some(DocumentFault::OutOfStep),
         _ => None,
     }
 }
 
-/// Returns the remark about the text that came with a save.
-fn save_remark(kept: &Open, text: &str) -> Option<Remark>
+/// Returns the warning about the text that came with a save.
+fn save_remark(kept: &DocumentState, text: &str) -> Option<SyncWarning>
     ensures { result ≡ remark_of_save kept.now text.now }
 {
     match kept {
-        Open::Known(known) => known.save_remark(text),
-        Open::Lost(_) => None,
+        DocumentState::Known(known) => known.save_remark(text),
+        DocumentState::Lost(_) => None,
     }
 }
 

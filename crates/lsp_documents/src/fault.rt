@@ -19,7 +19,7 @@ pub enum DocumentFault {
     /// version were applied without them. With `DocumentOptions::applies_late` they are applied.
     ///
     /// Helix 25 sends the changes of a burst in this manner, and goes on with ranges. Its text comes back when it is
-    /// saved, if the text is asked for (`Agreed`), or opened again. Neovim 0.10, Emacs 30 and the library of VS Code
+    /// saved, if the text is asked for (`SyncOptions`), or opened again. Neovim 0.10, Emacs 30 and the library of VS Code
     /// keep the order. Changes with a whole text among them never come late.
     OutOfOrder,
     /// An allocation failed.
@@ -62,7 +62,7 @@ impl From<AllocError> for DocumentFault {
 /// It prints `the document was open already`, `the document was not open`, `the version is not higher`, `a position is
 /// past the end`, `the saved text is another one` or `a save brought the text back`.
 #[derive(Clone, Copy, Debug, PartialEq, Eq)]
-pub enum Remark {
+pub enum SyncWarning {
     /// The document was open already. The new one replaced it.
     OpenAlready,
     /// The document was not open, and a change of the whole text opened it. Its language is not known, and is the empty
@@ -84,32 +84,32 @@ pub enum Remark {
     BroughtBackBySave,
 }
 
-impl fmt::Display for Remark {
+impl fmt::Display for SyncWarning {
     ghost use Rattle.lsp_documents.specs.Fault.{remark_text};
 
     ghost output = { remark_text };
 
     fn fmt<W: fmt::Write>(&self, f: &mut fmt::Formatter<W>) -> fmt::Result {
         match self {
-            Remark::OpenAlready => write!(f, "the document was open already"),
-            Remark::WasNotOpen => write!(f, "the document was not open"),
-            Remark::VersionNotHigher => write!(f, "the version is not higher"),
-            Remark::PastEnd => write!(f, "a position is past the end"),
-            Remark::SavedTextDiffers => write!(f, "the saved text is another one"),
-            Remark::BroughtBackBySave => write!(f, "a save brought the text back"),
+            SyncWarning::OpenAlready => write!(f, "the document was open already"),
+            SyncWarning::WasNotOpen => write!(f, "the document was not open"),
+            SyncWarning::VersionNotHigher => write!(f, "the version is not higher"),
+            SyncWarning::PastEnd => write!(f, "a position is past the end"),
+            SyncWarning::SavedTextDiffers => write!(f, "the saved text is another one"),
+            SyncWarning::BroughtBackBySave => write!(f, "a save brought the text back"),
         }
     }
 }
 
 /// A notification that was applied.
 ///
-/// It prints its URI and the remark, for example `file:///a: the version is not higher`, or only the URI.
+/// It prints its URI and the warning, for example `file:///a: the version is not higher`, or only the URI.
 #[derive(Clone, Copy, Debug, PartialEq, Eq, Drop)]
 pub struct DocumentUpdate<'v> {
     /// The document's URI.
     pub uri: &'v str,
-    /// The remark about it, if there is one.
-    pub remark: Option<Remark>,
+    /// The warning about it, if there is one.
+    pub warning: Option<SyncWarning>,
 }
 
 impl fmt::Display for DocumentUpdate<'_> {
@@ -119,8 +119,8 @@ impl fmt::Display for DocumentUpdate<'_> {
 
     fn fmt<W: fmt::Write>(&self, f: &mut fmt::Formatter<W>) -> fmt::Result {
         let uri = self.uri;
-        match self.remark {
-            Some(remark) => write!(f, "{uri}: {remark}"),
+        match self.warning {
+            Some(warning) => write!(f, "{uri}: {warning}"),
             None => write!(f, "{uri}"),
         }
     }
@@ -144,9 +144,9 @@ impl<'v> UpdateFault<'v> {
     ghost use Rattle.std.specs.Prelude.{◌≡◌, IfOk, OnOk, OnErr};
     ghost use Rattle.lsp_documents.specs.declared.fault.DocumentFault.TheVariants.{Memory};
 
-    /// Returns the same value, or an error if memory ran out. So `missed.unless_memory()?` ends the server's method
+    /// Returns the same value, or an error if memory ran out. So `missed.or_out_of_memory()?` ends the server's method
     /// then.
-    pub fn unless_memory(self) -> Result<UpdateFault<'v>, AllocError>
+    pub fn or_out_of_memory(self) -> Result<UpdateFault<'v>, AllocError>
         ensures same { IfOk result (λ missed. missed ≡ self.entry) }
         ensures ok { OnOk result (¬ (self.entry.fault ≡ Memory)) }
         ensures err { OnErr result (self.entry.fault ≡ Memory) }

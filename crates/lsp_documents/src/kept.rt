@@ -9,21 +9,21 @@ use lsp_text::TextDocument;
 
 /// What a server keeps of a document that is open.
 #[derive(Drop)]
-pub enum Open {
+pub enum DocumentState {
     /// The document, with the client's text.
     Known(KeptDocument),
     /// What is left of a document whose text is lost.
     Lost(LostDocument),
 }
 
-impl Open {
+impl DocumentState {
     /// Returns the document, if its text is known.
     pub fn document(&self) -> Option<&TextDocument>
         ensures { option_copied result ≡ shown self.now }
     {
         match self {
-            Open::Known(known) => Some(known.document()),
-            Open::Lost(_) => None,
+            DocumentState::Known(known) => Some(known.document()),
+            DocumentState::Lost(_) => None,
         }
     }
 
@@ -32,8 +32,8 @@ impl Open {
         ensures { result.now ≡ language_of self.now }
     {
         match self {
-            Open::Known(known) => known.document().language_id(),
-            Open::Lost(document) => document.language_id(),
+            DocumentState::Known(known) => known.document().language_id(),
+            DocumentState::Lost(document) => document.language_id(),
         }
     }
 
@@ -43,8 +43,8 @@ impl Open {
         ensures { result ≡ version_of self.now }
     {
         match self {
-            Open::Known(known) => known.document().version(),
-            Open::Lost(document) => document.version(),
+            DocumentState::Known(known) => known.document().version(),
+            DocumentState::Lost(document) => document.version(),
         }
     }
 
@@ -55,22 +55,22 @@ impl Open {
         ensures { result ≡ has_doubt self.now }
     {
         match self {
-            Open::Known(known) => known.is_doubtful(),
-            Open::Lost(_) => false,
+            DocumentState::Known(known) => known.is_doubtful(),
+            DocumentState::Lost(_) => false,
         }
     }
 
     /// Returns what is left of it if its text is lost, with this version. A document whose text is lost already stays
     /// as it is.
-    pub(crate) fn into_lost(self, version: Option<i32>) -> Open
+    pub(crate) fn into_lost(self, version: Option<i32>) -> DocumentState
         ensures { result ≡ lost_at version self }
     {
         match self {
-            Open::Known(known) => Open::Lost(LostDocument {
+            DocumentState::Known(known) => DocumentState::Lost(LostDocument {
                 language_id: known.into_document().into_language_id(),
                 version,
             }),
-            Open::Lost(document) => Open::Lost(document),
+            DocumentState::Lost(document) => DocumentState::Lost(document),
         }
     }
 }

@@ -2,11 +2,11 @@
 ghost use Rattle.std.specs.Prelude.{◌≡◌, None, true, is_some, IfOk, OnOk, OnErr};
 ghost use Rattle.lsp_documents.specs.Notices.{changed_kept, compared, doubt_in, has_changes, has_whole as has_whole_text, is_by_save, changes_remark, save_remark as remark_of_save, to_compare, origin_after};
 ghost use Rattle.lsp_documents.specs.Remains.{kept_as};
-ghost use Rattle.lsp_documents.specs.declared.kept.Open.TheVariants.{Known};
+ghost use Rattle.lsp_documents.specs.declared.kept.DocumentState.TheVariants.{Known};
 
-use crate::agreed::Agreed;
 use crate::changes::{change_remark, has_whole, is_not_higher, since_whole};
-use crate::fault::Remark;
+use crate::fault::SyncWarning;
+use crate::negotiation::SyncOptions;
 use lsp_text::{ContentChange, TextDocument};
 use std::alloc::{AllocError, Global};
 use std::marker::Model;
@@ -106,17 +106,17 @@ impl KeptDocument {
         document
     }
 
-    /// Applies changes, and returns the remark about them. If memory runs out, only the language is as it was.
+    /// Applies changes, and returns the warning about them. If memory runs out, only the language is as it was.
     #[tactic(auto, using(crate::proofs::NoticeLemmas::since_edited, crate::proofs::NoticeLemmas::since_none))]
     pub(crate) fn change(
         &mut self,
         alloc: Global,
         version: Option<i32>,
-        agreed: Agreed,
+        agreed: SyncOptions,
         changes: &[ContentChange],
-    ) -> Result<Option<Remark>, AllocError>
-        ensures remark { IfOk result (λ remark.
-            remark ≡ changes_remark agreed (Known self.old) version changes.now) }
+    ) -> Result<Option<SyncWarning>, AllocError>
+        ensures warning { IfOk result (λ warning.
+            warning ≡ changes_remark agreed (Known self.old) version changes.now) }
         ensures ok { OnOk result (self.new ≡ changed_kept agreed self.old version changes.now) }
         ensures err { OnErr result (self.new.document.language_id ≡ self.old.document.language_id) }
         ensures needed { OnErr result (has_changes changes.now ≡ true) }
@@ -135,29 +135,29 @@ impl KeptDocument {
     }
 
     /// Returns the doubt about changes without a whole text.
-    fn doubt(&self) -> Option<Remark>
+    fn doubt(&self) -> Option<SyncWarning>
         ensures { result ≡ doubt_in self.now.origin self.now.saved self.now.document.text }
     {
         match self.origin {
-            Origin::BySave => Some(Remark::BroughtBackBySave),
+            Origin::BySave => Some(SyncWarning::BroughtBackBySave),
             _ => self.comparison(),
         }
     }
 
-    /// Returns the remark about the saved text that is to be compared, if there is one.
-    fn comparison(&self) -> Option<Remark>
+    /// Returns the warning about the saved text that is to be compared, if there is one.
+    fn comparison(&self) -> Option<SyncWarning>
         ensures { result ≡ compared self.now.saved self.now.document.text }
     {
         match &self.saved {
             Some(saved) if self.document.text().as_str() != saved.as_str() => {
-                Some(Remark::SavedTextDiffers)
+                Some(SyncWarning::SavedTextDiffers)
             }
             _ => None,
         }
     }
 
-    /// Returns the remark about the text that came with a save.
-    pub(crate) fn save_remark(&self, text: &str) -> Option<Remark>
+    /// Returns the warning about the text that came with a save.
+    pub(crate) fn save_remark(&self, text: &str) -> Option<SyncWarning>
         ensures { result ≡ remark_of_save (Known self.now) text.now }
     {
         match &self.saved {

@@ -1,7 +1,7 @@
 // The documents whose text is known.
 ghost use Rattle.std.specs.Iterator.{YieldsFirstBy, item_count};
 
-use crate::kept::Open;
+use crate::kept::DocumentState;
 use lsp_text::{Text, TextDocument};
 use std::alloc::{AllocError, Global};
 use std::collections::btree_map::Iter;
@@ -12,7 +12,7 @@ use std::sync::Arc;
 /// list of those that are left.
 #[derive(Drop)]
 pub struct KnownDocuments<'d> {
-    pub(crate) open: Iter<'d, String, Open>,
+    pub(crate) open: Iter<'d, String, DocumentState>,
 }
 
 impl<'d> Model for KnownDocuments<'d> {
@@ -45,7 +45,7 @@ impl<'d> Iterator for KnownDocuments<'d> {
 /// A copy of a document at one time: its URI, its language, its version and its text. The text is shared with the
 /// document until that changes.
 #[derive(Drop)]
-pub struct OpenText {
+pub struct DocumentSnapshot {
     /// The document's URI.
     pub uri: String,
     /// The language, as the client names it.
@@ -56,12 +56,16 @@ pub struct OpenText {
     pub text: Arc<Text>,
 }
 
-impl OpenText {
+impl DocumentSnapshot {
     ghost use Rattle.std.specs.Arc.{arc_value};
     ghost use Rattle.std.specs.Prelude.{◌≡◌, IfOk, string_bytes};
 
     /// Copies a URI and a document. The text is not copied. `Err` means that an allocation failed.
-    pub fn new(alloc: Global, uri: &str, document: &TextDocument) -> Result<OpenText, AllocError>
+    pub fn new(
+        alloc: Global,
+        uri: &str,
+        document: &TextDocument,
+    ) -> Result<DocumentSnapshot, AllocError>
         ensures uri { IfOk result (λ copy. string_bytes copy.uri ≡ uri.now) }
         ensures language { IfOk result (λ copy.
             string_bytes copy.language_id ≡ document.now.language_id) }
@@ -70,7 +74,7 @@ impl OpenText {
     {
         let uri = String::from_str(alloc, uri)?;
         let language_id = String::from_str(alloc, document.language_id())?;
-        Ok(OpenText {
+        Ok(DocumentSnapshot {
             uri,
             language_id,
             version: document.version(),

@@ -4,7 +4,7 @@ ghost use Rattle.std.specs.Prelude.{◌≡◌, ℕ, ℤ, List, ◌∷◌, Option
 ghost use Rattle.lsp_text.specs.Documents.{Change};
 ghost use Rattle.lsp_documents.specs.declared.fault.DocumentFault.{DocumentFault};
 ghost use Rattle.lsp_documents.specs.declared.fault.DocumentFault.TheVariants.{OutOfOrder};
-ghost use Rattle.lsp_documents.specs.declared.kept.Open.{Open};
+ghost use Rattle.lsp_documents.specs.declared.kept.DocumentState.{DocumentState};
 ghost use Rattle.lsp_documents.specs.Held.{documents_of};
 ghost use Rattle.lsp_documents.specs.Sessions.{AppliesAll, Arrived, HasNone, MeansAll};
 ghost use Rattle.lsp_documents.specs.declared.documents.TextDocuments.{TextDocuments as Texts};
@@ -51,7 +51,7 @@ pub fn documents_are_the_clients()
         × (Makes before (edits uri version list) now
         → IsSomeAnd (option_and_then shown (now.held uri)) (λ d. d.version ≡ version)) }
     ensures late { (before : Documents) (uri : List ℕ) (version : Option ℤ)
-        (list : List Change) (o : Open) (now : Documents) → before.held uri ≡ Some o
+        (list : List Change) (o : DocumentState) (now : Documents) → before.held uri ≡ Some o
         → is_late before.agreed version (has_whole list) (version_of o) ≡ true
         → Makes before (edits uri version list) now
         → option_and_then shown (now.held uri) ≡ None }
@@ -64,7 +64,7 @@ pub fn documents_are_the_clients()
 /// server may look at is the text of the client's own document, and its version is the client's or none.
 ///
 /// No document is open at first. `arrived` has the messages and wake-ups since the result of `initialize`, and whether the server took each
-/// text for lost before a message. A server does so if its policy skips content parts (`PassedOver`). `AppliesAll` is what your server
+/// text for lost before a message. A server does so if its policy skips content parts (`SkipAndFlag`). `AppliesAll` is what your server
 /// promises of each message (`Applies`), one after another. `meant` is what the client told of its documents by these messages. If the
 /// params of a notification have another shape than LSP says, the client may have told anything of the document that they name. If they
 /// name none, or a content part was skipped, it may have told anything. The premise `SavesItsText` says that a text which the server asked

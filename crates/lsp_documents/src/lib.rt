@@ -2,7 +2,6 @@
 //! Synchronization").
 #![tactic(auto)]
 
-mod agreed;
 mod changes;
 mod documents;
 mod fault;
@@ -12,15 +11,16 @@ mod known;
 pub mod laws;
 mod lost;
 mod method;
+mod negotiation;
 mod options;
 mod params;
 
-pub use agreed::Agreed;
 pub use documents::TextDocuments;
-pub use fault::{DocumentFault, DocumentUpdate, Remark, UpdateFault};
-pub use kept::Open;
+pub use fault::{DocumentFault, DocumentUpdate, SyncWarning, UpdateFault};
+pub use kept::DocumentState;
 pub use kept_document::KeptDocument;
-pub use known::{KnownDocuments, OpenText};
+pub use known::{DocumentSnapshot, KnownDocuments};
 pub use lost::LostDocument;
+pub use negotiation::SyncOptions;
 pub use options::DocumentOptions;
-pub use params::{position_encoding, position_in, range_in, uri_in};
+pub use params::{position_encoding, position_from, range_from, uri_from};

@@ -28,7 +28,7 @@ impl LostDocument {
     }
 
     /// Returns its version, if changes came out of order. A whole text of any version brings the text back. If the
-    /// text's version is not higher, the remark is `VersionNotHigher`.
+    /// text's version is not higher, the warning is `VersionNotHigher`.
     pub fn version(&self) -> Option<i32>
         ensures { result ≡ self.now.version }
     {

@@ -7,7 +7,7 @@ use lsp_text::LineEnds;
 pub struct DocumentOptions {
     /// What ends a line.
     pub line_ends: LineEnds,
-    /// Whether ranges with a lower version than the document's are applied, with the remark `VersionNotHigher`. If not,
+    /// Whether ranges with a lower version than the document's are applied, with the warning `VersionNotHigher`. If not,
     /// the text is lost, since changes with the higher version were applied without them. A whole text is always
     /// applied.
     pub applies_late: bool,

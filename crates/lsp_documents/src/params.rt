@@ -4,7 +4,7 @@ ghost use Rattle.serde_json.specs.Find.{get, as_array};
 ghost use Rattle.serde_json.specs.View.{view, items_view};
 ghost use Rattle.lsp_text.specs.Documents.{Change};
 ghost use Rattle.lsp_documents.specs.Notices.{has_whole, has_changes};
-ghost use Rattle.lsp_documents.specs.Params.{text_in as text_of, count_in as count_of, line_in as line_of, is_negative as is_below, version_in as version_from, position_in as position_of, range_in as range_of, given_range as range_given, change_in as change_of, changes_in as changes_of, document_in as document_of, uri_in as uri_of, opened_in, is_whole as is_whole_change, values_since_whole, values_given, changes_given, encoding_named as named, first_named as first_of, offered_by as offers, agreed_by, agreed_in};
+ghost use Rattle.lsp_documents.specs.Params.{text_in as text_of, count_in as count_of, line_in as line_of, is_negative as is_below, version_in as version_from, position_from as position_of, range_from as range_of, given_range as range_given, change_in as change_of, changes_in as changes_of, document_in as document_of, uri_from as uri_of, opened_in, is_whole as is_whole_change, values_since_whole, values_given, changes_given, encoding_named as named, first_named as first_of, offered_by as offers, agreed_by, agreed_in};
 
 use lsp_text::{ContentChange, Position, PositionEncoding, Range};
 use serde_json::Value;
@@ -61,7 +61,7 @@ fn version_in(document: &Value) -> Option<i32>
 
 /// Reads a position (LSP 3.17, `Position`). It returns `None` if the value is none. Its numbers are whole ones that 32
 /// bits hold. A negative line is 0.
-pub fn position_in(position: &Value) -> Option<Position>
+pub fn position_from(position: &Value) -> Option<Position>
     ensures { result ≡ position_of (view position.now) }
 {
     let line = line_in(position)?;
@@ -70,11 +70,11 @@ pub fn position_in(position: &Value) -> Option<Position>
 }
 
 /// Reads a range (LSP 3.17, `Range`). It returns `None` if the value is none.
-pub fn range_in(range: &Value) -> Option<Range>
+pub fn range_from(range: &Value) -> Option<Range>
     ensures { result ≡ range_of (view range.now) }
 {
-    let start = position_in(range.get("start")?)?;
-    let end = position_in(range.get("end")?)?;
+    let start = position_from(range.get("start")?)?;
+    let end = position_from(range.get("end")?)?;
     Some(Range { start, end })
 }
 
@@ -84,7 +84,7 @@ fn given_range(change: &Value) -> Option<Option<Range>>
 {
     match change.get("range") {
         None | Some(Value::Null) => Some(None),
-        Some(range) => Some(Some(range_in(range)?)),
+        Some(range) => Some(Some(range_from(range)?)),
     }
 }
 
@@ -204,7 +204,7 @@ pub fn content_changes(
 }
 
 /// Returns the URI of the document in params, if they name one. It is in `textDocument`, as for most methods.
-pub fn uri_in(params: &Value) -> Option<&str>
+pub fn uri_from(params: &Value) -> Option<&str>
     ensures { option_map (λ s. s.now) result ≡ uri_of (view params.now) }
 {
     text_in(params.get("textDocument")?, "uri")
@@ -278,7 +278,7 @@ fn first_named(names: &[Value]) -> Option<PositionEncoding>
 
 /// Returns the encoding that follows from the params of `initialize` (LSP 3.17, `general.positionEncodings` of the
 /// client's capabilities): the first of the client's encodings that is UTF-8, UTF-16 or UTF-32, or UTF-16 if there is
-/// none. `Agreed::announced` announces it to the client.
+/// none. `SyncOptions::negotiate` announces it to the client.
 pub fn position_encoding(params: &Value) -> PositionEncoding
     ensures { result ≡ agreed_in (view params.now) }
 {

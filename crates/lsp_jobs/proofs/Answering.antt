@@ -22,8 +22,8 @@ use Rattle.lsp_jobs.specs.PendingJobs.{PendingJobs, without, with_job}
 use Rattle.lsp_jobs.specs.PoolView.{pending_jobs}
 use Rattle.lsp_jobs.specs.Pooled.{unanswered, without_cancelled, ChangesSlots, Does, Finishes, TakesLong}
 use Rattle.lsp_jobs.specs.Seen.{seen}
-use Rattle.lsp_jobs.specs.SlotLaw.{concerns, is_that, IsGiven, Left, Spares, at_ends}
-use Rattle.lsp_jobs.specs.SlotLaw.{lefts_of}
+use Rattle.lsp_jobs.specs.KeyedJobLaw.{concerns, is_that, IsGiven, Left, Spares, at_ends}
+use Rattle.lsp_jobs.specs.KeyedJobLaw.{lefts_of}
 use Rattle.lsp_jobs.specs.Stated.{StatedJobs}
 use Rattle.lsp_jobs.specs.declared.asking.RequestOrigin.{RequestOrigin}
 use Rattle.lsp_jobs.specs.declared.asking.RequestOrigin.TheVariants.{ByJob, ByServer}
@@ -232,7 +232,7 @@ module _ (T : Type 0) {S J F P : Type 0} (plain : Plain S P) (may : StatedJobs S
   as_seen : (old did : PooledServer T S J F) → seen did ≡ seen old → pended did ≡ pended old
   as_seen old did same = ap (λ (x : S × PendingJobs J). x.1) same
 
-  woken : (old did : PooledServer T S J F) (acts : List (Act (RequestOrigin P))) → W.wakes old acts did
+  woken : (old did : PooledServer T S J F) (acts : List (Act (RequestOrigin P))) → W.woken_post old acts did
       → Handles old None acts (pended did)
   woken old did acts (inl nothing) = idles old did None acts [] (λ id. refl) (λ id. tt) nothing.0 (as_seen old did
       nothing.1)
@@ -260,7 +260,7 @@ module _ (T : Type 0) {S J F P : Type 0} (plain : Plain S P) (may : StatedJobs S
               (ap (λ (t : PendingJobs J). t (Request i)) (sym f.ended.3) ∙ has)).0)
 
   long_jobs : (old did : PooledServer T S J F) (id : Id) (method : List ℕ) (params : Data)
-      (acts : List (Act (RequestOrigin P))) → may.sorts old.server method params true
+      (acts : List (Act (RequestOrigin P))) → may.is_long_post old.server method params true
       → TakesLong may (seen old) id method params acts (seen did)
       → Handles old (Some (request id method params)) acts (pended did)
   long_jobs old did id method params acts long (inl j) = (
@@ -288,26 +288,27 @@ module _ (T : Type 0) {S J F P : Type 0} (plain : Plain S P) (may : StatedJobs S
         | inr own ↦
             let left = without (Request id) (pended old) in
             by_servers old (Some (request id method params)) (pended did)
-            (λ made. Does may (plain.requested old.server id method params) left made (seen did)) acts
+            (λ made. Does may (plain.request_post old.server id method params) left made (seen did)) acts
             (λ made d. does_jobs plain may (From old (Some (request id method params)) acts)
-            (plain.requested old.server id method params) left made (seen did)
+            (plain.request_post old.server id method params) left made (seen did)
             (stay_without plain may (IsGiven plain may old.server acts) (pended old) (Some (request id method params))
             id (λ i. refl)) d)
             own.1
       ]
   handed_jobs old did (Some (notification method params)) payload acts h =
       by_servers old (Some (notification method params)) (pended did)
-      (λ own. Does may (plain.notified old.server method params) (without_cancelled (cancelled_by method params)
+      (λ own. Does may (plain.notification_post old.server method params)
+      (without_cancelled (cancelled_by method params)
       (pended old)) own (seen did)) acts
       (λ own d. does_jobs plain may (From old (Some (notification method params)) acts)
-      (plain.notified old.server method params)
+      (plain.notification_post old.server method params)
       (without_cancelled (cancelled_by method params) (pended old)) own (seen did)
       (stay_cancelled plain may (IsGiven plain may old.server acts) (pended old) method params) d) h.0
   handed_jobs old did (Some (response id outcome)) (Some (ByServer payload)) acts h =
       by_servers old (Some (response id outcome)) (pended did)
-      (λ own. Does may (plain.replied old.server payload outcome) (pended old) own (seen did)) acts
+      (λ own. Does may (plain.response_post old.server payload outcome) (pended old) own (seen did)) acts
       (λ own d. does_jobs plain may (From old (Some (response id outcome)) acts)
-      (plain.replied old.server payload outcome) (pended old) own (seen did)
+      (plain.response_post old.server payload outcome) (pended old) own (seen did)
       (stay plain may (IsGiven plain may old.server acts) (pended old) (Some (response id outcome)) (λ i. refl) []
       (λ i. tt)) d) h
   handed_jobs old did (Some (response id outcome)) (Some (ByJob n)) acts h =
@@ -325,13 +326,13 @@ module _ (T : Type 0) {S J F P : Type 0} (plain : Plain S P) (may : StatedJobs S
       let own = all.2 id e has in
       (own.0, all.1 id own.1)
 
-  back_one : (payload : RequestOrigin P) (old new : PooledServer T S J F) → W.takes_back old payload new
+  back_one : (payload : RequestOrigin P) (old new : PooledServer T S J F) → W.ids_exhausted_post old payload new
       → pending_jobs new.pool ≡ pending_jobs old.pool
   back_one (ByServer payload) old new back = back.1
   back_one (ByJob n) old new same = as_seen old new same
 
   pub back_pending : (payloads : List (RequestOrigin P)) (old new : PooledServer T S J F)
-      → TakesBack W.takes_back old payloads new
+      → TakesBack W.ids_exhausted_post old payloads new
       → pending_jobs new.pool ≡ pending_jobs old.pool
   back_pending [] old new same = ap pended same
   back_pending (payload ∷ payloads) old new back = back_pending payloads back.0 new back.2 ∙ back_one payload old

@@ -2,23 +2,23 @@
 -- of a session.
 use Rattle.serde_json.specs.Data.{Data}
 use Rattle.std.proofs.Common.{◌≡◌, ◌⊎◌, refl, sym, ◌∙◌, ap, subst, inl, inr, ℕ, false, List, [], ◌∷◌, ◌++◌}
-use Rattle.std.proofs.Common.{append_assoc, Option, Some}
+use Rattle.std.proofs.Common.{append_assoc, Some}
 use Rattle.lsp_message.specs.Id.{Id}
 use Rattle.lsp_message.specs.Message.{Message, request}
-use Rattle.lsp_session.specs.Session.{Exchange}
+use Rattle.lsp_session.specs.Session.{Exchange, offered}
 use Rattle.lsp_acts.specs.Law.{how_many, is_reply_under}
 use Rattle.lsp_acts.specs.SentByActs.{acts_done_at, all_sends}
 use Rattle.lsp_acts.specs.declared.server.Server.{Ghosts as Plain}
 use Rattle.lsp_jobs.proofs.Answering.{mute, settled_spares}
 use Rattle.lsp_jobs.specs.JobLaw.{AreTakenAt, IsQuiet, IsTakenAt, JobOfLast, Leads}
-use Rattle.lsp_jobs.specs.SlotLaw.{AllQuiet, AreTurns, LastGiven, Spares, Turn, concerns}
+use Rattle.lsp_jobs.specs.KeyedJobLaw.{AllQuiet, AreTurns, LastGiven, Spares, Turn, concerns}
 use Rattle.lsp_jobs.specs.Stated.{StatedJobs}
 
 module _ {S J F P : Type 0} (plain : Plain S P) (may : StatedJobs S J F P) where
   -- where no reply is given under the id, none is sent
   silent_at : (id : Id) (x : Exchange) (t : Turn plain may) → IsTakenAt plain may x t → Spares id t.call.acts
       → (concerns id x.came ≡ false) ⊎ ((method : List ℕ) × (params : Data)
-      × (x.came ≡ Some (request id method params))) → how_many (is_reply_under id) x.sent ≡ 0
+      × (x.came ≡ Some (request id method params))) → how_many (is_reply_under id) (offered x) ≡ 0
   silent_at id x t taken spares calm =
       ap (how_many (is_reply_under id)) (sym taken.1.1)
       ∙ mute id (acts_done_at x.came t.call.acts) taken.1.0 (settled_spares x.came t.call.acts id spares calm)
@@ -84,12 +84,11 @@ module _ {S J F P : Type 0} (plain : Plain S P) (may : StatedJobs S J F P) where
         params = l.params;
         last = record {
           before = led.early ++ p.earlier;
-          sent = p.at.sent;
+          asking = p.at;
           since = p.later;
-          came = led.cut ∙ ap (λ (xs : List Exchange). led.early ++ xs) p.cut
-              ∙ sym (append_assoc led.early p.earlier (p.at ∷ p.later))
-              ∙ ap (λ (o : Option Message). (led.early ++ p.earlier) ++ record { came = o; sent = p.at.sent }
-              ∷ p.later) came;
+          cut = led.cut ∙ ap (λ (xs : List Exchange). led.early ++ xs) p.cut
+              ∙ sym (append_assoc led.early p.earlier (p.at ∷ p.later));
+          came = came;
           unanswered = silent_at id p.at l.turn p.taken (subst (Spares id) (sym l.is_given.3) tt)
               (inr (l.method, l.params, came));
           quiet = quiet_at id p.later l.since p.rest l.quiet;

@@ -15,7 +15,7 @@ use Rattle.lsp_message.specs.contracts.msg.id.RequestId as id
 use Rattle.lsp_jobs.specs.contracts.job.DoneJob as done
 use Rattle.lsp_jobs.specs.contracts.job.Interrupted as interrupted
 use Rattle.lsp_jobs.specs.contracts.names.JobName as name
-use Rattle.lsp_jobs.specs.contracts.names.Slot as slot
+use Rattle.lsp_jobs.specs.contracts.names.JobKey as slot
 
 pub both : {A B : Type 0} → A → B → A × B
 both a b = (a, b)

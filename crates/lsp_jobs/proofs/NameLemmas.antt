@@ -10,26 +10,26 @@ use Rattle.lsp_jobs.specs.PendingJobs.{no_jobs, with_job, without}
 use Rattle.lsp_jobs.specs.Waiting.{entry_of}
 use Rattle.lsp_jobs.specs.declared.entries.Entries.{Entries}
 use Rattle.lsp_jobs.specs.declared.names.JobName.{JobName}
-use Rattle.lsp_jobs.specs.declared.names.JobName.TheVariants.{Request, Slot}
+use Rattle.lsp_jobs.specs.declared.names.JobName.TheVariants.{Request, Keyed}
 
 abbrev id_in : JobName → Id
 id_in (Request id) = id
-id_in (Slot slot) = slot
+id_in (Keyed slot) = slot
 
 abbrev is_request : JobName → Bool
 is_request (Request id) = true
-is_request (Slot slot) = false
+is_request (Keyed slot) = false
 
 -- the names are told apart
 pub name_decides : (a b : JobName) → Decides (same_name a b) (a ≡ b)
 name_decides (Request i) (Request j) =
     let same : Decides (same_id i j) (i ≡ j) = id_decides i j in
     (λ e. ap (λ (id : Id). Request id) (same.0 e), λ e. same.1 (ap id_in e))
-name_decides (Slot s) (Slot t) =
+name_decides (Keyed s) (Keyed t) =
     let same : Decides (same_id s t) (s ≡ t) = id_decides s t in
-    (λ e. ap (λ (slot : Id). Slot slot) (same.0 e), λ e. same.1 (ap id_in e))
-name_decides (Request i) (Slot t) = (λ e. absurd (cc (e)), λ e. let no = ap is_request e in absurd (cc (no)))
-name_decides (Slot s) (Request j) = (λ e. absurd (cc (e)), λ e. let no = ap is_request e in absurd (cc (no)))
+    (λ e. ap (λ (slot : Id). Keyed slot) (same.0 e), λ e. same.1 (ap id_in e))
+name_decides (Request i) (Keyed t) = (λ e. absurd (cc (e)), λ e. let no = ap is_request e in absurd (cc (no)))
+name_decides (Keyed s) (Request j) = (λ e. absurd (cc (e)), λ e. let no = ap is_request e in absurd (cc (no)))
 
 pub name_same : (a : JobName) → same_name a a ≡ true
 name_same a = (name_decides a a).1 refl
@@ -40,7 +40,7 @@ module _ {E : Type 0} where
     where
       at : (name : JobName) → entry_of all name ≡ None
       at (Request id) = ap (λ (m : FinMap id_cmp E). map.get m id) requests ∙ get-empty id_cmp id
-      at (Slot slot) = ap (λ (m : FinMap id_cmp E). map.get m slot) slots ∙ get-empty id_cmp slot
+      at (Keyed slot) = ap (λ (m : FinMap id_cmp E). map.get m slot) slots ∙ get-empty id_cmp slot
 
   pub request_added : (old new : Entries E) (id : Id) (e : E) → new.requests ≡ map.insert old.requests id e → new.slots
       ≡ old.slots → entry_of new ≡ with_job (Request id) e (entry_of old)
@@ -48,15 +48,15 @@ module _ {E : Type 0} where
     where
       at : (name : JobName) → entry_of new name ≡ with_job (Request id) e (entry_of old) name
       at (Request i) = ap (λ (m : FinMap id_cmp E). map.get m i) added ∙ get-insert id_total old.requests id e i
-      at (Slot slot) = ap (λ (m : FinMap id_cmp E). map.get m slot) same
+      at (Keyed slot) = ap (λ (m : FinMap id_cmp E). map.get m slot) same
 
   pub slot_added : (old new : Entries E) (slot : Id) (e : E) → new.slots ≡ map.insert old.slots slot e → new.requests
-      ≡ old.requests → entry_of new ≡ with_job (Slot slot) e (entry_of old)
+      ≡ old.requests → entry_of new ≡ with_job (Keyed slot) e (entry_of old)
   slot_added old new slot e added same = λ k name. at name k
     where
-      at : (name : JobName) → entry_of new name ≡ with_job (Slot slot) e (entry_of old) name
+      at : (name : JobName) → entry_of new name ≡ with_job (Keyed slot) e (entry_of old) name
       at (Request i) = ap (λ (m : FinMap id_cmp E). map.get m i) same
-      at (Slot s) = ap (λ (m : FinMap id_cmp E). map.get m s) added ∙ get-insert id_total old.slots slot e s
+      at (Keyed s) = ap (λ (m : FinMap id_cmp E). map.get m s) added ∙ get-insert id_total old.slots slot e s
 
   pub request_removed : (old new : Entries E) (id : Id) → new.requests ≡ map.remove old.requests id → new.slots
       ≡ old.slots → entry_of new ≡ without (Request id) (entry_of old)
@@ -64,12 +64,12 @@ module _ {E : Type 0} where
     where
       at : (name : JobName) → entry_of new name ≡ without (Request id) (entry_of old) name
       at (Request i) = ap (λ (m : FinMap id_cmp E). map.get m i) removed ∙ get-remove id_total old.requests id i
-      at (Slot slot) = ap (λ (m : FinMap id_cmp E). map.get m slot) same
+      at (Keyed slot) = ap (λ (m : FinMap id_cmp E). map.get m slot) same
 
   pub slot_removed : (old new : Entries E) (slot : Id) → new.slots ≡ map.remove old.slots slot → new.requests
-      ≡ old.requests → entry_of new ≡ without (Slot slot) (entry_of old)
+      ≡ old.requests → entry_of new ≡ without (Keyed slot) (entry_of old)
   slot_removed old new slot removed same = λ k name. at name k
     where
-      at : (name : JobName) → entry_of new name ≡ without (Slot slot) (entry_of old) name
+      at : (name : JobName) → entry_of new name ≡ without (Keyed slot) (entry_of old) name
       at (Request i) = ap (λ (m : FinMap id_cmp E). map.get m i) same
-      at (Slot s) = ap (λ (m : FinMap id_cmp E). map.get m s) removed ∙ get-remove id_total old.slots slot s
+      at (Keyed s) = ap (λ (m : FinMap id_cmp E). map.get m s) removed ∙ get-remove id_total old.slots slot s

@@ -11,19 +11,19 @@ use Rattle.lsp_message.specs.Id.{Id, id_cmp}
 use Rattle.lsp_message.specs.IdLaws.{id_total, id_decides}
 use Rattle.lsp_message.specs.Message.{Message, request, notification, response}
 use Rattle.lsp_queue.specs.Queue.{Pending}
-use Rattle.lsp_session.specs.Session.{Exchange}
+use Rattle.lsp_session.specs.Session.{Exchange, offered}
 use Rattle.lsp_acts.proofs.Acting.{acts_at, does_push, sent_so}
 use Rattle.lsp_acts.proofs.Counting.{due, due_acts, how_many-append, Fresh}
 use Rattle.lsp_acts.specs.Acts.{Act, Queues, replies, cancelled_by, canceled, does, does_all}
 use Rattle.lsp_acts.specs.Law.{came_with, held_under, how_many, is_reply_under, is_request_under, one_if}
-use Rattle.lsp_acts.specs.QueuedServer.{OpensSending, WorksSending}
+use Rattle.lsp_acts.specs.ServerApplication.{OpensSending, WorksSending}
 use Rattle.lsp_acts.specs.SentByActs.{acts_done_at, cancelled_answer, queues_at}
 use Rattle.lsp_acts.specs.declared.server.Server.{Ghosts as Stated}
 use Rattle.lsp_acts.specs.View.{queues_of, seen}
-use Rattle.lsp_acts.specs.declared.queued_server.QueuedServer.{QueuedServer}
+use Rattle.lsp_acts.specs.declared.server_application.ServerApplication.{ServerApplication}
 use Rattle.lsp_jobs.specs.Ends.{Outcome}
 use Rattle.lsp_jobs.specs.JobLaw.{IsQuiet, LastRequest}
-use Rattle.lsp_jobs.specs.SlotLaw.{concerns, is_that}
+use Rattle.lsp_jobs.specs.KeyedJobLaw.{concerns, is_that}
 
 pub fewer : (p : Message → Bool) (output more full : List Message) → output ++ more ≡ full → how_many p full ≡ 0
     → how_many p output ≡ 0
@@ -33,20 +33,20 @@ fewer p output more full is none =
     omega (arith, all, none)
 
 pub quiet_more : (id : Id) (xs : List Exchange) (x : Exchange) → IsQuiet id xs → concerns id x.came ≡ false
-    → how_many (is_reply_under id) x.sent ≡ 0 → IsQuiet id (xs ++ x ∷ [])
+    → how_many (is_reply_under id) (offered x) ≡ 0 → IsQuiet id (xs ++ x ∷ [])
 quiet_more id [] x quiet calm none = (calm, none, tt)
 quiet_more id (y ∷ xs) x quiet calm none = (quiet.0, quiet.1, quiet_more id xs x quiet.2 calm none)
 
 -- an exchange more, with which the request goes on waiting
 pub waits_on : (earlier : List Exchange) (x : Exchange) (id : Id) (method : List ℕ) (params : Data) → concerns id x.came
-    ≡ false → how_many (is_reply_under id) x.sent ≡ 0
+    ≡ false → how_many (is_reply_under id) (offered x) ≡ 0
     → LastRequest earlier id method params → LastRequest (earlier ++ x ∷ []) id method params
 waits_on earlier x id method params calm none l = record {
   before = l.before;
-  sent = l.sent;
+  asking = l.asking;
   since = l.since ++ x ∷ [];
-  came = ap (λ (es : List Exchange). es ++ x ∷ []) l.came ∙ append_assoc l.before
-      (record { came = Some (request id method params); sent = l.sent } ∷ l.since) (x ∷ []);
+  cut = ap (λ (es : List Exchange). es ++ x ∷ []) l.cut ∙ append_assoc l.before (l.asking ∷ l.since) (x ∷ []);
+  came = l.came;
   unanswered = l.unanswered;
   quiet = quiet_more id l.since x l.quiet calm none;
 }
@@ -54,12 +54,13 @@ waits_on earlier x id method params calm none l = record {
 -- the request that just came waits
 pub waits_now : (earlier : List Exchange) (x : Exchange) (id : Id) (method : List ℕ) (params : Data) → x.came
     ≡ Some (request id method params)
-    → how_many (is_reply_under id) x.sent ≡ 0 → LastRequest (earlier ++ x ∷ []) id method params
+    → how_many (is_reply_under id) (offered x) ≡ 0 → LastRequest (earlier ++ x ∷ []) id method params
 waits_now earlier x id method params there none = record {
   before = earlier;
-  sent = x.sent;
+  asking = x;
   since = [];
-  came = ap (λ (l : Option Message). earlier ++ record { came = l; sent = x.sent } ∷ []) there;
+  cut = refl;
+  came = there;
   unanswered = none;
   quiet = tt;
 }
@@ -114,7 +115,7 @@ module _ {S P : Type 0} (may : Stated S P) (id : Id) where
   abbrev R : List Message → ℕ
   R = how_many (is_reply_under id)
 
-  abbrev pub owed : QueuedServer S P → ℕ
+  abbrev pub owed : ServerApplication S P → ℕ
   owed w = held_under id (queues_of w.queues).held
 
   -- a request under the id waits
@@ -122,11 +123,11 @@ module _ {S P : Type 0} (may : Stated S P) (id : Id) where
   Waiting earlier = (method : List ℕ) × (params : Data) × LastRequest earlier id method params
 
   -- if a request under the id is held, it waits
-  abbrev pub HeldWaits : List Exchange → QueuedServer S P → Type 0
+  abbrev pub HeldWaits : List Exchange → ServerApplication S P → Type 0
   HeldWaits earlier w = (owed w ≡ 0) ⊎ Waiting earlier
 
   -- what is sent, and what is held then
-  due_one : (w w' : QueuedServer S P) (m : Option Message) (full : List Message) → (queues_of w.queues).sent ≡ []
+  due_one : (w w' : ServerApplication S P) (m : Option Message) (full : List Message) → (queues_of w.queues).sent ≡ []
       → WorksSending may (seen w) m full (seen w')
       → R full + owed w' ≡ cond (came_with (is_request_under id) m) 1 (owed w)
   due_one w w' m full silent step =
@@ -140,7 +141,7 @@ module _ {S P : Type 0} (may : Stated S P) (id : Id) where
       omega (arith, all, none, kept, sent)
 
   -- a request that is cancelled is held no more
-  cancelled_at : (w w' : QueuedServer S P) (method : List ℕ) (params : Data) (full : List Message)
+  cancelled_at : (w w' : ServerApplication S P) (method : List ℕ) (params : Data) (full : List Message)
       → WorksSending may (seen w) (Some (notification method params)) full (seen w') → is_that id (cancelled_by method
       params) ≡ true → owed w' ≡ 0
   cancelled_at w w' method params full step is =
@@ -149,8 +150,8 @@ module _ {S P : Type 0} (may : Stated S P) (id : Id) where
       (cancelled_by method params) is
 
   -- the server is called
-  pub waits_called : (earlier : List Exchange) (w w' : QueuedServer S P) (x : Exchange) (full more : List Message)
-      → x.sent ++ more ≡ full → (queues_of w.queues).sent ≡ []
+  pub waits_called : (earlier : List Exchange) (w w' : ServerApplication S P) (x : Exchange) (full more : List Message)
+      → offered x ++ more ≡ full → (queues_of w.queues).sent ≡ []
       → HeldWaits earlier w → WorksSending may (seen w) x.came full (seen w') → HeldWaits (earlier ++ x ∷ []) w'
   waits_called earlier w w' x full more part silent held step = at (owed w') refl
     where
@@ -161,8 +162,8 @@ module _ {S P : Type 0} (may : Stated S P) (id : Id) where
       at zero is = inl is
       at (suc n) is = inr (by x.came refl)
         where
-          mute : (k : ℕ) → k ≤ 1 → R full + owed w' ≡ k → R x.sent ≡ 0
-          mute k few e = fewer (is_reply_under id) x.sent more full part (omega (arith, few, e, is))
+          mute : (k : ℕ) → k ≤ 1 → R full + owed w' ≡ k → R (offered x) ≡ 0
+          mute k few e = fewer (is_reply_under id) (offered x) more full part (omega (arith, few, e, is))
 
           on : concerns id x.came ≡ false → came_with (is_request_under id) x.came ≡ false → Waiting (earlier ++ x ∷ [])
           on calm other = elim held [
@@ -203,16 +204,17 @@ module _ {S P : Type 0} (may : Stated S P) (id : Id) where
               of false other = on (ap (concerns id) there ∙ other) (ap (came_with (is_request_under id)) there ∙ other)
 
   -- at a wake each reply goes to a request that waits
-  pub replies_at_wake : (earlier : List Exchange) (w w' : QueuedServer S P) (x : Exchange) (full more : List Message)
-      → x.sent ++ more ≡ full → (queues_of w.queues).sent ≡ []
-      → HeldWaits earlier w → WorksSending may (seen w) None full (seen w') → (R x.sent ≡ 0) ⊎ Waiting earlier
+  pub replies_at_wake : (earlier : List Exchange) (w w' : ServerApplication S P) (x : Exchange)
+      (full more : List Message)
+      → offered x ++ more ≡ full → (queues_of w.queues).sent ≡ []
+      → HeldWaits earlier w → WorksSending may (seen w) None full (seen w') → (R (offered x) ≡ 0) ⊎ Waiting earlier
   replies_at_wake earlier w w' x full more part silent (inl none) step =
       let count = due_one w w' None full silent step in
-      inl (fewer (is_reply_under id) x.sent more full part (omega (arith, count, none)))
+      inl (fewer (is_reply_under id) (offered x) more full part (omega (arith, count, none)))
   replies_at_wake earlier w w' x full more part silent (inr waits) step = inr waits
 
   -- before `initialized` nothing is held, and at it nothing is answered
-  pub waits_opened : (earlier : List Exchange) (w w' : QueuedServer S P) (full : List Message) → Fresh may w
+  pub waits_opened : (earlier : List Exchange) (w w' : ServerApplication S P) (full : List Message) → Fresh may w
       → OpensSending may (seen w) full (seen w') → HeldWaits earlier w'
   waits_opened earlier w w' full fresh opened =
       let kept : owed w' ≡ held_under id opened.0.1.held = ap (λ (x : S × Queues P). held_under id x.1.held) opened.3 in

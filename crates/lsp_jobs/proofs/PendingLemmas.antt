@@ -62,13 +62,13 @@ appended (Ok x) new old more is holds = holds is
 appended (Err e) new old more is holds = tt
 
 -- what a job came to, as it is seen
-pub came : {J F : Type 0} (comes_to : J → Option Outcome → Option F → Type 0) (job : J)
+pub came : {J F : Type 0} (run_post : J → Option Outcome → Option F → Type 0) (job : J)
     (ran : Result (DoneJob F) Interrupted)
-    → IfOk ran (λ done. comes_to job (option_map outcome_view done.reply) done.found)
-    → ComesTo comes_to job (came_view ran)
-came comes_to job (Ok done) comes = comes
-came comes_to job (Err Memory) comes = tt
-came comes_to job (Err Cancelled) comes = tt
+    → IfOk ran (λ done. run_post job (option_map outcome_view done.reply) done.found)
+    → ComesTo run_post job (came_view ran)
+came run_post job (Ok done) comes = comes
+came run_post job (Err Memory) comes = tt
+came run_post job (Err Cancelled) comes = tt
 
 module _ {E J : Type 0} (f : E → J) where
   mapped_if : (b : Bool) (x y : Option E) → option_map f (cond b x y) ≡ cond b (option_map f x) (option_map f y)

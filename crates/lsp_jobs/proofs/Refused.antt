@@ -1,7 +1,7 @@
 -- Of each reply that is sent at a wake: whose it is. And wakes and sessions that the laws of jobs refuse.
 use Rattle.serde_json.specs.Data.{Data}
 use Rattle.std.proofs.Common.{◌≡◌, ◌⊎◌, refl, sym, ◌∙◌, ap, subst, inl, inr, ℕ, ◌+◌, ◌≤◌, Bool, true, false, List, []}
-use Rattle.std.proofs.Common.{◌∷◌, ◌++◌, append_assoc, append-nil, arith, Option, Some}
+use Rattle.std.proofs.Common.{◌∷◌, ◌++◌, append_assoc, append-nil, arith, Option, Some, None}
 use Rattle.std.specs.FinMap as map
 use Rattle.std.specs.Ordering.{eq_by_cmp}
 use Rattle.std.specs.Prelude.{Err, pos, map as map_list, if◌then◌else◌}
@@ -10,7 +10,7 @@ use Rattle.lsp_message.specs.IdLaws.{id_decides}
 use Rattle.lsp_message.specs.Message.{Message, request, notification, response}
 use Rattle.lsp_queue.specs.Queue.{count_of, pending_of, ids_where}
 use Rattle.lsp_session.proofs.Ran.{messages_both}
-use Rattle.lsp_session.specs.Session.{Exchange, SessionAnswer, Stop, messages_of, sends_of}
+use Rattle.lsp_session.specs.Session.{Exchange, offered, SessionAnswer, Stop, messages_of, sends_of}
 use Rattle.lsp_acts.proofs.Counting.{how_many-append}
 use Rattle.lsp_acts.specs.Acts.{Act, Queues, tells, asks, replies, cancels, cancelled_by, does, is_spent}
 use Rattle.lsp_acts.specs.Acts.{cancel_all, cancel_method, cancel_params}
@@ -23,13 +23,14 @@ use Rattle.lsp_jobs.specs.Ends.{Came, ComesTo, End, Outcome, end_of, reply_of, t
 use Rattle.lsp_jobs.specs.JobLaw.{AnswersRequest, IsQuiet, LastRequest, LawfulJobSession, Leads, RepliesItself}
 use Rattle.lsp_jobs.specs.JobLaw.{WakeSends}
 use Rattle.lsp_jobs.specs.Pooled.{reply_at, IsAtOnce}
-use Rattle.lsp_jobs.specs.SlotLaw.{AllQuiet, IsCalled, IsTurn, JobSays, LastGiven, Left, MayPass, Spares, Stands, Turn}
-use Rattle.lsp_jobs.specs.SlotLaw.{WakeDoes, at_ends, concerns, is_that}
+use Rattle.lsp_jobs.specs.KeyedJobLaw.{AllQuiet, IsCalled, IsTurn, JobSays, LastGiven, Left, MayPass, Spares, Stands}
+use Rattle.lsp_jobs.specs.KeyedJobLaw.{Turn}
+use Rattle.lsp_jobs.specs.KeyedJobLaw.{WakeDoes, at_ends, concerns, is_that}
 use Rattle.lsp_jobs.specs.declared.asking.RequestOrigin.{RequestOrigin}
 use Rattle.lsp_jobs.specs.declared.asking.RequestOrigin.TheVariants.{ByJob}
 use Rattle.lsp_jobs.specs.Stated.{SeesEnd, StatedJobs}
 use Rattle.lsp_jobs.specs.declared.names.JobName.{JobName}
-use Rattle.lsp_jobs.specs.declared.names.JobName.TheVariants.{Request, Slot}
+use Rattle.lsp_jobs.specs.declared.names.JobName.TheVariants.{Request, Keyed}
 
 same : (id : Id) → eq_by_cmp id_cmp id id ≡ true
 same id = (id_decides id id).1 refl
@@ -162,7 +163,7 @@ two_places (b ∷ before) since (c ∷ later) after x y e = two_places before si
 
 -- the last of quiet exchanges is quiet
 quiet_last : (id : Id) (xs : List Exchange) (x : Exchange) → IsQuiet id (xs ++ x ∷ []) → (concerns id x.came ≡ false)
-    × (how_many (is_reply_under id) x.sent ≡ 0)
+    × (how_many (is_reply_under id) (offered x) ≡ 0)
 quiet_last id [] x quiet = (quiet.0, quiet.1)
 quiet_last id (y ∷ xs) x quiet = quiet_last id xs x quiet.2
 
@@ -170,13 +171,12 @@ quiet_last id (y ∷ xs) x quiet = quiet_last id xs x quiet.2
 latest : (xs : List Exchange) (x : Exchange) (id : Id) (method : List ℕ) (params : Data) → LastRequest (xs ++ x ∷ []) id
     method params
     → ((x.came ≡ Some (request id method params)) ⊎ (concerns id x.came ≡ false))
-    × (how_many (is_reply_under id) x.sent ≡ 0)
+    × (how_many (is_reply_under id) (offered x) ≡ 0)
 latest xs x id method params l =
-    elim (last_of xs x l.before (record { came = Some (request id method params); sent = l.sent }) l.since l.came) [
+    elim (last_of xs x l.before l.asking l.since l.cut) [
       | inl is ↦ (
-        inl (ap (λ (y : Exchange). y.came) is),
-        ap (λ (y : Exchange). how_many (is_reply_under id) y.sent) is
-            ∙ l.unanswered,
+        inl (ap (λ (y : Exchange). y.came) is ∙ l.came),
+        ap (λ (y : Exchange). how_many (is_reply_under id) (offered y)) is ∙ l.unanswered,
       )
       | inr later ↦ (let q = quiet_last id later.0 x (subst (IsQuiet id) later.1 l.quiet) in (inr q.0, q.1))
     ]
@@ -207,9 +207,9 @@ module _ {S J F P : Type 0} (plain : Plain S P) (may : StatedJobs S J F P) where
   -- that of the job that stands
   by_name : (first : S) (earlier : List Exchange) (turns : List (Turn plain may)) (now : S) (name : JobName) (job : J)
       (came : Came F) (id : Id) (outcome : Outcome) → Leads plain may first earlier turns now
-      → Stands plain may turns name job → ComesTo may.comes_to job came
+      → Stands plain may turns name job → ComesTo may.run_post job came
       → Has {A = Act P} (replies id outcome) (reply_at name came) → AnswersRequest plain may first earlier id outcome
-  by_name first earlier turns now (Slot slot) job came id outcome led stands comes has =
+  by_name first earlier turns now (Keyed slot) job came id outcome led stands comes has =
       not_empty has.0 has.1 (replies id outcome) has.2
   by_name first earlier turns now (Request i) job came id outcome led stands comes has =
       only_reply (replies i (reply_of came)) id outcome (λ is.
@@ -243,13 +243,13 @@ module _ {S J F P : Type 0} (plain : Plain S P) (may : StatedJobs S J F P) where
             let l = r.0 in
             inr (record {
               wake = w;
-              name = Slot l.slot;
+              name = Keyed l.slot;
               end = l.end;
               old = l.old;
               before = r.2.0;
               after = r.2.1;
               new = l.new;
-              saw = subst (λ (acts : List (Act P)). SeesEnd may l.old (Slot l.slot) l.end acts l.new) r.2.2 l.saw;
+              saw = subst (λ (acts : List (Act P)). SeesEnd may l.old (Keyed l.slot) l.end acts l.new) r.2.2 l.saw;
               at = inr (l, r.1.0, r.1.1, r.1.2, refl, refl, refl, sym r.2.2, refl);
             })
         | inl now ↦ elim (has_either (replies id outcome) o.1 (reply_at name o.0) now.0 now.1 now.2) [
@@ -304,15 +304,16 @@ module _ {S J F P : Type 0} (plain : Plain S P) (may : StatedJobs S J F P) where
     -- earlier or another one, or of a job that is for the request and was not given
     forbidden : (xs : List Exchange) (id : Id) (method : List ℕ) (params : Data) (output : List Message)
         (outcome : Outcome)
-        → ((server : S) (job : J) (came : Came F) → may.gives server id method params job
-        → may.is_for job method params → ComesTo may.comes_to job came → outcome ≡ reply_of came → ⊥)
-        → Gives first (xs ++ record { came = Some (request id method params); sent = output } ∷ []) id outcome → ⊥
+        → ((server : S) (job : J) (came : Came F) → may.job_post server id method params job
+        → may.is_for job method params → ComesTo may.run_post job came → outcome ≡ reply_of came → ⊥)
+        → Gives first (xs ++ record { came = Some (request id method params); sent = output; not_sent = None } ∷ [])
+        id outcome → ⊥
     forbidden xs id method params output outcome never gives =
         let r = its_own first all id outcome (silent all (response id outcome ∷ []) id outcome) gives in
         at r (latest xs asks id r.given.method r.given.params r.given.last).0
       where
         asks : Exchange
-        asks = record { came = Some (request id method params); sent = output }
+        asks = record { came = Some (request id method params); sent = output; not_sent = None }
 
         all : List Exchange
         all = xs ++ asks ∷ []
@@ -324,7 +325,7 @@ module _ {S J F P : Type 0} (plain : Plain S P) (may : StatedJobs S J F P) where
         at r (inl is) =
             let m : method ≡ r.given.method = cc (is) in
             let p : params ≡ r.given.params = cc (is) in
-            let both = subst (λ (x : List ℕ × Data). may.gives r.given.server id x.0 x.1 r.job
+            let both = subst (λ (x : List ℕ × Data). may.job_post r.given.server id x.0 x.1 r.job
             × may.is_for r.job x.0 x.1) (λ k. (sym m k, sym p k)) (r.given.gives, r.given.is_for) in
             never r.given.server r.job r.came both.0 both.1 r.comes r.reply
         at r (inr calm) = let e : true ≡ false = sym (same id) ∙ calm in absurd (cc (e))
@@ -332,11 +333,13 @@ module _ {S J F P : Type 0} (plain : Plain S P) (may : StatedJobs S J F P) where
     -- a reply after the request's cancellation
     after_cancellation : (xs : List Exchange) (id : Id) (method : List ℕ) (params : Data) (output : List Message)
         (outcome : Outcome) → cancelled_by method params ≡ Some id
-        → Gives first (xs ++ record { came = Some (notification method params); sent = output } ∷ []) id outcome → ⊥
+        → Gives first (xs ++ record { came = Some (notification method params); sent = output; not_sent = None } ∷
+        []) id outcome → ⊥
     after_cancellation xs id method params output outcome is gives =
-        let all = xs ++ record { came = Some (notification method params); sent = output } ∷ [] in
+        let all = xs ++ record { came = Some (notification method params); sent = output; not_sent = None } ∷ [] in
         let r = its_own first all id outcome (silent all (response id outcome ∷ []) id outcome) gives in
-        elim (latest xs (record { came = Some (notification method params); sent = output }) id r.given.method
+        elim (latest xs (record { came = Some (notification method params); sent = output; not_sent = None }) id
+        r.given.method
         r.given.params r.given.last).0 [
           | inl wrong ↦ absurd (cc (wrong))
           | inr calm ↦ (let e : true ≡ false = sym (same id) ∙ sym (ap (is_that id) is) ∙ calm in absurd (cc (e)))
@@ -344,14 +347,15 @@ module _ {S J F P : Type 0} (plain : Plain S P) (may : StatedJobs S J F P) where
 
     -- a second reply; and the outcome of a job after its request was refused
     second_reply : (xs : List Exchange) (id : Id) (came : Option Message) (one outcome : Outcome)
-        → Gives first (xs ++ record { came = came; sent = response id one ∷ [] } ∷ []) id outcome → ⊥
+        → Gives first (xs ++ record { came = came; sent = response id one ∷ []; not_sent = None } ∷ []) id outcome → ⊥
     second_reply xs id came one outcome gives =
-        let all = xs ++ record { came = came; sent = response id one ∷ [] } ∷ [] in
+        let all = xs ++ record { came = came; sent = response id one ∷ []; not_sent = None } ∷ [] in
         let r = its_own first all id outcome (silent all (response id outcome ∷ []) id outcome) gives in
         let none : one_if (eq_by_cmp id_cmp id id) + 0 ≡ 0 = (latest xs (record {
           came = came;
           sent = response id one
               ∷ [];
+          not_sent = None;
         }) id r.given.method r.given.params r.given.last).1 in
         let some : one_if (eq_by_cmp id_cmp id id) ≡ 1 = ap one_if (same id) in
         omega (arith, none, some)
@@ -360,6 +364,7 @@ module _ {S J F P : Type 0} (plain : Plain S P) (may : StatedJobs S J F P) where
         → Gives first (xs ++ record {
           came = Some (request id method params);
           sent = response id (Err too_many) ∷ [];
+          not_sent = None;
         } ∷ []) id outcome → ⊥
     after_refusal xs id method params outcome = second_reply xs id (Some (request id method params))
         (Err too_many) outcome
@@ -370,10 +375,11 @@ module _ {S J F P : Type 0} (plain : Plain S P) (may : StatedJobs S J F P) where
     no_request earlier id outcome none gives =
         let r = its_own first earlier id outcome (silent earlier (response id outcome ∷ []) id outcome) gives in
         let l = r.given.last in
-        let x : Exchange = record { came = Some (request id r.given.method r.given.params); sent = l.sent } in
         let all : messages_of earlier
         ≡ messages_of l.before ++ request id r.given.method r.given.params ∷ messages_of l.since =
-        ap messages_of l.came ∙ messages_both l.before (x ∷ l.since) in
+        ap messages_of l.cut ∙ messages_both l.before (l.asking ∷ l.since)
+        ∙ ap (λ (o : Option Message). messages_of l.before
+        ++ messages_of (record { came = o; sent = []; not_sent = None } ∷ l.since)) l.came in
         let count = ap (how_many (is_request_under id)) all ∙ how_many-append (is_request_under id)
         (messages_of l.before) (request id r.given.method r.given.params ∷ messages_of l.since) in
         let one : one_if (eq_by_cmp id_cmp id id) ≡ 1 = ap one_if (same id) in
@@ -381,23 +387,23 @@ module _ {S J F P : Type 0} (plain : Plain S P) (may : StatedJobs S J F P) where
 
 module _ (T : Type 0) {S J F P : Type 0} (plain : Plain S P) (may : StatedJobs S J F P) where
   -- one request gets two replies
-  two_replies : (first last : S) (exchanges : List Exchange) (stop : Stop) (shutdown_reply : Option Message)
+  two_replies : (first last : S) (exchanges : List Exchange) (stop : Stop)
       (answer : SessionAnswer) (id : Id)
       → how_many (is_request_under id) (messages_of exchanges) ≡ 1 → how_many (is_reply_under id)
       (sends_of exchanges) ≡ 2
-      → LawfulJobSession T plain may first last exchanges stop shutdown_reply answer → ⊥
-  two_replies first last exchanges stop shutdown_reply answer id one two session =
+      → LawfulJobSession T plain may first last exchanges stop answer → ⊥
+  two_replies first last exchanges stop answer id one two session =
       let few : how_many (is_reply_under id) (sends_of exchanges) ≤ how_many (is_request_under id)
       (messages_of exchanges) = session.laws.never_more id exchanges [] (sym (append-nil exchanges)) in
       absurd (omega (arith, one, two, few))
 
   -- a reply goes to a request that never came
-  reply_to_nobody : (first last : S) (exchanges : List Exchange) (stop : Stop) (shutdown_reply : Option Message)
+  reply_to_nobody : (first last : S) (exchanges : List Exchange) (stop : Stop)
       (answer : SessionAnswer) (id : Id)
       → how_many (is_request_under id) (messages_of exchanges) ≡ 0 → how_many (is_reply_under id)
       (sends_of exchanges) ≡ 1
-      → LawfulJobSession T plain may first last exchanges stop shutdown_reply answer → ⊥
-  reply_to_nobody first last exchanges stop shutdown_reply answer id none one session =
+      → LawfulJobSession T plain may first last exchanges stop answer → ⊥
+  reply_to_nobody first last exchanges stop answer id none one session =
       let few : how_many (is_reply_under id) (sends_of exchanges) ≤ how_many (is_request_under id)
       (messages_of exchanges) = session.laws.never_more id exchanges [] (sym (append-nil exchanges)) in
       absurd (omega (arith, none, one, few))
@@ -406,7 +412,7 @@ module _ {S J F P : Type 0} (plain : Plain S P) (may : StatedJobs S J F P) where
   -- a long request has a reply at once that its server does not know, and that is no error for want of room or memory
   unknown_reply : (t : Turn plain may) (id : Id) (method : List ℕ) (params : Data) (outcome : Outcome)
       → t.call.came ≡ Some (request id method params) → t.call.acts ≡ replies id outcome ∷ []
-      → (may.sorts t.old method params false → ⊥) → (IsAtOnce may t.old id method params outcome → ⊥)
+      → (may.is_long_post t.old method params false → ⊥) → (IsAtOnce may t.old id method params outcome → ⊥)
       → IsTurn plain may t → ⊥
   unknown_reply t id method params outcome came said short unknown (inl called) =
       short (subst (λ (l : Option Message). IsCalled plain may t.old l t.heard called.0 t.asked) came called.1).0
@@ -423,7 +429,7 @@ module _ {S J F P : Type 0} (plain : Plain S P) (may : StatedJobs S J F P) where
 
   -- the server changes at a long request
   changed_when_long : (t : Turn plain may) (id : Id) (method : List ℕ) (params : Data)
-      → t.call.came ≡ Some (request id method params) → (may.sorts t.old method params false → ⊥)
+      → t.call.came ≡ Some (request id method params) → (may.is_long_post t.old method params false → ⊥)
       → (t.new ≡ t.old → ⊥) → IsTurn plain may t → ⊥
   changed_when_long t id method params came short changed (inl called) =
       short (subst (λ (l : Option Message). IsCalled plain may t.old l t.heard called.0 t.asked) came called.1).0
@@ -512,7 +518,7 @@ module _ {S J F P : Type 0} (plain : Plain S P) (may : StatedJobs S J F P) where
     none_at : (left : List (Left may)) → at_ends may left ≡ []
     none_at [] = refl
     none_at (l ∷ ls) =
-        ap (λ (acts : List (Act P)). acts ++ at_ends may ls) (silent l.old (Slot l.slot) l.end l.acts l.new l.saw)
+        ap (λ (acts : List (Act P)). acts ++ at_ends may ls) (silent l.old (Keyed l.slot) l.end l.acts l.new l.saw)
         ∙ none_at ls
 
     -- at a wake a reply is given under an id under which no request came
@@ -535,7 +541,7 @@ module _ {S J F P : Type 0} (plain : Plain S P) (may : StatedJobs S J F P) where
         at : (name : JobName) (job : J) → Stands plain may earlier name job → (came : Came F)
             → ◌≡◌ {A = List (Act (RequestOrigin P))} (replies id outcome ∷ [])
             (map_list by_server (([] ++ reply_at name came) ++ [])) → ⊥
-        at (Slot slot) job stands came e = absurd (cc (e))
+        at (Keyed slot) job stands came e = absurd (cc (e))
         at (Request i) job stands came e =
             let is : id ≡ i = cc (e) in
             for_no_request earlier id job unasked

@@ -11,14 +11,14 @@ use Rattle.lsp_acts.specs.Law.{Call}
 use Rattle.lsp_acts.specs.declared.server.Server.{Ghosts as Plain}
 use Rattle.lsp_jobs.proofs.SlotChanges.{after-append, others_keep}
 use Rattle.lsp_jobs.proofs.SlotTurns.{slots_more}
-use Rattle.lsp_jobs.specs.SlotLaw.{AreTurns, Becomes, IsCalled, IsIn, IsTurn, LeavesAlone, SlotHistory, Stands}
-use Rattle.lsp_jobs.specs.SlotLaw.{StartsLast, TakeTurns, Turn, WakeDoes, after_event, after_events, heard_in}
-use Rattle.lsp_jobs.specs.SlotLaw.{slots_after}
-use Rattle.lsp_jobs.specs.SlotLaw.{SlotEvent, starts, ends_heard, ends_left}
+use Rattle.lsp_jobs.specs.KeyedJobLaw.{AreTurns, Becomes, IsCalled, IsIn, IsTurn, LeavesAlone, SlotHistory, Stands}
+use Rattle.lsp_jobs.specs.KeyedJobLaw.{StartsLast, TakeTurns, Turn, WakeDoes, after_event, after_events, heard_in}
+use Rattle.lsp_jobs.specs.KeyedJobLaw.{slots_after}
+use Rattle.lsp_jobs.specs.KeyedJobLaw.{SlotEvent, starts, ends_heard, ends_left}
 use Rattle.lsp_jobs.specs.Stated.{StatedJobs}
 use Rattle.lsp_jobs.specs.declared.asking.RequestOrigin.{RequestOrigin}
 use Rattle.lsp_jobs.specs.declared.names.JobName.{JobName}
-use Rattle.lsp_jobs.specs.declared.names.JobName.TheVariants.{Request, Slot}
+use Rattle.lsp_jobs.specs.declared.names.JobName.TheVariants.{Request, Keyed}
 
 module _ {S J F P : Type 0} (may : StatedJobs S J F P) where
   -- no job starts in this slot
@@ -112,13 +112,13 @@ module _ {S J F P : Type 0} (plain : Plain S P) (may : StatedJobs S J F P) where
       )
 
       nobody : (name : JobName) (job : J) → Stands plain may earlier name job → ⊥
-      nobody (Slot slot) job there =
+      nobody (Keyed slot) job there =
           let l = there.last in unstarted l.turn slot job (place l.before l.since l.turn l.cut) l.started
       nobody (Request id) job l = ungiven l.turn job (place l.before l.since l.turn l.cut) l.given
 
   -- the end of a job was heard, its slot was not changed then, and it stands as before
   pub still_stands : (turns : List (Turn plain may)) (slot : Id) (job : J) (t : Turn plain may) → t.heard ≡ Some
-      (Slot slot)
+      (Keyed slot)
       → LeavesAlone slot t.changes → Becomes may t.changes t.became → IsIn plain may (turns ++ t ∷ []) slot job → ⊥
   still_stands turns slot job t heard alone becomes there =
       let before = slots_after plain may turns in

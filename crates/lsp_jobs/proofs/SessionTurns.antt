@@ -1,8 +1,7 @@
 -- The turns of a server with jobs through its session, one at each exchange since the result of `initialize`.
 use Rattle.serde_json.specs.Data.{Data}
 use Rattle.std.proofs.Common.{◌≡◌, ◌⊎◌, refl, sym, ◌∙◌, ap, subst, inl, inr, ℕ, Bool, true, false, List, [], ◌∷◌, ◌++◌}
-use Rattle.std.proofs.Common.{append_assoc}
-use Rattle.std.proofs.Common.{append-nil, Option, Some, None, codes}
+use Rattle.std.proofs.Common.{append_assoc, append-nil, Option, Some, None, codes}
 use Rattle.std.proofs.lemmas.Slice.Eq.{bytes_eq-Decides}
 use Rattle.std.specs.Bool.{MatchBool}
 use Rattle.std.specs.Prelude.{Result, Ok, Err, IsSomeAnd}
@@ -10,21 +9,24 @@ use Rattle.lsp_message.specs.Id.{Id}
 use Rattle.lsp_message.specs.Message.{Message, ErrorObject, request, notification, response}
 use Rattle.lsp_message.specs.Methods.{is_initialize, is_initialized}
 use Rattle.lsp_queue.specs.Queue.{count_of}
-use Rattle.lsp_session.proofs.Ran.{Ran, reaches_ran, Idle, early_request, early_note, unasked, uninvited, leaves, exits}
-use Rattle.lsp_session.proofs.Ran.{late, stays, StepCase, at_initialize, at_initialized, at_served, at_woken}
-use Rattle.lsp_session.proofs.Ran.{at_shutdown, idle, row, part_one, IsWhole}
+use Rattle.lsp_session.proofs.Ran.{TurnCase, turn_case, whole as all_taken, lost_reply, breaks, none_broken, no_one}
+use Rattle.lsp_session.proofs.Ran.{Idle, early_request, early_note, unasked, uninvited, leaves, exits, late, stays}
+use Rattle.lsp_session.proofs.Ran.{StepCase, at_initialize, at_initialized, at_served, at_woken, at_shutdown, idle, row}
+use Rattle.lsp_session.proofs.Ran.{part_one, IsWhole}
 use Rattle.lsp_session.specs.Replies.{IsEarlyReply}
-use Rattle.lsp_session.specs.Session.{Exchange, SessionAnswer, Stop, Phase, starting, replied as in_reply, serving}
-use Rattle.lsp_session.specs.Session.{decided, exhausted, no_more, phase_after, refused, timed_out, Step}
+use Rattle.lsp_session.specs.Session.{Behavior, Exchange, offered, SessionAnswer, Stop, Phase, starting}
+use Rattle.lsp_session.specs.Session.{replied as in_reply, serving, broken, decided, exhausted, no_more, phase_after}
+use Rattle.lsp_session.specs.Session.{refused, timed_out, Step, Steps, Stops}
 use Rattle.lsp_session.specs.SessionLaws.{EndsWithResult}
+use Rattle.lsp_session.specs.declared.lifecycle.SendFault.{SendFault}
 use Rattle.lsp_acts.proofs.Acting.{acts_at}
 use Rattle.lsp_acts.proofs.Counting.{Fresh}
 use Rattle.lsp_acts.specs.Acts.{Act, Queues, TakesBack, unsent}
 use Rattle.lsp_acts.specs.Law.{AnswersInitialize, Call, Initializes}
-use Rattle.lsp_acts.specs.QueuedServer.{with_queues, OpensSending, WorksSending}
+use Rattle.lsp_acts.specs.ServerApplication.{with_queues, OpensSending, WorksSending}
 use Rattle.lsp_acts.specs.SentByActs.{ActsAt, acts_done_at, all_sends, queues_at}
 use Rattle.lsp_acts.specs.View as queues
-use Rattle.lsp_acts.specs.declared.queued_server.QueuedServer.{QueuedServer}
+use Rattle.lsp_acts.specs.declared.server_application.ServerApplication.{ServerApplication}
 use Rattle.lsp_acts.specs.declared.server.Server.{Ghosts as Plain}
 use Rattle.lsp_jobs.proofs.Answering.{back_pending, requests_then, sent_all}
 use Rattle.lsp_jobs.proofs.Owed.{replies_at_wake, waits_called, waits_opened, HeldWaits}
@@ -34,7 +36,7 @@ use Rattle.lsp_jobs.specs.JobLaw.{AnswersByJobs, AreTakenAt, IsTakenAt, Leads, M
 use Rattle.lsp_jobs.specs.JobSession.{JobSession, seen_with_jobs}
 use Rattle.lsp_jobs.specs.PendingJobs.{PendingJobs, no_jobs}
 use Rattle.lsp_jobs.specs.PoolView.{pending_jobs}
-use Rattle.lsp_jobs.specs.SlotLaw.{AreTurns, IsTurn, Turn}
+use Rattle.lsp_jobs.specs.KeyedJobLaw.{AreTurns, IsTurn, Turn}
 use Rattle.lsp_jobs.specs.Stated.{StatedJobs}
 use Rattle.lsp_jobs.specs.declared.asking.RequestOrigin.{RequestOrigin}
 use Rattle.lsp_jobs.specs.declared.pooled_server.PooledServer.{PooledServer}
@@ -51,7 +53,8 @@ no_cancel (notification method params) acts is =
 module _ {S P : Type 0} (may : Plain S P) where
   -- what one message does up to the result of `initialize`
   abbrev Begins : S → Exchange → S → Type 0
-  Begins old x new = IsSomeAnd x.came (λ m. MatchBool (is_initialize m) (Initializes may old m x.sent new) (new ≡ old))
+  Begins old x new = IsSomeAnd x.came (λ m. MatchBool (is_initialize m) (Initializes may old m (offered x) new) (new
+      ≡ old))
 
   begins_more : (old mid new : S) (xs : List Exchange) (x : Exchange) → AnswersInitialize may old xs mid
       → Begins mid x new → AnswersInitialize may old (xs ++ x ∷ []) new
@@ -68,7 +71,7 @@ module _ {S J F P : Type 0} (plain : Plain S P) (may : StatedJobs S J F P) where
 
   turns_more : (start now : S) (turns : List (Turn plain may)) (t : Turn plain may)
       → AreTurns plain may start turns t.old → IsTurn plain may t
-      → ((own : List P) × TakesBack plain.takes_back t.new own now)
+      → ((own : List P) × TakesBack plain.ids_exhausted_post t.new own now)
       → AreTurns plain may start (turns ++ t ∷ []) now
   turns_more start now [] t are is back = (are, is, back)
   turns_more start now (u ∷ turns) t are is back = (are.0, are.1, turns_more u.new now turns t are.2 is back)
@@ -76,7 +79,7 @@ module _ {S J F P : Type 0} (plain : Plain S P) (may : StatedJobs S J F P) where
   -- one exchange more, and its turn
   leads_on : (first now : S) (earlier : List Exchange) (x : Exchange) (turns : List (Turn plain may))
       (t : Turn plain may) → Leads plain may first earlier turns t.old → IsTakenAt plain may x t → IsTurn plain may t
-      → ((own : List P) × TakesBack plain.takes_back t.new own now)
+      → ((own : List P) × TakesBack plain.ids_exhausted_post t.new own now)
       → Leads plain may first (earlier ++ x ∷ []) (turns ++ t ∷ []) now
   leads_on first now earlier x turns t led taken is back = record {
     early = led.early;
@@ -104,12 +107,18 @@ lost_so timed_out later more (inr last) = absurd (last.1 tt)
 lost_so exhausted later more (inl none) = none
 lost_so exhausted later more (inr last) = absurd (last.1 tt)
 
+-- after a refusal the session stopped with that
+refused_only : {T : Type 0} (can : Behavior T) (fault : SendFault) (s s' : T) (stop : Stop) (answer : SessionAnswer)
+    → Stops can (broken fault) s stop answer s' → IsWhole stop → ⊥
+refused_only can fault s s' (refused other) answer stops = λ none. none
+refused_only can fault s s' stop answer stops = absurd stops
+
 module _ (T : Type 0) {S J F P : Type 0} (plain : Plain S P) (may : StatedJobs S J F P) (first : S) where
   abbrev W : Plain (PooledServer T S J F) (RequestOrigin P)
   W = seen_with_jobs T plain may
 
   abbrev Working : Type 0
-  Working = QueuedServer (PooledServer T S J F) (RequestOrigin P)
+  Working = ServerApplication (PooledServer T S J F) (RequestOrigin P)
 
   abbrev pending : Working → PendingJobs J
   pending w = pending_jobs w.server.pool
@@ -135,8 +144,8 @@ module _ (T : Type 0) {S J F P : Type 0} (plain : Plain S P) (may : StatedJobs S
 
   -- a wake at which this was to be sent and is lost
   abbrev Wake : List Exchange → Exchange → List Message → Type 0
-  Wake earlier x more = x.came ≡ None → (wake : WakeSends plain may first earlier x.sent) × (wake.lost ≡ more)
-      × RepliesToLast earlier x.sent
+  Wake earlier x more = x.came ≡ None → (wake : WakeSends plain may first earlier (offered x)) × (wake.lost ≡ more)
+      × RepliesToLast earlier (offered x)
 
   -- The session goes on only if nothing is lost.
   abbrev Steps_on : List Exchange → Exchange → List Message → Phase → Working → Type 0
@@ -147,20 +156,21 @@ module _ (T : Type 0) {S J F P : Type 0} (plain : Plain S P) (may : StatedJobs S
       (call : Call (RequestOrigin P)) (turns : List (Turn plain may)) (count : ℕ)
       → (t : TurnOf T plain may old did call) → Leads plain may first earlier turns old.server
       → IsTakenAt plain may x t.turn
-      → TakesBack W.takes_back did (unsent count call.acts) w'.server
+      → TakesBack W.ids_exhausted_post did (unsent count call.acts) w'.server
       → AllStand plain may (turns ++ t.turn ∷ []) (pending_jobs did.pool) → Stood (earlier ++ x ∷ []) w'
   stood_on earlier x old did w' call turns count t led taken back stand = record {
     turns = turns ++ t.turn ∷ [];
     led = leads_on plain may first w'.server.server earlier x turns t.turn
         (subst (Leads plain may first earlier turns) (sym t.from) led) taken t.is_turn
-        (subst (λ (s : S). (own : List P) × TakesBack plain.takes_back s own w'.server.server) (sym t.to)
+        (subst (λ (s : S). (own : List P) × TakesBack plain.ids_exhausted_post s own w'.server.server) (sym t.to)
         (took_back T plain may (unsent count call.acts) did w'.server back));
     stand = subst (AllStand plain may (turns ++ t.turn ∷ []))
         (sym (back_pending T plain may (unsent count call.acts) did w'.server back)) stand;
   }
 
   -- the server is called
-  called : (earlier : List Exchange) (w w' : Working) (x : Exchange) (full more : List Message) → x.sent ++ more ≡ full
+  called : (earlier : List Exchange) (w w' : Working) (x : Exchange) (full more : List Message)
+      → offered x ++ more ≡ full
       → Ready earlier serving w
       → WorksSending W (queues.seen w) x.came full (queues.seen w') → Steps_on earlier x more serving w'
   called earlier w w' x full more part ready gives = (
@@ -176,7 +186,7 @@ module _ (T : Type 0) {S J F P : Type 0} (plain : Plain S P) (may : StatedJobs S
         sent = (
           asked,
           subst (λ (o : Option Message). all_sends asked (acts_done_at o t.turn.call.acts)
-              ≡ x.sent ++ more) none sends,
+              ≡ offered x ++ more) none sends,
         );
       },
       refl,
@@ -186,7 +196,7 @@ module _ (T : Type 0) {S J F P : Type 0} (plain : Plain S P) (may : StatedJobs S
     λ whole. (
       ap (λ (y : PooledServer T S J F × Queues (RequestOrigin P)). y.1.sent) gives.3,
       stood_on earlier x w.server a.did w' call s.turns (count_of (queues_in w).asked) t s.led
-          (came, (asked, sends ∙ ap (λ (l : List Message). x.sent ++ l) whole ∙ append-nil x.sent)) a.back
+          (came, (asked, sends ∙ ap (λ (l : List Message). offered x ++ l) whole ∙ append-nil (offered x))) a.back
           (stands_after T plain may w.server a.did s.turns call t s.stand
           (requests_then T plain may w.server a.did x.came a.payload a.acts a.handed)),
       λ id. waits_called W id earlier w w' x full more part ready.0 (ready.2 id) gives,
@@ -211,21 +221,21 @@ module _ (T : Type 0) {S J F P : Type 0} (plain : Plain S P) (may : StatedJobs S
       came : t.turn.call.came ≡ x.came
       came = ap (λ (c : Call (RequestOrigin P)). c.came) t.of_call
 
-      sends : all_sends asked (acts_done_at x.came t.turn.call.acts) ≡ x.sent ++ more
+      sends : all_sends asked (acts_done_at x.came t.turn.call.acts) ≡ offered x ++ more
       sends = ap (λ (c : Call (RequestOrigin P)). all_sends asked (acts_done_at x.came c.acts)) t.of_call
           ∙ sym (a.sent ∙ ap (λ (l : List Message). l ++ all_sends asked (acts_done_at x.came a.acts)) ready.0)
           ∙ sym part
 
   -- `initialized` came
   opened : (earlier : List Exchange) (w w' : Working) (x : Exchange) (m : Message) (full more : List Message) → x.came
-      ≡ Some m → is_initialized m ≡ true → x.sent ++ more ≡ full → Early earlier w → EndsWithResult earlier
+      ≡ Some m → is_initialized m ≡ true → offered x ++ more ≡ full → Early earlier w → EndsWithResult earlier
       → OpensSending W (queues.seen w) full (queues.seen w') → Steps_on earlier x more serving w'
   opened earlier w w' x m full more there begins part early ends o = (
     (λ none. absurd (cc (there, none))),
     λ whole. (
       ap (λ (y : PooledServer T S J F × Queues (RequestOrigin P)). y.1.sent) o.3,
       stood_on earlier x w.server o.1.1 w' call [] (count_of (queues_in w).asked) t led (taken whole)
-          (subst (λ (p : PooledServer T S J F). TakesBack W.takes_back o.1.1
+          (subst (λ (p : PooledServer T S J F). TakesBack W.ids_exhausted_post o.1.1
           (unsent (count_of (queues_in w).asked) o.1.0) p)
           (sym (ap (λ (y : PooledServer T S J F × Queues (RequestOrigin P)). y.0) o.3)) o.1.3)
           (stands_opened T plain may w.server o.1.1 call early.1 o.1.2 t),
@@ -263,17 +273,17 @@ module _ (T : Type 0) {S J F P : Type 0} (plain : Plain S P) (may : StatedJobs S
           ap (λ (c : Call (RequestOrigin P)). all_sends (queues_in w) (acts_done_at x.came c.acts)) t.of_call
               ∙ ap (λ (l : Option Message). all_sends (queues_in w) (acts_done_at l o.1.0)) there
               ∙ ap (all_sends (queues_in w)) (no_cancel m o.1.0 begins) ∙ sym sent ∙ sym part
-              ∙ ap (λ (l : List Message). x.sent ++ l) whole ∙ append-nil x.sent,
+              ∙ ap (λ (l : List Message). offered x ++ l) whole ∙ append-nil (offered x),
         ),
       )
 
   -- a message that comes before the result
   abbrev Begun : Working → Exchange → Working → Message → Bool → Type 0
-  Begun w x w' m b = MatchBool b (Initializes plain w.server.server m x.sent w'.server.server)
+  Begun w x w' m b = MatchBool b (Initializes plain w.server.server m (offered x) w'.server.server)
       (w'.server.server ≡ w.server.server)
 
   begins_at : (w w' : Working) (x : Exchange) (full : List Message) (q : Phase)
-      → ((r : Message) → full ≡ r ∷ [] → x.sent ≡ r ∷ []) → Step (with_queues W) starting w x.came full q w'
+      → ((r : Message) → full ≡ r ∷ [] → offered x ≡ r ∷ []) → Step (with_queues W) starting w x.came full q w'
       → Begins plain w.server.server x w'.server.server
   begins_at w w' x full q one step = at x.came step
     where
@@ -321,13 +331,14 @@ module _ (T : Type 0) {S J F P : Type 0} (plain : Plain S P) (may : StatedJobs S
       at (late i begun is sent next) = rw next tt
       at (stays i shown begun e sent next) = rw next tt
 
-  one_step : (earlier : List Exchange) (p q : Phase) (w w' : Working) (x : Exchange) (full more : List Message) → x.sent
-      ++ more ≡ full → (x.sent ≡ [] → full ≡ []) → Ready earlier p w
+  one_step : (earlier : List Exchange) (p q : Phase) (w w' : Working) (x : Exchange) (full more : List Message)
+      → (offered x)
+      ++ more ≡ full → (offered x ≡ [] → full ≡ []) → Ready earlier p w
       → Step (with_queues W) p w x.came full q w' → Steps_on earlier x more q w'
   one_step earlier p q w w' x full more part some ready step = by (row (with_queues W) p q w w' x.came full step)
     where
-      one : (r : Message) → full ≡ r ∷ [] → x.sent ≡ r ∷ []
-      one r e = part_one x.sent more full r part some e
+      one : (r : Message) → full ≡ r ∷ [] → offered x ≡ r ∷ []
+      one r e = part_one (offered x) more full r part some e
 
       early : p ≡ starting → AnswersInitialize plain first (earlier ++ x ∷ []) w'.server.server
       early begun =
@@ -349,7 +360,10 @@ module _ (T : Type 0) {S J F P : Type 0} (plain : Plain S P) (may : StatedJobs S
           params = params;
           result = result;
           asks = e;
-          cut = λ k. earlier ++ record { came = is k; sent = one (response i (Ok result)) sent k } ∷ [];
+          last = x;
+          cut = refl;
+          came = is;
+          gets = one (response i (Ok result)) sent;
         },
       )
 
@@ -380,26 +394,51 @@ module _ (T : Type 0) {S J F P : Type 0} (plain : Plain S P) (may : StatedJobs S
 
   -- what is sent at an exchange that is a wake, and what is lost
   abbrev At : Stop → List Exchange → Exchange → List Exchange → Type 0
-  At stop earlier x later = x.came ≡ None → (wake : WakeSends plain may first earlier x.sent)
-      × MayLose stop later wake.lost × RepliesToLast earlier x.sent
+  At stop earlier x later = x.came ≡ None → (wake : WakeSends plain may first earlier (offered x))
+      × MayLose stop later wake.lost × RepliesToLast earlier (offered x)
 
   abbrev AllWakes : Stop → List Exchange → List Exchange → Type 0
   AllWakes stop earlier [] = Unit {0}
   AllWakes stop earlier (x ∷ xs) = At stop earlier x xs × AllWakes stop (earlier ++ x ∷ []) xs
 
-  run_wakes : (stop : Stop) (earlier xs : List Exchange) (p q : Phase) (w w' : Working) → Ran (with_queues W) stop p w
-      xs q w' → Ready earlier p w → AllWakes stop earlier xs
-  run_wakes stop earlier [] p q w w' run ready = tt
-  run_wakes stop earlier (x ∷ xs) p q w w' run ready =
-      let one = one_step earlier p run.4 w run.5 x run.0 run.1 run.2 run.3 ready run.6 in (
-        λ none.
-            let wake = one.0 none in
-            (wake.0, subst (MayLose stop xs) (sym wake.1) (lost_so stop xs run.1 run.7), wake.2),
-        elim run.7 [
-          | inl whole ↦ run_wakes stop (earlier ++ x ∷ []) xs run.4 q run.5 w' run.8 (one.1 whole)
-          | inr last ↦ subst (AllWakes stop (earlier ++ x ∷ [])) (sym last.0) tt
-        ],
-      )
+  run_wakes : (stop : Stop) (earlier xs : List Exchange) (p q : Phase) (w w' : Working)
+      → ((fault : SendFault) → q ≡ broken fault → IsWhole stop → ⊥) → Steps (with_queues W) p w xs q w'
+      → Ready earlier p w → AllWakes stop earlier xs
+  run_wakes stop earlier [] p q w w' broke run ready = tt
+  run_wakes stop earlier (x ∷ xs) p q w w' broke run ready =
+      at (λ on. run_wakes stop (earlier ++ x ∷ []) xs run.0.0 q run.0.1 w' broke run.2 on)
+      (turn_case (with_queues W) p run.0.0 w run.0.1 x run.1)
+    where
+      Later : Type 0
+      Later = Ready (earlier ++ x ∷ []) run.0.0 run.0.1 → AllWakes stop (earlier ++ x ∷ []) xs
+
+      -- all was offered
+      more : Later → Step (with_queues W) p w x.came (offered x) run.0.0 run.0.1 → AllWakes stop earlier (x ∷ xs)
+      more on step =
+          let one = one_step earlier p run.0.0 w run.0.1 x (offered x) [] (append-nil (offered x)) (λ e. e) ready
+          step in (
+            λ none.
+                let wake = one.0 none in
+                (wake.0, subst (MayLose stop xs) (sym wake.1) (lost_so stop xs [] (inl refl)), wake.2),
+            on (one.1 refl),
+          )
+
+      at : Later → TurnCase (with_queues W) p w x run.0.0 run.0.1 → AllWakes stop earlier (x ∷ xs)
+      at on (all_taken is step) = more on (rw is step)
+      at on (lost_reply m i is next step) = more on (rw (is, next) step)
+      at on (breaks m lost fault next is gone step other) =
+          let over = none_broken (with_queues W) fault q run.0.1 w' xs
+          (subst (λ (r : Phase). Steps (with_queues W) r run.0.1 xs q w') gone run.2) in
+          let one = one_step earlier p next w run.0.1 x (offered x ++ lost) lost refl
+          (λ e. absurd (no_one x.sent [] m (rw is at e))) ready (rw (is, append_assoc x.sent (m ∷ []) lost) step) in (
+            λ none.
+                let wake = one.0 none in (
+                  wake.0,
+                  subst (MayLose stop xs) (sym wake.1) (lost_so stop xs lost (inr (over.0, broke fault over.1))),
+                  wake.2,
+                ),
+            subst (AllWakes stop (earlier ++ x ∷ [])) (sym over.0) tt,
+          )
 
   at_each : (stop : Stop) (earlier xs : List Exchange) → AllWakes stop earlier xs → (before later : List Exchange)
       (x : Exchange) → xs ≡ before ++ x ∷ later → At stop (earlier ++ before) x later
@@ -418,9 +457,9 @@ module _ (T : Type 0) {S J F P : Type 0} (plain : Plain S P) (may : StatedJobs S
       (at_each stop (earlier ++ y ∷ []) xs all.1 before later x rest)
 
 pub answers_by_jobs : (T : Type 0) {S J F P : Type 0} (plain : Plain S P) (may : StatedJobs S J F P) (first last : S)
-    (xs : List Exchange) (stop : Stop) (shutdown_reply : Option Message) (answer : SessionAnswer)
-    → JobSession T plain may first last xs stop shutdown_reply answer → AnswersByJobs plain may first stop xs
-answers_by_jobs T {S} {J} {F} {P} plain may first last xs stop shutdown_reply answer session =
+    (xs : List Exchange) (stop : Stop) (answer : SessionAnswer)
+    → JobSession T plain may first last xs stop answer → AnswersByJobs plain may first stop xs
+answers_by_jobs T {S} {J} {F} {P} plain may first last xs stop answer session =
     let s = session.session in
     let began = ap (λ (y : PooledServer T S J F × Queues (RequestOrigin P)). y.0) s.from_first in
     let none : pending_jobs s.old.server.pool ≡ no_jobs =
@@ -430,5 +469,6 @@ answers_by_jobs T {S} {J} {F} {P} plain may first last xs stop shutdown_reply an
     ap (λ (p : PooledServer T S J F). p.server) began ∙ ap (λ (y : S × PendingJobs J). y.0) session.from_first in
     λ earlier later x cut. at_each T plain may first stop [] xs (run_wakes T plain may first stop [] xs starting
     s.out.last s.old s.out.after
-    (reaches_ran (with_queues (seen_with_jobs T plain may)) stop starting s.out.last s.old s.out.after xs s.out.reached)
+    (λ fault is. refused_only (with_queues (seen_with_jobs T plain may)) fault s.out.after s.new stop answer
+    (rw is at s.out.stopped)) s.out.reached
     (ap (λ (y : PooledServer T S J F × Queues (RequestOrigin P)). y.1) s.from_first, none, same)) earlier later x cut

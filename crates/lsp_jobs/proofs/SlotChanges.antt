@@ -13,16 +13,17 @@ use Rattle.lsp_jobs.specs.Ends.{End, ended}
 use Rattle.lsp_jobs.proofs.PendingLemmas.{without_with}
 use Rattle.lsp_jobs.specs.PendingJobs.{PendingJobs, with_job, without}
 use Rattle.lsp_jobs.specs.Pooled.{unanswered, Changes, EndsThen, Frees, StartsOne}
-use Rattle.lsp_jobs.specs.SlotLaw.{IsLeft, LeavesAlone, Left, SeesLeft, Spares, StartsLast, at_ends}
-use Rattle.lsp_jobs.specs.SlotLaw.{SlotEvent, starts, ends_heard, ends_left, lefts_of, after_event, after_events, Fits}
-use Rattle.lsp_jobs.specs.SlotLaw.{TakeTurns, MayLeave, Becomes}
+use Rattle.lsp_jobs.specs.KeyedJobLaw.{IsLeft, LeavesAlone, Left, SeesLeft, Spares, StartsLast, at_ends}
+use Rattle.lsp_jobs.specs.KeyedJobLaw.{SlotEvent, starts, ends_heard, ends_left, lefts_of, after_event, after_events}
+use Rattle.lsp_jobs.specs.KeyedJobLaw.{Fits}
+use Rattle.lsp_jobs.specs.KeyedJobLaw.{TakeTurns, MayLeave, Becomes}
 use Rattle.lsp_jobs.specs.Stated.{StatedJobs}
 use Rattle.lsp_jobs.specs.declared.job_server.JobEnd.{JobEnd}
 use Rattle.lsp_jobs.specs.declared.job_server.JobEnd.TheVariants.{Refused, Replaced, Stopped}
-use Rattle.lsp_jobs.specs.declared.job_server.SlotChange.{SlotChange}
-use Rattle.lsp_jobs.specs.declared.job_server.SlotChange.TheVariants.{Start, Stop}
+use Rattle.lsp_jobs.specs.declared.job_server.JobCommand.{JobCommand}
+use Rattle.lsp_jobs.specs.declared.job_server.JobCommand.TheVariants.{Start, Stop}
 use Rattle.lsp_jobs.specs.declared.names.JobName.{JobName}
-use Rattle.lsp_jobs.specs.declared.names.JobName.TheVariants.{Request, Slot}
+use Rattle.lsp_jobs.specs.declared.names.JobName.TheVariants.{Request, Keyed}
 
 module _ {P : Type 0} where
   pub spares-append : (id : Id) (xs ys : List (Act P)) → Spares id xs → Spares id ys → Spares id (xs ++ ys)
@@ -42,24 +43,24 @@ module _ {A : Type 0} where
       ≡ Some e → (pending (Request id) ≡ Some e) × (eq_by_cmp id_cmp id i ≡ false)
   without_request i pending id e has = kept_if (same_id id i) (pending (Request id)) e has
 
-  without_slot : (t : Id) (pending : PendingJobs A) (s : Id) (e : A) → without (Slot t) pending (Slot s) ≡ Some e
-      → (pending (Slot s) ≡ Some e) × (same_id s t ≡ false)
-  without_slot t pending s e has = kept_if (same_id s t) (pending (Slot s)) e has
+  without_slot : (t : Id) (pending : PendingJobs A) (s : Id) (e : A) → without (Keyed t) pending (Keyed s) ≡ Some e
+      → (pending (Keyed s) ≡ Some e) × (same_id s t ≡ false)
+  without_slot t pending s e has = kept_if (same_id s t) (pending (Keyed s)) e has
 
   -- whatever job is gone
   pub fewer_requests : (name : JobName) (pending : PendingJobs A) (id : Id) (e : A) → without name pending (Request id)
       ≡ Some e → pending (Request id) ≡ Some e
   fewer_requests (Request i) pending id e has = (without_request i pending id e has).0
-  fewer_requests (Slot slot) pending id e has = has
+  fewer_requests (Keyed slot) pending id e has = has
 
-  pub fewer_slots : (name : JobName) (pending : PendingJobs A) (s : Id) (e : A) → without name pending (Slot s)
-      ≡ Some e → pending (Slot s) ≡ Some e
+  pub fewer_slots : (name : JobName) (pending : PendingJobs A) (s : Id) (e : A) → without name pending (Keyed s)
+      ≡ Some e → pending (Keyed s) ≡ Some e
   fewer_slots (Request i) pending s e has = has
-  fewer_slots (Slot t) pending s e has = (without_slot t pending s e has).0
+  fewer_slots (Keyed t) pending s e has = (without_slot t pending s e has).0
 
   -- the job that is in each slot
   abbrev pub in_slots : PendingJobs A → Id → Option A
-  in_slots pending = λ slot. pending (Slot slot)
+  in_slots pending = λ slot. pending (Keyed slot)
 
 module _ {A P : Type 0} where
   pub unanswered_has : (acts : List (Act P)) (pending : PendingJobs A) (id : Id) (e : A) → unanswered acts pending
@@ -75,7 +76,7 @@ module _ {A P : Type 0} where
 
   -- replies leave slots as they are
   pub unanswered_slot : (acts : List (Act P)) (pending : PendingJobs A) (slot : Id) → unanswered acts pending
-      (Slot slot) ≡ pending (Slot slot)
+      (Keyed slot) ≡ pending (Keyed slot)
   unanswered_slot [] pending slot = refl
   unanswered_slot (replies i outcome ∷ acts) pending slot = unanswered_slot acts (without (Request i) pending) slot
   unanswered_slot (tells method params ∷ acts) pending slot = unanswered_slot acts pending slot
@@ -123,7 +124,7 @@ module _ {S J F P : Type 0} (may : StatedJobs S J F P) where
   left_other slot other end (ends_heard s ∷ events) apart leave slots = absurd leave
 
   -- changes of others leave a slot as it is
-  pub others_keep : (slot : Id) (changes : List (SlotChange J)) (events : List (SlotEvent may))
+  pub others_keep : (slot : Id) (changes : List (JobCommand J)) (events : List (SlotEvent may))
       → LeavesAlone slot changes → Becomes may changes events → (slots : Id → Option J)
       → after_events may slots events slot ≡ slots slot
   others_keep slot [] events alone is slots =
@@ -159,9 +160,9 @@ module _ {S J F P : Type 0} (plain : Plain S P) (may : StatedJobs S J F P) where
     pub turns : TakeTurns may (in_slots old.1) events
 
   -- what becomes of the jobs in slots, by these changes
-  abbrev pub Moves : List (SlotChange J) → State → State → Type 0
-  Moves changes old new = (slot : Id) (e : J) → new.1 (Slot slot) ≡ Some e
-      → ((old.1 (Slot slot) ≡ Some e) × LeavesAlone slot changes) ⊎ StartsLast changes slot e
+  abbrev pub Moves : List (JobCommand J) → State → State → Type 0
+  Moves changes old new = (slot : Id) (e : J) → new.1 (Keyed slot) ≡ Some e
+      → ((old.1 (Keyed slot) ≡ Some e) × LeavesAlone slot changes) ⊎ StartsLast changes slot e
 
   at_ends-append : (xs ys : List (Left may)) → at_ends may (xs ++ ys) ≡ at_ends may xs ++ at_ends may ys
   at_ends-append [] ys = refl
@@ -217,8 +218,8 @@ module _ {S J F P : Type 0} (plain : Plain S P) (may : StatedJobs S J F P) where
   Freed slot end old new = (w : Went old new) × MayLeave may slot end w.events
 
   -- a job in a slot ended
-  went_end : (slot : Id) (end : JobEnd) → IsLeft {F = F} (ended end) → (old new : State) → IsSome (old.1 (Slot slot))
-      → EndsThen may (Slot slot) (ended end) (old.0, without (Slot slot) old.1, old.2) new → Freed slot end old new
+  went_end : (slot : Id) (end : JobEnd) → IsLeft {F = F} (ended end) → (old new : State) → IsSome (old.1 (Keyed slot))
+      → EndsThen may (Keyed slot) (ended end) (old.0, without (Keyed slot) old.1, old.2) new → Freed slot end old new
   went_end slot end is old new there ends =
       let e = ends.1 in
       let l : Left may = record {
@@ -235,59 +236,59 @@ module _ {S J F P : Type 0} (plain : Plain S P) (may : StatedJobs S J F P) where
           linked = (refl, refl);
           acts = ends.2 ∙ ap (λ (acts : List (Act P)). old.2 ++ acts) e.2;
           requests = λ id x has.
-              let own = unanswered_has ends.0 (without (Slot slot) old.1) id x
+              let own = unanswered_has ends.0 (without (Keyed slot) old.1) id x
               (ap (λ (p : PendingJobs J). p (Request id)) (sym e.3) ∙ has) in
               (own.0, subst (Spares id) e.2 own.1);
-          slots = ap (λ (p : PendingJobs J). in_slots p) e.3 ∙ unanswered_slots ends.0 (without (Slot slot) old.1);
+          slots = ap (λ (p : PendingJobs J). in_slots p) e.3 ∙ unanswered_slots ends.0 (without (Keyed slot) old.1);
           turns = (there, tt);
         },
         (refl, refl),
       )
 
   end_slots : (slot : Id) (end : End F) (old new : State)
-      → EndsThen may (Slot slot) end (old.0, without (Slot slot) old.1, old.2) new → (s : Id) (e : J)
-      → new.1 (Slot s) ≡ Some e → (old.1 (Slot s) ≡ Some e) × (same_id s slot ≡ false)
+      → EndsThen may (Keyed slot) end (old.0, without (Keyed slot) old.1, old.2) new → (s : Id) (e : J)
+      → new.1 (Keyed s) ≡ Some e → (old.1 (Keyed s) ≡ Some e) × (same_id s slot ≡ false)
   end_slots slot end old new ends s e has =
-      without_slot slot old.1 s e (sym (unanswered_slot ends.0 (without (Slot slot) old.1) s)
-      ∙ ap (λ (p : PendingJobs J). p (Slot s)) (sym ends.1.3) ∙ has)
+      without_slot slot old.1 s e (sym (unanswered_slot ends.0 (without (Keyed slot) old.1) s)
+      ∙ ap (λ (p : PendingJobs J). p (Keyed s)) (sym ends.1.3) ∙ has)
 
   -- a slot is freed
   went_free : (slot : Id) (end : JobEnd) → IsLeft {F = F} (ended end) → (old new : State)
-      → Frees may (Slot slot) (ended end) old new → Freed slot end old new
-  went_free slot end is old new frees = at (old.1 (Slot slot)) refl frees
+      → Frees may (Keyed slot) (ended end) old new → Freed slot end old new
+  went_free slot end is old new frees = at (old.1 (Keyed slot)) refl frees
     where
-      at : (o : Option J) → old.1 (Slot slot) ≡ o → MatchOption o (new ≡ old)
-          (λ (e : J). EndsThen may (Slot slot) (ended end) (old.0, without (Slot slot) old.1, old.2) new)
+      at : (o : Option J) → old.1 (Keyed slot) ≡ o → MatchOption o (new ≡ old)
+          (λ (e : J). EndsThen may (Keyed slot) (ended end) (old.0, without (Keyed slot) old.1, old.2) new)
           → Freed slot end old new
       at None none same = (went_nowhere old new same, tt)
       at (Some e) some ends = went_end slot end is old new (ap (λ (o : Option J). is_some o) some) ends
 
-  free_slots : (slot : Id) (end : End F) (old new : State) → Frees may (Slot slot) end old new → (s : Id) (e : J)
-      → new.1 (Slot s) ≡ Some e → (old.1 (Slot s) ≡ Some e) × (same_id s slot ≡ false)
-  free_slots slot end old new frees s e has = at (old.1 (Slot slot)) refl frees
+  free_slots : (slot : Id) (end : End F) (old new : State) → Frees may (Keyed slot) end old new → (s : Id) (e : J)
+      → new.1 (Keyed s) ≡ Some e → (old.1 (Keyed s) ≡ Some e) × (same_id s slot ≡ false)
+  free_slots slot end old new frees s e has = at (old.1 (Keyed slot)) refl frees
     where
-      at : (o : Option J) → old.1 (Slot slot) ≡ o → MatchOption o (new ≡ old)
-          (λ (e : J). EndsThen may (Slot slot) end (old.0, without (Slot slot) old.1, old.2) new)
-          → (old.1 (Slot s) ≡ Some e) × (same_id s slot ≡ false)
+      at : (o : Option J) → old.1 (Keyed slot) ≡ o → MatchOption o (new ≡ old)
+          (λ (e : J). EndsThen may (Keyed slot) end (old.0, without (Keyed slot) old.1, old.2) new)
+          → (old.1 (Keyed s) ≡ Some e) × (same_id s slot ≡ false)
       at None none same = (was, other (same_id s slot) refl)
         where
-          was : old.1 (Slot s) ≡ Some e
-          was = ap (λ (x : State). x.1 (Slot s)) (sym same) ∙ has
+          was : old.1 (Keyed s) ≡ Some e
+          was = ap (λ (x : State). x.1 (Keyed s)) (sym same) ∙ has
 
           other : (b : Bool) → same_id s slot ≡ b → b ≡ false
           other false at = refl
           other true at =
               let it : s ≡ slot = (id_decides s slot).0 at in
-              let no : Some e ≡ None = sym was ∙ ap (λ (i : Id). old.1 (Slot i)) it ∙ none in
+              let no : Some e ≡ None = sym was ∙ ap (λ (i : Id). old.1 (Keyed i)) it ∙ none in
               absurd (cc (no))
       at (Some x) some ends = end_slots slot end old new ends s e has
 
   -- it is free then
-  now_free : (slot : Id) (end : JobEnd) (old new : State) → Frees may (Slot slot) (ended end) old new
-      → new.1 (Slot slot) ≡ None
-  now_free slot end old new frees = at (new.1 (Slot slot)) refl
+  now_free : (slot : Id) (end : JobEnd) (old new : State) → Frees may (Keyed slot) (ended end) old new
+      → new.1 (Keyed slot) ≡ None
+  now_free slot end old new frees = at (new.1 (Keyed slot)) refl
     where
-      at : (o : Option J) → new.1 (Slot slot) ≡ o → o ≡ None
+      at : (o : Option J) → new.1 (Keyed slot) ≡ o → o ≡ None
       at None none = refl
       at (Some e) some =
           let other = (free_slots slot (ended end) old new frees slot e some).1 in
@@ -300,8 +301,8 @@ module _ {S J F P : Type 0} (plain : Plain S P) (may : StatedJobs S J F P) where
       × (w.events ≡ starts slot job ∷ after)
 
   -- a job is started in it
-  abbrev began : (slot : Id) (job : J) (old : State) → old.1 (Slot slot) ≡ None
-      → Went old (old.0, with_job (Slot slot) job old.1, old.2)
+  abbrev began : (slot : Id) (job : J) (old : State) → old.1 (Keyed slot) ≡ None
+      → Went old (old.0, with_job (Keyed slot) job old.1, old.2)
   began slot job old free = record {
     events = starts slot job ∷ [];
     linked = refl;
@@ -311,8 +312,8 @@ module _ {S J F P : Type 0} (plain : Plain S P) (may : StatedJobs S J F P) where
     turns = (free, tt);
   }
 
-  went_start : (slot : Id) (job : J) (old new : State) → old.1 (Slot slot) ≡ None
-      → StartsOne may (Slot slot) job old new → Started slot job old new
+  went_start : (slot : Id) (job : J) (old new : State) → old.1 (Keyed slot) ≡ None
+      → StartsOne may (Keyed slot) job old new → Started slot job old new
   went_start slot job old new free (inl is) = (
     record {
       events = starts slot job ∷ [];
@@ -334,32 +335,32 @@ module _ {S J F P : Type 0} (plain : Plain S P) (may : StatedJobs S J F P) where
   )
     where
       mid : State
-      mid = (old.0, with_job (Slot slot) job old.1, old.2)
+      mid = (old.0, with_job (Keyed slot) job old.1, old.2)
 
-      there : IsSome (mid.1 (Slot slot))
-      there = ap (λ (b : Bool). is_some (cond b (Some job) (old.1 (Slot slot)))) ((id_decides slot slot).1 refl)
+      there : IsSome (mid.1 (Keyed slot))
+      there = ap (λ (b : Bool). is_some (cond b (Some job) (old.1 (Keyed slot)))) ((id_decides slot slot).1 refl)
 
       last : Freed slot Refused mid new
-      last = went_end slot Refused tt mid new there (subst (λ (p : PendingJobs J). EndsThen may (Slot slot)
-          (ended Refused) (old.0, p, old.2) new) (sym (without_with old.1 (Slot slot) job)) ends)
+      last = went_end slot Refused tt mid new there (subst (λ (p : PendingJobs J). EndsThen may (Keyed slot)
+          (ended Refused) (old.0, p, old.2) new) (sym (without_with old.1 (Keyed slot) job)) ends)
 
-  start_slots : (slot : Id) (job : J) (old new : State) → StartsOne may (Slot slot) job old new → (s : Id)
-      (e : J) → new.1 (Slot s) ≡ Some e → ((old.1 (Slot s) ≡ Some e) × (same_id s slot ≡ false))
+  start_slots : (slot : Id) (job : J) (old new : State) → StartsOne may (Keyed slot) job old new → (s : Id)
+      (e : J) → new.1 (Keyed s) ≡ Some e → ((old.1 (Keyed s) ≡ Some e) × (same_id s slot ≡ false))
       ⊎ ((slot ≡ s) × (job ≡ e))
   start_slots slot job old new (inl is) s e has = at (same_id s slot) refl
-      (ap (λ (x : State). x.1 (Slot s)) (sym is) ∙ has)
+      (ap (λ (x : State). x.1 (Keyed s)) (sym is) ∙ has)
     where
-      at : (b : Bool) → same_id s slot ≡ b → cond b (Some job) (old.1 (Slot s)) ≡ Some e
-          → ((old.1 (Slot s) ≡ Some e) × (same_id s slot ≡ false)) ⊎ ((slot ≡ s) × (job ≡ e))
+      at : (b : Bool) → same_id s slot ≡ b → cond b (Some job) (old.1 (Keyed s)) ≡ Some e
+          → ((old.1 (Keyed s) ≡ Some e) × (same_id s slot ≡ false)) ⊎ ((slot ≡ s) × (job ≡ e))
       at true is has = inr (sym ((id_decides s slot).0 is), cc (has))
       at false is has = inl (has, is)
   start_slots slot job old new (inr ends) s e has = inl (end_slots slot (ended Refused) old new ends s e has)
 
   -- what became of slots at these changes
-  abbrev pub Changed : List (SlotChange J) → State → State → Type 0
+  abbrev pub Changed : List (JobCommand J) → State → State → Type 0
   Changed changes old new = (w : Went old new) × Becomes may changes w.events
 
-  went_change : (change : SlotChange J) (changes : List (SlotChange J)) (old mid new : State)
+  went_change : (change : JobCommand J) (changes : List (JobCommand J)) (old mid new : State)
       → Changes may old change mid → Changed changes mid new → Changed (change ∷ changes) old new
   went_change (Start slot job) changes old mid new c rest =
       let freed = went_free slot Replaced tt old c.0 c.1 in
@@ -379,7 +380,7 @@ module _ {S J F P : Type 0} (plain : Plain S P) (may : StatedJobs S J F P) where
       let freed = went_free slot Stopped tt old mid frees in
       (went_on old mid new freed.0 rest.0, (freed.0.events, rest.0.events, freed.1, refl, rest.1))
 
-  moves_change : (change : SlotChange J) (old new : State) → Changes may old change new → Moves (change ∷ []) old new
+  moves_change : (change : JobCommand J) (old new : State) → Changes may old change new → Moves (change ∷ []) old new
   moves_change (Start slot job) old new c s e has =
       elim (start_slots slot job c.0 new c.2 s e has) [
         | inl was ↦ inl ((free_slots slot (ended Replaced) old c.0 c.1 s e was.0).0, (was.1, tt))
@@ -394,27 +395,27 @@ module _ {S J F P : Type 0} (plain : Plain S P) (may : StatedJobs S J F P) where
       let own = free_slots slot (ended Stopped) old new frees s e has in
       inl (own.0, (own.1, tt))
 
-  alone-append : (slot : Id) (xs ys : List (SlotChange J)) → LeavesAlone slot xs → LeavesAlone slot ys
+  alone-append : (slot : Id) (xs ys : List (JobCommand J)) → LeavesAlone slot xs → LeavesAlone slot ys
       → LeavesAlone slot (xs ++ ys)
   alone-append slot [] ys first second = second
   alone-append slot (x ∷ xs) ys first second = (first.0, alone-append slot xs ys first.1 second)
 
   -- all of them, in order
-  pub went_all : (changes : List (SlotChange J)) (old new : State) → FoldsTo (Changes may) old changes new
+  pub went_all : (changes : List (JobCommand J)) (old new : State) → FoldsTo (Changes may) old changes new
       → Changed changes old new
   went_all [] old new run = (went_nowhere old new (sym run), refl)
   went_all (change ∷ changes) old new run = went_change change changes old run.0 new run.1
       (went_all changes run.0 new run.2)
 
-  pub moves_all : (changes : List (SlotChange J)) (old new : State) → FoldsTo (Changes may) old changes new
+  pub moves_all : (changes : List (JobCommand J)) (old new : State) → FoldsTo (Changes may) old changes new
       → Moves changes old new
-  moves_all [] old new run slot e has = inl (ap (λ (x : State). x.1 (Slot slot)) run ∙ has, tt)
+  moves_all [] old new run slot e has = inl (ap (λ (x : State). x.1 (Keyed slot)) run ∙ has, tt)
   moves_all (change ∷ changes) old new run slot e has =
       elim (moves_all changes run.0 new run.2 slot e has) [
         | inr last ↦ inr (record {
           before = change ∷ last.before;
           after = last.after;
-          cut = ap (λ (l : List (SlotChange J)). change ∷ l) last.cut;
+          cut = ap (λ (l : List (JobCommand J)). change ∷ l) last.cut;
           alone = last.alone;
         })
         | inl was ↦ elim (moves_change change old run.0 run.1 slot e was.0) [
@@ -422,7 +423,7 @@ module _ {S J F P : Type 0} (plain : Plain S P) (may : StatedJobs S J F P) where
           | inr first ↦ inr (record {
             before = first.before;
             after = first.after ++ changes;
-            cut = ap (λ (l : List (SlotChange J)). l ++ changes) first.cut
+            cut = ap (λ (l : List (JobCommand J)). l ++ changes) first.cut
                 ∙ append_assoc first.before (Start slot e ∷ first.after) changes;
             alone = alone-append slot first.after changes first.alone was.1;
           })

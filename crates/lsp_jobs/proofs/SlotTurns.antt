@@ -7,7 +7,7 @@ use Rattle.std.specs.Prelude.{map as map_list, is_some, IsSome, IsSomeAnd}
 use Rattle.lsp_message.specs.Id.{Id}
 use Rattle.lsp_message.specs.Message.{Message, request, notification, response}
 use Rattle.lsp_message.specs.Methods.{is_initialize, is_initialized}
-use Rattle.lsp_session.specs.Session.{Exchange}
+use Rattle.lsp_session.specs.Session.{Exchange, offered}
 use Rattle.lsp_acts.specs.Acts.{Act, TakesBack, cancelled_by, unsent}
 use Rattle.lsp_acts.specs.Law.{AnswersInitialize, Call, Handed, Initializes, TakesCalls, TakesPart, ids_after_all}
 use Rattle.lsp_acts.specs.declared.server.Server.{Ghosts as Plain}
@@ -21,32 +21,32 @@ use Rattle.lsp_jobs.specs.PendingJobs.{PendingJobs, no_jobs, without}
 use Rattle.lsp_jobs.specs.PoolView.{pending_jobs}
 use Rattle.lsp_jobs.specs.Pooled.{reply_at, unanswered, without_cancelled, ChangesSlots, Does, Finishes, TakesLong}
 use Rattle.lsp_jobs.specs.Seen.{seen}
-use Rattle.lsp_jobs.specs.SlotLaw.{AllLeaveAlone, AllQuiet, AreTurns, Becomes, IsCalled, IsGiven, IsTurn, LeavesAlone}
-use Rattle.lsp_jobs.specs.SlotLaw.{IsIn, LastStart, Left, SlotEvent, TakeTurns, after_events, events_of, heard_in}
-use Rattle.lsp_jobs.specs.SlotLaw.{lefts_of}
-use Rattle.lsp_jobs.specs.SlotLaw.{slots_after}
-use Rattle.lsp_jobs.specs.SlotLaw.{MayPass, SeesLeft, SlotHistory, Spares, Stands, StartsLast, Turn, WakeDoes, at_ends}
-use Rattle.lsp_jobs.specs.SlotLaw.{concerns}
+use Rattle.lsp_jobs.specs.KeyedJobLaw.{AllLeaveAlone, AllQuiet, AreTurns, Becomes, IsCalled, IsGiven, IsTurn}
+use Rattle.lsp_jobs.specs.KeyedJobLaw.{LeavesAlone}
+use Rattle.lsp_jobs.specs.KeyedJobLaw.{IsIn, LastStart, Left, SlotEvent, TakeTurns, after_events, events_of, heard_in}
+use Rattle.lsp_jobs.specs.KeyedJobLaw.{lefts_of, slots_after, MayPass, SeesLeft, SlotHistory, Spares, Stands}
+use Rattle.lsp_jobs.specs.KeyedJobLaw.{StartsLast}
+use Rattle.lsp_jobs.specs.KeyedJobLaw.{Turn, WakeDoes, at_ends, concerns}
 use Rattle.lsp_jobs.specs.declared.asking.RequestOrigin.{RequestOrigin}
 use Rattle.lsp_jobs.specs.declared.asking.RequestOrigin.TheVariants.{ByJob, ByServer}
 use Rattle.lsp_jobs.specs.Stated.{SeesEnd, StatedJobs}
-use Rattle.lsp_jobs.specs.declared.job_server.SlotChange.{SlotChange}
+use Rattle.lsp_jobs.specs.declared.job_server.JobCommand.{JobCommand}
 use Rattle.lsp_jobs.specs.declared.names.JobName.{JobName}
-use Rattle.lsp_jobs.specs.declared.names.JobName.TheVariants.{Request, Slot}
+use Rattle.lsp_jobs.specs.declared.names.JobName.TheVariants.{Request, Keyed}
 use Rattle.lsp_jobs.specs.declared.pooled_server.PooledServer.{PooledServer}
 
 module _ {S J F P : Type 0} (plain : Plain S P) (may : StatedJobs S J F P) where
   -- what becomes of the jobs in slots
-  abbrev pub MovesTo : List (SlotChange J) → PendingJobs J → PendingJobs J → Type 0
-  MovesTo changes old new = (slot : Id) (e : J) → new (Slot slot) ≡ Some e
-      → ((old (Slot slot) ≡ Some e) × LeavesAlone slot changes) ⊎ StartsLast changes slot e
+  abbrev pub MovesTo : List (JobCommand J) → PendingJobs J → PendingJobs J → Type 0
+  MovesTo changes old new = (slot : Id) (e : J) → new (Keyed slot) ≡ Some e
+      → ((old (Keyed slot) ≡ Some e) × LeavesAlone slot changes) ⊎ StartsLast changes slot e
 
   -- the server changed its slots, and saw which jobs that ended
   record Made (asked : S) (old : PendingJobs J) (acts all : List (Act P)) (new : S × PendingJobs J)
       : Type 0 where
-    changes : List (SlotChange J)
+    changes : List (JobCommand J)
     mid : S
-    gives : may.changes asked changes mid
+    gives : may.take_commands_post asked changes mid
     became : List (SlotEvent may)
     becomes : Becomes may changes became
     linked : SeesLeft plain may mid (lefts_of may became) new.0
@@ -133,10 +133,10 @@ module _ {S J F P : Type 0} (plain : Plain S P) (may : StatedJobs S J F P) where
       slots_now = slots ∙ ap (λ (s : Id → Option J). after_events may s (events_at t)) before.1 ∙ sym
           (slots_more earlier t)
 
-      starts_at : (slot : Id) (e : J) → new (Slot slot) ≡ Some e → LastStart plain may (earlier ++ t ∷ []) slot e
+      starts_at : (slot : Id) (e : J) → new (Keyed slot) ≡ Some e → LastStart plain may (earlier ++ t ∷ []) slot e
       starts_at slot e has = elim (moves slot e has) [
         | inl was ↦
-            let stood : IsIn plain may earlier slot e = before.0 (Slot slot) e was.0 in
+            let stood : IsIn plain may earlier slot e = before.0 (Keyed slot) e was.0 in
             let l = stood.last in record {
               before = l.before;
               turn = l.turn;
@@ -157,7 +157,7 @@ module _ {S J F P : Type 0} (plain : Plain S P) (may : StatedJobs S J F P) where
       ]
 
       stands_so : (name : JobName) (e : J) → new name ≡ Some e → Stands plain may (earlier ++ t ∷ []) name e
-      stands_so (Slot slot) e has = record {
+      stands_so (Keyed slot) e has = record {
         last = starts_at slot e has;
         there = ap (λ (s : Id → Option J). s slot) (sym slots_now) ∙ has;
       }
@@ -216,7 +216,7 @@ module _ (T : Type 0) {S J F P : Type 0} (plain : Plain S P) (may : StatedJobs S
   -- the server did nothing
   passes : (old did : PooledServer T S J F) (call : Call (RequestOrigin P))
       → MayPass plain may old.server call.came call.acts → did.server ≡ old.server
-      → ((slot : Id) → pended did (Slot slot) ≡ pended old (Slot slot))
+      → ((slot : Id) → pended did (Keyed slot) ≡ pended old (Keyed slot))
       → ((turn : Turn plain may) → turn.call ≡ call → turn.heard ≡ None → (earlier : List (Turn plain may))
       → AllStand plain may earlier (pended old) → call.came ≡ None → WakeDoes plain may earlier turn)
       → TurnOf old did call
@@ -253,13 +253,13 @@ module _ (T : Type 0) {S J F P : Type 0} (plain : Plain S P) (may : StatedJobs S
       → TurnOf old did call
   stays old did call may_pass same =
       passes old did call may_pass (ap (λ (x : S × PendingJobs J). x.0) same)
-      (λ slot. ap (λ (x : S × PendingJobs J). x.1 (Slot slot)) same)
+      (λ slot. ap (λ (x : S × PendingJobs J). x.1 (Keyed slot)) same)
 
   -- the server was called, and then asked for changes
   called : (old did : PooledServer T S J F) (call : Call (RequestOrigin P)) (heard : Option JobName) (asked : S)
       (mid : PendingJobs J) (acts own : List (Act P)) → call.acts ≡ map_list by_server own
       → IsCalled plain may old.server call.came heard acts asked
-      → ((slot : Id) (e : J) → mid (Slot slot) ≡ Some e → pended old (Slot slot) ≡ Some e)
+      → ((slot : Id) (e : J) → mid (Keyed slot) ≡ Some e → pended old (Keyed slot) ≡ Some e)
       → in_slots mid ≡ after_events may (in_slots (pended old)) (heard_in plain may heard)
       → TakeTurns may (in_slots (pended old)) (heard_in plain may heard)
       → (m : Made plain may asked mid acts own (seen did))
@@ -326,28 +326,28 @@ module _ (T : Type 0) {S J F P : Type 0} (plain : Plain S P) (may : StatedJobs S
   slots_heard : (name : JobName) (pending : PendingJobs J) → in_slots (without name pending)
       ≡ after_events may (in_slots pending) (heard_in plain may (Some name))
   slots_heard (Request id) pending = refl
-  slots_heard (Slot slot) pending = refl
+  slots_heard (Keyed slot) pending = refl
 
   fits_heard : (name : JobName) (pending : PendingJobs J) (job : J) → pending name ≡ Some job
       → TakeTurns may (in_slots pending) (heard_in plain may (Some name))
   fits_heard (Request id) pending job waits = tt
-  fits_heard (Slot slot) pending job waits = (ap (λ (o : Option J). is_some o) waits, tt)
+  fits_heard (Keyed slot) pending job waits = (ap (λ (o : Option J). is_some o) waits, tt)
 
   -- a long request came
   long_turn : (old did : PooledServer T S J F) (id : Id) (method : List ℕ) (params : Data)
       (payload : Option (RequestOrigin P)) (acts : List (Act (RequestOrigin P)))
-      → may.sorts old.server method params true
+      → may.is_long_post old.server method params true
       → TakesLong may (seen old) id method params acts (seen did)
       → TurnOf old did (record { came = Some (request id method params); payload = payload; acts = acts })
   long_turn old did id method params payload acts long (inl j) =
       passes old did (record { came = Some (request id method params); payload = payload; acts = acts })
       (inl (j.job, (long, j.gives, j.is_for, j.acts))) (ap (λ (x : S × PendingJobs J). x.0) j.started)
-      (λ slot. ap (λ (x : S × PendingJobs J). x.1 (Slot slot)) j.started)
+      (λ slot. ap (λ (x : S × PendingJobs J). x.1 (Keyed slot)) j.started)
       (λ turn is silent earlier stand none. absurd (cc (none)))
   long_turn old did id method params payload acts long (inr a) =
       passes old did (record { came = Some (request id method params); payload = payload; acts = acts })
       (inr (long, a.outcome, a.is, a.acts)) (ap (λ (x : S × PendingJobs J). x.0) a.left)
-      (λ slot. ap (λ (x : S × PendingJobs J). x.1 (Slot slot)) a.left)
+      (λ slot. ap (λ (x : S × PendingJobs J). x.1 (Keyed slot)) a.left)
       (λ turn is silent earlier stand none. absurd (cc (none)))
 
   -- a job came to something
@@ -363,10 +363,10 @@ module _ (T : Type 0) {S J F P : Type 0} (plain : Plain S P) (may : StatedJobs S
       m : Made plain may f.did.0 f.did.1 f.acts own (seen did)
       m = made plain may f.did.0 f.did.1 f.acts own (seen did) f.others
 
-      same : (slot : Id) (e : J) → f.did.1 (Slot slot) ≡ Some e → pended old (Slot slot) ≡ Some e
+      same : (slot : Id) (e : J) → f.did.1 (Keyed slot) ≡ Some e → pended old (Keyed slot) ≡ Some e
       same slot e has =
           fewer_slots f.name (pended old) slot e (sym (unanswered_slot f.acts (without f.name (pended old)) slot)
-          ∙ ap (λ (p : PendingJobs J). p (Slot slot)) (sym f.ended.3) ∙ has)
+          ∙ ap (λ (p : PendingJobs J). p (Keyed slot)) (sym f.ended.3) ∙ has)
 
       gone : in_slots f.did.1 ≡ after_events may (in_slots (pended old)) (heard_in plain may (Some f.name))
       gone = ap (λ (p : PendingJobs J). in_slots p) f.ended.3 ∙ unanswered_slots f.acts (without f.name (pended old))
@@ -403,12 +403,13 @@ module _ (T : Type 0) {S J F P : Type 0} (plain : Plain S P) (may : StatedJobs S
   handed_turn old did (Some (request id method params)) payload acts h = elim h.0 [
     | inl long ↦ long_turn old did id method params payload acts long.0 long.1
     | inr own ↦ does_turn old did (record { came = Some (request id method params); payload = payload; acts = acts })
-        (without (Request id) (pended old)) (plain.requested old.server id method params) own.1
+        (without (Request id) (pended old)) (plain.request_post old.server id method params) own.1
         (λ did mid does. (own.0, does, refl)) refl (λ none. absurd (cc (none)))
   ]
   handed_turn old did (Some (notification method params)) payload acts h =
       does_turn old did (record { came = Some (notification method params); payload = payload; acts = acts })
-      (without_cancelled (cancelled_by method params) (pended old)) (plain.notified old.server method params) h.0
+      (without_cancelled (cancelled_by method params) (pended old)) (plain.notification_post old.server method params)
+      h.0
       (λ did mid does. (inl does, refl)) (slots_cancelled (cancelled_by method params) (pended old))
       (λ none. absurd (cc (none)))
   handed_turn old did (Some (response id outcome)) (Some (ByServer payload)) acts h =
@@ -416,7 +417,7 @@ module _ (T : Type 0) {S J F P : Type 0} (plain : Plain S P) (may : StatedJobs S
         came = Some (response id outcome);
         payload = Some (ByServer payload);
         acts = acts;
-      }) (pended old) (plain.replied old.server payload outcome) h (λ did mid does. (payload, does, refl))
+      }) (pended old) (plain.response_post old.server payload outcome) h (λ did mid does. (payload, does, refl))
       refl (λ none. absurd (cc (none)))
   handed_turn old did (Some (response id outcome)) (Some (ByJob n)) acts h =
       stays old did (record { came = Some (response id outcome); payload = Some (ByJob n); acts = acts }) h.0 h.1
@@ -429,7 +430,7 @@ module _ (T : Type 0) {S J F P : Type 0} (plain : Plain S P) (may : StatedJobs S
       now : Call (RequestOrigin P)
       now = record { came = None; payload = payload; acts = acts }
 
-      woken : W.wakes old acts did → TurnOf old did now
+      woken : W.woken_post old acts did → TurnOf old did now
       woken (inl nothing) = stays old did now tt nothing.1 (λ turn is silent earlier stand none.
           inl (ap (λ (c : Call (RequestOrigin P)). c.acts) is ∙ nothing.0, silent))
       woken (inr (inl r)) = stays old did now tt r.same (λ turn is silent earlier stand none. inr (inl (
@@ -446,7 +447,7 @@ module _ (T : Type 0) {S J F P : Type 0} (plain : Plain S P) (may : StatedJobs S
           a.method,
           a.params,
           a.number,
-          a.may_ask,
+          a.may_send_request,
           ap (λ (c : Call (RequestOrigin P)). c.acts) is ∙ a.acts,
           silent,
         )),
@@ -457,7 +458,8 @@ module _ (T : Type 0) {S J F P : Type 0} (plain : Plain S P) (may : StatedJobs S
 
   -- what the server took back
   pub took_back : (payloads : List (RequestOrigin P)) (old new : PooledServer T S J F)
-      → TakesBack W.takes_back old payloads new → (own : List P) × TakesBack plain.takes_back old.server own new.server
+      → TakesBack W.ids_exhausted_post old payloads new → (own : List P) × TakesBack plain.ids_exhausted_post
+      old.server own new.server
   took_back [] old new same = ([], ap (λ (p : PooledServer T S J F). p.server) same)
   took_back (ByServer payload ∷ payloads) old new back =
       let rest = took_back payloads back.0 new back.2 in
@@ -465,7 +467,7 @@ module _ (T : Type 0) {S J F P : Type 0} (plain : Plain S P) (may : StatedJobs S
   took_back (ByJob n ∷ payloads) old new back =
       let rest = took_back payloads back.0 new back.2 in (
         rest.0,
-        subst (λ (s : S). TakesBack plain.takes_back s rest.0 new.server)
+        subst (λ (s : S). TakesBack plain.ids_exhausted_post s rest.0 new.server)
             (ap (λ (x : S × PendingJobs J). x.0) back.1) rest.1,
       )
 
@@ -499,7 +501,7 @@ module _ (T : Type 0) {S J F P : Type 0} (plain : Plain S P) (may : StatedJobs S
     once : TakeTurns may (slots_after plain may earlier) (events_of plain may turns)
 
   no_turns : (start now : S) (earlier : List (Turn plain may))
-      → ((own : List P) × TakesBack plain.takes_back start own now) → Turns start earlier []
+      → ((own : List P) × TakesBack plain.ids_exhausted_post start own now) → Turns start earlier []
   no_turns start now earlier between = record {
     turns = [];
     are = refl;
@@ -516,7 +518,7 @@ module _ (T : Type 0) {S J F P : Type 0} (plain : Plain S P) (may : StatedJobs S
 
   one_turn : (start : S) (old did : PooledServer T S J F) (earlier : List (Turn plain may))
       (call : Call (RequestOrigin P)) (calls : List (Call (RequestOrigin P)))
-      → ((own : List P) × TakesBack plain.takes_back start own old.server)
+      → ((own : List P) × TakesBack plain.ids_exhausted_post start own old.server)
       → (t : TurnOf old did call) → AllStand plain may earlier (pended old)
       → Turns did.server (earlier ++ t.turn ∷ []) calls → Turns start earlier (call ∷ calls)
   one_turn start old did earlier call calls between t stand rest = record {
@@ -524,7 +526,7 @@ module _ (T : Type 0) {S J F P : Type 0} (plain : Plain S P) (may : StatedJobs S
     are = λ k. t.of_call k ∷ rest.are k;
     last = rest.last;
     linked = (
-      subst (λ (s : S). (own : List P) × TakesBack plain.takes_back start own s) (sym t.from) between,
+      subst (λ (s : S). (own : List P) × TakesBack plain.ids_exhausted_post start own s) (sym t.from) between,
       t.is_turn,
       subst (λ (s : S). AreTurns plain may s rest.turns rest.last) (sym t.to) rest.linked,
     );
@@ -552,7 +554,7 @@ module _ (T : Type 0) {S J F P : Type 0} (plain : Plain S P) (may : StatedJobs S
           ∙ ap (λ (y : Turn plain may). earlier ++ y ∷ before) same) (rest.wakes before later x more none)
 
   all_turns : (count : ℕ) (calls : List (Call (RequestOrigin P))) (start : S) (old last : PooledServer T S J F)
-      (earlier : List (Turn plain may)) → ((own : List P) × TakesBack plain.takes_back start own old.server)
+      (earlier : List (Turn plain may)) → ((own : List P) × TakesBack plain.ids_exhausted_post start own old.server)
       → AllStand plain may earlier (pended old) → TakesCalls W count old calls last → Turns start earlier calls
   all_turns count [] start old last earlier between stand same = no_turns start old.server earlier between
   all_turns count (call ∷ calls) start old last earlier between stand run =
@@ -580,20 +582,20 @@ module _ (T : Type 0) {S J F P : Type 0} (plain : Plain S P) (may : StatedJobs S
 
   -- `initialized` came
   pub opened : (start did : PooledServer T S J F) (m : Message) (acts : List (Act (RequestOrigin P)))
-      → is_initialized m ≡ true → W.at_initialized start acts did
+      → is_initialized m ≡ true → W.initialized_post start acts did
       → TurnOf start did (record { came = Some m; payload = None; acts = acts })
   opened start did m acts begins began = does_turn start did (record { came = Some m; payload = None; acts = acts })
-      (pended start) (plain.at_initialized start.server) began (is_called m begins) refl
+      (pended start) (plain.initialized_post start.server) began (is_called m begins) refl
       (λ none. absurd (cc (none)))
     where
       is_called : (m : Message) → is_initialized m ≡ true → (acts : List (Act P)) (mid : S)
-          → plain.at_initialized start.server acts mid → IsCalled plain may start.server (Some m) None acts mid
+          → plain.initialized_post start.server acts mid → IsCalled plain may start.server (Some m) None acts mid
       is_called (notification method params) begins acts mid does = (inr (begins, does), refl)
       is_called (request id method params) begins acts mid does = absurd (cc (begins))
       is_called (response id outcome) begins acts mid does = absurd (cc (begins))
 
   pub stands_opened : (start did : PooledServer T S J F) (call : Call (RequestOrigin P)) → pended start ≡ no_jobs
-      → W.at_initialized start call.acts did → (t : TurnOf start did call)
+      → W.initialized_post start call.acts did → (t : TurnOf start did call)
       → AllStand plain may (t.turn ∷ []) (pended did)
   stands_opened start did call none began t =
       stands_after start did [] call t (none_stands start none)
@@ -601,7 +603,7 @@ module _ (T : Type 0) {S J F P : Type 0} (plain : Plain S P) (may : StatedJobs S
     where
       none_given : (id : Id) (e : J) → pended did (Request id) ≡ Some e → ⊥
       none_given id e has =
-          (does_jobs plain may (λ id e. ⊥) (plain.at_initialized start.server) (pended start) began.0 (seen did)
+          (does_jobs plain may (λ id e. ⊥) (plain.initialized_post start.server) (pended start) began.0 (seen did)
           (λ id e has. absurd (no_job start none (Request id) e has)) began.2 id e has).0
 
   pub slot_history : (start last : PooledServer T S J F) (opening : Exchange) (later : List Exchange) (m : Message)
@@ -639,12 +641,13 @@ module _ (T : Type 0) {S J F P : Type 0} (plain : Plain S P) (may : StatedJobs S
   early_pending [] old start same = ap pended same
   early_pending (x ∷ early) old start run = early_pending early run.0 start run.2 ∙ at x.came run.1
     where
-      by : (b : Bool) (m : Message) → MatchBool b (Initializes W old m x.sent run.0) (run.0 ≡ old)
+      by : (b : Bool) (m : Message) → MatchBool b (Initializes W old m (offered x) run.0) (run.0 ≡ old)
           → pended run.0 ≡ pended old
       by true m i = i.gave.1
       by false m same = ap pended same
 
-      at : (came : Option Message) → IsSomeAnd came (λ m. MatchBool (is_initialize m) (Initializes W old m x.sent run.0)
+      at : (came : Option Message) → IsSomeAnd came (λ m. MatchBool (is_initialize m) (Initializes W old m (offered
+          x) run.0)
           (run.0 ≡ old)) → pended run.0 ≡ pended old
       at None none = absurd none
       at (Some m) answered = by (is_initialize m) m answered

@@ -93,15 +93,15 @@ module _ {J : Type 0} where
       removed jobs entries entry n (same_name n name) have (ap (λ (m : PendingJobs (Entry J)). m n) (sym is) ∙ found)
 
   -- an item is said by the pending job that has its ticket
-  pub said_by : {R : Type 0} (comes_to : J → R → Type 0) (reports asks : J → List ℕ → Data → Type 0) (jobs : List J)
+  pub said_by : {R : Type 0} (run_post : J → R → Type 0) (reports asks : J → List ℕ → Data → Type 0) (jobs : List J)
       (entries before : PendingJobs (Entry J)) (item : Item R) (entry : Entry J) → entries ≡ before
-      → HaveTickets jobs entries → IsSaidBy comes_to reports asks jobs item → entries item.name ≡ Some entry
+      → HaveTickets jobs entries → IsSaidBy run_post reports asks jobs item → entries item.name ≡ Some entry
       → entry.ticket ≡ item.ticket
-      → MaySay comes_to reports asks (λ name. option_map job_of (before name)) item.name item.message
-  said_by comes_to reports asks jobs entries before item entry is have said found ticket =
+      → MaySay run_post reports asks (λ name. option_map job_of (before name)) item.name item.message
+  said_by run_post reports asks jobs entries before item entry is have said found ticket =
       let same : said.0 ≡ entry.job.value = some-injective _ _ (sym said.1 ∙ ap (get_elem? jobs) (sym ticket)
       ∙ have item.name entry found) in (
         entry.job.value,
         ap (λ (m : PendingJobs (Entry J)). option_map job_of (m item.name)) (sym is) ∙ ap (option_map job_of) found,
-        subst (λ (job : J). MaySend comes_to reports asks job item.message) same said.2,
+        subst (λ (job : J). MaySend run_post reports asks job item.message) same said.2,
       )

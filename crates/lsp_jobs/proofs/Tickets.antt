@@ -40,26 +40,26 @@ module _ {J : Type 0} where
   sole zero knows e = subst (IsSo 0 [] 0) (some-injective _ _ e) (refl, refl)
   sole (suc i) knows e = absurd (some-ne-none knows (sym e))
 
-module _ {J R : Type 0} (comes_to : J → R → Type 0) (reports asks : J → List ℕ → Data → Type 0) where
-  said_more : (jobs : List J) (job : J) (sent : List (Item R)) → AreSaidBy comes_to reports asks jobs sent
-      → AreSaidBy comes_to reports asks (jobs ++ job ∷ []) sent
+module _ {J R : Type 0} (run_post : J → R → Type 0) (reports asks : J → List ℕ → Data → Type 0) where
+  said_more : (jobs : List J) (job : J) (sent : List (Item R)) → AreSaidBy run_post reports asks jobs sent
+      → AreSaidBy run_post reports asks (jobs ++ job ∷ []) sent
   said_more jobs job [] are = tt
   said_more jobs job (item ∷ sent) are = (
     (are.0.0, still jobs job are.0.0 item.ticket are.0.1, are.0.2),
     said_more jobs job sent are.1,
   )
 
-  said_push : (jobs : List J) (sent : List (Item R)) (item : Item R) → AreSaidBy comes_to reports asks jobs sent
-      → IsSaidBy comes_to reports asks jobs item → AreSaidBy comes_to reports asks jobs (sent ++ item ∷ [])
+  said_push : (jobs : List J) (sent : List (Item R)) (item : Item R) → AreSaidBy run_post reports asks jobs sent
+      → IsSaidBy run_post reports asks jobs item → AreSaidBy run_post reports asks jobs (sent ++ item ∷ [])
   said_push jobs [] item are is = (is, tt)
   said_push jobs (x ∷ sent) item are is = (are.0, said_push jobs sent item are.1 is)
 
-  pub begins : SaidByTickets comes_to reports asks [] (All [] ∷ [])
+  pub begins : SaidByTickets run_post reports asks [] (All [] ∷ [])
   begins = record { pool = 0; jobs = []; said = tt; agree = sole }
 
   pub furthers : (room pass : ℕ) (v : Known J) (ticket : ℕ) (job : J) (item : Item R) → v ≡ One ticket job → item.ticket
-      ≡ ticket → MaySend comes_to reports asks job item.message
-      → Pushes (SaidByTickets comes_to reports asks) room pass v item (λ w. w ≡ v)
+      ≡ ticket → MaySend run_post reports asks job item.message
+      → Pushes (SaidByTickets run_post reports asks) room pass v item (λ w. w ≡ v)
   furthers room pass v ticket job item knows is may sent known short h seen =
       let mine = h.agree pass v seen in
       let so : get_elem? h.jobs ticket ≡ some job = subst (IsSo h.pool h.jobs pass) knows mine in (
@@ -73,8 +73,8 @@ module _ {J R : Type 0} (comes_to : J → R → Type 0) (reports asks : J → Li
         refl,
       )
 
-  pub takes : (pass : ℕ) (v : Known J) → KnowsAll v → Pops (SaidByTickets comes_to reports asks) pass v (λ item w. (w
-      ≡ v) × IsSaidBy comes_to reports asks (all_jobs v) item)
+  pub takes : (pass : ℕ) (v : Known J) → KnowsAll v → Pops (SaidByTickets run_post reports asks) pass v (λ item w. (w
+      ≡ v) × IsSaidBy run_post reports asks (all_jobs v) item)
   takes pass v all item sent known h seen =
       let mine = h.agree pass v seen in
       let so : (pass ≡ h.pool) × (all_jobs v ≡ h.jobs) = subst (IsSo h.pool h.jobs pass) all mine in (
@@ -85,11 +85,11 @@ module _ {J R : Type 0} (comes_to : J → R → Type 0) (reports asks : J → Li
           said = h.said.1;
           agree = each_set (IsSo h.pool h.jobs) known pass v mine (λ j u other e. h.agree j u e);
         },
-        (refl, subst (λ jobs. IsSaidBy comes_to reports asks jobs item) (sym so.1) h.said.0),
+        (refl, subst (λ jobs. IsSaidBy run_post reports asks jobs item) (sym so.1) h.said.0),
       )
 
   pub copies : (pass : ℕ) (v : Known J) (ticket : ℕ) (job : J) → v ≡ One ticket job
-      → Forks (SaidByTickets comes_to reports asks) pass v v v
+      → Forks (SaidByTickets run_post reports asks) pass v v v
   copies pass v ticket job knows sent known h seen =
       let mine = h.agree pass v seen in
       let so : get_elem? h.jobs ticket ≡ some job = subst (IsSo h.pool h.jobs pass) knows mine in
@@ -102,7 +102,7 @@ module _ {J R : Type 0} (comes_to : J → R → Type 0) (reports asks : J → Li
       }
 
   pub enters : (pass : ℕ) (v : Known J) (picked : Option J) (job : J) → KnowsAll v → picked ≡ Some job
-      → Forks (SaidByTickets comes_to reports asks) pass v (with_next picked v) (next_one picked v)
+      → Forks (SaidByTickets run_post reports asks) pass v (with_next picked v) (next_one picked v)
   enters pass v picked job all is sent known h seen =
       let mine : (pass ≡ h.pool) × (all_jobs v ≡ h.jobs) = subst (IsSo h.pool h.jobs pass) all (h.agree pass v seen) in
       let jobs = h.jobs ++ job ∷ [] in
@@ -112,7 +112,7 @@ module _ {J R : Type 0} (comes_to : J → R → Type 0) (reports asks : J → Li
       (λ j u other e. more h.pool h.jobs job j u (λ p. other (p ∙ sym mine.0)) (h.agree j u e)) in
       let newest_so : get_elem? jobs (length (all_jobs v)) ≡ some job = ap (λ (l : List J). get_elem? jobs (length l))
       mine.1 ∙ newest h.jobs job in
-      subst (λ (p : Option J). SaidByTickets comes_to reports asks sent (set known pass (with_next p v) ++ next_one p v
+      subst (λ (p : Option J). SaidByTickets run_post reports asks sent (set known pass (with_next p v) ++ next_one p v
       ∷ [])) (sym is) (record {
         pool = h.pool;
         jobs = jobs;

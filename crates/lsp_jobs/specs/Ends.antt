@@ -64,8 +64,8 @@ module _ {F : Type 0} where
   end_of out_of_memory = ended Failed
   end_of gave_up = ended Cancelled
 
-module _ {J F : Type 0} (comes_to : J → Option Outcome → Option F → Type 0) where
+module _ {J F : Type 0} (run_post : J → Option Outcome → Option F → Type 0) where
   -- a job has a result that it may have, or none
   abbrev pub ComesTo : J → Came F → Type 0
-  ComesTo job (gave reply it) = comes_to job reply it
+  ComesTo job (gave reply it) = run_post job reply it
   ComesTo job came = Unit {0}

@@ -3,36 +3,36 @@ use Rattle.serde_json.specs.Data.{Data}
 use Rattle.std.specs.Prelude.{◌≡◌, ◌⊎◌, ℕ, true, false, List, [], ◌∷◌, ◌++◌, Option, Some, None}
 use Rattle.lsp_message.specs.Id.{Id}
 use Rattle.lsp_message.specs.Message.{Message, request}
-use Rattle.lsp_session.specs.Session.{Exchange, SessionAnswer, Stop, refused}
+use Rattle.lsp_session.specs.Session.{Exchange, offered, SessionAnswer, Stop, refused}
 use Rattle.lsp_session.specs.SessionLaws.{EndsWithResult}
 use Rattle.lsp_acts.specs.Acts.{Act, Queues, replies}
 use Rattle.lsp_acts.specs.Law.{AnswersInitialize, KeepsLaws, how_many, is_reply_under}
-use Rattle.lsp_acts.specs.QueuedServer.{held_by}
+use Rattle.lsp_acts.specs.ServerApplication.{held_by}
 use Rattle.lsp_acts.specs.SentByActs.{acts_done_at, all_sends}
 use Rattle.lsp_acts.specs.declared.server.Server.{Ghosts as Plain}
 use Rattle.lsp_jobs.specs.Ends.{Came, ComesTo, End, Outcome, reply_of}
 use Rattle.lsp_jobs.specs.JobSession.{JobSession, seen_with_jobs}
-use Rattle.lsp_jobs.specs.SlotLaw.{AreTurns, IsTurn, Left, Turn, WakeDoes, concerns}
+use Rattle.lsp_jobs.specs.KeyedJobLaw.{AreTurns, IsTurn, Left, Turn, WakeDoes, concerns}
 use Rattle.lsp_jobs.specs.Stated.{SeesEnd, StatedJobs}
 use Rattle.lsp_jobs.specs.declared.names.JobName.{JobName}
-use Rattle.lsp_jobs.specs.declared.names.JobName.TheVariants.{Slot}
+use Rattle.lsp_jobs.specs.declared.names.JobName.TheVariants.{Keyed}
 
 -- in none of these exchanges a request under this id came, or its cancellation, or was a reply under it sent
 abbrev pub IsQuiet : Id → List Exchange → Type 0
 IsQuiet id [] = Unit {0}
 IsQuiet id (x ∷ xs) =
-    (concerns id x.came ≡ false) × (how_many (is_reply_under id) x.sent ≡ 0) × IsQuiet id xs
+    (concerns id x.came ≡ false) × (how_many (is_reply_under id) (offered x) ≡ 0) × IsQuiet id xs
 
 -- The last request under this id has this method and these params. Since it came, no reply under the id was sent, and
 -- no cancellation of it came.
 pub record LastRequest (earlier : List Exchange) (id : Id) (method : List ℕ)
     (params : Data) : Type 0 where
   pub before : List Exchange
-  pub sent : List Message
+  pub asking : Exchange
   pub since : List Exchange
-  pub came : earlier ≡ before ++ record { came = Some (request id method params); sent = sent }
-      ∷ since
-  pub unanswered : how_many (is_reply_under id) sent ≡ 0
+  pub cut : earlier ≡ before ++ asking ∷ since
+  pub came : asking.came ≡ Some (request id method params)
+  pub unanswered : how_many (is_reply_under id) (offered asking) ≡ 0
   pub quiet : IsQuiet id since
 
 -- Each reply of these goes to the last request under its id, to which none was sent since it came, and which was not
@@ -54,7 +54,7 @@ MayLose stop later lost = lost ≡ []
 module _ {S J F P : Type 0} (plain : Plain S P) (may : StatedJobs S J F P) where
   -- This turn was taken at this exchange: what is done in it is sent.
   abbrev pub IsTakenAt : Exchange → Turn plain may → Type 0
-  IsTakenAt x t = (t.call.came ≡ x.came) × SendsSo (acts_done_at x.came t.call.acts) x.sent
+  IsTakenAt x t = (t.call.came ≡ x.came) × SendsSo (acts_done_at x.came t.call.acts) (offered x)
 
   -- one turn at each of these exchanges
   abbrev pub AreTakenAt : List Exchange → List (Turn plain may) → Type 0
@@ -92,7 +92,7 @@ module _ {S J F P : Type 0} (plain : Plain S P) (may : StatedJobs S J F P) where
   AnswersByJobs first stop exchanges =
       (earlier later : List Exchange) (x : Exchange) → exchanges ≡ earlier ++ x ∷ later
       → x.came ≡ None
-      → (wake : WakeSends first earlier x.sent) × MayLose stop later wake.lost × RepliesToLast earlier x.sent
+      → (wake : WakeSends first earlier (offered x)) × MayLose stop later wake.lost × RepliesToLast earlier (offered x)
 
   -- The last request under the id came after these exchanges, which had taken the server to this state. It called the
   -- request long and gave this job, which is for it.
@@ -103,8 +103,8 @@ module _ {S J F P : Type 0} (plain : Plain S P) (may : StatedJobs S J F P) where
     pub turns : List (Turn plain may)
     pub server : S
     pub led : Leads first last.before turns server
-    pub long : may.sorts server method params true
-    pub gives : may.gives server id method params job
+    pub long : may.is_long_post server method params true
+    pub gives : may.job_post server id method params job
     pub is_for : may.is_for job method params
 
   -- This is the reply to the last request under the id, whatever its job came to: what it may come to, or an error: it
@@ -113,7 +113,7 @@ module _ {S J F P : Type 0} (plain : Plain S P) (may : StatedJobs S J F P) where
     pub job : J
     pub given : JobOfLast first earlier id job
     pub came : Came F
-    pub comes : ComesTo may.comes_to job came
+    pub comes : ComesTo may.run_post job came
     pub reply : outcome ≡ reply_of came
 
   -- In this turn the server came from `old` to `new` and did this, as it heard how the job with this name ended, or saw
@@ -122,7 +122,7 @@ module _ {S J F P : Type 0} (plain : Plain S P) (may : StatedJobs S J F P) where
   SawInTurn t name end old acts new =
       ((t.heard ≡ Some name) × (old ≡ t.old) × (new ≡ t.asked))
       ⊎ ((l : Left may) × (sooner : List (Left may)) × (later : List (Left may)) × (t.left ≡ sooner ++ l ∷ later)
-      × (name ≡ Slot l.slot) × (end ≡ l.end) × (old ≡ l.old) × (acts ≡ l.acts) × (new ≡ l.new))
+      × (name ≡ Keyed l.slot) × (end ≡ l.end) × (old ≡ l.old) × (acts ≡ l.acts) × (new ≡ l.new))
 
   -- At the wake after these exchanges, which sends this, the server sees how a job ended, and then answers this request
   -- by itself.
@@ -142,10 +142,9 @@ module _ (T : Type 0) {S J F P : Type 0} (plain : Plain S P) (may : StatedJobs S
   -- a session of a server with jobs, which keeps the laws of a session of a server, and in which each job answers its
   -- own request
   pub record LawfulJobSession (first last : S) (exchanges : List Exchange) (stop : Stop)
-      (shutdown_reply : Option Message) (answer : SessionAnswer)
+      (answer : SessionAnswer)
       : Type 0 where
-    pub session : JobSession T plain may first last exchanges stop shutdown_reply answer
+    pub session : JobSession T plain may first last exchanges stop answer
     pub laws : KeepsLaws (seen_with_jobs T plain may) session.old session.new
-        (held_by (seen_with_jobs T plain may) session.session) exchanges stop shutdown_reply
-        answer
+        (held_by (seen_with_jobs T plain may) session.session) exchanges stop answer
     pub jobs : AnswersByJobs plain may first stop exchanges

@@ -3,6 +3,7 @@ pub mod Asking
 pub mod Ends
 pub mod JobLaw
 pub mod JobSession
+pub mod KeyedJobLaw
 pub mod Names
 pub mod Outcomes
 pub mod PoolView
@@ -11,6 +12,5 @@ pub mod Progress
 pub mod Seen
 pub mod Stated
 pub mod ServerView
-pub mod SlotLaw
 pub mod PendingJobs
 pub mod Waiting

@@ -34,11 +34,11 @@ module _ {J : Type 0} where
   IsSo pool jobs pass (One ticket job) = get_elem? jobs ticket ≡ some job
   IsSo pool jobs pass Nothing = Unit {0}
 
-module _ {J R : Type 0} (comes_to : J → R → Type 0) (reports asks : J → List ℕ → Data → Type 0) where
+module _ {J R : Type 0} (run_post : J → R → Type 0) (reports asks : J → List ℕ → Data → Type 0) where
   -- an outcome is one that the job may come to, a report one that it may make, and a request one that it may send the
   -- client
   abbrev pub MaySend : J → WorkerMessage R → Type 0
-  MaySend job (Ran r) = comes_to job r
+  MaySend job (Ran r) = run_post job r
   MaySend job (Report n) = reports job (string_bytes n.method) (view n.params)
   MaySend job (Ask method params number) = asks job (string_bytes method) (view params)
 

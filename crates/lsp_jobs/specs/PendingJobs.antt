@@ -35,4 +35,4 @@ module _ {J F : Type 0} (may : OfJob J F) where
   Tells name old (asks method params) new =
       (job : J) × (old name ≡ Some job) × may.asks job method params × (new ≡ old)
   Tells name old (ends came) new =
-      (job : J) × (old name ≡ Some job) × ComesTo may.comes_to job came × (new ≡ without name old)
+      (job : J) × (old name ≡ Some job) × ComesTo may.run_post job came × (new ≡ without name old)

@@ -12,10 +12,10 @@ use Rattle.lsp_jobs.specs.Stated.{SeesEnd, StatedJobs}
 use Rattle.lsp_jobs.specs.declared.asking.RequestOrigin.{RequestOrigin}
 use Rattle.lsp_jobs.specs.declared.asking.RequestOrigin.TheVariants.{ByJob}
 use Rattle.lsp_jobs.specs.declared.job_server.JobEnd.TheVariants.{Refused, Replaced, Stopped}
-use Rattle.lsp_jobs.specs.declared.job_server.SlotChange.{SlotChange}
-use Rattle.lsp_jobs.specs.declared.job_server.SlotChange.TheVariants.{Start, Stop}
+use Rattle.lsp_jobs.specs.declared.job_server.JobCommand.{JobCommand}
+use Rattle.lsp_jobs.specs.declared.job_server.JobCommand.TheVariants.{Start, Stop}
 use Rattle.lsp_jobs.specs.declared.names.JobName.{JobName}
-use Rattle.lsp_jobs.specs.declared.names.JobName.TheVariants.{Request, Slot}
+use Rattle.lsp_jobs.specs.declared.names.JobName.TheVariants.{Request, Keyed}
 
 -- a request that is cancelled needs no job
 abbrev pub without_cancelled : {A : Type 0} → Option Id → PendingJobs A → PendingJobs A
@@ -31,7 +31,7 @@ unanswered (act ∷ acts) pending = unanswered acts pending
 -- The reply to the request of a job. A job in a slot has none.
 abbrev pub reply_with : {P : Type 0} → JobName → Outcome → List (Act P)
 reply_with (Request id) outcome = replies id outcome ∷ []
-reply_with (Slot slot) outcome = []
+reply_with (Keyed slot) outcome = []
 
 -- that of a job that came to this
 abbrev pub reply_at : {P F : Type 0} → JobName → Came F → List (Act P)
@@ -63,17 +63,17 @@ module _ {S J F P : Type 0} (may : StatedJobs S J F P) where
       (λ (job : J). EndsThen name end (old.0, without name old.1, old.2) new)
 
   -- A slot is changed. A job that is started there takes the place of the one that is in the slot.
-  abbrev pub Changes : S × PendingJobs J × List (Act P) → SlotChange J → S × PendingJobs J × List (Act P) → Type 0
+  abbrev pub Changes : S × PendingJobs J × List (Act P) → JobCommand J → S × PendingJobs J × List (Act P) → Type 0
   Changes old (Start slot job) new =
-      (mid : S × PendingJobs J × List (Act P)) × Frees (Slot slot) (ended Replaced) old mid
-      × StartsOne (Slot slot) job mid new
-  Changes old (Stop slot) new = Frees (Slot slot) (ended Stopped) old new
+      (mid : S × PendingJobs J × List (Act P)) × Frees (Keyed slot) (ended Replaced) old mid
+      × StartsOne (Keyed slot) job mid new
+  Changes old (Stop slot) new = Frees (Keyed slot) (ended Stopped) old new
 
   -- After the server did these acts, it changes its slots, in order: these are all the acts.
   pub record ChangesSlots (old : S × PendingJobs J) (acts all : List (Act P)) (new : S × PendingJobs J) : Type 0 where
-    pub changes : List (SlotChange J)
+    pub changes : List (JobCommand J)
     pub mid : S
-    pub gives : may.changes old.0 changes mid
+    pub gives : may.take_commands_post old.0 changes mid
     pub made : FoldsTo Changes (mid, unanswered acts old.1, acts) changes (new.0, new.1, all)
 
   -- The server did these acts, and then changes its slots.
@@ -85,7 +85,7 @@ module _ {S J F P : Type 0} (may : StatedJobs S J F P) where
   -- that an allocation failed.
   abbrev pub IsAtOnce : S → Id → List ℕ → Data → Outcome → Type 0
   IsAtOnce server id method params outcome =
-      may.knows server id method params outcome ⊎ ((outcome ≡ Err too_many) ⊎ (outcome ≡ Err no_memory))
+      may.job_reply_post server id method params outcome ⊎ ((outcome ≡ Err too_many) ⊎ (outcome ≡ Err no_memory))
 
   -- The request is answered at once, and nothing else is done.
   pub record AnswersAtOnce (old : S × PendingJobs J) (id : Id) (method : List ℕ) (params : Data)
@@ -100,7 +100,7 @@ module _ {S J F P : Type 0} (may : StatedJobs S J F P) where
       (all : List (Act (RequestOrigin P))) (new : S × PendingJobs J) : Type 0 where
     pub job : J
     pub is_for : may.is_for job method params
-    pub gives : may.gives old.0 id method params job
+    pub gives : may.job_post old.0 id method params job
     pub acts : all ≡ []
     pub started : new ≡ (old.0, with_job (Request id) job old.1)
 
@@ -116,7 +116,7 @@ module _ {S J F P : Type 0} (may : StatedJobs S J F P) where
     pub job : J
     pub came : Came F
     pub waits : old.1 name ≡ Some job
-    pub comes : ComesTo may.comes_to job came
+    pub comes : ComesTo may.run_post job came
     pub acts : List (Act P)
     pub did : S × PendingJobs J
     pub ended : Ends name (end_of came) (reply_at name came) (old.0, without name old.1) acts did
@@ -143,7 +143,7 @@ module _ {S J F P : Type 0} (may : StatedJobs S J F P) where
     pub params : Data
     pub number : ℕ
     pub waits : old.1 name ≡ Some job
-    pub may_ask : may.asks job method params
+    pub may_send_request : may.asks job method params
     pub acts : all ≡ asks method params (ByJob number) ∷ []
     pub same : new ≡ old
 
@@ -166,26 +166,26 @@ module _ {S J F P : Type 0} (may : StatedJobs S J F P) where
   -- job is started, and none is pending any longer.
   abbrev pub with_jobs : Plain S P → Plain (S × PendingJobs J) (RequestOrigin P)
   with_jobs plain = record {
-    initializes = λ old params outcome new. plain.initializes old.0 params outcome new.0
+    initialize_post = λ old params outcome new. plain.initialize_post old.0 params outcome new.0
         × (new.1 ≡ old.1);
-    at_initialized = λ old all new.
-        ByServers (λ acts. Does (plain.at_initialized old.0) old.1 acts new) all;
-    requested = λ old id method params all new.
-        (may.sorts old.0 method params true
+    initialized_post = λ old all new.
+        ByServers (λ acts. Does (plain.initialized_post old.0) old.1 acts new) all;
+    request_post = λ old id method params all new.
+        (may.is_long_post old.0 method params true
         × TakesLong old id method params all new)
-        ⊎ (may.sorts old.0 method params false × ByServers
-        (λ acts. Does (plain.requested old.0 id method params) (without (Request id) old.1) acts new) all);
-    notified = λ old method params all new.
-        ByServers (λ acts. Does (plain.notified old.0 method params)
+        ⊎ (may.is_long_post old.0 method params false × ByServers
+        (λ acts. Does (plain.request_post old.0 id method params) (without (Request id) old.1) acts new) all);
+    notification_post = λ old method params all new.
+        ByServers (λ acts. Does (plain.notification_post old.0 method params)
         (without_cancelled (cancelled_by method params) old.1) acts new) all;
-    replied = λ old asked outcome all new. WhoseAsked asked
-        (λ payload. ByServers (λ acts. Does (plain.replied old.0 payload outcome) old.1 acts new)
+    response_post = λ old asked outcome all new. WhoseAsked asked
+        (λ payload. ByServers (λ acts. Does (plain.response_post old.0 payload outcome) old.1 acts new)
         all)
         ((all ≡ []) × (new ≡ old));
-    wakes = Wakes;
-    at_shutdown = λ old all new.
-        ByServers (λ acts. plain.at_shutdown old.0 acts new.0) all × (new.1 ≡ no_jobs);
-    takes_back = λ old asked new. WhoseAsked asked
-        (λ payload. plain.takes_back old.0 payload new.0 × (new.1 ≡ old.1))
+    woken_post = Wakes;
+    shutdown_post = λ old all new.
+        ByServers (λ acts. plain.shutdown_post old.0 acts new.0) all × (new.1 ≡ no_jobs);
+    ids_exhausted_post = λ old asked new. WhoseAsked asked
+        (λ payload. plain.ids_exhausted_post old.0 payload new.0 × (new.1 ≡ old.1))
         (new ≡ old);
   }

@@ -9,13 +9,13 @@ use Rattle.lsp_jobs.specs.PendingJobs.{PendingJobs}
 use Rattle.lsp_jobs.specs.declared.channel.WorkerMessage.{WorkerMessage}
 use Rattle.lsp_jobs.specs.declared.entries.Entries.{Entries}
 use Rattle.lsp_jobs.specs.declared.names.JobName.{JobName}
-use Rattle.lsp_jobs.specs.declared.names.JobName.TheVariants.{Request, Slot}
+use Rattle.lsp_jobs.specs.declared.names.JobName.TheVariants.{Request, Keyed}
 use Rattle.lsp_jobs.specs.declared.table.Entry.{Entry}
 
 -- under each name what is kept
 abbrev pub entry_of : {E : Type 0} → Entries E → PendingJobs E
 entry_of entries (Request id) = map.get entries.requests id
-entry_of entries (Slot slot) = map.get entries.slots slot
+entry_of entries (Keyed slot) = map.get entries.slots slot
 
 module _ {J : Type 0} where
   abbrev pub job_of : Entry J → J
@@ -31,8 +31,8 @@ module _ {J : Type 0} where
       (name : JobName) (entry : Entry J) → entries name ≡ Some entry
       → get_elem? jobs entry.ticket ≡ some entry.job.value
 
-module _ {J R : Type 0} (comes_to : J → R → Type 0) (reports asks : J → List ℕ → Data → Type 0) where
+module _ {J R : Type 0} (run_post : J → R → Type 0) (reports asks : J → List ℕ → Data → Type 0) where
   -- the job that is pending under this name may say this
   abbrev pub MaySay : PendingJobs J → JobName → WorkerMessage R → Type 0
   MaySay pending name message =
-      (job : J) × (pending name ≡ Some job) × MaySend comes_to reports asks job message
+      (job : J) × (pending name ≡ Some job) × MaySend run_post reports asks job message

@@ -181,7 +181,7 @@ impl Replies {
     }
 
     /// Returns, once, the number of a request to cancel at the client: its job no longer waits, and no reply arrived.
-    pub fn take_unneeded<T: Wait>(&self, rt: &T) -> Option<u64> {
+    pub fn take_request_to_cancel<T: Wait>(&self, rt: &T) -> Option<u64> {
         let mut waiters = self.waiters.lock(rt);
         let number = waiters.unneeded()?;
         let waiter = waiters.waiting.remove(&number);
@@ -190,7 +190,7 @@ impl Replies {
     }
 
     /// Lets the job that waits under this number go on without a reply.
-    pub fn give_up<T: Wait>(&self, rt: &T, number: u64) {
+    pub fn abandon<T: Wait>(&self, rt: &T, number: u64) {
         let waiter = self.remove(rt, number);
         drop(waiter);
     }
@@ -250,8 +250,8 @@ impl Asker {
     }
 
     /// Sleeps for this time, or until the job is to end.
-    pub fn rest<T: Wait>(&self, rt: &T, time: Duration) {
-        self.token.rest(rt, time);
+    pub fn sleep<T: Wait>(&self, rt: &T, time: Duration) {
+        self.token.sleep(rt, time);
     }
 
     /// Records that the job shows progress with this token, which its client may cancel. The error means that an
@@ -279,6 +279,6 @@ impl Asker {
 
     /// Records that the request was not sent, so the job no longer waits.
     pub fn end<T: Wait>(&self, rt: &T, number: u64) {
-        self.replies.give_up(rt, number);
+        self.replies.abandon(rt, number);
     }
 }

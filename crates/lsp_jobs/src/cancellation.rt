@@ -1,4 +1,4 @@
-// How a job is told to end.
+// The signal that a job is to end.
 use crate::untaken_messages::UntakenMessages;
 use std::alloc::{AllocError, Global};
 use std::sync::atomic::{AtomicBool, Ordering};
@@ -63,9 +63,9 @@ impl CancellationToken {
     }
 
     /// Sleeps for this time, or until the job is to end.
-    pub fn rest<T: Wait>(&self, rt: &T, time: Duration) {
+    pub fn sleep<T: Wait>(&self, rt: &T, time: Duration) {
         if !self.is_cancelled() {
-            self.request.rest(rt, time);
+            self.request.sleep(rt, time);
         }
     }
 

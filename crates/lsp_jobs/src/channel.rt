@@ -31,7 +31,7 @@ pub(crate) trait AnyJob<R>: Drop {
     ghost use Rattle.std.specs.Prelude.{ℕ, List};
 
     /// It may have this result.
-    ghost comes_to: { Self → R → Type 0 };
+    ghost run_post: { Self → R → Type 0 };
 
     /// It may report this.
     ghost reports: { Self → List ℕ → Data → Type 0 };
@@ -43,8 +43,8 @@ pub(crate) trait AnyJob<R>: Drop {
         requires reporting { (method : List ℕ) (params : Data) → reports «self» method params
             → C.may method params }
         requires asking { (method : List ℕ) (params : Data) → asks «self» method params
-            → C.may_ask method params }
-        ensures { comes_to «self» result };
+            → C.may_send_request method params }
+        ensures { run_post «self» result };
 }
 
 /// A message of a job.
@@ -87,7 +87,7 @@ impl<J: AnyJob<R>, R> Protocol<Item<R>, Known<J>> for Tickets {
     ghost use Rattle.lsp_jobs.specs.Outcomes.{SaidByTickets};
     ghost use Rattle.lsp_jobs.specs.declared.channel.Known.TheVariants.{All};
 
-    ghost holds = { SaidByTickets J.comes_to J.reports J.asks };
+    ghost holds = { SaidByTickets J.run_post J.reports J.asks };
 
     ghost first = { All [] };
 }
@@ -139,7 +139,7 @@ impl<J: AnyJob<R>, R> Outcome<Item<R>, Known<J>> for Taking {
     ghost use Rattle.lsp_jobs.specs.Outcomes.{IsSaidBy, all_jobs};
 
     ghost then = { λ before item after. (after ≡ before)
-        × IsSaidBy J.comes_to J.reports J.asks (all_jobs before) item };
+        × IsSaidBy J.run_post J.reports J.asks (all_jobs before) item };
 }
 
 impl<J, R> Lesson<Item<R>, Known<J>> for Taking {
@@ -238,9 +238,9 @@ pub(crate) fn sender_for<J: AnyJob<R>, R: Drop>(
 }
 
 impl<J: AnyJob<R>, R: Drop> JobSender<J, R> {
-    /// Returns whether the job is in a slot.
-    pub fn is_in_slot(&self) -> bool {
-        self.name.is_slot()
+    /// Returns whether the job has a key.
+    pub fn is_keyed_job(&self) -> bool {
+        self.name.is_keyed()
     }
 
     /// Performs the job, and sends its messages. When its work is done, it no longer counts as running. It waits while
@@ -263,10 +263,10 @@ impl<J: AnyJob<R>, R: Drop> JobSender<J, R> {
             untaken,
         } = self;
         let ends = (report_sender, report_pass);
-        let (outcome, name, untaken, mut notifier) = perform_telling::<Brand, T, J, R, N>(
+        let (outcome, name, untaken, mut notifier) = perform_traced::<Brand, T, J, R, N>(
             job, ends, untaken, rt, ticket, name, asker, notifier,
         );
-        running.end(name.is_slot());
+        running.end(name.is_keyed());
         if untaken.add(&rt) {
             let item = Item {
                 ticket,
@@ -303,7 +303,7 @@ impl Reportable for Brand {
 }
 
 /// Performs a job, and sends what it reports meanwhile.
-fn perform_telling<W: Reportable, T: Wait + Drop, J: AnyJob<R>, R: Drop, N: Notifier>(
+fn perform_traced<W: Reportable, T: Wait + Drop, J: AnyJob<R>, R: Drop, N: Notifier>(
     job: J,
     ends: (ItemSender<J, R>, ItemPass<J, R>),
     untaken: UntakenMessages,
@@ -323,7 +323,7 @@ fn perform_telling<W: Reportable, T: Wait + Drop, J: AnyJob<R>, R: Drop, N: Noti
         → W.asked method params }
     requires asked { (method : List ℕ) (params : Data) → W.asked method params
         → J.asks «job» method params }
-    ensures { J.comes_to «job» result.0 }
+    ensures { J.run_post «job» result.0 }
 {
     let (sender, pass) = ends;
     let alloc = asker.alloc();
@@ -495,14 +495,14 @@ impl<W: Reportable, T: Wait + Drop, J: AnyJob<R>, R: Drop, N: Notifier> JobConte
     for Reporter<W, T, J, R, N> {
     ghost may = { W.what };
 
-    ghost may_ask = { W.asked };
+    ghost may_send_request = { W.asked };
 
     fn is_cancelled(&self) -> bool {
         self.asker.is_cancelled()
     }
 
-    fn rest(&mut self, time: Duration) -> Result<(), Interrupted> {
-        self.asker.rest(&self.rt, time);
+    fn sleep(&mut self, time: Duration) -> Result<(), Interrupted> {
+        self.asker.sleep(&self.rt, time);
         self.check()
     }
 
@@ -528,7 +528,7 @@ impl<W: Reportable, T: Wait + Drop, J: AnyJob<R>, R: Drop, N: Notifier> JobConte
         self.counted(is_sent)
     }
 
-    fn ask(&mut self, method: String, params: Value) -> Result<Option<Reply>, AllocError> {
+    fn send_request(&mut self, method: String, params: Value) -> Result<Option<Reply>, AllocError> {
         let name = self.name.clone()?;
         let Some((number, replies)) = self.asker.begin(&self.rt)? else {
             return Ok(None);

@@ -1,10 +1,10 @@
-// What is kept under the names of jobs: the requests and the slots in two maps, so that no name of one kind is one of the other.
+// The entries of jobs by their names: requests and keys in two maps, so that no name of one kind is one of the other.
 ghost use Rattle.std.specs.Prelude.{◌≡◌, is_ok, option_copied, OnErr, OnOk};
 ghost use Rattle.lsp_jobs.specs.PendingJobs.{no_jobs, without, with_job};
 ghost use Rattle.lsp_jobs.specs.Waiting.{entry_of};
-ghost use Rattle.lsp_jobs.specs.declared.names.JobName.TheVariants.{Request, Slot as InSlot};
+ghost use Rattle.lsp_jobs.specs.declared.names.JobName.TheVariants.{Request, Keyed as InSlot};
 
-use crate::names::{JobName, Slot};
+use crate::names::{JobKey, JobName};
 use lsp_message::RequestId;
 use lsp_queue::{Incoming, ReqQueue};
 use std::alloc::{AllocError, Global};
@@ -37,7 +37,7 @@ impl<E: Drop> Entries<E> {
     {
         match name {
             JobName::Request(id) => self.add_request(id, entry),
-            JobName::Slot(slot) => self.add_slot(slot, entry),
+            JobName::Keyed(slot) => self.add_slot(slot, entry),
         }
     }
 
@@ -49,7 +49,7 @@ impl<E: Drop> Entries<E> {
         done(self.requests.register(id, entry))
     }
 
-    fn add_slot(&mut self, slot: Slot, entry: E) -> Result<(), AllocError>
+    fn add_slot(&mut self, slot: JobKey, entry: E) -> Result<(), AllocError>
         ensures ok { OnOk result
             (entry_of self.new ≡ with_job (InSlot slot) «entry» (entry_of self.old)) }
         ensures err { OnErr result (entry_of self.new ≡ entry_of self.old) }
@@ -63,7 +63,7 @@ impl<E: Drop> Entries<E> {
     {
         match name {
             JobName::Request(id) => self.requests.data(id),
-            JobName::Slot(slot) => self.slots.data(slot.key()),
+            JobName::Keyed(slot) => self.slots.data(slot.key()),
         }
     }
 
@@ -74,7 +74,7 @@ impl<E: Drop> Entries<E> {
     {
         match name {
             JobName::Request(id) => self.requests.complete(id),
-            JobName::Slot(slot) => self.slots.complete(slot.key()),
+            JobName::Keyed(slot) => self.slots.complete(slot.key()),
         }
     }
 }

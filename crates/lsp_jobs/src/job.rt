@@ -9,7 +9,7 @@ use serde_json::Value;
 use std::alloc::{AllocError, AllocFailed, Global};
 use std::time::Duration;
 
-/// The work of one request or slot, with all that it needs. It runs in a thread of a `JobPool`.
+/// The work for one request or one key, with all data that it needs. It runs in a thread of a `JobPool`.
 ///
 /// The ghost members say what a job is for, what its results are, what it reports, and what it asks the client. If an
 /// `impl` leaves one out, that may be anything.
@@ -25,7 +25,7 @@ pub trait Job: Drop {
     ghost is_for: { Self → List ℕ → Data → Type 0 } = { λ _ _ _. ⊤ };
 
     /// The job may have this result: the reply to its request, and the result for its server.
-    ghost comes_to: { Self → Option Outcome → Option Self.Found → Type 0 } = { λ _ _ _. ⊤ };
+    ghost run_post: { Self → Option Outcome → Option Self.Found → Type 0 } = { λ _ _ _. ⊤ };
 
     /// The job may send a notification with this method and these params while it runs.
     ghost reports: { Self → List ℕ → Data → Type 0 } = { λ _ _ _. ⊤ };
@@ -39,18 +39,18 @@ pub trait Job: Drop {
         requires reporting { (method : List ℕ) (params : Data) → reports «self» method params
             → C.may method params }
         requires asking { (method : List ℕ) (params : Data) → asks «self» method params
-            → C.may_ask method params }
+            → C.may_send_request method params }
         ensures { IfOk result (λ done.
-            comes_to «self» (option_map outcome_view done.reply) done.found) };
+            run_post «self» (option_map outcome_view done.reply) done.found) };
 }
 
 /// The result of a job.
 #[derive(Debug, Drop)]
 pub struct JobResult<F> {
-    /// The reply to its request. If it has none, the request gets the error -32603, `no result`. A job in a slot needs
+    /// The reply to its request. If it has none, the request gets the error -32603, `no result`. A job under a key needs
     /// none.
     pub reply: Option<Result<Value, ResponseError>>,
-    /// The result for its server: see `Slots::found`.
+    /// The result for its server: see `KeyedJobs::found`.
     pub found: Option<F>,
 }
 
@@ -112,7 +112,7 @@ pub trait JobContext {
     ghost may: { List ℕ → Data → Type 0 } = { λ _ _. ⊤ };
 
     /// A request with this method and these params may be sent.
-    ghost may_ask: { List ℕ → Data → Type 0 } = { λ _ _. ⊤ };
+    ghost may_send_request: { List ℕ → Data → Type 0 } = { λ _ _. ⊤ };
 
     /// Returns whether the job is to end: nobody waits for it any longer, or its client cancelled the progress that it
     /// shows.
@@ -128,7 +128,7 @@ pub trait JobContext {
 
     /// Sleeps for this time. If the job is to end, it is woken, and gets `Err(Interrupted::Cancelled)`. A job that
     /// sleeps first does no work if another soon replaces it.
-    fn rest(&mut self, time: Duration) -> Result<(), Interrupted> {
+    fn sleep(&mut self, time: Duration) -> Result<(), Interrupted> {
         let _ = time;
         self.check()
     }
@@ -154,12 +154,12 @@ pub trait JobContext {
     /// dropped.
     ///
     /// The error means that an allocation failed, and nothing was sent. The default body returns `None`.
-    fn ask(
+    fn send_request(
         &mut self,
         method: String,
         params: Value,
     ) -> Result<Option<Result<Value, ResponseError>>, AllocError>
-        requires { may_ask (string_bytes method) (view params) }
+        requires { may_send_request (string_bytes method) (view params) }
     {
         let _ = (method, params);
         Ok(None)
@@ -199,7 +199,7 @@ impl<J: Job> AnyJob<Ran<J::Found>> for J {
     ghost use Rattle.std.specs.Prelude.{ℕ, List, IfOk, option_map};
     ghost use Rattle.lsp_message.specs.View.{outcome_view};
 
-    ghost comes_to = { λ job ran. IfOk ran (λ done. J.comes_to job (option_map outcome_view done.reply) done.found) };
+    ghost run_post = { λ job ran. IfOk ran (λ done. J.run_post job (option_map outcome_view done.reply) done.found) };
 
     ghost reports = { J.reports };
 

@@ -9,7 +9,7 @@ ghost use Rattle.lsp_jobs.specs.ServerView.{AnsweredSo};
 ghost use Rattle.lsp_jobs.specs.declared.job_server.AnsweredBy.TheVariants.{Job as ByJob, Reply as AtOnce};
 
 use crate::job::Job;
-use crate::names::{JobName, Slot};
+use crate::names::{JobKey, JobName};
 use lsp_acts::{Act, Server};
 use lsp_message::{Request, ResponseError};
 use serde::DeserializeOwned;
@@ -56,8 +56,8 @@ impl<J: Drop> AnsweredBy<J> {
 /// A server whose long requests are jobs, and that may start jobs of its own. It goes on while they run. `run_jobs`
 /// runs it.
 ///
-/// A server that has only long requests writes `is_long` and `job`, and says `type Slots = NoSlots`. The ghost members
-/// say what it promises. In such a session only jobs wake the server, and `Slots` reports their ends to it, so
+/// A server that has only long requests writes `is_long` and `job`, and says `type KeyedJobs = NoKeyedJobs`. The ghost members
+/// say what it promises. In such a session only jobs wake the server, and `KeyedJobs` reports their ends to it, so
 /// `Server::woken` is not called.
 pub trait JobServer<J: Job>: Server {
     ghost use Rattle.serde_json.specs.Data.{Data};
@@ -65,25 +65,25 @@ pub trait JobServer<J: Job>: Server {
     ghost use Rattle.lsp_message.specs.Id.{Id};
     ghost use Rattle.lsp_jobs.specs.Ends.{Outcome};
 
-    /// What the server does with its slots, and at the ends of jobs. Take `NoSlots` if it does nothing there.
-    type Slots: Slots<Self, J>;
+    /// The server's jobs under keys, and its reactions to the ends of jobs. Take `NoKeyedJobs` if it has neither.
+    type KeyedJobs: KeyedJobs<Self, J>;
 
     /// For a request with this method and these params it may return this: whether the request is long. If an `impl`
     /// leaves this out, it may return either for any request.
-    ghost sorts: { Self → List ℕ → Data → Bool → Type 0 } = { λ _ _ _ _. ⊤ };
+    ghost is_long_post: { Self → List ℕ → Data → Bool → Type 0 } = { λ _ _ _ _. ⊤ };
 
     /// For a long request with this id, method and params it may return this job. If an `impl` leaves this out, it may
     /// return any job that is for the request.
-    ghost gives: { Self → Id → List ℕ → Data → J → Type 0 } = { λ _ _ _ _ _. ⊤ };
+    ghost job_post: { Self → Id → List ℕ → Data → J → Type 0 } = { λ _ _ _ _ _. ⊤ };
 
     /// For a long request with this id, method and params it may return this reply in place of a job. If an `impl`
     /// leaves this out, it may return any.
-    ghost knows: { Self → Id → List ℕ → Data → Outcome → Type 0 } = { λ _ _ _ _ _. ⊤ };
+    ghost job_reply_post: { Self → Id → List ℕ → Data → Outcome → Type 0 } = { λ _ _ _ _ _. ⊤ };
 
     /// Returns whether a request is long. If so, `job` decides how it is answered, and `Server::request` does not get
     /// it. It is called at each request.
     fn is_long(&self, request: &Request) -> bool
-        ensures { sorts self.now (string_bytes request.now.method) (view request.now.params)
+        ensures { is_long_post self.now (string_bytes request.now.method) (view request.now.params)
             result };
 
     /// Returns how a long request is answered. It is called right after `is_long`, and only if there is room for one
@@ -95,18 +95,18 @@ pub trait JobServer<J: Job>: Server {
     fn job(&self, request: Request) -> Result<AnsweredBy<J>, AllocError>
         ensures { IfOk result (λ by. AnsweredSo by
             (λ job. J.is_for job (string_bytes request.method) (view request.params)
-            × gives self.now request.id (string_bytes request.method) (view request.params) job)
-            (λ outcome. knows self.now request.id (string_bytes request.method)
+            × job_post self.now request.id (string_bytes request.method) (view request.params) job)
+            (λ outcome. job_reply_post self.now request.id (string_bytes request.method)
             (view request.params) outcome)) };
 }
 
-/// What a server does with one of its slots.
+/// Starts or stops the job under a key.
 #[derive(Drop)]
-pub enum SlotChange<J> {
-    /// Starts this job in the slot. A job that is there ends as `JobEnd::Replaced`.
-    Start(Slot, J),
-    /// Ends the job in the slot as `JobEnd::Stopped`. If there is none, nothing is done.
-    Stop(Slot),
+pub enum JobCommand<J> {
+    /// Starts this job under the key. A job that is there ends as `JobEnd::Replaced`.
+    Start(JobKey, J),
+    /// Ends the job under the key as `JobEnd::Stopped`. If there is none, nothing is done.
+    Stop(JobKey),
 }
 
 /// How a job ended that has no result for its server.
@@ -119,42 +119,42 @@ pub enum JobEnd {
     /// It ended with `Interrupted::Cancelled` while somebody waited for it: its client cancelled the progress that it
     /// shows. If it is for a request, the reply follows: the error -32800, `canceled by client`.
     Cancelled,
-    /// It was for a slot, found no room, and never ran.
+    /// It was for a key, found no room, and never ran.
     Refused,
-    /// Another job was started in its slot. Its result is dropped.
+    /// Another job was started under its key. Its result is dropped.
     Replaced,
     /// The server stopped it. Its result is dropped.
     Stopped,
 }
 
-/// What a server does with its slots, and when a job ended. A server that has slots writes `type Slots` as itself, and
-/// has an `impl` of this trait for itself.
+/// The jobs of a server under keys, and its reactions to the ends of jobs. Such a server writes `type KeyedJobs` as
+/// itself, and has an `impl` of this trait for itself.
 ///
-/// The server is notified once of each job that was started in a slot, by `found` or `ended`. The exceptions are jobs
+/// The server is notified once of each job that was started under a key, by `found` or `ended`. The exceptions are jobs
 /// that `shutdown` or the end of the session forgets. For the job of a request it is notified before the reply is sent.
 /// It is not notified if the request was cancelled, answered otherwise, or its id used again.
-pub trait Slots<S: Server, J: Job> {
+pub trait KeyedJobs<S: Server, J: Job> {
     ghost use Rattle.std.specs.Prelude.{List};
     ghost use Rattle.lsp_acts.specs.Acts.{Act as PlainAct};
     ghost use Rattle.lsp_jobs.specs.declared.job_server.JobEnd.{JobEnd as HowEnded};
-    ghost use Rattle.lsp_jobs.specs.declared.job_server.SlotChange.{SlotChange as Change};
+    ghost use Rattle.lsp_jobs.specs.declared.job_server.JobCommand.{JobCommand as Change};
     ghost use Rattle.lsp_jobs.specs.declared.names.JobName.{JobName as Name};
 
-    /// It may change its slots as this list says, in this order, and itself in this manner.
-    ghost changes: { S → List (Change J) → S → Type 0 };
+    /// It may start and stop jobs as this list says, in this order, and change itself in this manner.
+    ghost take_commands_post: { S → List (Change J) → S → Type 0 };
 
     /// When the job with this name found this result, it may return these acts, and change in this manner.
-    ghost hears: { S → Name → J.Found → List (PlainAct S.Payload) → S → Type 0 };
+    ghost found_post: { S → Name → J.Found → List (PlainAct S.PendingData) → S → Type 0 };
 
     /// When the job with this name ended as this says and found nothing, it may return these acts, and change in this
     /// manner.
-    ghost finishes: { S → Name → HowEnded → List (PlainAct S.Payload) → S → Type 0 };
+    ghost ended_post: { S → Name → HowEnded → List (PlainAct S.PendingData) → S → Type 0 };
 
-    /// Returns the changes of its slots. It is called after `initialized`, `request`, `notification`, `response`, and
+    /// Returns which jobs to start and to stop. It is called after `initialized`, `request`, `notification`, `response`, and
     /// `found` or `ended` for a job that ran to its end. It is not called after an `ended` for a job that was refused,
     /// replaced or stopped, nor at `shutdown`, where all jobs are forgotten, nor at a long request.
-    fn take_changes(server: &mut S, alloc: Global) -> Result<Vec<SlotChange<J>>, AllocError>
-        ensures { IfOk result (λ all. changes server.old all.items server.new) };
+    fn take_commands(server: &mut S, alloc: Global) -> Result<Vec<JobCommand<J>>, AllocError>
+        ensures { IfOk result (λ all. take_commands_post server.old all.items server.new) };
 
     /// Gets the result of a job whose work is done. The server may keep it, or send messages to the client.
     fn found(
@@ -162,9 +162,9 @@ pub trait Slots<S: Server, J: Job> {
         name: &JobName,
         found: J::Found,
         alloc: Global,
-    ) -> Result<Vec<Act<S::Payload>>, AllocError>
+    ) -> Result<Vec<Act<S::PendingData>>, AllocError>
         ensures { IfOk result (λ acts.
-            hears server.old name.now «found» (map (act_view S.Payload.eq) acts.items) server.new) };
+            found_post server.old name.now «found» (map (act_view S.PendingData.eq) acts.items) server.new) };
 
     /// Gets how a job ended that found nothing.
     fn ended(
@@ -172,24 +172,24 @@ pub trait Slots<S: Server, J: Job> {
         name: &JobName,
         end: JobEnd,
         alloc: Global,
-    ) -> Result<Vec<Act<S::Payload>>, AllocError>
+    ) -> Result<Vec<Act<S::PendingData>>, AllocError>
         ensures { IfOk result (λ acts.
-            finishes server.old name.now end (map (act_view S.Payload.eq) acts.items) server.new) };
+            ended_post server.old name.now end (map (act_view S.PendingData.eq) acts.items) server.new) };
 }
 
-/// The server has no slots, and does nothing when a job ended.
-pub struct NoSlots;
+/// The server has no jobs under keys, and does nothing when a job ended.
+pub struct NoKeyedJobs;
 
-impl<S: Server, J: Job> Slots<S, J> for NoSlots {
+impl<S: Server, J: Job> KeyedJobs<S, J> for NoKeyedJobs {
     ghost use Rattle.std.specs.Prelude.{◌≡◌, []};
 
-    ghost changes = { λ old changes new. (changes ≡ []) × (new ≡ old) };
+    ghost take_commands_post = { λ old changes new. (changes ≡ []) × (new ≡ old) };
 
-    ghost hears = { λ old _ _ acts new. (acts ≡ []) × (new ≡ old) };
+    ghost found_post = { λ old _ _ acts new. (acts ≡ []) × (new ≡ old) };
 
-    ghost finishes = { λ old _ _ acts new. (acts ≡ []) × (new ≡ old) };
+    ghost ended_post = { λ old _ _ acts new. (acts ≡ []) × (new ≡ old) };
 
-    fn take_changes(server: &mut S, alloc: Global) -> Result<Vec<SlotChange<J>>, AllocError> {
+    fn take_commands(server: &mut S, alloc: Global) -> Result<Vec<JobCommand<J>>, AllocError> {
         let _ = server;
         Ok(Vec::new(alloc))
     }
@@ -199,7 +199,7 @@ impl<S: Server, J: Job> Slots<S, J> for NoSlots {
         name: &JobName,
         found: J::Found,
         alloc: Global,
-    ) -> Result<Vec<Act<S::Payload>>, AllocError> {
+    ) -> Result<Vec<Act<S::PendingData>>, AllocError> {
         let _ = server;
         let _ = name;
         drop(found);
@@ -211,7 +211,7 @@ impl<S: Server, J: Job> Slots<S, J> for NoSlots {
         name: &JobName,
         end: JobEnd,
         alloc: Global,
-    ) -> Result<Vec<Act<S::Payload>>, AllocError> {
+    ) -> Result<Vec<Act<S::PendingData>>, AllocError> {
         let _ = server;
         let _ = name;
         let _ = end;

@@ -21,8 +21,8 @@ mod workers;
 
 pub use asking::RequestOrigin;
 pub use job::{DoneJob, Interrupted, Job, JobContext, JobResult};
-pub use job_server::{AnsweredBy, JobEnd, JobServer, NoSlots, SlotChange, Slots};
-pub use names::{JobName, Slot};
+pub use job_server::{AnsweredBy, JobCommand, JobEnd, JobServer, KeyedJobs, NoKeyedJobs};
+pub use names::{JobKey, JobName};
 pub use pool::{JobMessage, JobPool, PoolSize, SubmitFault};
 pub use pooled_server::PooledServer;
 pub use progress::{PartialResults, WorkDone};

@@ -1,4 +1,4 @@
-// What a job is called: by the request that it answers, or by its slot.
+// The name of a job: the request that it answers, or its key.
 ghost use Rattle.std.specs.Prelude.{◌≡◌, IfOk};
 
 use lsp_message::RequestId;
@@ -7,13 +7,13 @@ use std::fmt;
 use std::marker::Model;
 
 /// A place for one job that answers no request, such as the analysis of a document. Its name is a text or a number, for
-/// example the document's URI. No slot is a request's id, whatever ids a client uses. Make one with `Slot::from`.
+/// example the document's URI. No key is a request's id, whatever ids a client uses. Make one with `JobKey::from`.
 #[derive(Debug, Drop)]
-pub struct Slot {
+pub struct JobKey {
     name: RequestId,
 }
 
-impl Model for Slot {
+impl Model for JobKey {
     ghost use Rattle.lsp_message.specs.Id.{Id};
     ghost use Rattle.lsp_message.specs.IdKeys.{coded_id};
 
@@ -24,32 +24,32 @@ impl Model for Slot {
     ghost view = { λ slot. slot.name };
 }
 
-impl From<i32> for Slot {
+impl From<i32> for JobKey {
     ghost use Rattle.lsp_message.specs.Id.{number};
 
     ghost from_gives = { λ z slot. slot ≡ number z };
 
-    fn from(name: i32) -> Slot {
-        Slot {
+    fn from(name: i32) -> JobKey {
+        JobKey {
             name: RequestId::from(name),
         }
     }
 }
 
-impl From<String> for Slot {
+impl From<String> for JobKey {
     ghost use Rattle.std.specs.Prelude.{string_bytes};
     ghost use Rattle.lsp_message.specs.Id.{text};
 
     ghost from_gives = { λ name slot. slot ≡ text (string_bytes name) };
 
-    fn from(name: String) -> Slot {
-        Slot {
+    fn from(name: String) -> JobKey {
+        JobKey {
             name: RequestId::from(name),
         }
     }
 }
 
-impl fmt::Display for Slot {
+impl fmt::Display for JobKey {
     ghost use Rattle.lsp_message.specs.Id.{printed};
 
     ghost output = { printed };
@@ -59,12 +59,12 @@ impl fmt::Display for Slot {
     }
 }
 
-impl Slot {
-    /// Copies the slot. The error means that an allocation failed.
-    pub fn clone(&self) -> Result<Slot, AllocError>
+impl JobKey {
+    /// Copies the key. The error means that an allocation failed.
+    pub fn clone(&self) -> Result<JobKey, AllocError>
         ensures { IfOk result (λ slot. slot ≡ self.now) }
     {
-        Ok(Slot {
+        Ok(JobKey {
             name: self.name.clone()?,
         })
     }
@@ -89,14 +89,14 @@ impl Slot {
 pub enum JobName {
     /// The id of the request that the job answers.
     Request(RequestId),
-    /// The job's slot. The job answers no request.
-    Slot(Slot),
+    /// The job's key. The job answers no request.
+    Keyed(JobKey),
 }
 
 impl JobName {
-    /// Returns whether it is a slot.
-    pub(crate) fn is_slot(&self) -> bool {
-        matches!(self, JobName::Slot(_))
+    /// Returns whether it is a key.
+    pub(crate) fn is_keyed(&self) -> bool {
+        matches!(self, JobName::Keyed(_))
     }
 
     /// Copies the name. The error means that an allocation failed.
@@ -105,7 +105,7 @@ impl JobName {
     {
         match self {
             JobName::Request(id) => Ok(JobName::Request(id.clone()?)),
-            JobName::Slot(slot) => Ok(JobName::Slot(slot.clone()?)),
+            JobName::Keyed(slot) => Ok(JobName::Keyed(slot.clone()?)),
         }
     }
 }

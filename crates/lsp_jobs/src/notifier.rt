@@ -1,4 +1,4 @@
-// How the thread that works tells the one that waits.
+// The wake-ups from the thread that works to the one that waits.
 use crossbeam_channel::Sender;
 use lsp_relay::RelayWaker;
 use lsp_threads::{Contents, ContentsPlan};

@@ -21,12 +21,12 @@ use std::alloc::{AllocError, Global};
 use std::sync::Wait;
 use std::thread::{Builder, JoinHandle, Threads};
 
-/// How many jobs run, and how many may wait for a thread. Jobs of requests run before jobs in slots.
+/// How many jobs run, and how many may wait for a thread. Jobs of requests run before jobs under keys.
 #[derive(Clone, Copy, Debug, PartialEq, Eq)]
 pub struct PoolSize {
-    /// How many threads run jobs, at least one. If there are two or more, jobs in slots leave one of them to requests,
-    /// so that no request waits for jobs in slots alone. One thread runs both kinds: a request then waits until the
-    /// running job in a slot has ended.
+    /// How many threads run jobs, at least one. If there are two or more, jobs under keys leave one of them to requests,
+    /// so that no request waits for jobs under keys alone. One thread runs both kinds: a request then waits until the
+    /// running job under a key has ended.
     pub workers: usize,
     /// How many jobs may wait for a thread while all threads run one, at least one. A job that is forgotten or replaced
     /// no longer waits, whether a thread is free or not. `None` sets no bound.
@@ -41,7 +41,7 @@ impl PoolSize {
         self.workers.max(1)
     }
 
-    /// Returns how many of them may run jobs in slots at the same time.
+    /// Returns how many of them may run jobs under keys at the same time.
     pub(crate) fn threads_for_slots(&self) -> usize {
         self.workers.saturating_sub(1).max(1)
     }
@@ -229,8 +229,8 @@ impl<T: Wait + Drop, J: Job> JobPool<T, J> {
             (pending_jobs self.new ≡ with_job name «job» (pending_jobs self.old)) }
         ensures err { OnErr result (pending_jobs self.new ≡ without name (pending_jobs self.old)) }
     {
-        self.forget(&name);
-        if !self.waiting.has_room(&self.rt, name.is_slot()) {
+        self.cancel(&name);
+        if !self.waiting.has_room(&self.rt, name.is_keyed()) {
             drop(job);
             return Err(SubmitFault::Full);
         }
@@ -251,7 +251,7 @@ impl<T: Wait + Drop, J: Job> JobPool<T, J> {
         match self.keep(name, job) {
             Ok(()) => Ok(()),
             Err(error) => {
-                self.forget(name);
+                self.cancel(name);
                 Err(error)
             }
         }
@@ -268,9 +268,9 @@ impl<T: Wait + Drop, J: Job> JobPool<T, J> {
         let theirs = token.share()?;
         let asker = self.replies.asker(self.table.next_ticket(), theirs)?;
         let (ticket, job_sender) = self.table.enter(name.clone()?, job, token)?;
-        let is_in_slot = name.is_slot();
+        let is_keyed_job = name.is_keyed();
         let queued = QueuedJob { job_sender, asker };
-        self.waiting.add(&self.rt, ticket, queued, is_in_slot)
+        self.waiting.add(&self.rt, ticket, queued, is_keyed_job)
     }
 
     /// Returns whether a job with this name is pending.
@@ -281,9 +281,9 @@ impl<T: Wait + Drop, J: Job> JobPool<T, J> {
     }
 
     /// Makes the job with this name end, because nobody needs its result: its request was cancelled or answered
-    /// otherwise, or its slot is needed. Its messages are dropped. A job that still waits for a thread is dropped at
+    /// otherwise, or its key is needed. Its messages are dropped. A job that still waits for a thread is dropped at
     /// once, and another may wait in its place. Returns whether a job was pending.
-    pub fn forget(&mut self, name: &JobName) -> bool
+    pub fn cancel(&mut self, name: &JobName) -> bool
         ensures pending { pending_jobs self.new ≡ without name.now (pending_jobs self.old) }
         ensures was { result ≡ is_some (pending_jobs self.old name.now) }
     {
@@ -296,8 +296,8 @@ impl<T: Wait + Drop, J: Job> JobPool<T, J> {
         true
     }
 
-    /// Makes all jobs end, as `forget` does for one, for example because the client shuts the session down.
-    pub fn forget_all(&mut self)
+    /// Makes all jobs end, as `cancel` does for one, for example because the client shuts the session down.
+    pub fn cancel_all(&mut self)
         ensures { pending_jobs self.new ≡ no_jobs }
     {
         self.table.complete_all(self.alloc);
@@ -313,15 +313,15 @@ impl<T: Wait + Drop, J: Job> JobPool<T, J> {
 
     /// Reports that no reply will arrive to a request of a job. The job that waits under this number goes on without
     /// one.
-    pub fn give_up(&self, number: u64) {
-        self.replies.give_up(&self.rt, number);
+    pub fn abandon(&self, number: u64) {
+        self.replies.abandon(&self.rt, number);
     }
 
     /// Returns the number of a job's request to cancel at the client, if there is one: the job is to end, no longer
     /// waits, and the client has not replied (LSP 3.17, "Cancellation Support"). Each number is returned once, and a
     /// signal is sent for it too.
-    pub fn take_unneeded(&self) -> Option<u64> {
-        self.replies.take_unneeded(&self.rt)
+    pub fn take_request_to_cancel(&self) -> Option<u64> {
+        self.replies.take_request_to_cancel(&self.rt)
     }
 
     /// Makes the job end that shows the progress with this token, because the client cancelled that progress (LSP 3.17,

@@ -20,7 +20,7 @@ ghost use Rattle.lsp_jobs.specs.Seen.{seen};
 
 use crate::asking::RequestOrigin;
 use crate::job::{DoneJob, Interrupted, Job, Ran};
-use crate::job_server::{AnsweredBy, JobEnd, JobServer, SlotChange, Slots};
+use crate::job_server::{AnsweredBy, JobCommand, JobEnd, JobServer, KeyedJobs};
 use crate::names::JobName;
 use crate::pool::{JobMessage, JobPool, SubmitFault};
 use lsp_acts::{Act, Server, cancelled_id};
@@ -67,7 +67,7 @@ impl<T: Wait + Drop, S: Drop, J: Job> PooledServer<T, S, J> {
         )) }
     {
         if let Some(id) = cancelled_id(notification)? {
-            self.pool.forget(&JobName::Request(id));
+            self.pool.cancel(&JobName::Request(id));
         }
         Ok(())
     }
@@ -116,7 +116,7 @@ impl<T: Wait + Drop, S: Drop, J: Job> PooledServer<T, S, J> {
         ensures { IfOk result (λ _. seen self.new
             ≡ (self.old.server, without (OfRequest id.now) (pending_jobs self.old.pool))) }
     {
-        self.pool.forget(&JobName::Request(id.clone()?));
+        self.pool.cancel(&JobName::Request(id.clone()?));
         Ok(())
     }
 }
@@ -133,15 +133,15 @@ where
         &mut self,
         name: JobName,
         ran: Ran<J::Found>,
-    ) -> Result<Vec<Act<S::Payload>>, AllocError>
+    ) -> Result<Vec<Act<S::PendingData>>, AllocError>
         ensures { IfOk result (λ acts.
-            Ends (stated_jobs S.JobServer.own ⟦<S::Slots as Slots<S, J>>⟧ J.Job) name (end_of (came_view «ran»)) (reply_at name (came_view «ran»))
-            (seen self.old) (map (act_view S.Payload.eq) acts.items) (seen self.new)) }
+            Ends (stated_jobs S.JobServer.own ⟦<S::KeyedJobs as KeyedJobs<S, J>>⟧ J.Job) name (end_of (came_view «ran»)) (reply_at name (came_view «ran»))
+            (seen self.old) (map (act_view S.PendingData.eq) acts.items) (seen self.new)) }
     {
         let (outcome, found, end) = parts_of(self.alloc, ran)?;
         let mut acts = match found {
-            Some(found) => S::Slots::found(&mut self.server, &name, found, self.alloc)?,
-            None => S::Slots::ended(&mut self.server, &name, end, self.alloc)?,
+            Some(found) => S::KeyedJobs::found(&mut self.server, &name, found, self.alloc)?,
+            None => S::KeyedJobs::ended(&mut self.server, &name, end, self.alloc)?,
         };
         push_reply(&mut acts, name, outcome)?;
         self.forget_answered(&acts)?;
@@ -153,13 +153,13 @@ where
         &mut self,
         name: &JobName,
         end: JobEnd,
-        acts: &mut Vec<Act<S::Payload>>,
+        acts: &mut Vec<Act<S::PendingData>>,
     ) -> Result<(), AllocError>
-        ensures { IfOk result (λ _. EndsThen (stated_jobs S.JobServer.own ⟦<S::Slots as Slots<S, J>>⟧ J.Job) name.now (ended end)
-            (self.old.server, pending_jobs self.old.pool, map (act_view S.Payload.eq) acts.old.items)
-            (self.new.server, pending_jobs self.new.pool, map (act_view S.Payload.eq) acts.new.items)) }
+        ensures { IfOk result (λ _. EndsThen (stated_jobs S.JobServer.own ⟦<S::KeyedJobs as KeyedJobs<S, J>>⟧ J.Job) name.now (ended end)
+            (self.old.server, pending_jobs self.old.pool, map (act_view S.PendingData.eq) acts.old.items)
+            (self.new.server, pending_jobs self.new.pool, map (act_view S.PendingData.eq) acts.new.items)) }
     {
-        let mut more = S::Slots::ended(&mut self.server, name, end, self.alloc)?;
+        let mut more = S::KeyedJobs::ended(&mut self.server, name, end, self.alloc)?;
         self.forget_answered(&more)?;
         acts.append(&mut more)
     }
@@ -168,11 +168,11 @@ where
     fn take_long(
         &mut self,
         request: Request,
-    ) -> Result<Vec<Act<RequestOrigin<S::Payload>>>, AllocError>
+    ) -> Result<Vec<Act<RequestOrigin<S::PendingData>>>, AllocError>
         requires { pending_jobs self.old.pool (OfRequest request.id) ≡ None }
-        ensures { IfOk result (λ all. TakesLong (stated_jobs S.JobServer.own ⟦<S::Slots as Slots<S, J>>⟧ J.Job) (seen self.old) request.id
+        ensures { IfOk result (λ all. TakesLong (stated_jobs S.JobServer.own ⟦<S::KeyedJobs as KeyedJobs<S, J>>⟧ J.Job) (seen self.old) request.id
             (string_bytes request.method) (view request.params)
-            (map (act_view (same_origin S.Payload.eq)) all.items) (seen self.new)) }
+            (map (act_view (same_origin S.PendingData.eq)) all.items) (seen self.new)) }
     {
         let id = request.id.clone()?;
         match self.answer_to(request)? {
@@ -186,9 +186,9 @@ where
     fn answer_to(&self, request: Request) -> Result<AnsweredBy<J>, AllocError>
         ensures { IfOk result (λ by. AnsweredSo by
             (λ job. J.is_for job (string_bytes request.method) (view request.params)
-            × S.JobServer.gives self.now.server request.id (string_bytes request.method)
+            × S.JobServer.job_post self.now.server request.id (string_bytes request.method)
             (view request.params) job)
-            (λ outcome. IsAtOnce (stated_jobs S.JobServer.own ⟦<S::Slots as Slots<S, J>>⟧ J.Job) self.now.server request.id
+            (λ outcome. IsAtOnce (stated_jobs S.JobServer.own ⟦<S::KeyedJobs as KeyedJobs<S, J>>⟧ J.Job) self.now.server request.id
             (string_bytes request.method) (view request.params) outcome)) }
     {
         if !self.pool.has_room() {
@@ -206,13 +206,13 @@ where
         &mut self,
         id: RequestId,
         job: J,
-    ) -> Result<Vec<Act<RequestOrigin<S::Payload>>>, AllocError>
+    ) -> Result<Vec<Act<RequestOrigin<S::PendingData>>>, AllocError>
         ensures { IfOk result (λ all.
-            ((map (act_view (same_origin S.Payload.eq)) all.items ≡ []) × (seen self.new ≡ (
+            ((map (act_view (same_origin S.PendingData.eq)) all.items ≡ []) × (seen self.new ≡ (
               self.old.server,
               with_job (OfRequest id) «job» (pending_jobs self.old.pool),
             )))
-            ⊎ ((map (act_view (same_origin S.Payload.eq)) all.items ≡ replies id (Err no_memory) ∷ []) × (seen self.new ≡ (
+            ⊎ ((map (act_view (same_origin S.PendingData.eq)) all.items ≡ replies id (Err no_memory) ∷ []) × (seen self.new ≡ (
               self.old.server,
               without (OfRequest id) (pending_jobs self.old.pool),
             )))) }
@@ -227,40 +227,40 @@ where
     /// Returns the acts of the server, and after them those of `change_slots`.
     fn acts_with_changes(
         &mut self,
-        acts: Vec<Act<S::Payload>>,
-    ) -> Result<Vec<Act<RequestOrigin<S::Payload>>>, AllocError>
+        acts: Vec<Act<S::PendingData>>,
+    ) -> Result<Vec<Act<RequestOrigin<S::PendingData>>>, AllocError>
         ensures { IfOk result (λ all. ByServers (λ own.
-            ChangesSlots (stated_jobs S.JobServer.own ⟦<S::Slots as Slots<S, J>>⟧ J.Job) (seen self.old) (map (act_view S.Payload.eq) acts.items) own
-            (seen self.new)) (map (act_view (same_origin S.Payload.eq)) all.items)) }
+            ChangesSlots (stated_jobs S.JobServer.own ⟦<S::KeyedJobs as KeyedJobs<S, J>>⟧ J.Job) (seen self.old) (map (act_view S.PendingData.eq) acts.items) own
+            (seen self.new)) (map (act_view (same_origin S.PendingData.eq)) all.items)) }
     {
         let all = self.change_slots(acts)?;
         acts_by_server(self.alloc, all)
     }
 
-    /// Changes the slots that the server changes now, after these acts. The acts at the end of a job follow them.
+    /// Starts and stops the jobs that the server names now, after these acts. The acts at the end of a job follow them.
     fn change_slots(
         &mut self,
-        acts: Vec<Act<S::Payload>>,
-    ) -> Result<Vec<Act<S::Payload>>, AllocError>
+        acts: Vec<Act<S::PendingData>>,
+    ) -> Result<Vec<Act<S::PendingData>>, AllocError>
         ensures { IfOk result (λ all.
-            ChangesSlots (stated_jobs S.JobServer.own ⟦<S::Slots as Slots<S, J>>⟧ J.Job) (seen self.old) (map (act_view S.Payload.eq) acts.items)
-            (map (act_view S.Payload.eq) all.items) (seen self.new)) }
+            ChangesSlots (stated_jobs S.JobServer.own ⟦<S::KeyedJobs as KeyedJobs<S, J>>⟧ J.Job) (seen self.old) (map (act_view S.PendingData.eq) acts.items)
+            (map (act_view S.PendingData.eq) all.items) (seen self.new)) }
     {
         self.forget_answered(&acts)?;
-        let changes = S::Slots::take_changes(&mut self.server, self.alloc)?;
+        let changes = S::KeyedJobs::take_commands(&mut self.server, self.alloc)?;
         self.change_all(changes, acts)
     }
 
-    /// Changes slots, in order.
+    /// Starts and stops jobs under keys, in order.
     fn change_all(
         &mut self,
-        changes: Vec<SlotChange<J>>,
-        acts: Vec<Act<S::Payload>>,
-    ) -> Result<Vec<Act<S::Payload>>, AllocError>
+        changes: Vec<JobCommand<J>>,
+        acts: Vec<Act<S::PendingData>>,
+    ) -> Result<Vec<Act<S::PendingData>>, AllocError>
         ensures { IfOk result (λ all.
-            FoldsTo (Changes (stated_jobs S.JobServer.own ⟦<S::Slots as Slots<S, J>>⟧ J.Job))
-            (self.old.server, pending_jobs self.old.pool, map (act_view S.Payload.eq) acts.items) changes.items
-            (self.new.server, pending_jobs self.new.pool, map (act_view S.Payload.eq) all.items)) }
+            FoldsTo (Changes (stated_jobs S.JobServer.own ⟦<S::KeyedJobs as KeyedJobs<S, J>>⟧ J.Job))
+            (self.old.server, pending_jobs self.old.pool, map (act_view S.PendingData.eq) acts.items) changes.items
+            (self.new.server, pending_jobs self.new.pool, map (act_view S.PendingData.eq) all.items)) }
     {
         let mut acts = acts;
         for change in changes {
@@ -269,23 +269,23 @@ where
         Ok(acts)
     }
 
-    /// Changes a slot.
+    /// Starts or stops the job under a key.
     fn change(
         &mut self,
-        change: SlotChange<J>,
-        acts: &mut Vec<Act<S::Payload>>,
+        change: JobCommand<J>,
+        acts: &mut Vec<Act<S::PendingData>>,
     ) -> Result<(), AllocError>
-        ensures { IfOk result (λ _. Changes (stated_jobs S.JobServer.own ⟦<S::Slots as Slots<S, J>>⟧ J.Job)
-            (self.old.server, pending_jobs self.old.pool, map (act_view S.Payload.eq) acts.old.items) «change»
-            (self.new.server, pending_jobs self.new.pool, map (act_view S.Payload.eq) acts.new.items)) }
+        ensures { IfOk result (λ _. Changes (stated_jobs S.JobServer.own ⟦<S::KeyedJobs as KeyedJobs<S, J>>⟧ J.Job)
+            (self.old.server, pending_jobs self.old.pool, map (act_view S.PendingData.eq) acts.old.items) «change»
+            (self.new.server, pending_jobs self.new.pool, map (act_view S.PendingData.eq) acts.new.items)) }
     {
         match change {
-            SlotChange::Start(slot, job) => {
-                let name = JobName::Slot(slot);
+            JobCommand::Start(slot, job) => {
+                let name = JobName::Keyed(slot);
                 self.free(&name, JobEnd::Replaced, acts)?;
                 self.start_one(name, job, acts)
             }
-            SlotChange::Stop(slot) => self.free(&JobName::Slot(slot), JobEnd::Stopped, acts),
+            JobCommand::Stop(slot) => self.free(&JobName::Keyed(slot), JobEnd::Stopped, acts),
         }
     }
 
@@ -294,13 +294,13 @@ where
         &mut self,
         name: &JobName,
         end: JobEnd,
-        acts: &mut Vec<Act<S::Payload>>,
+        acts: &mut Vec<Act<S::PendingData>>,
     ) -> Result<(), AllocError>
-        ensures { IfOk result (λ _. Frees (stated_jobs S.JobServer.own ⟦<S::Slots as Slots<S, J>>⟧ J.Job) name.now (ended end)
-            (self.old.server, pending_jobs self.old.pool, map (act_view S.Payload.eq) acts.old.items)
-            (self.new.server, pending_jobs self.new.pool, map (act_view S.Payload.eq) acts.new.items)) }
+        ensures { IfOk result (λ _. Frees (stated_jobs S.JobServer.own ⟦<S::KeyedJobs as KeyedJobs<S, J>>⟧ J.Job) name.now (ended end)
+            (self.old.server, pending_jobs self.old.pool, map (act_view S.PendingData.eq) acts.old.items)
+            (self.new.server, pending_jobs self.new.pool, map (act_view S.PendingData.eq) acts.new.items)) }
     {
-        if self.pool.forget(name) {
+        if self.pool.cancel(name) {
             return self.end_then(name, end, acts);
         }
         Ok(())
@@ -311,12 +311,12 @@ where
         &mut self,
         name: JobName,
         job: J,
-        acts: &mut Vec<Act<S::Payload>>,
+        acts: &mut Vec<Act<S::PendingData>>,
     ) -> Result<(), AllocError>
         ensures { IfOk result (λ _.
-            StartsOne (stated_jobs S.JobServer.own ⟦<S::Slots as Slots<S, J>>⟧ J.Job) name «job»
-            (self.old.server, pending_jobs self.old.pool, map (act_view S.Payload.eq) acts.old.items)
-            (self.new.server, pending_jobs self.new.pool, map (act_view S.Payload.eq) acts.new.items)) }
+            StartsOne (stated_jobs S.JobServer.own ⟦<S::KeyedJobs as KeyedJobs<S, J>>⟧ J.Job) name «job»
+            (self.old.server, pending_jobs self.old.pool, map (act_view S.PendingData.eq) acts.old.items)
+            (self.new.server, pending_jobs self.new.pool, map (act_view S.PendingData.eq) acts.new.items)) }
     {
         match self.pool.submit(name.clone()?, job) {
             Ok(()) => Ok(()),
@@ -347,7 +347,7 @@ fn parts_of<F: Drop>(
     }
 }
 
-/// Adds the reply to the request of a job. A job in a slot has none.
+/// Adds the reply to the request of a job. A job under a key has none.
 fn push_reply<P: Drop + PartialEq>(
     acts: &mut Vec<Act<P>>,
     name: JobName,
@@ -361,7 +361,7 @@ fn push_reply<P: Drop + PartialEq>(
             Ok(()) => Ok(()),
             Err(_) => Err(AllocError),
         },
-        JobName::Slot(slot) => {
+        JobName::Keyed(slot) => {
             drop((slot, outcome));
             Ok(())
         }
@@ -449,8 +449,8 @@ fn act_by_server<P: Drop + PartialEq>(act: Act<P>) -> Act<RequestOrigin<P>>
     ensures { act_view (same_origin P.eq) result ≡ by_server (act_view P.eq «act») }
 {
     match act {
-        Act::Tell(notification) => Act::Tell(notification),
-        Act::Ask(method, params, payload) => Act::Ask(
+        Act::SendNotification(notification) => Act::SendNotification(notification),
+        Act::SendRequest(method, params, payload) => Act::SendRequest(
             method,
             params,
             RequestOrigin::ByServer(payload),
@@ -480,29 +480,29 @@ where
 {
     ghost use Rattle.lsp_jobs.specs.JobSession.{seen_with_jobs};
 
-    type Payload = RequestOrigin<S::Payload>;
+    type PendingData = RequestOrigin<S::PendingData>;
 
-    ghost initializes = { (seen_with_jobs T S.Server (stated_jobs S.JobServer.own ⟦<S::Slots as Slots<S, J>>⟧ J.Job)).initializes };
+    ghost initialize_post = { (seen_with_jobs T S.Server (stated_jobs S.JobServer.own ⟦<S::KeyedJobs as KeyedJobs<S, J>>⟧ J.Job)).initialize_post };
 
-    ghost at_initialized = { (seen_with_jobs T S.Server (stated_jobs S.JobServer.own ⟦<S::Slots as Slots<S, J>>⟧ J.Job)).at_initialized };
+    ghost initialized_post = { (seen_with_jobs T S.Server (stated_jobs S.JobServer.own ⟦<S::KeyedJobs as KeyedJobs<S, J>>⟧ J.Job)).initialized_post };
 
-    ghost requested = { (seen_with_jobs T S.Server (stated_jobs S.JobServer.own ⟦<S::Slots as Slots<S, J>>⟧ J.Job)).requested };
+    ghost request_post = { (seen_with_jobs T S.Server (stated_jobs S.JobServer.own ⟦<S::KeyedJobs as KeyedJobs<S, J>>⟧ J.Job)).request_post };
 
-    ghost notified = { (seen_with_jobs T S.Server (stated_jobs S.JobServer.own ⟦<S::Slots as Slots<S, J>>⟧ J.Job)).notified };
+    ghost notification_post = { (seen_with_jobs T S.Server (stated_jobs S.JobServer.own ⟦<S::KeyedJobs as KeyedJobs<S, J>>⟧ J.Job)).notification_post };
 
-    ghost replied = { (seen_with_jobs T S.Server (stated_jobs S.JobServer.own ⟦<S::Slots as Slots<S, J>>⟧ J.Job)).replied };
+    ghost response_post = { (seen_with_jobs T S.Server (stated_jobs S.JobServer.own ⟦<S::KeyedJobs as KeyedJobs<S, J>>⟧ J.Job)).response_post };
 
-    ghost wakes = { (seen_with_jobs T S.Server (stated_jobs S.JobServer.own ⟦<S::Slots as Slots<S, J>>⟧ J.Job)).wakes };
+    ghost woken_post = { (seen_with_jobs T S.Server (stated_jobs S.JobServer.own ⟦<S::KeyedJobs as KeyedJobs<S, J>>⟧ J.Job)).woken_post };
 
-    ghost at_shutdown = { (seen_with_jobs T S.Server (stated_jobs S.JobServer.own ⟦<S::Slots as Slots<S, J>>⟧ J.Job)).at_shutdown };
+    ghost shutdown_post = { (seen_with_jobs T S.Server (stated_jobs S.JobServer.own ⟦<S::KeyedJobs as KeyedJobs<S, J>>⟧ J.Job)).shutdown_post };
 
-    ghost takes_back = { (seen_with_jobs T S.Server (stated_jobs S.JobServer.own ⟦<S::Slots as Slots<S, J>>⟧ J.Job)).takes_back };
+    ghost ids_exhausted_post = { (seen_with_jobs T S.Server (stated_jobs S.JobServer.own ⟦<S::KeyedJobs as KeyedJobs<S, J>>⟧ J.Job)).ids_exhausted_post };
 
     fn initialize(&mut self, params: Value) -> Result<Result<Value, ResponseError>, AllocError> {
         self.server.initialize(params)
     }
 
-    fn initialized(&mut self) -> Result<Vec<Act<RequestOrigin<S::Payload>>>, AllocError> {
+    fn initialized(&mut self) -> Result<Vec<Act<RequestOrigin<S::PendingData>>>, AllocError> {
         let acts = self.server.initialized()?;
         self.acts_with_changes(acts)
     }
@@ -510,8 +510,8 @@ where
     fn request(
         &mut self,
         request: Request,
-    ) -> Result<Vec<Act<RequestOrigin<S::Payload>>>, AllocError> {
-        self.pool.forget(&JobName::Request(request.id.clone()?));
+    ) -> Result<Vec<Act<RequestOrigin<S::PendingData>>>, AllocError> {
+        self.pool.cancel(&JobName::Request(request.id.clone()?));
         if self.server.is_long(&request) {
             return self.take_long(request);
         }
@@ -522,7 +522,7 @@ where
     fn notification(
         &mut self,
         notification: Notification,
-    ) -> Result<Vec<Act<RequestOrigin<S::Payload>>>, AllocError> {
+    ) -> Result<Vec<Act<RequestOrigin<S::PendingData>>>, AllocError> {
         self.forget_cancelled(&notification)?;
         self.stop_progress(&notification)?;
         let acts = self.server.notification(notification)?;
@@ -531,9 +531,9 @@ where
 
     fn response(
         &mut self,
-        payload: RequestOrigin<S::Payload>,
+        payload: RequestOrigin<S::PendingData>,
         outcome: Result<Value, ResponseError>,
-    ) -> Result<Vec<Act<RequestOrigin<S::Payload>>>, AllocError> {
+    ) -> Result<Vec<Act<RequestOrigin<S::PendingData>>>, AllocError> {
         match payload {
             RequestOrigin::ByServer(payload) => {
                 let acts = self.server.response(payload, outcome)?;
@@ -546,8 +546,11 @@ where
         }
     }
 
-    fn woken(&mut self, alloc: Global) -> Result<Vec<Act<RequestOrigin<S::Payload>>>, AllocError> {
-        if let Some(number) = self.pool.take_unneeded() {
+    fn woken(
+        &mut self,
+        alloc: Global,
+    ) -> Result<Vec<Act<RequestOrigin<S::PendingData>>>, AllocError> {
+        if let Some(number) = self.pool.take_request_to_cancel() {
             return one_act(alloc, Act::Cancel(RequestOrigin::ByJob(number)));
         }
         let Some(said) = self.pool.take_message() else {
@@ -555,11 +558,11 @@ where
         };
         let (name, message) = said;
         match message {
-            JobMessage::Report(notification) => one_act(alloc, Act::Tell(notification)),
+            JobMessage::Report(notification) => one_act(alloc, Act::SendNotification(notification)),
             JobMessage::Ask(method, params, number) => {
                 one_act(
                     alloc,
-                    Act::Ask(method, params, RequestOrigin::ByJob(number)),
+                    Act::SendRequest(method, params, RequestOrigin::ByJob(number)),
                 )
             }
             JobMessage::Ran(ran) => {
@@ -572,17 +575,17 @@ where
     fn shutdown(
         &mut self,
         alloc: Global,
-    ) -> Result<Vec<Act<RequestOrigin<S::Payload>>>, AllocError> {
-        self.pool.forget_all();
+    ) -> Result<Vec<Act<RequestOrigin<S::PendingData>>>, AllocError> {
+        self.pool.cancel_all();
         let acts = self.server.shutdown(alloc)?;
         acts_by_server(self.alloc, acts)
     }
 
-    fn unsent(&mut self, payload: RequestOrigin<S::Payload>) -> Result<(), AllocError> {
+    fn ids_exhausted(&mut self, payload: RequestOrigin<S::PendingData>) -> Result<(), AllocError> {
         match payload {
-            RequestOrigin::ByServer(payload) => self.server.unsent(payload),
+            RequestOrigin::ByServer(payload) => self.server.ids_exhausted(payload),
             RequestOrigin::ByJob(number) => {
-                self.pool.give_up(number);
+                self.pool.abandon(number);
                 Ok(())
             }
         }

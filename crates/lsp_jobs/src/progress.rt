@@ -1,4 +1,4 @@
-// What a job tells its client while it runs: how far it is, and parts of its result.
+// The messages of a job to its client while it runs: progress, and parts of its result.
 ghost use Rattle.serde_json.specs.Data.{Data};
 ghost use Rattle.serde_json.specs.View.{view};
 ghost use Rattle.std.specs.Prelude.{◌≡◌, IfOk, IfSome, codes, option_map, string_bytes};
@@ -40,7 +40,7 @@ impl Model for WorkDone {
 impl WorkDone {
     /// Reads the token from the params of a request: a text, or an integer of 32 bits. Without such a token nothing is
     /// ever sent. The error means that an allocation failed.
-    pub fn of(alloc: Global, params: &Value) -> Result<WorkDone, AllocError>
+    pub fn from_params(alloc: Global, params: &Value) -> Result<WorkDone, AllocError>
         ensures { IfOk result (λ work.
             option_map view work ≡ token_of (codes "workDoneToken") (view params.now)) }
     {
@@ -59,11 +59,11 @@ impl WorkDone {
         context: &mut C,
         token: Value,
     ) -> Result<WorkDone, AllocError>
-        requires { C.may_ask create_method (create_params (view token)) }
+        requires { C.may_send_request create_method (create_params (view token)) }
         ensures { IfOk result (λ work. IfSome work (λ given. view given ≡ view token)) }
     {
         let (method, params) = creation_of(alloc, &token)?;
-        let token = match context.ask(method, params)? {
+        let token = match context.send_request(method, params)? {
             Some(Ok(_)) => Some(token),
             _ => None,
         };
@@ -180,7 +180,7 @@ impl Model for PartialResults {
 impl PartialResults {
     /// Reads the token from the params of a request: a text, or an integer of 32 bits. Without such a token nothing is
     /// ever sent. The error means that an allocation failed.
-    pub fn of(alloc: Global, params: &Value) -> Result<PartialResults, AllocError>
+    pub fn from_params(alloc: Global, params: &Value) -> Result<PartialResults, AllocError>
         ensures { IfOk result (λ parts.
             option_map view parts ≡ token_of (codes "partialResultToken") (view params.now)) }
     {

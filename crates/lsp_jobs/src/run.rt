@@ -7,10 +7,10 @@ ghost use Rattle.lsp_jobs.specs.JobSession.{JobSession};
 ghost use Rattle.lsp_jobs.specs.Stated.{stated_jobs};
 
 use crate::job::Job;
-use crate::job_server::{JobServer, Slots};
+use crate::job_server::{JobServer, KeyedJobs};
 use crate::pool::{PoolSize, start_pool};
 use crate::pooled_server::PooledServer;
-use lsp_acts::QueuedServer;
+use lsp_acts::ServerApplication;
 use lsp_relay::relay;
 use lsp_session::BadContentPolicy;
 use lsp_threads::{
@@ -64,11 +64,11 @@ impl JobOptions {
 /// - If an allocation fails in a job, or while it is made or started, its request gets the error -32603, `out of
 ///   memory`, and the session goes on. It ends only if memory for that text is missing too.
 /// - `window/workDoneProgress/cancel` makes the job end that shows this progress, if it began it with
-///   `WorkDone::begin_cancellable`. If the job ends as `JobContext::check` tells it to, its request gets the error
+///   `WorkDone::begin_cancellable`. If the job ends because `JobContext::check` returns an error, its request gets the error
 ///   -32800, `canceled by client`, and the server is notified.
 /// - Reports and outcomes are sent up to `shutdown`. At `shutdown` all jobs are cancelled: their later messages are
 ///   dropped, and their requests get the error -32800, `canceled by shutdown`, before the reply to `shutdown`.
-/// - At a content part that is no message (see `lsp_session::is_of_content`) `policy` is asked, at once and on your
+/// - At a content part that is no message (see `lsp_session::is_bad_content`) `policy` is asked, at once and on your
 ///   thread, from `initialized` up to `shutdown`. If it says to read on, nothing is answered, the server is not
 ///   notified, and the next frame follows. If it ends the session, such a part is `SessionFault::Read`. Before
 ///   `initialized` and after `shutdown` it is so in any case.
@@ -98,13 +98,13 @@ where
     ensures unstarted { OnErr result.1 ((result.0 ≡ server) × (policy.new ≡ policy.old)) }
     ensures told { IfOk result.1 (λ done. OfTaken done.taken.parts (λ text.
         ThreadsTellOver true L.passes options.threads.limits
-        (JobSession T S.Server (stated_jobs S.JobServer.own ⟦<S::Slots as Slots<S, J>>⟧ J.Job) server result.0) text
+        (JobSession T S.Server (stated_jobs S.JobServer.own ⟦<S::KeyedJobs as KeyedJobs<S, J>>⟧ J.Job) server result.0) text
         policy.old policy.new (Some []) (noted done.given) done.answer)) }
     ensures passed { IfOk result.1 (λ done. TakenFrom (R.remaining reader) done.taken.parts
         × GivenTo (W.contents writer) done.given.parts (W.contents done.writer)) }
     ensures session { IfSome (R.remaining reader) (λ text. IfOk result.1 (λ done.
         ThreadsTellOver true L.passes options.threads.limits
-        (JobSession T S.Server (stated_jobs S.JobServer.own ⟦<S::Slots as Slots<S, J>>⟧ J.Job) server result.0) text
+        (JobSession T S.Server (stated_jobs S.JobServer.own ⟦<S::KeyedJobs as KeyedJobs<S, J>>⟧ J.Job) server result.0) text
         policy.old policy.new (W.contents writer) (W.contents done.writer) done.answer)) }
 {
     let Ok((mut tx, rx)) = relay::<Contents, ContentsPlan>(alloc, ROOM) else {
@@ -118,7 +118,7 @@ where
         Err(fault) => return (server, Err(fault)),
     };
     let pooled = PooledServer::new(alloc, server, pool);
-    let mut queued = QueuedServer::new(alloc, pooled);
+    let mut queued = ServerApplication::new(alloc, pooled);
     let ends = (tx, rx);
     let done = run_in_threads_over(
         rt,

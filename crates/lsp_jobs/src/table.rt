@@ -139,7 +139,7 @@ impl<J: Job> JobTable<J> {
     fn take_item<T: Wait>(&mut self, rt: &T) -> Option<Item<Ran<J::Found>>>
         ensures same { self.new.jobs ≡ self.old.jobs }
         ensures said { IfSome result (λ item.
-            IsSaidBy ⟦<J as AnyJob<Ran<J::Found>>>⟧.comes_to J.reports J.asks (all_jobs (knows self.new.pass)) item) }
+            IsSaidBy ⟦<J as AnyJob<Ran<J::Found>>>⟧.run_post J.reports J.asks (all_jobs (knows self.new.pass)) item) }
     {
         match self.receiver.try_recv_as::<Taking, T>(rt, &mut self.pass) {
             Ok(item) => Some(item),
@@ -166,7 +166,7 @@ impl<J: Job> JobTable<J> {
     pub fn take<T: Wait>(&mut self, rt: &T) -> Option<(JobName, WorkerMessage<Ran<J::Found>>)>
         ensures same { self.new.jobs ≡ self.old.jobs }
         ensures said { IfSome result (λ said.
-            MaySay ⟦<J as AnyJob<Ran<J::Found>>>⟧.comes_to J.reports J.asks (pending_of self.old.jobs) said.0 said.1) }
+            MaySay ⟦<J as AnyJob<Ran<J::Found>>>⟧.run_post J.reports J.asks (pending_of self.old.jobs) said.0 said.1) }
     {
         for _ in rt.forever() {
             let item = self.take_item(rt)?;

@@ -129,7 +129,7 @@ impl UntakenMessages {
     }
 
     /// Sleeps for this time, or until the job is to end.
-    pub fn rest<T: Wait>(&self, rt: &T, time: Duration) {
+    pub fn sleep<T: Wait>(&self, rt: &T, time: Duration) {
         self.words.ends.park_timeout(rt, 0, time);
     }
 }

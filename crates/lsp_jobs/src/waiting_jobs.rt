@@ -10,7 +10,7 @@ use std::sync::{Arc, Mutex, Wait};
 struct Counts {
     /// The jobs that run.
     all: AtomicU64,
-    /// Those of them that are in slots.
+    /// Those of them that have keys.
     in_slots: AtomicU64,
     /// How often a job may have become ready. A worker that finds none sleeps at this word.
     rings: AtomicU64,
@@ -46,17 +46,17 @@ impl RunningJobs {
         })
     }
 
-    fn begin(&self, is_in_slot: bool) {
+    fn begin(&self, is_keyed_job: bool) {
         let _ = self.counts.all.fetch_add(1, Ordering::SeqCst);
-        if is_in_slot {
+        if is_keyed_job {
             let _ = self.counts.in_slots.fetch_add(1, Ordering::SeqCst);
         }
     }
 
-    /// Counts that the work of one is done. If it was in a slot, another may begin.
-    pub fn end(&self, is_in_slot: bool) {
+    /// Counts that the work of one is done. If it had a key, another may begin.
+    pub fn end(&self, is_keyed_job: bool) {
         let _ = self.counts.all.fetch_sub(1, Ordering::SeqCst);
-        if is_in_slot {
+        if is_keyed_job {
             let _ = self.counts.in_slots.fetch_sub(1, Ordering::SeqCst);
             self.ring();
         }
@@ -122,7 +122,7 @@ pub(crate) struct WaitingJobs<E: Drop> {
 pub(crate) struct JobSource<E: Drop> {
     rows: Arc<Mutex<Rows<E>>>,
     running: RunningJobs,
-    /// How many jobs in slots may run at once.
+    /// How many jobs under keys may run at once.
     slots: u64,
 }
 
@@ -150,7 +150,7 @@ pub(crate) fn queue_of_jobs<E: Drop>(
 
 impl<E: Drop> WaitingJobs<E> {
     /// Returns whether one more job may wait or run. A job that waits for an idle worker takes that worker's room.
-    pub fn has_room<T: Wait>(&self, rt: &T, is_in_slot: bool) -> bool {
+    pub fn has_room<T: Wait>(&self, rt: &T, is_keyed_job: bool) -> bool {
         let counts = &self.open.running.counts;
         let rows = self.rows.lock(rt);
         let (requests, slots) = (rows.requests.len() as u64, rows.slots.len() as u64);
@@ -161,7 +161,7 @@ impl<E: Drop> WaitingJobs<E> {
             .saturating_add(requests)
             .saturating_add(slots);
         drop(rows);
-        if is_in_slot && !self.size.has_room(self.size.threads_for_slots(), in_slots) {
+        if is_keyed_job && !self.size.has_room(self.size.threads_for_slots(), in_slots) {
             return false;
         }
         self.size.has_room(self.size.threads(), all)
@@ -174,10 +174,10 @@ impl<E: Drop> WaitingJobs<E> {
         rt: &T,
         ticket: u64,
         job: E,
-        is_in_slot: bool,
+        is_keyed_job: bool,
     ) -> Result<(), AllocError> {
         let mut rows = self.rows.lock(rt);
-        let added = if is_in_slot {
+        let added = if is_keyed_job {
             rows.slots.insert(ticket, job)
         } else {
             rows.requests.insert(ticket, job)
@@ -224,7 +224,7 @@ impl<E: Drop> JobSource<E> {
         &self.running
     }
 
-    /// Takes the oldest job of a request. If none waits, it takes the oldest in a slot, unless as many of those run as
+    /// Takes the oldest job of a request. If none waits, it takes the oldest under a key, unless as many of those run as
     /// may. The job counts as running from now on.
     fn take<T: Wait>(&self, rt: &T) -> Option<E> {
         let mut rows = self.rows.lock(rt);

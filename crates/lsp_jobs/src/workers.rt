@@ -40,7 +40,7 @@ impl<J: AnyJob<R>, R: Drop> Work for QueuedJob<J, R> {
     }
 
     fn end(self, running: &RunningJobs) {
-        running.end(self.job_sender.is_in_slot());
+        running.end(self.job_sender.is_keyed_job());
         drop(self);
     }
 

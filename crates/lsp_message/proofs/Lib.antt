@@ -4,11 +4,11 @@ pub mod ContentParts
 pub mod Contents
 pub mod FramesBack
 pub mod FrontOfFrame
-mod FrontSteps
-mod HeaderSteps
+pub mod FrontSteps
+pub mod HeaderSteps
 pub mod Ids
 pub mod Joined
-mod KnownLines
+pub mod KnownLines
 mod Members
 pub mod Numerals
 mod Places
@@ -20,10 +20,10 @@ mod ReadsBack
 mod Cases
 pub mod Sendable
 mod Separators
-mod Shown
+pub mod Shown
 mod Suffixes
 mod Takings
-mod Texts
+pub mod Texts
 pub mod Told
 mod ToldHeaders
 mod ToldLines

@@ -8,11 +8,12 @@ pub mod laws;
 mod msg;
 
 pub use error::ExtractError;
-pub use frame::content::{read_content_telling, read_content_within};
+pub use frame::content::{read_content_traced, read_content_within};
+pub use frame::header::{HeaderLine, header_line};
 pub use frame::limits::Limits;
 pub use frame::passed::Passed;
 pub use frame::scan::front;
-pub use frame::write::{write_frames, write_frames_telling};
+pub use frame::write::{write_frames, write_frames_traced};
 pub use frame::{Front, ReadFault, WriteFault};
 pub use msg::{
     ErrorCode, Message, Notification, Request, RequestId, Response, ResponseError, ResultText,

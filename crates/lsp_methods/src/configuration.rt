@@ -6,7 +6,7 @@ ghost use Rattle.lsp_methods.specs.Configuring.{asks_for, replied_of, settings_o
 ghost use Rattle.serde_json.specs.declared.value.Value.{Value};
 ghost use Rattle.lsp_acts.specs.View.{act_view};
 
-use crate::sending::{ask, read_result};
+use crate::sending::{read_result, send_request};
 use lsp_acts::Act;
 use lsp_message::{ResponseError, read_as};
 use lsp_types::methods::ConfigurationRequest;
@@ -17,7 +17,7 @@ use std::alloc::{AllocError, Global};
 
 /// A section of the client's configuration, read as a type of your own (LSP 3.17, "Configuration Request").
 ///
-/// In `initialize` call `agree`, in `initialized` call `ask`, and at each `workspace/didChangeConfiguration` call
+/// In `initialize` call `read_capabilities`, in `initialized` call `send_request`, and at each `workspace/didChangeConfiguration` call
 /// `change`. Pass the replies to `take_reply`.
 #[derive(Drop)]
 pub struct Configuration<T: Drop> {
@@ -32,7 +32,7 @@ pub struct Configuration<T: Drop> {
 impl<T: DeserializeOwned + Drop> Configuration<T> {
     ghost use Rattle.lsp_methods.specs.Configuring.{can_be_asked};
 
-    /// Makes a section with the value that holds until the user sets one. Before `agree`, the client is not asked.
+    /// Makes a section with the value that holds until the user sets one. Before `read_capabilities`, the client is not asked.
     pub fn new(section: &'static str, value: T) -> Configuration<T>
         ensures section { result.«section».now ≡ «section».now }
         ensures is_asked { result.is_asked ≡ false }
@@ -46,7 +46,7 @@ impl<T: DeserializeOwned + Drop> Configuration<T> {
     }
 
     /// Reads from the client's capabilities whether it can be asked: `workspace.configuration` is true.
-    pub fn agree(&mut self, client: &Value)
+    pub fn read_capabilities(&mut self, client: &Value)
         ensures { self.new ≡ record self.old { is_asked = can_be_asked (view client.now) } }
     {
         self.is_asked = match client.pointer("/workspace/configuration") {
@@ -58,7 +58,7 @@ impl<T: DeserializeOwned + Drop> Configuration<T> {
     /// Makes the request for the section, if the client can be asked. `payload` is returned with the reply.
     ///
     /// `Err` means that an allocation failed.
-    pub fn ask<P: Drop + PartialEq>(
+    pub fn send_request<P: Drop + PartialEq>(
         &self,
         alloc: Global,
         payload: P,
@@ -78,7 +78,7 @@ impl<T: DeserializeOwned + Drop> Configuration<T> {
                 return Err(failed);
             }
         };
-        let asked = ask::<ConfigurationRequest, P>(alloc, &params, payload);
+        let asked = send_request::<ConfigurationRequest, P>(alloc, &params, payload);
         drop(params);
         match asked {
             Ok(act) => Ok(Some(act)),
@@ -87,7 +87,7 @@ impl<T: DeserializeOwned + Drop> Configuration<T> {
     }
 
     /// Takes the reply, and returns whether its first value fits. The result has a value for each requested section, in
-    /// order (LSP 3.17, "Configuration Request"), and `ask` requests one. If it does not fit, `value` stays: the client
+    /// order (LSP 3.17, "Configuration Request"), and `send_request` requests one. If it does not fit, `value` stays: the client
     /// may reply with an error, or with null if the user set nothing.
     ///
     /// `Err` means that an allocation failed, and `value` stays too.
@@ -129,7 +129,7 @@ impl<T: DeserializeOwned + Drop> Configuration<T> {
     }
 
     /// Handles `workspace/didChangeConfiguration`, which has these params. It makes a new request if the client can be
-    /// asked, as `ask` does. Otherwise it takes the settings in the params, as `take_settings` does. `payload` is
+    /// asked, as `send_request` does. Otherwise it takes the settings in the params, as `take_settings` does. `payload` is
     /// returned with the reply.
     ///
     /// `Err` means that an allocation failed, and `value` stays.
@@ -148,7 +148,7 @@ impl<T: DeserializeOwned + Drop> Configuration<T> {
             act_view P.eq act ≡ asks_for self.old.«section».now «payload»)) }
     {
         if self.is_asked {
-            return self.ask(alloc, payload);
+            return self.send_request(alloc, payload);
         }
         drop(payload);
         if let Some(settings) = params.get("settings") {

@@ -13,7 +13,7 @@ mod receiving;
 mod sending;
 
 pub use configuration::Configuration;
-pub use params::read;
+pub use params::from_value;
 pub use publishing::publish;
 pub use receiving::{answer, on_notification, on_request, read_params, try_answer};
-pub use sending::{ask, read_result, reply, tell};
+pub use sending::{read_result, reply, send_notification, send_request};

@@ -13,7 +13,7 @@ use std::alloc::{AllocError, Global};
 /// member that does not fit, and what was expected there (JSON-RPC 2.0, section 5.1).
 ///
 /// `Err(AllocError)` means that an allocation failed.
-pub fn read<T: FromJson>(
+pub fn from_value<T: FromJson>(
     alloc: Global,
     value: &Value,
 ) -> Result<Result<T, ResponseError>, AllocError>

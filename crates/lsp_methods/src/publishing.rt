@@ -3,7 +3,7 @@ ghost use Rattle.std.specs.Prelude.{◌≡◌, IfOk, string_bytes};
 ghost use Rattle.lsp_methods.specs.Publishing.{publishes};
 ghost use Rattle.lsp_acts.specs.View.{act_view};
 
-use crate::sending::tell;
+use crate::sending::send_notification;
 use lsp_acts::Act;
 use lsp_types::methods::PublishDiagnosticsNotification;
 use lsp_types::{Diagnostic, PublishDiagnosticsParams, ToJson};
@@ -31,7 +31,7 @@ pub fn publish<P: Drop + PartialEq>(
                 version,
                 diagnostics,
             };
-            let told = tell::<PublishDiagnosticsNotification, P>(alloc, &params);
+            let told = send_notification::<PublishDiagnosticsNotification, P>(alloc, &params);
             drop(params);
             told
         }

@@ -9,7 +9,7 @@ ghost use Rattle.lsp_acts.specs.Answering.{ActsFor, Refuses, logs_error};
 ghost use Rattle.lsp_acts.specs.View.{act_view};
 ghost use Rattle.serde_json.specs.View.{view};
 
-use crate::params::read;
+use crate::params::from_value;
 use crate::sending::reply;
 use lsp_acts::Act;
 use lsp_message::{Notification, Request, RequestId, ResponseError};
@@ -94,7 +94,7 @@ where
 }
 
 /// Reads the params of a request of this method, and returns the acts that `act` returns for the id and the params, as
-/// `Act::of_request` does.
+/// `Act::from_request` does.
 ///
 /// `Err` means that an allocation failed.
 pub fn on_request<M, P, F>(
@@ -121,7 +121,7 @@ where
 }
 
 /// Reads the params of a notification of this method, and returns the acts that `act` returns for them, as
-/// `Act::of_notification` does. Params that do not fit give an error in the client's log (`window/logMessage`).
+/// `Act::from_notification` does. Params that do not fit give an error in the client's log (`window/logMessage`).
 ///
 /// `Err` means that an allocation failed.
 pub fn on_notification<M, P, F>(
@@ -142,7 +142,7 @@ where
         (string_bytes notification.method ++ codes ": " ++ string_bytes e.message) ∷ [])) }
 {
     let Notification { method, params } = notification;
-    match read(alloc, &params)? {
+    match from_value(alloc, &params)? {
         Ok(params) => act(params),
         Err(error) => Act::one(
             alloc,
@@ -165,7 +165,7 @@ pub fn read_params<M: RequestToServer>(
 {
     let Request { id, method, params } = request;
     drop(method);
-    let found = read(alloc, &params)?;
+    let found = from_value(alloc, &params)?;
     Ok((id, found))
 }
 
@@ -176,5 +176,5 @@ fn logged<P: Drop + PartialEq>(alloc: Global, method: &str, why: &str) -> Result
     let mut text = String::from_str(alloc, method)?;
     text.push_str(": ")?;
     text.push_str(why)?;
-    Act::log(alloc, MessageType::ERROR, text.as_str())
+    Act::log_message(alloc, MessageType::ERROR, text.as_str())
 }

@@ -5,7 +5,7 @@ ghost use Rattle.lsp_acts.specs.View.{act_view};
 ghost use Rattle.lsp_methods.specs.Reads.{IsReadOf};
 ghost use Rattle.serde_json.specs.View.{view};
 
-use crate::params::read;
+use crate::params::from_value;
 use lsp_acts::Act;
 use lsp_message::{Notification, RequestId, ResponseError};
 use lsp_types::{FromJson, NotificationToClient, RequestToClient, RequestToServer, ToJson};
@@ -15,7 +15,7 @@ use std::alloc::{AllocError, Global};
 /// Makes a notification of this method, with the tree that the params stand for.
 ///
 /// `Err` means that an allocation failed.
-pub fn tell<M, P>(alloc: Global, params: &M::Params) -> Result<Act<P>, AllocError>
+pub fn send_notification<M, P>(alloc: Global, params: &M::Params) -> Result<Act<P>, AllocError>
 where
     M: NotificationToClient,
     P: Drop + PartialEq,
@@ -23,14 +23,18 @@ where
 {
     let params = params.to_json(alloc)?;
     let method = String::from_str(alloc, M::method())?;
-    Ok(Act::Tell(Notification { method, params }))
+    Ok(Act::SendNotification(Notification { method, params }))
 }
 
 /// Makes a request of this method, which the server sends, with the tree that the params stand for. `payload` is kept
 /// for the reply.
 ///
 /// `Err` means that an allocation failed.
-pub fn ask<M, P>(alloc: Global, params: &M::Params, payload: P) -> Result<Act<P>, AllocError>
+pub fn send_request<M, P>(
+    alloc: Global,
+    params: &M::Params,
+    payload: P,
+) -> Result<Act<P>, AllocError>
 where
     M: RequestToClient,
     P: Drop + PartialEq,
@@ -38,7 +42,7 @@ where
 {
     let params = params.to_json(alloc)?;
     let method = String::from_str(alloc, M::method())?;
-    Ok(Act::Ask(method, params, payload))
+    Ok(Act::SendRequest(method, params, payload))
 }
 
 /// Makes the answer to a request of this method, with the tree that the result stands for. Use it for a request that is
@@ -69,7 +73,7 @@ where
         (λ value. IsReadOf M.Result.reads (view value) found) (λ told. found ≡ Err told)) }
 {
     match outcome {
-        Ok(value) => read(alloc, &value),
+        Ok(value) => from_value(alloc, &value),
         Err(error) => Ok(Err(error)),
     }
 }

@@ -1,7 +1,7 @@
 // The reports of a thread that passes bytes on.
 use crate::passing::Hears;
 use crossbeam_channel::Sender;
-use lsp_watch::Way;
+use lsp_watch::Direction;
 use std::alloc::AllocError;
 use std::sync::Wait;
 
@@ -9,9 +9,9 @@ use std::sync::Wait;
 #[derive(Drop)]
 pub enum Heard {
     /// This was read, and is written next.
-    Piece(Way, Vec<u8>),
+    Piece(Direction, Vec<u8>),
     /// The side that sends this way has closed.
-    End(Way),
+    End(Direction),
     /// There was no memory to report bytes that passed.
     Lost,
 }
@@ -20,18 +20,18 @@ pub enum Heard {
 #[derive(Drop)]
 pub struct Teller<R> {
     rt: R,
-    way: Way,
+    way: Direction,
     sender: Sender<Heard>,
 }
 
 impl<R: Wait + AllocGlobal> Teller<R> {
     /// Makes one that sends its reports about this direction into the channel.
-    pub fn new(rt: R, way: Way, sender: Sender<Heard>) -> Teller<R> {
+    pub fn new(rt: R, way: Direction, sender: Sender<Heard>) -> Teller<R> {
         Teller { rt, way, sender }
     }
 
     /// Returns the direction that it reports about.
-    pub fn way(&self) -> Way {
+    pub fn way(&self) -> Direction {
         self.way
     }
 

@@ -46,11 +46,11 @@ pub use Rattle.lsp_queue.specs.QueueRun
 pub use Rattle.lsp_queue.specs.Registering
 pub use Rattle.lsp_relay.specs.Relay
 pub use Rattle.lsp_acts.specs.Law
-pub use Rattle.lsp_acts.specs.QueuedServer
+pub use Rattle.lsp_acts.specs.ServerApplication
 pub use Rattle.lsp_session.specs.Answered
 pub use Rattle.lsp_session.specs.Boxes
 pub use Rattle.lsp_session.specs.Event
-pub use Rattle.lsp_session.specs.FaultCounts
+pub use Rattle.lsp_session.specs.SkipAndCount
 pub use Rattle.lsp_session.specs.Finish
 pub use Rattle.lsp_session.specs.FrameBoxes
 pub use Rattle.lsp_session.specs.HandlerSession

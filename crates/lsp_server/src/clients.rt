@@ -38,7 +38,7 @@ pub struct ClientOptions {
     /// ends and the next client is served. A client that has sent something may be silent for any time, as an editor is
     /// while its user is away. `None` lets a client be silent from the start. A time of zero ends the session of every
     /// client.
-    pub silence: Option<Duration>,
+    pub first_byte_timeout: Option<Duration>,
     /// Whether the system checks from time to time that the client's machine is still there. If a machine goes away
     /// without notice, for example at a power cut, the system finds out after its own time, which is two hours on most
     /// (`net.ipv4.tcp_keepalive_time`). A read fails then, and the next client is served. With `false` the program
@@ -53,12 +53,12 @@ impl ClientOptions {
     /// Returns the default options: half a minute of silence, checks of the client's machine, 64 KiB for a header part,
     /// and no limit for a content part.
     pub fn new() -> ClientOptions
-        ensures silence { IsSomeAnd result.silence (λ time. as_nanos time ≡ 30000000000) }
+        ensures first_byte_timeout { IsSomeAnd result.first_byte_timeout (λ time. as_nanos time ≡ 30000000000) }
         ensures keep_alive { IsTrue result.keep_alive }
         ensures limits { result.limits ≡ record { header = Some 65536; content = most_content } }
     {
         ClientOptions {
-            silence: Some(Duration::from_secs(SILENT_SECONDS)),
+            first_byte_timeout: Some(Duration::from_secs(SILENT_SECONDS)),
             keep_alive: true,
             limits: Limits {
                 header: Some(Limits::HEADER_BYTES),
@@ -165,9 +165,9 @@ pub type Streams<R> = ClientStreams<BufReader<Sent<R>>, Given<R>>;
 /// ```rust
 /// let options = ClientOptions::new();
 /// let served = serve_clients(&rt, words.as_slice(), options, |mut client| {
-///     let mut policy = EndSession;
+///     let mut policy = EndOnBadContent;
 ///     let mut transport = client.transport(alloc, &mut policy);
-///     let mut application = QueuedServer::new(alloc, Checker::new(alloc));
+///     let mut application = ServerApplication::new(alloc, Checker::new(alloc));
 ///     serve(&mut transport, &mut application)
 /// })?;
 /// ```
@@ -184,7 +184,7 @@ pub type Streams<R> = ClientStreams<BufReader<Sent<R>>, Given<R>>;
 /// a second.
 ///
 /// A client that waits for the one before it gets no reply until that one is gone. A client that never sends anything
-/// is given up after `silence`, and one whose machine is gone is found as `keep_alive` says. One that reads nothing, or
+/// is given up after `first_byte_timeout`, and one whose machine is gone is found as `keep_alive` says. One that reads nothing, or
 /// very little, is given up after half a minute. When a session has ended, its client is disconnected. Whoever reaches
 /// the address is served. So if strangers can reach it, limit the content part too.
 pub fn serve_clients<R, F, E>(
@@ -324,7 +324,7 @@ where
     }
     let ends = stream.try_clone().and_then(|whole| Ok((
         whole,
-        socket_ends(rt, stream, options.silence)?,
+        socket_ends(rt, stream, options.first_byte_timeout)?,
     )));
     let (whole, ends) = match ends {
         Ok(ends) => ends,
@@ -343,13 +343,17 @@ where
 }
 
 /// Makes the reader and the writer of a stream.
-fn socket_ends<R>(rt: &R, stream: R::Stream, silence: Option<Duration>) -> io::Result<Ends<R>>
+fn socket_ends<R>(
+    rt: &R,
+    stream: R::Stream,
+    first_byte_timeout: Option<Duration>,
+) -> io::Result<Ends<R>>
 where
     R: Net + AllocGlobal + Input + Print + Drop,
     ensures { IfOk result (λ ends.
         (reader_medium (reader_inner ends.0) ≡ by_socket) × (writer_medium ends.1 ≡ by_socket)) }
 {
-    let (reader, writer) = halves(stream, silence)?;
+    let (reader, writer) = halves(stream, first_byte_timeout)?;
     let reader = ClientReader::Socket(reader);
     Ok((
         BufReader::with_capacity(rt.alloc(), READ_AHEAD, reader)?,

@@ -6,7 +6,7 @@ use crate::io_fault::IoFault;
 use crate::io_threads::{CHANNEL_ROOM, IoThreads, start_threads};
 use crate::reading::{Bounds, read_all};
 use crate::transport::{ChannelInbox, ChannelOutbox};
-use crate::unread_weights::{UNREAD_WEIGHT, UnreadWeights};
+use crate::unread_weights::{DEFAULT_READ_AHEAD_WEIGHT, UnreadWeights};
 use crate::writer_end::WritesChannel;
 use crate::writing::write_all;
 use crossbeam_channel::{Receiver, Sender, bounded, unbounded};
@@ -60,7 +60,7 @@ impl Connection {
 
     /// Makes a connection on any reader and writer, such as the pipes of a child process. If a header part or a content
     /// part is longer than `limits` allow, `IoThreads::join` returns read fault 14 or 12. Messages that were read and
-    /// not received weigh at most `UNREAD_WEIGHT` together.
+    /// not received weigh at most `DEFAULT_READ_AHEAD_WEIGHT` together.
     ///
     /// The reader gets a buffer here. The writer needs none: the frames of messages that wait together are one write.
     /// The faults are those of `stdio`.
@@ -76,11 +76,11 @@ impl Connection {
         W: Write + Drop + Send + 'static,
         ensures { IfErr result (λ fault. is_start_fault fault ≡ true) }
     {
-        Connection::over_within(rt, reader, writer, limits, UNREAD_WEIGHT)
+        Connection::over_within(rt, reader, writer, limits, DEFAULT_READ_AHEAD_WEIGHT)
     }
 
     /// Does what `over` does, with another bound on unread messages. The messages that were read and not taken from
-    /// `receiver` weigh at most `unread` together, in the units of `UNREAD_WEIGHT`, unless there is only one.
+    /// `receiver` weigh at most `unread` together, in the units of `DEFAULT_READ_AHEAD_WEIGHT`, unless there is only one.
     /// `u64::MAX` is no bound by weight. At most 16 messages wait in any case.
     ///
     /// While too much is unread, the thread that reads does not read on, so the client has to wait. The thread checks

@@ -3,7 +3,7 @@
 
 pub use lsp_acts::laws::{
     call_sends_its_acts, id_used_once_is_answered_once, lost_client_is_owed_what_is_held,
-    queued_server_runs_its_server, server_keeps_laws, shutdown_leaves_nobody_waiting,
+    server_application_runs_its_server, server_keeps_laws, shutdown_leaves_nobody_waiting,
 };
 pub use lsp_dispatch::laws::replies_once;
 pub use lsp_message::laws::{
@@ -13,4 +13,4 @@ pub use lsp_message::laws::{
 pub use lsp_peers::laws as peers;
 pub use lsp_queue::laws::pending_is_last_registered;
 pub use lsp_session::laws::{clients, dialogs, policies, sessions, streams, turns};
-pub use lsp_threads::laws::nothing_is_passed_over_in_threads;
+pub use lsp_threads::laws::nothing_is_skipped_in_threads;

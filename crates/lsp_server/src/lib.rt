@@ -2,7 +2,7 @@
 //! handshake and the shutdown, and keeps the requests that have no reply yet.
 //!
 //! Write a `Handler` for a server that only answers, or a `Server` for one that also sends first. Make an `Application`
-//! of it with `HandlerApplication::new` or `QueuedServer::new`. Run it with `StreamTransport::serve` on one thread, or
+//! of it with `HandlerApplication::new` or `ServerApplication::new`. Run it with `StreamTransport::serve` on one thread, or
 //! with `run_in_threads`. Take a `Connection` for a loop of your own. `docs/WRITING_A_SERVER.md` shows all three.
 #![tactic(auto)]
 
@@ -39,7 +39,7 @@ mod written;
 pub use connection::Connection;
 pub use io_fault::IoFault;
 pub use io_threads::IoThreads;
-pub use lsp_acts::{Act, QueuedServer, Server};
+pub use lsp_acts::{Act, Server, ServerApplication};
 pub use lsp_message::{
     ErrorCode, ExtractError, Front, Limits, Message, Notification, ReadFault, Request, RequestId,
     Response, ResponseError, WriteFault, front,

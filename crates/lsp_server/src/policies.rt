@@ -1,5 +1,5 @@
 //! Policies: what a session does at a content part that is no message.
 
 pub use lsp_session::{
-    BadContentPolicy, EndSession, FaultCounts, Ignore, PassedOver, is_of_content,
+    BadContentPolicy, EndOnBadContent, SkipAndCount, SkipAndFlag, SkipSilently, is_bad_content,
 };

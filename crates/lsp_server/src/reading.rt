@@ -84,7 +84,7 @@ fn read_messages<R: Wait + Clock, B: BufRead>(
     ReadEnd::Fault(ReadFault::Input(ErrorKind::Other))
 }
 
-/// Reads one message, as `Message::read_telling` does, once it may be read. It takes no byte while too much is unread,
+/// Reads one message, as `Message::read_traced` does, once it may be read. It takes no byte while too much is unread,
 /// and makes no tree that would be too much.
 fn read_weighed<R: Wait + Clock, B: BufRead>(
     alloc: Global,

@@ -3,5 +3,5 @@
 pub use crate::io_threads::CHANNEL_ROOM;
 pub use crate::memory::keep_freed_memory;
 pub use crate::serving_thread::{spawn, spawn_with};
-pub use crate::unread_weights::UNREAD_WEIGHT;
-pub use lsp_threads::{PumpOutcome, UNREAD_BYTES, pump_telling};
+pub use crate::unread_weights::DEFAULT_READ_AHEAD_WEIGHT;
+pub use lsp_threads::{DEFAULT_READ_AHEAD_BYTES, PumpOutcome, pump_traced};

@@ -137,15 +137,15 @@ pub(crate) fn keep_alive<S: AsRawFd>(stream: &S) {
 /// before its first bytes.
 pub(crate) fn halves<S: OpenStream + Drop>(
     stream: S,
-    silence: Option<Duration>,
+    first_byte_timeout: Option<Duration>,
 ) -> io::Result<(ReadHalf<S>, WriteHalf<S>)> {
     // What waits is one write, so holding it back gathers nothing. If the option is refused, frames are only slower.
     let _ = stream.set_nodelay(true);
     stream.set_write_timeout(Some(Duration::from_secs(WRITE_SECONDS)))?;
-    stream.set_read_timeout(silence)?;
+    stream.set_read_timeout(first_byte_timeout)?;
     let reader = ReadHalf {
         stream: stream.try_clone()?,
-        has_time: silence.is_some(),
+        has_time: first_byte_timeout.is_some(),
     };
     Ok((reader, WriteHalf { stream }))
 }

@@ -12,7 +12,7 @@ use std::marker::Model;
 ///
 /// The weight of a message is an estimate of the most memory that it takes: a byte for each byte of its content part,
 /// 208 more for each comma and each `[`, and 900 more for each `{`. Those in strings count too.
-pub const UNREAD_WEIGHT: u64 = 67_108_864;
+pub const DEFAULT_READ_AHEAD_WEIGHT: u64 = 67_108_864;
 
 /// The most memory in bytes that an item of a list or a member of an object takes, without the bytes of its text.
 const ITEM_WEIGHT: u64 = 208;

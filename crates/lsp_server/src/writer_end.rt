@@ -1,4 +1,4 @@
-// What the thread of a connection that writes tells when it ends.
+// The result of the writing thread of a connection.
 use crate::io_fault::IoFault;
 use crate::outgoing::TakenMessages;
 use crossbeam_channel::Receiver;

@@ -12,7 +12,7 @@ use crate::outgoing::Outgoing;
 use crate::writer_end::WriterEnd;
 use crate::written::Written;
 use crossbeam_channel::Receiver;
-use lsp_message::{Message, Passed, WriteFault, write_frames_telling};
+use lsp_message::{Message, Passed, WriteFault, write_frames_traced};
 use std::alloc::{AllocError, Global};
 use std::io::Write;
 use std::snapshot::Snapshot;
@@ -188,5 +188,5 @@ fn write_text<W: Write>(writer: &mut W, text: String, given: &mut Passed) -> Res
     ensures fault { IfErr result IsOutput }
     ensures given { GivesMore given.old.parts given.new.parts (W.contents writer.old) (W.contents writer.new) }
 {
-    write_frames_telling(writer, text.as_str(), given)
+    write_frames_traced(writer, text.as_str(), given)
 }

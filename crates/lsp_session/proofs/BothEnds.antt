@@ -4,7 +4,7 @@ use Rattle.lsp_session.specs.BothEnds.{SameBoxes, BothReceive, BothSend}
 use Rattle.lsp_session.specs.Boxes.{Sends, Receives, WaitsFor}
 use Rattle.lsp_session.specs.Event.{Event}
 use Rattle.lsp_session.specs.Prompt.{Talks}
-use Rattle.lsp_session.specs.Session.{SessionAnswer, SessionPart, Phase}
+use Rattle.lsp_session.specs.Session.{SessionAnswer, SessionPart, starting}
 use Rattle.lsp_session.specs.SessionRun.{Runs}
 use Rattle.lsp_session.specs.declared.loops.both_ends.BothEnds.{BothEnds}
 use Rattle.std.proofs.Common.{◌≡◌, refl, ap, ℕ, List, [], ◌∷◌, ◌++◌}
@@ -39,20 +39,21 @@ module _ {I O : Type 0} (receives : Receives I) where
   }
 
   -- a session over both is one over each
-  pub both_run : (listens : Receives I) (sends : Sends O) (phase : Phase) (P : SessionPart) (old new : BothEnds I O)
+  pub both_run : (listens : Receives I) (sends : Sends O) (P : SessionPart) (old new : BothEnds I O)
       (answer : SessionAnswer) (i' : I) (o' : O)
       → (new.inbox.ghost_name ≡ old.inbox.ghost_name → i' ≡ new.inbox.now) → (new.outbox.ghost_name
       ≡ old.outbox.ghost_name → o' ≡ new.outbox.now)
-      → Talks (BothReceive receives) (BothReceive listens) (BothSend sends) phase P old answer new → Runs receives sends
+      → Talks (BothReceive receives) (BothReceive listens) (BothSend sends) starting P old answer new
+      → Runs receives sends
       P (old.inbox.now, old.outbox.now) answer (i', o')
-  both_run listens sends phase P old new answer i' o' inbox outbox talks =
+  both_run listens sends P old new answer i' o' inbox outbox talks =
       let run = transport_runs receives sends (BothReceive receives) (BothReceive listens) (BothSend sends)
       (λ (b : BothEnds I O). (b.inbox.now, b.outbox.now)) (λ (b : BothEnds I O). (
         b.inbox.ghost_name,
         b.outbox.ghost_name,
       ))
       (λ a event b gives. (gives.0, gives.1, rw (gives.2.0, gives.2.1) refl))
-      (λ a m outcome b takes. (takes.0, takes.1, rw (takes.2.0, takes.2.1) refl)) phase P old answer new talks in
+      (λ a m outcome b takes. (takes.0, takes.1, rw (takes.2.0, takes.2.1) refl)) P old answer new talks in
       let inbox_is : i' ≡ new.inbox.now = inbox (ap (λ (names : ℕ × ℕ). names.0) run.1) in
       let outbox_is : o' ≡ new.outbox.now = outbox (ap (λ (names : ℕ × ℕ). names.1) run.1) in
       rw (inbox_is, outbox_is) run.0

@@ -175,6 +175,18 @@ module _ (limits : Limits) (most : ℕ) {S : Type 0} (may : Behavior S) where
   awaits_end (Asked id) never = absurd (never tt)
   awaits_end (Ended outcome) never = tt
 
+  never_awaited : (stage : Stage) (event : Event) → IsOver stage → IsAwaited stage event → ⊥
+  never_awaited (Ended outcome) event over awaited = awaited
+  never_awaited Starting event over awaited = over
+  never_awaited Replied event over awaited = over
+  never_awaited Serving event over awaited = over
+  never_awaited (Asked id) event over awaited = over
+
+  -- a session that has ended stays so
+  pub over_stays : (a c : Standing S) (event : Event) → Comes may a event c → IsOver a.stage → IsOver c.stage
+  over_stays a c event (inl (awaited, written, answers)) over = absurd (never_awaited a.stage event over awaited)
+  over_stays a c event (inr (never, kept)) over = subst (λ (b : Standing S). IsOver b.stage) (sym kept) over
+
   -- the end of the messages ends a session
   pub closed_over : (a c : Standing S) → Comes may a closed c → IsOver c.stage
   closed_over a c (inl (awaited, written, answers)) =

@@ -31,10 +31,10 @@ module _ (before written : List ℕ) (small : length written < 2 ^ 64) where
       → AreReadBack sent written
   all_framed sent got = framed sent got.0 [] got.1 (got.2 ∙ ap (λ l. before ++ l) (sym (append-nil got.0)))
 
-  module _ (exchanges : List Exchange) (stop : Stop) (shutdown_reply : Option Message) (answer : SessionAnswer) where
+  module _ (exchanges : List Exchange) (stop : Stop) (answer : SessionAnswer) where
     all_read : (result : Result SessionEnd SessionFault) → GetsFrames (sends_of exchanges) (Some before) (Some (before
         ++ written))
-        → ClientReads written result exchanges stop shutdown_reply answer
+        → ClientReads written result exchanges stop answer
     all_read result got = (
       sends_of exchanges,
       [],
@@ -44,30 +44,30 @@ module _ (before written : List ℕ) (small : length written < 2 ^ 64) where
     )
 
     read_of : (result : Result SessionEnd SessionFault) → Wrote (Some before) (Some (before ++ written)) result stop
-        shutdown_reply (sends_of exchanges)
-        → ClientReads written result exchanges stop shutdown_reply answer
+        exchanges
+        → ClientReads written result exchanges stop answer
     read_of (Err (Write fault)) wrote =
         let parts = wrote.5 in (
-          wrote.2,
-          wrote.3 ∷ [],
+          wrote.1,
+          wrote.2 ∷ [],
           wrote.4,
-          framed wrote.2 parts.frames parts.part parts.frames_of_whole parts.got,
-          inr (wrote.3, refl, tt),
+          framed wrote.1 parts.frames parts.part parts.frames_of_whole parts.got,
+          inr (wrote.2, refl, tt),
         )
     read_of (Err Memory) (inl got) = all_read (Err Memory) got
-    read_of (Err Memory) (inr most) = let got = most.1 in (
-      got.0,
-      got.1 ∷ [],
-      got.2,
-      all_framed got.0 got.3,
-      inr (got.1, refl, tt),
+    read_of (Err Memory) (inr most) = (
+      most.0,
+      most.1 ∷ [],
+      most.3,
+      all_framed most.0 most.4,
+      inr (most.1, refl, tt),
     )
     read_of (Ok end) wrote = all_read (Ok end) wrote
     read_of (Err (Protocol fault)) wrote = all_read (Err (Protocol fault)) wrote
     read_of (Err (Read fault)) wrote = all_read (Err (Read fault)) wrote
 
   pub client_reads : {At : Type 0} (reads : At → Option Message → At → Type 0) (P : SessionPart) (at : At)
-      (Ends : SessionAnswer → Stop → Option Message → At → Type 0) (result : Result SessionEnd SessionFault)
+      (Ends : SessionAnswer → Stop → At → Type 0) (result : Result SessionEnd SessionFault)
       → SessionOver reads P at Ends (Wrote (Some before) (Some (before ++ written)) result)
       → SessionOver reads (Both P (ClientReads written result)) at Ends (Wrote (Some before) (Some (before
       ++ written)) result)
@@ -76,19 +76,17 @@ module _ (before written : List ℕ) (small : length written < 2 ^ 64) where
     at = over.at;
     read = over.read;
     stop = over.stop;
-    shutdown_reply = over.shutdown_reply;
     answer = over.answer;
-    part = (over.part, read_of over.exchanges over.stop over.shutdown_reply over.answer result over.wrote);
+    part = (over.part, read_of over.exchanges over.stop over.answer result over.wrote);
     ends = over.ends;
     wrote = over.wrote;
   }
 
 -- A session that ended well wrote nothing, though it sent a message.
 pub writes_nothing : (x : Exchange) (xs : List Exchange) (m : Message) (more : List Message) (end : SessionEnd)
-    (stop : Stop) (shutdown_reply : Option Message)
-    (answer : SessionAnswer) → sends_of (x ∷ xs) ≡ m ∷ more → nesting m ≤ max_depth
-    → ClientReads [] (Ok end) (x ∷ xs) stop shutdown_reply answer → ⊥
-writes_nothing x xs m more end stop shutdown_reply answer sent shallow (whole, missing, cut, back, inr rest) = rest.2
-writes_nothing x xs m more end stop shutdown_reply answer sent shallow (whole, missing, cut, back, inl none) =
+    (stop : Stop) (answer : SessionAnswer) → sends_of (x ∷ xs) ≡ m ∷ more → nesting m ≤ max_depth
+    → ClientReads [] (Ok end) (x ∷ xs) stop answer → ⊥
+writes_nothing x xs m more end stop answer sent shallow (whole, missing, cut, back, inr rest) = rest.2
+writes_nothing x xs m more end stop answer sent shallow (whole, missing, cut, back, inl none) =
     let all : whole ≡ m ∷ more = sym (append-nil whole) ∙ ap (λ l. whole ++ l) (sym none) ∙ sym cut ∙ sent in
     reads_nothing m more shallow (subst (λ ms. AreReadBack ms []) all back)

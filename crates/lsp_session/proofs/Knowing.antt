@@ -8,17 +8,17 @@ use Rattle.lsp_session.specs.declared.loops.session_outcome.StopReason.{StopReas
 use Rattle.std.proofs.Common.{refl, List, Option}
 
 abbrev pub Knows : SessionPart → SessionPart → StopReason → Type 0
-Knows P Q reason = (xs : List Exchange) (stop : Stop) (shutdown_reply : Option Message) (answer : SessionAnswer)
-    → P xs stop shutdown_reply answer → Both Q (StopsBy reason) xs stop shutdown_reply answer
+Knows P Q reason = (xs : List Exchange) (stop : Stop) (answer : SessionAnswer)
+    → P xs stop answer → Both Q (StopsBy reason) xs stop answer
 
 -- of a session of a service
 pub knows_service : {S : Type 0} (may : Behavior S) (s s' : S) (reason : StopReason)
     → Knows (Both (SessionOut may s s') (StopsFor reason)) (SessionOut may s s') reason
-knows_service may s s' reason xs stop shutdown_reply answer both = (
+knows_service may s s' reason xs stop answer both = (
   both.0,
-  (both.1, session_facts may starting s s' refl xs stop shutdown_reply answer both.0),
+  (both.1, session_facts may starting s s' refl xs stop answer both.0),
 )
 
 -- of a session of an application
 pub knows_itself : (Q : SessionPart) (reason : StopReason) → Knows (Both Q (StopsBy reason)) Q reason
-knows_itself Q reason xs stop shutdown_reply answer both = both
+knows_itself Q reason xs stop answer both = both

@@ -10,8 +10,8 @@ use Rattle.lsp_session.specs.HandlerService.{KeepsHandler, held_handler, lent_ha
 use Rattle.lsp_session.specs.HandlerSession.{initialize_result, of_handler}
 use Rattle.lsp_session.specs.Prompt.{Talks}
 use Rattle.lsp_session.specs.Session.{Behavior, SessionAnswer, Exchange, Stop, decided, timed_out, refused, exhausted}
-use Rattle.lsp_session.specs.Session.{Phase, starting, replied, serving, asked, ended, phase_after, Step, Steps}
-use Rattle.lsp_session.specs.Session.{Reaches, Stops, SessionOut, SessionPart}
+use Rattle.lsp_session.specs.Session.{Phase, starting, replied, serving, asked, broken, ended, phase_after, Step, Steps}
+use Rattle.lsp_session.specs.Session.{AfterRefusal, IsOffered, TakesTurn, Stops, SessionOut, SessionPart}
 use Rattle.lsp_session.specs.SessionBytes.{ReadsMessage, SessionOver, Gives}
 use Rattle.lsp_session.specs.SessionRun.{Runs}
 use Rattle.lsp_session.specs.declared.lifecycle.SendFault.{SendFault}
@@ -21,7 +21,8 @@ use Rattle.lsp_session.specs.declared.loops.handler_service.HandlerService.{Hand
 use Rattle.lsp_session.specs.declared.loops.stream_session.SessionFault.{SessionFault}
 use Rattle.serde_json.specs.Data.{Data}
 use Rattle.serde_json.specs.View.{view}
-use Rattle.std.proofs.Common.{◌≡◌, refl, ◌∙◌, ap, inl, inr, ◌⊎◌, ℕ, List, [], ◌∷◌, ◌++◌, Option, Some, None, IfSome}
+use Rattle.std.proofs.Common.{◌≡◌, refl, sym, ◌∙◌, ap, inl, inr, ◌⊎◌, ℕ, List, [], ◌∷◌, ◌++◌, Option, Some, None}
+use Rattle.std.proofs.Common.{IfSome}
 use Rattle.std.specs.Prelude.{Result, Ok}
 
 module _ {S H : Type 0} (handler_of : S → H) (name_of : S → ℕ) (capabilities_of : S → Data) (answers : H → Id
@@ -88,43 +89,34 @@ module _ {S H : Type 0} (handler_of : S → H) (name_of : S → ℕ) (capabiliti
     ap name_of same,
   )
 
+  has_refused : (more : List Message) (next p' : Phase) (s' : S) → AfterRefusal more next p' → Has p' s'
+  has_refused [] (asked i) p' s' after = rw after tt
+  has_refused more next p' s' after = rw after.1 tt
+
+  has_offered : (given output : List Message) (lost : Option Message) (next p' : Phase) (s' : S) → IsOffered given
+      output lost next p' → Has next s' → Has p' s'
+  has_offered given output None next p' s' offers has = rw offers.1 has
+  has_offered given output (Some m) next p' s' offers has = has_refused offers.0 next p' s' offers.2
+
   steps_as : (p p' : Phase) (s s' : S) (xs : List Exchange) → Has p s → Steps lent p s xs p' s'
-      → Steps plain p (handler_of s) xs p' (handler_of s') × Has p' s' × ((name_of s') ≡ (name_of s))
+      → Steps plain p (handler_of s) xs p' (handler_of s') × ((name_of s') ≡ (name_of s))
   steps_as p p' s s' [] has steps = (
-    (steps.0, ap handler_of steps.1),
-    rw (steps.0, steps.1) has,
-    ap name_of steps.1,
+    ap (λ (a : Phase × S). (a.0, handler_of a.1)) steps,
+    ap (λ (a : Phase × S). name_of a.1) (sym steps),
   )
   steps_as p p' s s' (x ∷ xs) has steps =
-      let one = step_case_as p steps.0 s steps.1 x.came x.sent has (row lent p steps.0 s steps.1 x.came x.sent
-      steps.2) in
-      let more = steps_as steps.0 p' steps.1 s' xs one.1 steps.3 in
-      ((steps.0, (handler_of steps.1), one.0, more.0), more.1, more.2 ∙ one.2)
-
-  to_as : (stop : Stop) (p p' : Phase) (s s' : S) (xs : List Exchange) → Has p s → Reaches lent stop p s
-      xs p' s'
-      → Reaches plain stop p (handler_of s) xs p' (handler_of s') × ((name_of s') ≡ (name_of s))
-  to_as (refused fault) p p' s s' xs has broken =
-      let before = steps_as p broken.next s broken.mid broken.earlier has broken.steps in
-      let full = broken.part ++ broken.not_sent ∷ broken.more in
-      let one = step_case_as broken.next p' broken.mid s' broken.came full before.1 (row lent broken.next p' broken.mid
-      s' broken.came full broken.step) in (
-        record {
-          earlier = broken.earlier;
-          came = broken.came;
-          part = broken.part;
-          not_sent = broken.not_sent;
-          more = broken.more;
-          cut = broken.cut;
-          next = broken.next;
-          mid = (handler_of broken.mid);
-          steps = before.0;
-          step = one.0;
-          matters = broken.matters;
-        },
-        one.2 ∙ before.2,
+      let turn = steps.1 in
+      let one = step_case_as p turn.next s steps.0.1 x.came turn.given has (row lent p turn.next s steps.0.1 x.came
+      turn.given turn.step) in
+      let more = steps_as steps.0.0 p' steps.0.1 s' xs (has_offered turn.given x.sent x.not_sent turn.next steps.0.0
+      steps.0.1 turn.offers one.1) steps.2 in (
+        (
+          (steps.0.0, handler_of steps.0.1),
+          record { given = turn.given; next = turn.next; step = one.0; offers = turn.offers },
+          more.0,
+        ),
+        more.1 ∙ one.2,
       )
-  to_as stop p p' s s' xs has steps = let all = steps_as p p' s s' xs has steps in (all.0, all.2)
 
   module _ (s s' : S) (h' : H) (back : (name_of s') ≡ (name_of s) → h'
       ≡ (handler_of s')) where
@@ -144,9 +136,12 @@ module _ {S H : Type 0} (handler_of : S → H) (name_of : S → ℕ) (capabiliti
     left_as : (p : Phase) (stop : Stop) (answer : SessionAnswer) (after : S) → (name_of after)
         ≡ (name_of s)
         → Stops lent p after stop answer s' → Stops plain p (handler_of after) stop answer h'
-    left_as (ended shutdown_reply by) decided answer after name stops = (stops.0, same after name stops.1)
-    left_as (ended shutdown_reply by) stop answer after name stops = absurd stops
+    left_as (ended by) decided answer after name stops = (stops.0, same after name stops.1)
+    left_as (ended by) stop answer after name stops = absurd stops
+    left_as (broken by) (refused fault) answer after name stops = (stops.0, stops.1, same after name stops.2)
+    left_as (broken by) stop answer after name stops = absurd stops
     left_as p decided answer after name stops = absurd stops
+    left_as p (refused fault) answer after name stops = absurd stops
     left_as (asked i) stop answer after name stops = (stops.0, same after name stops.1)
     left_as p timed_out answer after name stops = absurd stops
     left_as serving exhausted answer after name stops = stops
@@ -154,15 +149,14 @@ module _ {S H : Type 0} (handler_of : S → H) (name_of : S → ℕ) (capabiliti
     left_as p stop answer after name stops = (stops.0, same after name stops.1)
 
     pub held_as : (h : H) → (handler_of s) ≡ h → capabilities_of s ≡ capabilities
-        → (xs : List Exchange) (stop : Stop) (shutdown_reply : Option Message) (answer : SessionAnswer)
-        → SessionOut lent s s' xs stop shutdown_reply answer → SessionOut plain h h' xs stop shutdown_reply answer
-    held_as h start has xs stop shutdown_reply answer out =
-        let steps = to_as stop starting out.last s out.after xs has out.reached in
+        → (xs : List Exchange) (stop : Stop) (answer : SessionAnswer)
+        → SessionOut lent s s' xs stop answer → SessionOut plain h h' xs stop answer
+    held_as h start has xs stop answer out =
+        let steps = steps_as starting out.last s out.after xs has out.reached in
         record {
           last = out.last;
           after = (handler_of out.after);
           reached = rw start at steps.0;
-          shutdown_reply_is = out.shutdown_reply_is;
           stopped = left_as out.last stop answer out.after steps.1 out.stopped;
         }
 
@@ -172,9 +166,9 @@ pub session_as : {H : Type 0} (answers : H → Id → List ℕ → Data → Resu
     ℕ → Data → H → Type 0) (capabilities : Data) (s s' : HandlerService H) (h' : H)
     → (s'.handler.ghost_name ≡ s.handler.ghost_name → h' ≡ s'.handler.now)
     → (h : H) → s.handler.now ≡ h → view s.capabilities.now ≡ capabilities
-    → (xs : List Exchange) (stop : Stop) (shutdown_reply : Option Message) (answer : SessionAnswer)
-    → SessionOut (lent_handler answers notes) s s' xs stop shutdown_reply answer
-    → SessionOut (of_handler answers notes capabilities) h h' xs stop shutdown_reply answer
+    → (xs : List Exchange) (stop : Stop) (answer : SessionAnswer)
+    → SessionOut (lent_handler answers notes) s s' xs stop answer
+    → SessionOut (of_handler answers notes capabilities) h h' xs stop answer
 session_as {H} answers notes capabilities s s' h' back = held_as (λ (s : HandlerService H). s.handler.now) (λ
     (s : HandlerService H). s.handler.ghost_name)
     (λ (s : HandlerService H). view s.capabilities.now) answers notes capabilities s s' h' back
@@ -182,34 +176,27 @@ session_as {H} answers notes capabilities s s' h' back = held_as (λ (s : Handle
 -- of one that is owned
 pub own_as : {H : Type 0} (answers : H → Id → List ℕ → Data → Result Data ErrorObject → H → Type 0) (notes : H → List
     ℕ → Data → H → Type 0) (s s' : HandlerApplication H)
-    → (xs : List Exchange) (stop : Stop) (shutdown_reply : Option Message) (answer : SessionAnswer)
-    → SessionOut (own_handler answers notes) s s' xs stop shutdown_reply answer
-    → SessionOut (of_handler answers notes (view s.capabilities)) s.handler s'.handler xs stop shutdown_reply answer
+    → (xs : List Exchange) (stop : Stop) (answer : SessionAnswer)
+    → SessionOut (own_handler answers notes) s s' xs stop answer
+    → SessionOut (of_handler answers notes (view s.capabilities)) s.handler s'.handler xs stop answer
 own_as {H} answers notes s s' = held_as (λ (s : HandlerApplication H). s.handler) (λ (s : HandlerApplication H). 0)
     (λ (s : HandlerApplication H). view s.capabilities) answers notes
     (view s.capabilities) s s' s'.handler (λ names. refl) s.handler refl refl
 
 -- A session that is described otherwise.
 module _ (P Q : SessionPart)
-    (to : (xs : List Exchange) (stop : Stop) (shutdown_reply : Option Message) (answer : SessionAnswer)
-    → P xs stop shutdown_reply answer → Q xs stop shutdown_reply answer) where
+    (to : (xs : List Exchange) (stop : Stop) (answer : SessionAnswer) → P xs stop answer → Q xs stop answer) where
   -- over boxes
   pub runs_as : {I O : Type 0} (receives : I → Event → I → Type 0) (sends : O → Message → Result (Unit {0}) SendFault
       → O → Type 0)
       (old new : I × O) (answer : SessionAnswer) → Runs receives sends P old answer new → Runs receives sends Q old
       answer new
   runs_as receives sends old new answer run = record {
-    events = run.events;
-    received = run.received;
     exchanges = run.exchanges;
     stop = run.stop;
-    brought = run.brought;
-    output = run.output;
-    shutdown_reply = run.shutdown_reply;
-    all = run.all;
-    awaited = run.awaited;
-    got = run.got;
-    part = to run.exchanges run.stop run.shutdown_reply answer run.part;
+    came = run.came;
+    went = run.went;
+    part = to run.exchanges run.stop answer run.part;
   }
 
   -- over one value with both ends
@@ -217,30 +204,24 @@ module _ (P Q : SessionPart)
       (answer : SessionAnswer)
       → Talks receives listens sends phase P old answer new → Talks receives listens sends phase Q old answer new
   talks_as receives listens sends phase old new answer talks = record {
-    whole = talks.whole;
-    last = talks.last;
+    exchanges = talks.exchanges;
     stop = talks.stop;
-    shutdown_reply = talks.shutdown_reply;
-    reached = talks.reached;
-    mid = talks.mid;
-    prompt = talks.prompt;
-    ends = talks.ends;
-    part = to (talks.whole ++ talks.last) talks.stop talks.shutdown_reply answer talks.part;
+    history = talks.history;
+    part = to talks.exchanges talks.stop answer talks.part;
   }
 
   -- over a text, however it is read, and whatever is said of its end and of what was written
   pub over_as : {At : Type 0} (reads : At → Option Message → At → Type 0) (text : At) (Ends : SessionAnswer → Stop
-      → Option Message → At → Type 0)
-      (Wrote : Stop → Option Message → List Message → Type 0) → SessionOver reads P text Ends Wrote → SessionOver reads
+      → At → Type 0)
+      (Wrote : Stop → List Exchange → Type 0) → SessionOver reads P text Ends Wrote → SessionOver reads
       Q text Ends Wrote
   over_as reads text Ends Wrote g = record {
     exchanges = g.exchanges;
     at = g.at;
     read = g.read;
     stop = g.stop;
-    shutdown_reply = g.shutdown_reply;
     answer = g.answer;
-    part = to g.exchanges g.stop g.shutdown_reply g.answer g.part;
+    part = to g.exchanges g.stop g.answer g.part;
     ends = g.ends;
     wrote = g.wrote;
   }

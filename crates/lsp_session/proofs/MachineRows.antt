@@ -8,11 +8,9 @@ use Rattle.lsp_session.specs.Event.{message}
 use Rattle.lsp_session.specs.Finish.{FinishAnswer, EventFinishes, IsUninvited}
 use Rattle.lsp_session.specs.Machine.{Row, Fails, phase_of}
 use Rattle.lsp_session.specs.ProtocolError.{ProtocolFault, Shows, out_of_memory, expected_initialize}
-use Rattle.lsp_session.specs.ProtocolError.{expected_initialized}
-use Rattle.lsp_session.specs.ProtocolError.{unexpected_in_shutdown}
+use Rattle.lsp_session.specs.ProtocolError.{expected_initialized, unexpected_in_shutdown}
 use Rattle.lsp_session.specs.Replies.{null_reply}
-use Rattle.lsp_session.specs.Session.{Behavior, ended, asked, exhausted, shutdown_reply_of, is_reply}
-use Rattle.lsp_session.specs.Session.{Step, Stops}
+use Rattle.lsp_session.specs.Session.{Behavior, ended, asked, exhausted, is_reply, Step, Stops}
 use Rattle.lsp_session.specs.SessionOutcome.{reason_of_fault}
 use Rattle.lsp_session.specs.Shutdown.{ShutdownAnswer, IsNoExit, EventShutsDown}
 use Rattle.lsp_session.specs.declared.loops.handler.SessionEnd.TheVariants.{ShutDown, Closed}
@@ -31,11 +29,11 @@ module _ {S : Type 0} (may : Behavior S) (s : S) where
   -- a message that is not awaited: the fault shows it, or memory ran out for that
   fails : (old : Stage) (m : Message) (fault : ProtocolFault) (make : List ℕ → ProtocolFault)
       → ((shown : List ℕ) → reason_of_fault (make shown) ≡ Decided)
-      → ((shown : List ℕ) → Step may (phase_of old) s (Some m) [] (ended (shutdown_reply_of (phase_of old))
-      (Err (make shown))) s) → Stops may (phase_of old) s exhausted (Err out_of_memory) s
+      → ((shown : List ℕ) → Step may (phase_of old) s (Some m) [] (ended (Err (make shown))) s)
+      → Stops may (phase_of old) s exhausted (Err out_of_memory) s
       → Shows make fault ⊎ (fault ≡ out_of_memory) → Fails may old s (message m) fault s
   fails old m fault make why step stops (inl shows) = rw shows.1 (inl (record {
-    next = ended (shutdown_reply_of (phase_of old)) (Err (make shows.0));
+    next = ended (Err (make shows.0));
     step = step shows.0;
     now = ap (λ (r : StopReason). Ended (record { answer = Err (make shows.0); stop = r })) (why shows.0);
   }))
@@ -66,7 +64,7 @@ module _ {S : Type 0} (may : Behavior S) (s : S) where
   pub exit_row : (m : Message) → is_exit m ≡ true
       → Row may (Serving, s) (Some m) [] (Ended (record { answer = Ok Closed; stop = Decided }), s)
   exit_row (notification method params) e = record {
-    next = ended None (Ok Closed);
+    next = ended (Ok Closed);
     step = rw e (refl, refl, refl);
     now = refl;
   }
@@ -106,7 +104,7 @@ module _ {S : Type 0} (may : Behavior S) (s : S) where
           → MatchBool c (answer ≡ Ok true) (IsErrAnd answer IsNoExit)
           → Row may (Asked id, s) (Some m) [] (Ended (record { answer = Ok ShutDown; stop = Decided }), s)
       by_name answer is true e decides = record {
-        next = ended (Some (null_reply id)) (Ok ShutDown);
+        next = ended (Ok ShutDown);
         step = (rw e (refl, refl), refl);
         now = refl;
       }

@@ -18,11 +18,13 @@ use Rattle.lsp_session.proofs.Waiting.{FoldsTo-split}
 use Rattle.lsp_session.specs.Event.{Event, closed, message, timeout, woken}
 use Rattle.lsp_session.specs.FrameBoxes.{FrameOutboxSends}
 use Rattle.lsp_session.specs.Session.{Exchange, came_of, messages_of, sends_of, SessionAnswer, SessionPart, Stop}
-use Rattle.lsp_session.specs.Session.{decided, no_more, timed_out, refused, exhausted}
-use Rattle.lsp_session.specs.SessionBytes.{ReadsMessage, IsUnsent, LeftWithin, Ends, Wrote, Gives as SessionGives}
+use Rattle.lsp_session.specs.Session.{decided, no_more, timed_out, refused, exhausted, starting}
+use Rattle.lsp_session.specs.SessionBytes.{ReadsMessage, LeftWithin, Ends, Wrote, Gives as SessionGives}
 use Rattle.lsp_session.specs.SessionOutcome.{is_no_exit, StopsAtExit, reason_of, StopsFor}
 use Rattle.lsp_session.specs.SessionFault.{session_answer}
-use Rattle.lsp_session.specs.SessionRun.{came_in, is_open, Brings, Runs}
+use Rattle.lsp_session.proofs.Brought.{came_in, is_open, Brings, brought_by, Brought as Heard}
+use Rattle.lsp_session.proofs.Got.{Got, got_by}
+use Rattle.lsp_session.specs.SessionRun.{Runs}
 use Rattle.lsp_session.specs.Streams.{Stream, StreamReads, Reads}
 use Rattle.lsp_session.specs.declared.loops.ReadEnd.TheVariants.{Exit}
 use Rattle.lsp_session.specs.declared.loops.ReadEnd.{ReadEnd}
@@ -31,9 +33,9 @@ use Rattle.lsp_session.specs.declared.loops.handler.SessionEnd.{SessionEnd}
 use Rattle.lsp_session.specs.declared.loops.session_outcome.StopReason.{StopReason}
 use Rattle.lsp_session.specs.declared.loops.stream_session.SessionFault.TheVariants.{Write, Memory}
 use Rattle.lsp_session.specs.declared.loops.stream_session.SessionFault.{SessionFault}
-use Rattle.lsp_session.specs.Passing.{is_of_content, TolerantGives}
+use Rattle.lsp_session.specs.Passing.{is_bad_content, TolerantGives}
 use Rattle.lsp_session.specs.PassingBoxes.{stream_of, TolerantInboxGives}
-use Rattle.lsp_session.specs.PassingBytes.{PassesNothingOver, PassesOver, ReadsFrame, HearsLast, GivesAndTells}
+use Rattle.lsp_session.specs.PassingBytes.{SkipsNoContent, PassesOver, ReadsFrame, HearsLast, GivesAndTells}
 use Rattle.lsp_session.specs.declared.loops.tolerant_inbox.TolerantInbox.{TolerantInbox}
 use Rattle.std.proofs.Common.{◌≡◌, refl, sym, ◌∙◌, ap, subst, inl, inr, ◌⊎◌, ℕ, Bool, true, false, List, [], ◌∷◌, ◌++◌}
 use Rattle.std.proofs.Common.{append-nil, Some, None, Option, IfSome}
@@ -96,7 +98,7 @@ module _ (others : Type 0) {L : Type 0} (passes : L → ReadFault → L → Type
   unread fault text is = ap (λ o. record { outcome = o; rest = (reading_within limit text).rest }) is
 
   -- a content part that was passed over
-  of_body : (fault : ReadFault) (text : List ℕ) (left : Option (List ℕ)) → is_of_content fault ≡ true
+  of_body : (fault : ReadFault) (text : List ℕ) (left : Option (List ℕ)) → is_bad_content fault ≡ true
       → Reads limit (Some text) (Err fault) left
       → (reading_within limit text ≡ record { outcome = Err fault; rest = (reading_within limit text).rest })
       × (left ≡ Some (reading_within limit text).rest)
@@ -106,7 +108,7 @@ module _ (others : Type 0) {L : Type 0} (passes : L → ReadFault → L → Type
   of_body Batch text left is reads = (unread Batch text reads.0.0, reads.0.1)
   of_body fault text left is reads = absurd (cc (is))
 
-  passed : (fault : ReadFault) (text : List ℕ) (first last : L) (left : Option (List ℕ)) → is_of_content fault ≡ true
+  passed : (fault : ReadFault) (text : List ℕ) (first last : L) (left : Option (List ℕ)) → is_bad_content fault ≡ true
       → Reads limit (Some text) (Err fault) left → passes first fault last
       → PassesOver passes limit (text, first) ((reading_within limit text).rest, last)
       × (left ≡ Some (reading_within limit text).rest)
@@ -330,11 +332,10 @@ module _ (others : Type 0) {L : Type 0} (passes : L → ReadFault → L → Type
     left_after came timed_out brought facts = absurd (no_timeout brought.1.0 old new (rw brought.1.1 at run))
     left_after came exhausted brought facts = left_within came exhausted brought facts
 
-    module _ (came : List (Option Message)) (shutdown_reply : Option Message) (answer : SessionAnswer)
-        (sends : List Message) (a b : Option (List ℕ))
-        (wrote : GetsFrames sends a b) where
+    module _ (came : List (Option Message)) (answer : SessionAnswer) (xs : List Exchange) (a b : Option (List ℕ))
+        (wrote : GetsFrames (sends_of xs) a b) where
       abbrev pub Ended : Stop → List ℕ → Type 0
-      Ended stop at = EndsSo limit shutdown_reply answer sends a b wrote stop new.0.end new.0.remaining at
+      Ended stop at = EndsSo limit answer xs a b wrote stop new.0.end new.0.remaining at
 
       -- as many were taken as can be counted
       many_ends : (all : Brought text old.1 came new) → StopsAtExit no_more (messages_in came) → Ended no_more all.at
@@ -348,7 +349,7 @@ module _ (others : Type 0) {L : Type 0} (passes : L → ReadFault → L → Type
             (all.at, new.1),
             all.read,
             refl,
-            decided_ends limit shutdown_reply answer sends a b wrote new.0.end
+            decided_ends limit answer xs a b wrote new.0.end
                 new.0.remaining all.at all.left,
           )
       frames_end no_more brought taken facts = elim brought.1 [
@@ -356,7 +357,7 @@ module _ (others : Type 0) {L : Type 0} (passes : L → ReadFault → L → Type
           (c.at, new.1),
           c.read,
           refl,
-          closed_ends limit shutdown_reply answer sends a b wrote new.0.end
+          closed_ends limit answer xs a b wrote new.0.end
               new.0.remaining c.at c.reads,
         )
         | inr many ↦ let all = open_brought came brought.0 many.1 in (
@@ -386,10 +387,8 @@ module _ {L : Type 0} (passes : L → ReadFault → L → Type 0) (limit : Limit
 
   module _ {R W : Type 0} (remaining : R → Option (List ℕ)) (contents : W → Option (List ℕ)) (P Q : SessionPart)
       (reason : StopReason)
-      (knows : (xs : List Exchange) (stop : Stop) (shutdown_reply : Option Message) (answer : SessionAnswer)
-      → P xs stop shutdown_reply answer
-      → Q xs stop shutdown_reply answer × StopsFor reason xs stop shutdown_reply answer × StopsAtExit stop
-      (messages_of xs))
+      (knows : (xs : List Exchange) (stop : Stop) (answer : SessionAnswer) → P xs stop answer
+      → Q xs stop answer × StopsFor reason xs stop answer × StopsAtExit stop (messages_of xs))
       (inbox inbox' : TolerantInbox R L) (outbox outbox' : FrameOutbox W) (unended : inbox.end ≡ None)
       (limited : inbox.limits ≡ limit)
       (unfailed : outbox.fault ≡ None)
@@ -409,6 +408,13 @@ module _ {L : Type 0} (passes : L → ReadFault → L → Type 0) (limit : Limit
     abbrev after : Stream × L
     after = (stream_of remaining inbox', inbox'.policy.now)
 
+    heard : Heard (TolerantInboxGives remaining passes) inbox runs.exchanges runs.stop inbox'
+    heard = brought_by (TolerantInboxGives remaining passes) starting runs.exchanges runs.stop answer inbox inbox'
+        runs.came
+
+    got : Got (FrameOutboxSends contents) outbox runs.exchanges runs.stop outbox'
+    got = got_by (FrameOutboxSends contents) runs.exchanges runs.stop answer outbox outbox' runs.went
+
     -- what a session over boxes comes to in bytes
     runs_give : (text : List ℕ) → remaining inbox.reader.now ≡ Some text
         → GivesAndTells passes limit Q text (remaining inbox'.reader.now) inbox.policy.now inbox'.policy.now
@@ -416,22 +422,20 @@ module _ {L : Type 0} (passes : L → ReadFault → L → Type 0) (limit : Limit
         (contents outbox'.writer.now)
         (session_answer reason answer inbox'.end outbox'.fault)
     runs_give text known =
-        at outbox'.fault (subst (λ sends. MatchOption outbox'.fault (NotRefused runs.stop × GetsFrames sends old new)
-        (λ f. IsUnsent runs.stop runs.shutdown_reply × GetsPart f sends old new)) runs.all (gets_written contents outbox
-        outbox' runs.output runs.shutdown_reply unfailed runs.stop runs.got))
+        at outbox'.fault (gets_written contents outbox outbox' runs.exchanges runs.stop unfailed got)
       where
-        run : FoldsTo (GivesOr ⊥ passes limit) before runs.events after
-        run = (seen_all ⊥ passes limit remaining runs.events inbox inbox' limited runs.received).0
+        run : FoldsTo (GivesOr ⊥ passes limit) before heard.events after
+        run = (seen_all ⊥ passes limit remaining heard.events inbox inbox' limited heard.received).0
 
-        known_of : Q runs.exchanges runs.stop runs.shutdown_reply answer × StopsFor reason runs.exchanges runs.stop
-            runs.shutdown_reply answer × StopsAtExit runs.stop (messages_of runs.exchanges)
-        known_of = knows runs.exchanges runs.stop runs.shutdown_reply answer runs.part
+        known_of : Q runs.exchanges runs.stop answer × StopsFor reason runs.exchanges runs.stop answer
+            × StopsAtExit runs.stop (messages_of runs.exchanges)
+        known_of = knows runs.exchanges runs.stop answer runs.part
 
         gives : (result : Result SessionEnd SessionFault)
             → (at : List ℕ × L) × ReadsFrames ⊥ passes limit (text, inbox.policy.now) (came_of runs.exchanges) at
             × HearsLast passes limit runs.stop at inbox'.policy.now
-            × Ends limit (remaining inbox'.reader.now) result answer runs.stop runs.shutdown_reply at.0
-            → Wrote old new result runs.stop runs.shutdown_reply (sends_of runs.exchanges)
+            × Ends limit (remaining inbox'.reader.now) result answer runs.stop at.0
+            → Wrote old new result runs.stop runs.exchanges
             → GivesAndTells passes limit Q text (remaining inbox'.reader.now) inbox.policy.now inbox'.policy.now old
             new result
         gives result reached wrote = record {
@@ -439,7 +443,6 @@ module _ {L : Type 0} (passes : L → ReadFault → L → Type 0) (limit : Limit
           at = reached.0;
           read = alone (came_of runs.exchanges) (text, inbox.policy.now) reached.0 reached.1;
           stop = runs.stop;
-          shutdown_reply = runs.shutdown_reply;
           answer = answer;
           part = known_of.0;
           ends = (reached.3, reached.2);
@@ -447,17 +450,16 @@ module _ {L : Type 0} (passes : L → ReadFault → L → Type 0) (limit : Limit
         }
 
         at : (fault : Option WriteFault)
-            → MatchOption fault (NotRefused runs.stop × GetsFrames (sends_of runs.exchanges) old new) (λ f. IsUnsent
-            runs.stop runs.shutdown_reply
-            × GetsPart f (sends_of runs.exchanges) old new)
+            → MatchOption fault (NotRefused runs.stop × GetsFrames (sends_of runs.exchanges) old new) (λ f. GetsPart f
+            runs.exchanges old new)
             → GivesAndTells passes limit Q text (remaining inbox'.reader.now) inbox.policy.now
             inbox'.policy.now old new
             (session_answer reason answer inbox'.end fault)
         at None written =
-            let all = frames_end ⊥ passes limit text before after unended known runs.events run (came_of runs.exchanges)
-            runs.shutdown_reply answer
-            (sends_of runs.exchanges) old new written.1
-            runs.stop runs.brought written.0 known_of.2 in
+            let all = frames_end ⊥ passes limit text before after unended known heard.events run (came_of
+            runs.exchanges)
+            answer runs.exchanges old new written.1
+            runs.stop heard.brought written.0 known_of.2 in
             rw known_of.1 (gives (session_answer (reason_of runs.stop) answer inbox'.end None) (
               all.0,
               all.1,
@@ -466,13 +468,13 @@ module _ {L : Type 0} (passes : L → ReadFault → L → Type 0) (limit : Limit
             ) all.3.1)
         at (Some (Output kind)) unwritten =
             gives (Err (Write (Output kind)))
-            (left_after ⊥ passes limit text before after unended known runs.events run (came_of runs.exchanges)
-            runs.stop runs.brought known_of.2)
-            (tt, unwritten.0, unwritten.1.0, unwritten.1.1, unwritten.1.2, unwritten.1.3)
+            (left_after ⊥ passes limit text before after unended known heard.events run (came_of runs.exchanges)
+            runs.stop heard.brought known_of.2)
+            (tt, unwritten.0, unwritten.1, unwritten.2, unwritten.3, unwritten.4)
         at (Some NoMemory) unwritten =
-            gives (Err Memory) (left_after ⊥ passes limit text before after unended known runs.events run
-            (came_of runs.exchanges) runs.stop runs.brought known_of.2)
-            (inr (unwritten.0, unwritten.1))
+            gives (Err Memory) (left_after ⊥ passes limit text before after unended known heard.events run
+            (came_of runs.exchanges) runs.stop heard.brought known_of.2)
+            (inr (unwritten.0, unwritten.1, unwritten.2, unwritten.3, unwritten.4))
 
     -- the same of the reader and the writer that were lent, and of the policy
     pub session_gives : (first last : R) (first' last' : W) (policy policy' : L) → inbox.reader.now ≡ first
@@ -485,12 +487,11 @@ module _ {L : Type 0} (passes : L → ReadFault → L → Type 0) (limit : Limit
         (contents first') (contents last')
         (session_answer reason answer inbox'.end outbox'.fault))
     session_gives first last first' last' policy policy' same same' untold named hearing named' =
-        let seen = seen_all ⊥ passes limit remaining runs.events inbox inbox' limited runs.received in
+        let seen = seen_all ⊥ passes limit remaining heard.events inbox inbox' limited heard.received in
         rw (
           named seen.1,
           hearing seen.2,
-          named' (gets_keeps contents outbox outbox' runs.output runs.shutdown_reply
-              runs.stop runs.got),
+          named' (gets_keeps contents outbox outbox' runs.exchanges runs.stop unfailed got),
           sym same,
           sym same',
           sym untold,
@@ -506,7 +507,7 @@ module _ {L : Type 0} (passes : L → ReadFault → L → Type 0) (limit : Limit
         at (Some text) is = runs_give text is
 
 -- A policy that passes over nothing: each frame is a message.
-module _ {L : Type 0} (passes : L → ReadFault → L → Type 0) (never : PassesNothingOver passes) (limit : Limits) where
+module _ {L : Type 0} (passes : L → ReadFault → L → Type 0) (never : SkipsNoContent passes) (limit : Limits) where
   reads_messages : (came : List (Option Message)) (from to : List ℕ × L)
       → FoldsTo (ReadsFrame passes limit) from came to → FoldsTo (ReadsMessage limit) from.0 came to.0
   reads_messages [] from to run = ap (λ (at : List ℕ × L). at.0) run
@@ -523,7 +524,6 @@ module _ {L : Type 0} (passes : L → ReadFault → L → Type 0) (never : Passe
     at = g.at.0;
     read = reads_messages (came_of g.exchanges) (text, first) g.at g.read;
     stop = g.stop;
-    shutdown_reply = g.shutdown_reply;
     answer = g.answer;
     part = g.part;
     ends = g.ends.0;
@@ -540,8 +540,8 @@ module _ {L : Type 0} (passes : L → ReadFault → L → Type 0) (never : Passe
 
 -- A session that is described otherwise, if the bytes are known.
 pub told_as : (P Q : SessionPart)
-    (to : (xs : List Exchange) (stop : Stop) (shutdown_reply : Option Message) (answer : SessionAnswer)
-    → P xs stop shutdown_reply answer → Q xs stop shutdown_reply answer)
+    (to : (xs : List Exchange) (stop : Stop) (answer : SessionAnswer)
+    → P xs stop answer → Q xs stop answer)
     {L : Type 0} (passes : L → ReadFault → L → Type 0) (limit : Limits) (known left : Option (List ℕ)) (first last : L)
     (before after : Option (List ℕ)) (result : Result SessionEnd SessionFault)
     → IfSome known (λ text. GivesAndTells passes limit P text left first last before after result)

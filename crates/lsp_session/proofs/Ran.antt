@@ -4,27 +4,26 @@ use Rattle.lsp_message.specs.Message.{Message, ErrorObject, request, notificatio
 use Rattle.lsp_session.specs.ProtocolError.{disconnected, shutdown_disconnected, fault_of_refusal, expected_initialize}
 use Rattle.lsp_session.specs.ProtocolError.{expected_initialized, unexpected_in_shutdown}
 use Rattle.lsp_session.specs.Session.{Behavior, Exchange, came_of, messages_of, SessionAnswer, Stop, decided, no_more}
-use Rattle.lsp_session.specs.Session.{refused, Phase, starting, replied, serving, asked, ended, Reaches, Stops}
-use Rattle.lsp_session.specs.Session.{SessionFrom, sends_of, shutdown_reply_of, offered_reply_of, phase_after, Step}
-use Rattle.lsp_session.specs.Session.{Steps, is_reply, is_served, Fails, Leaves, is_shutdown}
+use Rattle.lsp_session.specs.Session.{refused, Phase, starting, replied, serving, asked, broken, ended, Stops}
+use Rattle.lsp_session.specs.Session.{SessionFrom, sends_of, offered, phase_after, Step, TakesTurn, IsOffered}
+use Rattle.lsp_session.specs.Session.{AfterRefusal, Steps, is_reply, is_served, Fails, Leaves, is_shutdown}
 use Rattle.lsp_session.specs.SessionOutcome.{is_no_exit, StopsAtExit}
-use Rattle.lsp_session.specs.SessionRun.{all_of}
 use Rattle.lsp_session.specs.declared.lifecycle.SendFault.{SendFault}
 use Rattle.lsp_session.specs.declared.loops.handler.SessionEnd.TheVariants.{Closed, ShutDown}
 use Rattle.serde_json.specs.Data.{Data}
 use Rattle.std.proofs.Common.{◌≡◌, refl, Bool, true, ◌&&◌, List, [], ◌∷◌, Option, Some, None, sym, ◌∙◌, ap, ◌++◌}
-use Rattle.std.proofs.Common.{append_assoc, inl, inr, ◌⊎◌, append-nil, ℕ, false, true≢false, not, codes}
+use Rattle.std.proofs.Common.{append_assoc, subst, inl, inr, ◌⊎◌, append-nil, ℕ, false, true≢false, not, codes}
 use Rattle.std.proofs.lemmas.List.{map-append}
 use Rattle.std.proofs.lemmas.List.Elements.{filter_map-append}
 use Rattle.std.proofs.lemmas.List.Folds.{list_all-append}
-use Rattle.std.specs.List.{filter_map, list_all}
+use Rattle.std.specs.List.{FoldsTo, filter_map, list_all}
 use Rattle.std.specs.Prelude.{Result, Ok, Err, MatchOption}
 use Rattle.lsp_message.specs.Id.{Id}
 use Rattle.lsp_message.specs.Methods.{is_early, is_initialize, is_initialized, is_shutdown, is_exit}
 use Rattle.lsp_session.specs.Answered.{RepliesTo, AllReplied}
 use Rattle.lsp_session.specs.Replies.{null_reply, IsEarlyReply}
 use Rattle.std.specs.Bool.{MatchBool}
-use Rattle.lsp_session.proofs.Waiting.{and-true}
+use Rattle.lsp_session.proofs.Waiting.{and-true, FoldsTo-append}
 use Rattle.std.proofs.lemmas.Slice.Eq.{bytes_eq-Decides}
 
 pub came_both : (xs ys : List Exchange) → came_of (xs ++ ys) ≡ came_of xs ++ came_of ys
@@ -45,26 +44,22 @@ pub sends_both : (xs ys : List Exchange) → sends_of (xs ++ ys) ≡ sends_of xs
 sends_both [] ys = refl
 sends_both (x ∷ xs) ys = rw (sends_both xs ys, append_assoc) refl
 
-pub all_after : (before output : List Message) (shutdown_reply : Option Message) → all_of (before ++ output)
-    shutdown_reply ≡ before ++ all_of output shutdown_reply
-all_after before output None = refl
-all_after before output (Some shutdown_reply) = append_assoc before output (shutdown_reply ∷ [])
-
 -- no message was refused
 abbrev pub IsWhole : Stop → Type 0
 IsWhole (refused fault) = ⊥
 IsWhole stop = Unit {0}
 
--- then the reply to `shutdown` was offered where one was due
-pub offered_whole : (stop : Stop) (p : Phase) → IsWhole stop → offered_reply_of stop p ≡ shutdown_reply_of p
-offered_whole (refused fault) p whole = absurd whole
-offered_whole stop p whole = refl
-
--- neither `shutdown` came, nor a message that decided
+-- the session goes on from there, and `shutdown` did not come
 abbrev pub IsOpen : Phase → Type 0
 IsOpen (asked i) = ⊥
-IsOpen (ended shutdown_reply answer) = ⊥
+IsOpen (broken fault) = ⊥
+IsOpen (ended answer) = ⊥
 IsOpen phase = Unit {0}
+
+-- the outbox refused nothing that mattered
+abbrev pub IsSound : Phase → Type 0
+IsSound (broken fault) = ⊥
+IsSound phase = Unit {0}
 
 -- the answer if no further message comes
 abbrev pub answer_at_end : Phase → SessionAnswer
@@ -72,65 +67,79 @@ answer_at_end starting = Err disconnected
 answer_at_end replied = Err disconnected
 answer_at_end serving = Ok Closed
 answer_at_end (asked i) = Err shutdown_disconnected
-answer_at_end (ended shutdown_reply answer) = answer
+answer_at_end (broken fault) = Err (fault_of_refusal fault)
+answer_at_end (ended answer) = answer
+
+-- the answer of a session that a message decided
+abbrev pub ended_by : Phase → Option SessionAnswer
+ended_by (ended answer) = Some answer
+ended_by phase = None
 
 module _ {S : Type 0} (may : Behavior S) where
-  -- what is known of an open phase: no reply to `shutdown`, the answer if no more comes, and the answer if a message is
-  -- refused
-  pub of_open : (p : Phase) (s : S) → IsOpen p
-      → (None ≡ shutdown_reply_of p) × Stops may p s no_more (answer_at_end p) s
-      × ((refusal : SendFault) → Stops may p s (refused refusal) (Err (fault_of_refusal refusal)) s)
+  -- what is known of an open phase: the answer if no more comes
+  pub of_open : (p : Phase) (s : S) → IsOpen p → Stops may p s no_more (answer_at_end p) s
+  of_open starting s is = (refl, refl)
+  of_open replied s is = (refl, refl)
+  of_open serving s is = (refl, refl)
   of_open (asked i) s is = absurd is
-  of_open (ended shutdown_reply answer) s is = absurd is
-  of_open p s is = (refl, (refl, refl), λ refusal. (refl, refl))
+  of_open (broken fault) s is = absurd is
+  of_open (ended answer) s is = absurd is
 
   -- steps, one after another
   pub steps_both : (p p' p'' : Phase) (s s' s'' : S) (xs ys : List Exchange)
       → Steps may p s xs p' s' → Steps may p' s' ys p'' s'' → Steps may p s (xs ++ ys) p'' s''
-  steps_both p p' p'' s s' s'' [] ys first second = rw (sym first.0, sym first.1) second
-  steps_both p p' p'' s s' s'' (x ∷ xs) ys first second =
-      (first.0, first.1, first.2, steps_both first.0 p' p'' first.1 s' s'' xs ys first.3 second)
+  steps_both p p' p'' s s' s'' xs ys first second = FoldsTo-append (TakesTurn may) xs ys (p, s) (p', s') (
+    p'',
+    s'',
+  ) first second
+
+  -- an exchange at which all is taken
+  pub one_turn : (p p' : Phase) (s s' : S) (m : Option Message) (sent : List Message) → Step may p s m sent p' s'
+      → TakesTurn may (p, s) (record { came = m; sent = sent; not_sent = None }) (p', s')
+  one_turn p p' s s' m sent step = record { given = sent; next = p'; step = step; offers = (refl, refl) }
 
   pub one_step : (p p' : Phase) (s s' : S) (m : Option Message) (sent : List Message) → Step may p s m sent p' s'
-      → Steps may p s (record { came = m; sent = sent } ∷ []) p' s'
-  one_step p p' s s' m sent step = (p', s', step, (refl, refl))
-
-  -- if no message was refused
-  pub reaches_whole : (stop : Stop) (p p' : Phase) (s s' : S) (xs : List Exchange) → IsWhole stop → Steps may p s xs p'
-      s' → Reaches may stop p s xs p' s'
-  reaches_whole (refused fault) p p' s s' xs whole steps = absurd whole
-  reaches_whole stop p p' s s' xs whole steps = steps
-
-  -- the same, up to what ended the session
-  reaches_both : (stop : Stop) (p p' p'' : Phase) (s s' s'' : S) (xs ys : List Exchange)
-      → Steps may p s xs p' s' → Reaches may stop p' s' ys p'' s'' → Reaches may stop p s (xs ++ ys) p'' s''
-  reaches_both (refused fault) p p' p'' s s' s'' xs ys first second = record {
-    earlier = xs ++ second.earlier;
-    came = second.came;
-    part = second.part;
-    not_sent = second.not_sent;
-    more = second.more;
-    cut = rw (second.cut, append_assoc) refl;
-    next = second.next;
-    mid = second.mid;
-    steps = steps_both p p' second.next s s' second.mid xs second.earlier first second.steps;
-    step = second.step;
-    matters = second.matters;
-  }
-  reaches_both stop p p' p'' s s' s'' xs ys first second = steps_both p p' p'' s s' s'' xs ys first second
+      → Steps may p s (record { came = m; sent = sent; not_sent = None } ∷ []) p' s'
+  one_step p p' s s' m sent step = ((p', s'), one_turn p p' s s' m sent step, refl)
 
   -- a session from some phase on, after exchanges that lead to it
-  pub from_after : (p p' : Phase) (s s' s'' : S) (xs ys : List Exchange) (stop : Stop) (shutdown_reply : Option Message)
-      (answer : SessionAnswer)
-      → Steps may p s xs p' s' → SessionFrom may p' s' s'' ys stop shutdown_reply answer → SessionFrom may p s s'' (xs
-      ++ ys) stop shutdown_reply answer
-  from_after p p' s s' s'' xs ys stop shutdown_reply answer first later = record {
+  pub from_after : (p p' : Phase) (s s' s'' : S) (xs ys : List Exchange) (stop : Stop) (answer : SessionAnswer)
+      → Steps may p s xs p' s' → SessionFrom may p' s' s'' ys stop answer → SessionFrom may p s s'' (xs ++ ys) stop
+      answer
+  from_after p p' s s' s'' xs ys stop answer first later = record {
     last = later.last;
     after = later.after;
-    reached = reaches_both stop p p' later.last s s' later.after xs ys first later.reached;
-    shutdown_reply_is = later.shutdown_reply_is;
+    reached = steps_both p p' later.last s s' later.after xs ys first later.reached;
     stopped = later.stopped;
   }
+
+  -- An exchange: all is taken; or the reply to `shutdown` gets lost; or another message is refused.
+  pub data TurnCase (p : Phase) (s : S) (x : Exchange) (q : Phase) (s' : S) : Type 0 where
+    whole : x.not_sent ≡ None → Step may p s x.came x.sent q s' → TurnCase p s x q s'
+    lost_reply : (m : Message) (i : Id) → x.not_sent ≡ Some m → q ≡ asked i
+        → Step may p s x.came (x.sent ++ m ∷ []) (asked i) s' → TurnCase p s x q s'
+    breaks : (m : Message) (more : List Message) (fault : SendFault) (next : Phase) → x.not_sent ≡ Some m
+        → q ≡ broken fault → Step may p s x.came (x.sent ++ m ∷ more) next s'
+        → (more ≡ [] → (i : Id) → next ≡ asked i → ⊥) → TurnCase p s x q s'
+
+  pub turn_case : (p q : Phase) (s s' : S) (x : Exchange) → TakesTurn may (p, s) x (q, s') → TurnCase p s x q s'
+  turn_case p q s s' x turn = at x.not_sent refl turn.offers
+    where
+      of_refusal : (m : Message) (more : List Message) (next : Phase) → x.not_sent ≡ Some m → AfterRefusal more next q
+          → Step may p s x.came (x.sent ++ m ∷ more) next s' → TurnCase p s x q s'
+      of_refusal m [] (asked i) is after step = lost_reply m i is after step
+      of_refusal m [] starting is after step = breaks m [] after.0 starting is after.1 step (λ e i never. cc (never))
+      of_refusal m [] replied is after step = breaks m [] after.0 replied is after.1 step (λ e i never. cc (never))
+      of_refusal m [] serving is after step = breaks m [] after.0 serving is after.1 step (λ e i never. cc (never))
+      of_refusal m [] (broken f) is after step = breaks m [] after.0 (broken f) is after.1 step (λ e i never.
+          cc (never))
+      of_refusal m [] (ended a) is after step = breaks m [] after.0 (ended a) is after.1 step (λ e i never. cc (never))
+      of_refusal m (n ∷ more) next is after step = breaks m (n ∷ more) after.0 next is after.1 step (λ e. absurd
+          (cc (e)))
+
+      at : (n : Option Message) → x.not_sent ≡ n → IsOffered turn.given x.sent n turn.next q → TurnCase p s x q s'
+      at None is offers = whole is (rw (offers.0, offers.1) turn.step)
+      at (Some m) is offers = of_refusal m offers.0 turn.next is offers.2 (rw offers.1 at turn.step)
 
 -- the message is no request
 abbrev pub IsNoRequest : Message → Type 0
@@ -144,15 +153,15 @@ pub data Idle (p : Phase) (m : Message) (sent : List Message) (q : Phase) : Type
       → sent ≡ reply ∷ [] → q ≡ starting → Idle p m sent q
   early_note : p ≡ starting → IsNoRequest m → is_early m ≡ true → sent ≡ [] → q ≡ starting → Idle p m sent q
   unasked : (shown : List ℕ) → p ≡ starting → IsNoRequest m → is_early m ≡ false → sent ≡ [] → q
-      ≡ ended None (Err (expected_initialize shown)) → Idle p m sent q
+      ≡ ended (Err (expected_initialize shown)) → Idle p m sent q
   uninvited : (shown : List ℕ) → p ≡ replied → is_initialized m ≡ false → sent ≡ [] → q
-      ≡ ended None (Err (expected_initialized shown)) → Idle p m sent q
-  leaves : p ≡ serving → is_exit m ≡ true → sent ≡ [] → q ≡ ended None (Ok Closed) → Idle p m sent q
-  exits : (i : Id) → p ≡ asked i → is_exit m ≡ true → sent ≡ [] → q ≡ ended (Some (null_reply i)) (Ok ShutDown)
+      ≡ ended (Err (expected_initialized shown)) → Idle p m sent q
+  leaves : p ≡ serving → is_exit m ≡ true → sent ≡ [] → q ≡ ended (Ok Closed) → Idle p m sent q
+  exits : (i : Id) → p ≡ asked i → is_exit m ≡ true → sent ≡ [] → q ≡ ended (Ok ShutDown)
       → Idle p m sent q
   late : (i : Id) → p ≡ asked i → is_reply m ≡ true → sent ≡ [] → q ≡ asked i → Idle p m sent q
   stays : (i : Id) (shown : List ℕ) → p ≡ asked i → is_exit m ≡ false → sent ≡ []
-      → q ≡ ended (Some (null_reply i)) (Err (unexpected_in_shutdown shown)) → Idle p m sent q
+      → q ≡ ended (Err (unexpected_in_shutdown shown)) → Idle p m sent q
 
 pub data StepCase {S : Type 0} (may : Behavior S) (p : Phase) (s : S) (came : Option Message) (sent : List Message)
     (q : Phase) (s' : S) : Type 1 where
@@ -228,7 +237,7 @@ module _ {S : Type 0} (may : Behavior S) where
       (λ T can t same. (step.0, refl)) (at (is_early (notification method params)) refl step.0)
     where
       at : (b : Bool) → is_early (notification method params) ≡ b → MatchBool b ((sent ≡ []) × (q ≡ starting))
-          (Fails expected_initialize starting sent q)
+          (Fails expected_initialize sent q)
           → Idle starting (notification method params) sent q
       at true e step = early_note refl tt e step.0 step.1
       at false e step = unasked step.0 refl tt e step.1 step.2
@@ -237,7 +246,7 @@ module _ {S : Type 0} (may : Behavior S) where
   row replied q s s' (Some m) sent step = at (is_initialized m) refl step
     where
       at : (b : Bool) → is_initialized m ≡ b → MatchBool b (may.at_initialized s sent s' × (q ≡ serving))
-          (Fails expected_initialized replied sent q × (s' ≡ s))
+          (Fails expected_initialized sent q × (s' ≡ s))
           → StepCase may replied s (Some m) sent q s'
       at true e step = at_initialized m refl refl e step.0 step.1
       at false e step = idle m refl step.1 (λ T can t same. rw e (step.0, refl)) (uninvited step.0.0 refl e step.0.1
@@ -253,8 +262,8 @@ module _ {S : Type 0} (may : Behavior S) where
       refl (may.passes_late && is_reply m) refl step.0)
     where
       at : (b : Bool) → is_exit m ≡ b → (c : Bool) → (may.passes_late && is_reply m) ≡ c
-          → MatchBool b ((sent ≡ []) × (q ≡ ended (Some (null_reply i)) (Ok ShutDown)))
-          (MatchBool c ((sent ≡ []) × (q ≡ asked i)) (Fails unexpected_in_shutdown (asked i) sent q))
+          → MatchBool b ((sent ≡ []) × (q ≡ ended (Ok ShutDown)))
+          (MatchBool c ((sent ≡ []) × (q ≡ asked i)) (Fails unexpected_in_shutdown sent q))
           → Idle (asked i) m sent q
       at true e c passes step = exits i refl e step.0 step.1
       at false e true passes step = late i refl (and-true may.passes_late (is_reply m) passes).1 step.0 step.1
@@ -275,13 +284,13 @@ reply_no_request (request i method params) is = absurd (cc (is))
 reply_no_request m is = tt
 
 -- no request, and nothing is sent
-pub silent : (x : Exchange) (m : Message) → x.came ≡ Some m → IsNoRequest m → x.sent ≡ [] → AllReplied (x ∷ [])
+pub silent : (x : Exchange) (m : Message) → x.came ≡ Some m → IsNoRequest m → offered x ≡ [] → AllReplied (x ∷ [])
 silent x (request i method params) is mute sent = absurd mute
 silent x m is mute sent = rw (is, sent) (tt, tt)
 
 -- a request and its reply
 pub one_reply : (x : Exchange) (i : Id) (method : List ℕ) (params : Data) (reply : Message) → x.came
-    ≡ Some (request i method params) → x.sent ≡ reply ∷ []
+    ≡ Some (request i method params) → offered x ≡ reply ∷ []
     → RepliesTo i reply → AllReplied (x ∷ [])
 one_reply x i method params reply is sent replies = rw (is, sent) ((replies, tt), tt)
 
@@ -303,76 +312,119 @@ part_one (m ∷ []) more full r cut none e = let same : m ∷ more ≡ r ∷ [] 
 part_one (m ∷ n ∷ sent) more full r cut none e = let never : m ∷ n ∷ (sent ++ more) ≡ r ∷ [] = cut
     ∙ e in absurd (cc (never))
 
-module _ {S : Type 0} (may : Behavior S) (stop : Stop) where
-  -- Exchanges from a phase to another. Of what is given for the last message a part may be sent, if the outbox refused
-  -- a message: not nothing of something.
+-- a row of the table leads to no refusal, and where something is given it does not decide
+pub phase_unbroken : {S : Type 0} (may : Behavior S) (p q : Phase) (s s' : S) (came : Option Message)
+    (given : List Message) → StepCase may p s came given q s' → IsSound q × (given ≡ [] ⊎ (ended_by q ≡ None))
+phase_unbroken may p q s s' came given (at_initialize i method params outcome e is e2 e3 e4 e5) = rw e5 (by outcome)
+  where
+    by : (outcome : Result Data ErrorObject) → IsSound (phase_after outcome) × (given ≡ [] ⊎ (ended_by (phase_after
+        outcome) ≡ None))
+    by (Ok result) = (tt, inr refl)
+    by (Err error) = (tt, inr refl)
+phase_unbroken may p q s s' came given (at_initialized m e is e2 e3 e4) = rw e4 (tt, inr refl)
+phase_unbroken may p q s s' came given (at_served m e is e2 e3 e4) = rw e4 (tt, inr refl)
+phase_unbroken may p q s s' came given (at_woken e is e2 e3) = rw e3 (tt, inr refl)
+phase_unbroken may p q s s' came given (at_shutdown i method params parting e is e2 e3 e4 e5) = rw e5 (tt, inr refl)
+phase_unbroken may p q s s' came given (idle m is same any case) = by case
+  where
+    by : Idle p m given q → IsSound q × (given ≡ [] ⊎ (ended_by q ≡ None))
+    by (early_request i method params r e e1 e2 e3 e4) = rw e4 (tt, inr refl)
+    by (early_note e e1 e2 e3 e4) = rw e4 (tt, inr refl)
+    by (unasked shown e e1 e2 e3 e4) = rw e4 (tt, inl e3)
+    by (uninvited shown e e1 e2 e3) = rw e3 (tt, inl e2)
+    by (leaves e e1 e2 e3) = rw e3 (tt, inl e2)
+    by (exits i e e1 e2 e3) = rw e3 (tt, inl e2)
+    by (late i e e1 e2 e3) = rw e3 (tt, inr refl)
+    by (stays i shown e e1 e2 e3) = rw e3 (tt, inl e2)
+
+module _ {S : Type 0} (may : Behavior S) where
+  -- Exchanges from a phase to another, by the rows of the table. Of what is given for the last message a part may be
+  -- offered, if the outbox refused a message: not nothing of something.
   abbrev pub Ran : Phase → S → List Exchange → Phase → S → Type 0
   Ran p s [] q s' = (q ≡ p) × (s' ≡ s)
   Ran p s (x ∷ xs) q s' =
-      (full : List Message) × (more : List Message) × (x.sent ++ more ≡ full) × (x.sent ≡ [] → full ≡ [])
-      × (next : Phase) × (mid : S) × Step may p s x.came full next mid × ((more ≡ []) ⊎ ((xs ≡ []) × (IsWhole stop
-      → ⊥))) × Ran next mid xs q s'
+      (full : List Message) × (more : List Message) × (offered x ++ more ≡ full) × (offered x ≡ [] → full ≡ [])
+      × (next : Phase) × (mid : S) × Step may p s x.came full next mid × ((more ≡ []) ⊎ (xs ≡ []))
+      × Ran next mid xs q s'
 
-  ran_steps : (p q : Phase) (s s' : S) (xs : List Exchange) → Steps may p s xs q s' → Ran p s xs q s'
-  ran_steps p q s s' [] steps = steps
-  ran_steps p q s s' (x ∷ xs) steps = (
-    x.sent,
-    [],
-    append-nil x.sent,
-    (λ e. e),
-    steps.0,
-    steps.1,
-    steps.2,
-    inl refl,
-    ran_steps steps.0 q steps.1 s' xs
-        steps.3,
+  -- where the rows lead is where the session is, or the outbox refused a message there
+  abbrev pub Leads : Phase → Phase → Type 0
+  Leads row q = (row ≡ q) ⊎ ((fault : SendFault) × (q ≡ broken fault) × (ended_by row ≡ None))
+
+  -- nothing follows a message that was refused
+  pub none_broken : (fault : SendFault) (q : Phase) (s s' : S) (xs : List Exchange) → Steps may (broken fault) s xs q s'
+      → (xs ≡ []) × (q ≡ broken fault) × (s' ≡ s)
+  none_broken fault q s s' [] run = (
+    refl,
+    ap (λ (a : Phase × S). a.0) (sym run),
+    ap (λ (a : Phase × S). a.1) (sym run),
   )
+  none_broken fault q s s' (x ∷ xs) run = absurd run.1.step
 
-  ran_cut : (IsWhole stop → ⊥) → (p next q : Phase) (s mid s' : S) (earlier : List Exchange) (m : Option Message)
-      (part more : List Message) (not_sent : Message) → Steps may p s earlier next mid
-      → Step may next mid m (part ++ not_sent ∷ more) q s' → Ran p s (earlier ++ record {
-        came = m;
-        sent = part
-            ++ not_sent ∷ [];
-      } ∷ []) q s'
-  ran_cut broken p next q s mid s' [] m part more not_sent steps step = (
-    part ++ not_sent ∷ more,
+  pub none_ended : (by : SessionAnswer) (q : Phase) (s s' : S) (xs : List Exchange) → Steps may (ended by) s xs q s'
+      → (xs ≡ []) × (q ≡ ended by) × (s' ≡ s)
+  none_ended by q s s' [] run = (
+    refl,
+    ap (λ (a : Phase × S). a.0) (sym run),
+    ap (λ (a : Phase × S). a.1) (sym run),
+  )
+  none_ended by q s s' (x ∷ xs) run = absurd run.1.step
+
+  one_more : (p q row next : Phase) (s s' mid : S) (x : Exchange) (xs : List Exchange) (more : List Message) → Step may
+      p s x.came (offered x ++ more) next mid → (offered x ≡ [] → more ≡ []) → ((more ≡ []) ⊎ (xs ≡ []))
+      → Ran next mid xs row s' → Ran p s (x ∷ xs) row s'
+  one_more p q row next s s' mid x xs more step none last rest = (
+    offered x ++ more,
     more,
-    append_assoc part (not_sent ∷ []) more,
-    (λ e. absurd (no_one part [] not_sent e)),
-    q,
-    s',
-    rw (steps.0, steps.1) at step,
-    inr (refl, broken),
-    (refl, refl),
-  )
-  ran_cut broken p next q s mid s' (x ∷ earlier) m part more not_sent steps step = (
-    x.sent,
-    [],
-    append-nil x.sent,
-    (λ e. e),
-    steps.0,
-    steps.1,
-    steps.2,
-    inl refl,
-    ran_cut broken steps.0 next q
-        steps.1 mid s' earlier m part more not_sent steps.3 step,
+    refl,
+    (λ e. rw (e, none e) refl),
+    next,
+    mid,
+    step,
+    last,
+    rest,
   )
 
-pub reaches_ran : {S : Type 0} (may : Behavior S) (stop : Stop) (p q : Phase) (s s' : S) (xs : List Exchange)
-    → Reaches may stop p s xs q s' → Ran may stop p s xs q s'
-reaches_ran may (refused fault) p q s s' xs cut =
-    rw cut.cut (ran_cut may (refused fault) (λ whole. whole) p cut.next q s cut.mid s' cut.earlier cut.came cut.part
-    cut.more cut.not_sent cut.steps cut.step)
-reaches_ran may stop p q s s' xs steps = ran_steps may stop p q s s' xs steps
-
--- the answer of a session that a message decided
-abbrev pub ended_by : Phase → Option SessionAnswer
-ended_by (ended shutdown_reply answer) = Some answer
-ended_by phase = None
+  pub ran : (p q : Phase) (s s' : S) (xs : List Exchange) → Steps may p s xs q s'
+      → (row : Phase) × Ran p s xs row s' × Leads row q
+  ran p q s s' [] run = (
+    p,
+    (refl, ap (λ (a : Phase × S). a.1) (sym run)),
+    inl (ap (λ (a : Phase × S). a.0) run),
+  )
+  ran p q s s' (x ∷ xs) run = at (turn_case may p run.0.0 s run.0.1 x run.1) (ran run.0.0 q run.0.1 s' xs run.2)
+    where
+      at : TurnCase may p s x run.0.0 run.0.1 → (row : Phase) × Ran run.0.0 run.0.1 xs row s' × Leads row q
+          → (row : Phase) × Ran p s (x ∷ xs) row s' × Leads row q
+      at (whole is step) rest = (
+        rest.0,
+        one_more p q rest.0 run.0.0 s s' run.0.1 x xs [] (rw (is, append-nil x.sent) step) (λ e. refl) (inl refl)
+            rest.1,
+        rest.2,
+      )
+      at (lost_reply m i is next step) rest = (
+        rest.0,
+        one_more p q rest.0 run.0.0 s s' run.0.1 x xs [] (rw (is, append-nil (x.sent ++ m ∷ []), next) step)
+            (λ e. refl) (inl refl) rest.1,
+        rest.2,
+      )
+      at (breaks m more fault next is gone step other) rest =
+          let over = none_broken fault q run.0.1 s' xs (subst (λ (r : Phase). Steps may r run.0.1 xs q s') gone
+          run.2) in
+          let known = phase_unbroken may p next s run.0.1 x.came (x.sent ++ m ∷ more) (row may p next s run.0.1 x.came
+          (x.sent ++ m ∷ more) step) in
+          let going : ended_by next ≡ None = elim known.1 [
+            | inl none ↦ absurd (no_one x.sent more m none)
+            | inr e ↦ e
+          ] in (
+            next,
+            one_more p q next next s s' run.0.1 x xs more (rw (is, append_assoc x.sent (m ∷ []) more) step)
+                (λ e. absurd (no_one x.sent [] m (rw is at e))) (inr over.0) (rw (over.0, over.2) (refl, refl)),
+            inr (fault, over.1, going),
+          )
 
 -- What holds of the exchanges of a session as long as it goes on, and when a message decided.
-module _ {S : Type 0} (may : Behavior S) (stop : Stop) (All : List Exchange → Type 0) (Last : List Exchange
+module _ {S : Type 0} (may : Behavior S) (All : List Exchange → Type 0) (Last : List Exchange
     → SessionAnswer → Type 0) where
   abbrev pub Holds : Phase → List Exchange → Type 0
   Holds q xs = MatchOption (ended_by q) (All xs) (λ answer. Last xs answer)
@@ -382,24 +434,25 @@ module _ {S : Type 0} (may : Behavior S) (stop : Stop) (All : List Exchange → 
   after_outcome (Err error) xs all = all
 
   none_after : (p q : Phase) (s s' : S) (xs : List Exchange) (answer : SessionAnswer) → ended_by p ≡ Some answer
-      → Ran may stop p s xs q s'
+      → Ran may p s xs q s'
       → (xs ≡ []) × (q ≡ p)
   none_after p q s s' [] answer is run = (refl, run.0)
-  none_after (ended shutdown_reply by) q s s' (x ∷ xs) answer is run = absurd run.6
+  none_after (ended by) q s s' (x ∷ xs) answer is run = absurd run.6
   none_after p q s s' (x ∷ xs) answer is run = absurd (cc (is))
 
   module _ (none : All [])
       (one : (p q : Phase) (s s' : S) (x : Exchange) (full : List Message) → StepCase may p s x.came full q s'
-      → ((r : Message) → full ≡ r ∷ [] → x.sent ≡ r ∷ []) → (full ≡ [] → x.sent ≡ []) → Holds q (x ∷ []))
+      → ((r : Message) → full ≡ r ∷ [] → offered x ≡ r ∷ []) → (full ≡ [] → offered x ≡ []) → Holds q (x ∷ []))
       (more : (q : Phase) (x : Exchange) (xs : List Exchange) → All (x ∷ []) → Holds q xs → Holds q (x ∷ xs)) where
-    pub holds : (p q : Phase) (s s' : S) (xs : List Exchange) → ended_by p ≡ None → Ran may stop p s xs q s'
+    pub holds : (p q : Phase) (s s' : S) (xs : List Exchange) → ended_by p ≡ None → Ran may p s xs q s'
         → Holds q xs
     holds p q s s' [] on run = rw (run.0, on) none
     holds p q s s' (x ∷ xs) on run =
         at (ended_by run.4) refl
-        (one p run.4 s run.5 x run.0 (row may p run.4 s run.5 x.came run.0 run.6) (λ r e. part_one x.sent run.1 run.0 r
+        (one p run.4 s run.5 x run.0 (row may p run.4 s run.5 x.came run.0 run.6) (λ r e. part_one (offered x) run.1
+        run.0 r
         run.2 run.3 e)
-        (λ e. part_none x.sent run.1 run.0 run.2 e))
+        (λ e. part_none (offered x) run.1 run.0 run.2 e))
         (λ still. holds run.4 q run.5 s' xs still run.8)
       where
         at : (by : Option SessionAnswer) → ended_by run.4 ≡ by → MatchOption by (All (x ∷ [])) (λ answer. Last (x
@@ -411,12 +464,17 @@ module _ {S : Type 0} (may : Behavior S) (stop : Stop) (All : List Exchange → 
             rw (over.0, over.1, is) first
 
 -- if a message decided, the session stopped there with that answer, and elsewhere it did not
-pub stops_by : {S : Type 0} (may : Behavior S) (p : Phase) (s s' : S) (stop : Stop) (answer : SessionAnswer)
-    → Stops may p s stop answer s'
-    → MatchOption (ended_by p) (stop ≡ decided → ⊥) (λ by. (stop ≡ decided) × (answer ≡ by))
-stops_by may (ended n by) s s' decided answer stops = (refl, stops.0)
-stops_by may (ended n by) s s' stop answer stops = absurd stops
-stops_by may p s s' stop answer stops = λ e. (rw e at stops)
+pub stops_by : {S : Type 0} (may : Behavior S) (row p : Phase) (s s' : S) (stop : Stop) (answer : SessionAnswer)
+    → Leads may row p → Stops may p s stop answer s'
+    → MatchOption (ended_by row) (stop ≡ decided → ⊥) (λ by. (stop ≡ decided) × (answer ≡ by))
+stops_by may row p s s' stop answer (inl same) stops = rw same (at p stop stops)
+  where
+    at : (p : Phase) (stop : Stop) → Stops may p s stop answer s' → MatchOption (ended_by p) (stop ≡ decided → ⊥)
+        (λ by. (stop ≡ decided) × (answer ≡ by))
+    at (ended by) decided stops = (refl, stops.0)
+    at (ended by) stop stops = absurd stops
+    at p stop stops = λ e. (rw e at stops)
+stops_by may row p s s' stop answer (inr broke) stops = rw broke.2 (λ e. rw (broke.1, e) at stops)
 
 served_is_no_exit : (m : Message) → is_served m ≡ true → is_no_exit m ≡ true
 served_is_no_exit m served = (and-true (not (is_shutdown m)) (is_no_exit m) served).1
@@ -448,9 +506,9 @@ more_known : (by : Option SessionAnswer) (x : Exchange) (xs : List Exchange) →
     → MatchOption by (Passed (x ∷ xs)) (λ answer. Last (x ∷ xs) answer)
 more_known by x xs first rest = rw (messages_more is_no_exit x xs first) rest
 
-module _ {S : Type 0} (may : Behavior S) (stop : Stop) where
+module _ {S : Type 0} (may : Behavior S) where
   abbrev Known : Phase → List Exchange → Type 0
-  Known q xs = Holds may stop Passed Last q xs
+  Known q xs = Holds may Passed Last q xs
 
   passed : (x : Exchange) (m : Message) → x.came ≡ Some m → is_no_exit m ≡ true → Passed (x ∷ [])
   passed x m there is = rw (there, is) refl
@@ -471,7 +529,7 @@ module _ {S : Type 0} (may : Behavior S) (stop : Stop) where
   known_case : (p q : Phase) (s s' : S) (x : Exchange) (full : List Message) → StepCase may p s x.came full q s'
       → Known q (x ∷ [])
   known_case p q s s' x full (at_initialize i method params outcome at is asks given sent next) =
-      rw next (after_outcome may stop Passed Last outcome (x ∷ []) (passed x (request i method params) is refl))
+      rw next (after_outcome may Passed Last outcome (x ∷ []) (passed x (request i method params) is refl))
   known_case p q s s' x full (at_initialized m at there is given next) = rw next (passed x m there
       (initialized_is_no_exit m is))
   known_case p q s s' x full (at_served m at there is given next) = rw next (passed x m there (served_is_no_exit m is))
@@ -480,22 +538,25 @@ module _ {S : Type 0} (may : Behavior S) (stop : Stop) where
       (passed x (request i method params) is refl)
   known_case p q s s' x full (idle m there same step row) = known_idle p q x m full there row
 
-  known : (p q : Phase) (s s' : S) (xs : List Exchange) → ended_by p ≡ None → Reaches may stop p s xs q s' → Known q xs
-  known p q s s' xs on reached =
-      holds may stop Passed Last refl (λ p q s s' x full row one none. known_case p q s s' x full row)
+  known : (p q : Phase) (s s' : S) (xs : List Exchange) → ended_by p ≡ None → Ran may p s xs q s' → Known q xs
+  known p q s s' xs on run =
+      holds may Passed Last refl (λ p q s s' x full row one none. known_case p q s s' x full row)
       (λ q x rest first more. more_known (ended_by q) x rest first more)
-      p q s s' xs on (reaches_ran may stop p q s s' xs reached)
+      p q s s' xs on run
 
-module _ {S : Type 0} (may : Behavior S) where
-  at_no_more : (q : Phase) (s s' : S) (xs : List Exchange) (answer : SessionAnswer) → Known may no_more q xs
+  at_no_more : (q : Phase) (s s' : S) (xs : List Exchange) (answer : SessionAnswer) → Known q xs
       → Stops may q s no_more answer s'
       → StopsAtExit no_more (messages_of xs)
-  at_no_more (ended shutdown_reply by) s s' xs answer is stops = absurd stops
+  at_no_more (ended by) s s' xs answer is stops = absurd stops
   at_no_more q s s' xs answer is stops = is
 
-  pub session_facts : (p : Phase) (s s' : S) → ended_by p ≡ None → (xs : List Exchange) (stop : Stop) (shutdown_reply :
-      Option Message) (answer : SessionAnswer)
-      → SessionFrom may p s s' xs stop shutdown_reply answer → StopsAtExit stop (messages_of xs)
-  session_facts p s s' on xs no_more shutdown_reply answer out = at_no_more out.last out.after s' xs answer
-      (known may no_more p out.last s out.after xs on out.reached) out.stopped
-  session_facts p s s' on xs stop shutdown_reply answer out = tt
+  pub session_facts : (p : Phase) (s s' : S) → ended_by p ≡ None → (xs : List Exchange) (stop : Stop)
+      (answer : SessionAnswer) → SessionFrom may p s s' xs stop answer → StopsAtExit stop (messages_of xs)
+  session_facts p s s' on xs no_more answer out =
+      let way = ran may p out.last s out.after xs out.reached in
+      elim way.2 [
+        | inl same ↦ at_no_more way.0 out.after s' xs answer (known p way.0 s out.after xs on way.1) (rw same
+            out.stopped)
+        | inr broke ↦ absurd (rw broke.1 at out.stopped)
+      ]
+  session_facts p s s' on xs stop answer out = tt

@@ -8,19 +8,19 @@ use Rattle.lsp_session.specs.Boxes.{Takes, WaitsFor, is_timeout}
 use Rattle.lsp_session.specs.Event.{Event, message, timeout, closed, woken}
 use Rattle.lsp_session.specs.Passing.{ended_at_content}
 use Rattle.lsp_session.specs.PassingBoxes.{EndsAtContent, MayEnd}
-use Rattle.lsp_session.specs.Prompt.{event_of, Meets, EndsTalk, Talks}
+use Rattle.lsp_session.specs.Prompt.{event_of, WaitsIn, AwaitsEnd, Refuses, Meets, Talks}
 use Rattle.lsp_session.specs.Session.{SessionAnswer, SessionPart, Exchange, Stop, decided, no_more, timed_out, refused}
-use Rattle.lsp_session.specs.Session.{exhausted, Phase, starting, serving}
-use Rattle.lsp_session.specs.StreamTransports.{IsUnused, inbox_of, StreamTransportGives, StreamTransportListens}
-use Rattle.lsp_session.specs.StreamTransports.{StreamTransportSends}
+use Rattle.lsp_session.specs.Session.{exhausted, Phase, starting, replied, serving, asked, broken, ended}
+use Rattle.lsp_session.specs.StreamTransports.{IsUnused, StopsServing, inbox_of, StreamTransportGives}
+use Rattle.lsp_session.specs.StreamTransports.{StreamTransportListens, StreamTransportSends}
 use Rattle.lsp_session.specs.Streams.{StreamReads}
 use Rattle.lsp_session.specs.declared.loops.ReadEnd.{ReadEnd}
 use Rattle.lsp_session.specs.declared.loops.ReadEnd.TheVariants.{Exit, End, Fault, Closed as ReadClosed}
 use Rattle.lsp_session.specs.declared.loops.ReadEnd.TheVariants.{Memory as ReadMemory}
 use Rattle.lsp_session.specs.declared.loops.stream_transport.StreamTransport.{StreamTransport}
 use Rattle.lsp_session.specs.declared.loops.tolerant_inbox.TolerantInbox.{TolerantInbox}
-use Rattle.std.proofs.Common.{◌≡◌, refl, ◌∙◌, ap, subst, inl, inr, ℕ, Bool, true, false, List, [], ◌∷◌, ◌++◌, length}
-use Rattle.std.proofs.Common.{Option, Some, None}
+use Rattle.std.proofs.Common.{◌≡◌, refl, sym, ◌∙◌, ap, subst, inl, inr, ℕ, Bool, true, false, List, [], ◌∷◌, ◌++◌}
+use Rattle.std.proofs.Common.{length, Option, Some, None}
 use Rattle.std.specs.List.{FoldsTo, list_all}
 use Rattle.std.specs.Io.KnownBytes.{Keeps}
 use Rattle.std.specs.Prelude.{MatchOption, if◌then◌else◌}
@@ -96,12 +96,29 @@ module _ {R W L : Type 0} (remaining : R → Option (List ℕ)) (passes : L → 
   taken (m ∷ ms) old new run open_so =
       taken ms run.0 new run.2 (ap (λ (inbox : TolerantInbox R L). ended_at_content inbox.end) run.1.1 ∙ open_so)
 
-  met : (xs : List Exchange) (old new : Phase × Transport) → FoldsTo (Meets gives listens (StreamTransportSends
-      contents)) old xs new → Open old.1 → Open new.1
-  met [] old new run open_so = subst (λ (a : Phase × Transport). Open a.1) run open_so
-  met (x ∷ xs) old new run open_so =
-      met xs run.0 new run.2 (taken x.sent run.1.met run.0.1 run.1.taken (waited (event_of x.came) old.1 run.1.met
-      run.1.waited.0 (no_close x.came)))
+  waited_in : (p : Phase) (event : Event) (old new : Transport) → WaitsIn gives listens p old event new
+      → (event ≡ closed → ⊥) → Open new
+  waited_in (asked i) event old new waits other = given event old new waits other
+  waited_in (broken fault) event old new waits other = absurd waits
+  waited_in (ended by) event old new waits other = absurd waits
+  waited_in p event old new waits other = waited event old new waits.0 other
+
+  kept : (old new : Transport) → inbox_of new ≡ inbox_of old → Open old → Open new
+  kept old new same open_so = ap (λ (inbox : TolerantInbox R L). ended_at_content inbox.end) same ∙ open_so
+
+  refused_open : (lost : Option Message) (p : Phase) (old new : Transport)
+      → Refuses gives listens (StreamTransportSends contents) lost p old new → Open old → Open new
+  refused_open None p old new same open_so = subst (λ (transport : Transport). Open transport) (sym same) open_so
+  refused_open (Some m) (broken fault) old new refuses open_so = kept old new refuses.1 open_so
+  refused_open (Some m) p old new refuses open_so = kept old new refuses.1.1 open_so
+
+  met : (passes_late : Bool) (xs : List Exchange) (old new : Phase × Transport) → FoldsTo (Meets gives listens
+      (StreamTransportSends contents) passes_late) old xs new → Open old.1 → Open new.1
+  met passes_late [] old new run open_so = subst (λ (a : Phase × Transport). Open a.1) run open_so
+  met passes_late (x ∷ xs) old new run open_so =
+      met passes_late xs run.0 new run.2 (refused_open x.not_sent run.0.0 run.1.mid run.0.1 run.1.refuses
+      (taken x.sent run.1.met run.1.mid run.1.taken (waited_in old.0 (event_of x.came) old.1 run.1.met run.1.waited
+      (no_close x.came))))
 
   no_end : (l : L) (end : Option ReadEnd) → MayEnd ends l end → ⊥
   no_end l (Some (Fault fault)) may = never l fault may
@@ -121,30 +138,34 @@ module _ {R W L : Type 0} (remaining : R → Option (List ℕ)) (passes : L → 
         | inr may ↦ absurd (no_end old.policy.now new.end may)
       ]
 
-  ended : (count : ℕ) (stop : Stop) (last : List Exchange) (mid after : Transport)
-      → EndsTalk gives listens (StreamTransportSends contents) serving count stop None last mid after → Open mid
-      → Open after
-  ended count (refused fault) last mid after e open_so =
-      ap (λ (inbox : TolerantInbox R L). ended_at_content inbox.end) e.refuses.1
-      ∙ taken e.part e.met e.mid e.taken (waited (event_of e.came) mid e.met e.waited.0 (no_close e.came))
-  ended count decided last mid after e open_so = ap (λ (transport : Transport). ended_at_content transport.end) e.1
-      ∙ open_so
-  ended count no_more last mid after e open_so = elim e.1 [
-    | inl waits ↦ listened mid after waits.1 open_so
-    | inr all ↦ ap (λ (transport : Transport). ended_at_content transport.end) all.1 ∙ open_so
-  ]
-  ended count exhausted last mid after e open_so = waited (event_of e.1) mid after e.2.0 (no_close e.1)
-  ended count timed_out last mid after e open_so = absurd e
+  -- where the session stopped while it served
+  ended_so : (p : Phase) (count : ℕ) (stop : Stop) (mid after : Transport) → StopsServing p
+      → AwaitsEnd gives listens p count stop mid after → Open mid → Open after
+  ended_so p count no_more mid after serves (inl waits) open_so = by p serves waits
+    where
+      by : (p : Phase) → StopsServing p → WaitsIn gives listens p mid closed after → Open after
+      by starting serves waits = absurd serves
+      by replied serves waits = absurd serves
+      by serving serves waits = listened mid after waits.1 open_so
+      by (asked i) serves waits = absurd serves
+      by (broken fault) serves waits = absurd waits
+      by (ended answer) serves waits = absurd waits
+  ended_so p count no_more mid after serves (inr all) open_so =
+      subst (λ (transport : Transport). Open transport) (sym all.1) open_so
+  ended_so p count timed_out mid after serves waits open_so =
+      waited_in p timeout mid after waits (λ e. cc (e))
+  ended_so p count exhausted mid after serves waits open_so =
+      waited_in p (event_of waits.0) mid after waits.1 (no_close waits.0)
+  ended_so p count decided mid after serves same open_so =
+      subst (λ (transport : Transport). Open transport) (sym same) open_so
+  ended_so p count (refused fault) mid after serves same open_so =
+      subst (λ (transport : Transport). Open transport) (sym same) open_so
 
-  -- while it serves its client
   pub reads_on : (P : SessionPart) (answer : SessionAnswer) (before after : Transport) → IsUnused before
       → (talks : Talks gives listens (StreamTransportSends contents) starting P before answer after)
-      → talks.reached ≡ serving → talks.shutdown_reply ≡ None → ended_at_content after.end ≡ false
-  reads_on P answer before after unused talks serves none =
-      ended (length talks.whole) talks.stop talks.last talks.mid after
-      (subst (λ (o : Option Message). EndsTalk gives listens (StreamTransportSends contents) serving
-      (length talks.whole) talks.stop o talks.last talks.mid after) none
-      (subst (λ (p : Phase). EndsTalk gives listens (StreamTransportSends contents) p (length talks.whole) talks.stop
-      talks.shutdown_reply talks.last talks.mid after) serves talks.ends))
-      (met talks.whole (starting, before) (talks.reached, talks.mid) talks.prompt
+      → StopsServing talks.history.reached → ended_at_content after.end ≡ false
+  reads_on P answer before after unused talks serves =
+      let h = talks.history in
+      ended_so h.reached (length talks.exchanges) talks.stop h.mid after serves h.ends
+      (met h.passes_late talks.exchanges (starting, before) (h.reached, h.mid) h.turns
       (ap (λ (o : Option ReadEnd). ended_at_content o) unused.0))

@@ -1,15 +1,16 @@
 -- Runs in which a session and its client wait for each other, and accounts that are in no order.
 use Rattle.lsp_message.specs.Id.{Id}
 use Rattle.lsp_message.specs.Message.{Message, request, notification}
-use Rattle.lsp_session.specs.Account.{Act, gave, took, lost, AreActsOf}
+use Rattle.lsp_session.proofs.ActsNoted.{waited_in, taken_noted, refused_grows, grows_both, turns_grow, end_grows}
+use Rattle.lsp_session.specs.Account.{Act, gave, took, lost, InOrder}
 use Rattle.lsp_session.specs.Answered.{RepliesTo, requests_of}
 use Rattle.lsp_session.specs.Boxes.{is_timeout}
 use Rattle.lsp_session.specs.Dialog.{Client, NeverBothWait, WaitsForReplies}
 use Rattle.lsp_session.specs.Event.{Event, message, timeout, closed, woken}
-use Rattle.lsp_session.specs.Session.{Exchange, request_id}
+use Rattle.lsp_session.specs.Session.{Exchange, SessionAnswer, Stop, starting, request_id}
 use Rattle.serde_json.specs.Data.{Data}
 use Rattle.std.proofs.Common.{◌≡◌, refl, sym, ◌∙◌, ap, ◌+◌, suc, ℕ, Bool, true, false, true≢false, List, [], ◌∷◌, ◌++◌}
-use Rattle.std.proofs.Common.{length, length-append, map, arith, Some}
+use Rattle.std.proofs.Common.{length, length-append, map, arith, Option, Some}
 use Rattle.std.proofs.lemmas.Bool.{eqb-true, eq-eqb}
 use Rattle.std.proofs.lemmas.List.Elements.{filter_map-append}
 use Rattle.std.specs.List.{AllZip, list_all}
@@ -90,21 +91,34 @@ holds_the_shutdown_reply_back sent got before i params given shutdown_reply afte
 
 -- ---- acts in order
 
-no_such : (passed : List Event) (m : Message) (event : Event) (reply : Message) (output more after : List Act)
+no_such : (passed : List Event) (m : Message) (event : Event) (reply : Message) (more after : List Act)
     → list_all is_timeout passed ≡ true
-    → gave (message m) ∷ gave event ∷ after ≡ (map gave (passed ++ message m ∷ []) ++ took reply ∷ output) ++ more → ⊥
-no_such [] m event reply output more after only same = let e : gave event ≡ took reply = cc (same) in cc (e)
-no_such (timeout ∷ passed) m event reply output more after only same = let e : gave (message m) ≡ gave timeout = cc
+    → gave (message m) ∷ gave event ∷ after ≡ (map gave (passed ++ message m ∷ []) ++ took reply ∷ []) ++ more → ⊥
+no_such [] m event reply more after only same = let e : gave event ≡ took reply = cc (same) in cc (e)
+no_such (timeout ∷ passed) m event reply more after only same = let e : gave (message m) ≡ gave timeout = cc
     (same) in cc (e)
-no_such (message o ∷ passed) m event reply output more after only same = absurd (cc (only))
-no_such (closed ∷ passed) m event reply output more after only same = absurd (cc (only))
-no_such (woken ∷ passed) m event reply output more after only same = absurd (cc (only))
+no_such (message o ∷ passed) m event reply more after only same = absurd (cc (only))
+no_such (closed ∷ passed) m event reply more after only same = absurd (cc (only))
+no_such (woken ∷ passed) m event reply more after only same = absurd (cc (only))
 
 -- a message is read for which something is to be sent, and something else is awaited before that is sent
-pub reads_on_first : (m reply : Message) (output : List Message) (xs : List Exchange) (event : Event) (after : List Act)
-    → AreActsOf (record { came = Some m; sent = reply ∷ output } ∷ xs) (gave (message m) ∷ gave event ∷ after) → ⊥
-reads_on_first m reply output xs event after exchanged =
-    no_such exchanged.2.awaited.passed m event reply (map took output) exchanged.1 after
-    exchanged.2.awaited.only_timeouts
-    (exchanged.4 ∙ ap (λ (acts : List Act). acts ++ exchanged.1) (exchanged.2.are ∙ ap (λ (acts : List Act). acts
-    ++ took reply ∷ map took output) exchanged.2.awaited.are))
+pub reads_on_first : (m reply : Message) (output : List Message) (lost_one : Option Message) (xs : List Exchange)
+    (event : Event) (after : List Act) (stop : Stop) (answer : SessionAnswer)
+    → InOrder (gave (message m) ∷ gave event ∷ after) (record {
+      came = Some m;
+      sent = reply ∷ output;
+      not_sent = lost_one;
+    } ∷ xs) stop answer → ⊥
+reads_on_first m reply output lost_one xs event after stop answer h =
+    let turn = h.turns.1 in
+    let first = turn.taken.0 in
+    let w = waited_in starting (message m) [] turn.met turn.waited in
+    let rest = grows_both first turn.mid h.mid (
+      map took output,
+      taken_noted output first turn.mid turn.taken.2,
+    ) (grows_both turn.mid h.turns.0.1 h.mid (refused_grows lost_one h.turns.0.0 turn.mid h.turns.0.1 turn.refuses)
+    (turns_grow h.passes_late xs h.turns.0 (h.reached, h.mid) h.turns.2)) in
+    let all = grows_both first h.mid (gave (message m) ∷ gave event ∷ after) rest (end_grows h.reached _ stop h.mid _
+    h.ends) in
+    no_such w.passed m event reply all.0 after w.only_timeouts (all.1 ∙ ap (λ (acts : List Act). acts ++ all.0)
+    (turn.taken.1 ∙ ap (λ (acts : List Act). acts ++ took reply ∷ []) w.are))

@@ -8,7 +8,7 @@ use Rattle.lsp_message.specs.Reading.{Reading}
 use Rattle.lsp_message.specs.declared.frame.ReadFault.{ReadFault}
 use Rattle.lsp_message.specs.declared.frame.limits.Limits.{Limits}
 use Rattle.lsp_session.specs.Session.{no_more}
-use Rattle.lsp_session.specs.Passing.{is_of_content}
+use Rattle.lsp_session.specs.Passing.{is_bad_content}
 use Rattle.lsp_session.specs.PassingBytes.{PassesOver, ReadsFrame, HearsLast}
 
 module _ {L : Type 0} (passes : L → ReadFault → L → Type 0) (limit : Limits) where
@@ -18,7 +18,7 @@ module _ {L : Type 0} (passes : L → ReadFault → L → Type 0) (limit : Limit
 
   -- if nothing that is no message stands, none is passed over
   passed : (text rest : List ℕ) (old new : L) → PassesOver passes limit (text, old) (rest, new) → (fault : ReadFault)
-      × (is_of_content fault ≡ true) × (outcome_at text ≡ Err fault)
+      × (is_bad_content fault ≡ true) × (outcome_at text ≡ Err fault)
   passed text rest old new passes = (passes.0, passes.1, ap (λ (r : Reading Message). r.outcome) passes.2)
 
   -- a message is passed over
@@ -40,13 +40,13 @@ module _ {L : Type 0} (passes : L → ReadFault → L → Type 0) (limit : Limit
 
   -- a fault of another kind is passed over: a header that is none, or a content part that is too long
   pub passes_a_header : (text rest : List ℕ) (fault : ReadFault) (old new : L) → outcome_at text ≡ Err fault
-      → is_of_content fault ≡ false
+      → is_bad_content fault ≡ false
       → PassesOver passes limit (text, old) (rest, new) → ⊥
   passes_a_header text rest fault old new came other passes =
       let seen = passed text rest old new passes in
       let both : Err fault ≡ Err seen.0 = sym came ∙ seen.2 in
       let same : fault ≡ seen.0 = cc (both) in
-      let e : true ≡ false = sym seen.1 ∙ ap (λ (f : ReadFault). is_of_content f) (sym same) ∙ other in
+      let e : true ≡ false = sym seen.1 ∙ ap (λ (f : ReadFault). is_bad_content f) (sym same) ∙ other in
       cc (e)
 
   -- what is no message is read as one

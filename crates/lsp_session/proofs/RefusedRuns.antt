@@ -1,145 +1,46 @@
--- Runs over one value that are no session: over a transport that is the account of its acts, in order, whatever comes
--- later, and whatever is said of its wakes.
+-- Runs over one value that are no session: over a list that notes its acts, in order, whatever comes later.
 use Rattle.lsp_message.specs.Id.{Id}
 use Rattle.lsp_message.specs.Message.{Message, ErrorObject, request, response}
 use Rattle.lsp_message.specs.Methods.{is_exit}
-use Rattle.lsp_session.proofs.Waiting.{and-true, list_all-push}
-use Rattle.lsp_session.specs.Boxes.{Sends, Receives, Takes, WaitsFor, is_timeout}
+use Rattle.lsp_session.proofs.ActsNoted.{waited_in, taken_noted, refused_noted, refused_grows, Grows, grows_both}
+use Rattle.lsp_session.proofs.ActsNoted.{turns_grow, end_grows}
+use Rattle.lsp_session.proofs.Driving.{asks_so}
+use Rattle.lsp_session.proofs.Ran.{TurnCase, turn_case, whole, lost_reply, breaks, none_ended, no_one, row}
+use Rattle.lsp_session.specs.Account.{Act, gave, took, lost, NotesReceive, NotesSend}
+use Rattle.lsp_session.specs.Boxes.{Takes, is_timeout}
 use Rattle.lsp_session.specs.Event.{Event, message, timeout, closed}
 use Rattle.lsp_session.specs.HandlerSession.{of_handler}
-use Rattle.lsp_session.specs.Prompt.{event_of, behind, Meets, EndsTalk, Talks}
+use Rattle.lsp_session.specs.Prompt.{event_of, WaitsIn, AwaitsEnd, Refuses, Meets, Talks, any_wait}
 use Rattle.lsp_session.specs.ProtocolError.{unexpected_in_shutdown}
 use Rattle.lsp_session.specs.Replies.{null_reply, IsEarlyReply}
 use Rattle.lsp_session.specs.Session.{Behavior, SessionAnswer, SessionPart, Exchange, Stop, decided, no_more, timed_out}
-use Rattle.lsp_session.specs.Session.{refused, exhausted, Phase, starting, serving, asked, ended, phase_after}
-use Rattle.lsp_session.specs.Session.{is_initialize, is_served, Fails, Leaves, Step, Steps, Reaches, SessionFrom}
-use Rattle.lsp_session.specs.Session.{SessionOut}
+use Rattle.lsp_session.specs.Session.{refused, exhausted, Phase, starting, replied, serving, asked, broken, ended}
+use Rattle.lsp_session.specs.Session.{phase_after, is_initialize, is_served, Fails, Leaves, Step, Steps, TakesTurn}
+use Rattle.lsp_session.specs.Session.{SessionFrom, any_service}
 use Rattle.lsp_session.specs.declared.lifecycle.SendFault.{SendFault}
 use Rattle.lsp_session.specs.declared.loops.handler.SessionEnd.TheVariants.{ShutDown}
 use Rattle.serde_json.specs.Data.{Data}
-use Rattle.std.proofs.Common.{◌≡◌, refl, sym, ◌∙◌, ap, inl, inr, ℕ, Bool, true, false, ◌&&◌, List, [], ◌∷◌, ◌++◌, map}
-use Rattle.std.proofs.Common.{length, append_assoc, append-nil, Option, Some, None, codes}
-use Rattle.std.proofs.lemmas.List.Folds.{list_all-append}
+use Rattle.std.proofs.Common.{◌≡◌, refl, sym, ◌∙◌, ap, subst, inl, inr, ◌⊎◌, ℕ, Bool, true, false, List, [], ◌∷◌, ◌++◌}
+use Rattle.std.proofs.Common.{map, length, append_assoc, append-nil, Option, Some, None, codes}
 use Rattle.std.specs.Bool.{MatchBool}
 use Rattle.std.specs.List.{FoldsTo, list_all}
 use Rattle.std.specs.Prelude.{Result, Ok, Err}
 use Rattle.std.specs.Str.{bytes_eq}
 
--- what a transport does: it gives this event, or it is sent this message and answers so
-pub data Act : Type 0 where
-  gave : Event → Act
-  got : Message → Result (Unit {0}) SendFault → Act
-
--- a transport that is the account of what it did
-abbrev pub Gives : Receives (List Act)
-Gives old event new = new ≡ old ++ gave event ∷ []
-
-abbrev pub Gets : Sends (List Act)
-Gets old m outcome new = new ≡ old ++ got m outcome ∷ []
-
--- the account after a wait: timeouts, and then the event
-waited : (passed : List Event) (event : Event) (old new : List Act) → FoldsTo Gives old (passed ++ event ∷ []) new → new
-    ≡ old ++ (map gave passed ++ gave event ∷ [])
-waited [] event old new run = let same : run.0 ≡ new = run.2 in sym same ∙ run.1
-waited (e ∷ es) event old new run =
-    waited es event run.0 new run.2 ∙ ap (λ (l : List Act). l ++ (map gave es ++ gave event ∷ [])) run.1
-    ∙ append_assoc old (gave e ∷ []) (map gave es ++ gave event ∷ [])
-
--- the account grows
-abbrev Grows : List Act → List Act → Type 0
-Grows old new = (more : List Act) × (new ≡ old ++ more)
-
-grows_by : (old mid new : List Act) (act : Act) → mid ≡ old ++ act ∷ [] → Grows mid new → Grows old new
-grows_by old mid new act first more = (
-  act ∷ more.0,
-  more.1 ∙ ap (λ (l : List Act). l ++ more.0) first
-      ∙ append_assoc old (act ∷ []) more.0,
-)
-
-grows_both : (old mid new : List Act) → Grows old mid → Grows mid new → Grows old new
-grows_both old mid new first more = (
-  first.0 ++ more.0,
-  more.1 ∙ ap (λ (l : List Act). l ++ more.0) first.1
-      ∙ append_assoc old first.0 more.0,
-)
-
-grows_none : (old new : List Act) → old ≡ new → Grows old new
-grows_none old new same = ([], sym same ∙ sym (append-nil old))
-
-sent_grows : (ms : List Message) (old new : List Act) → FoldsTo (Takes Gets) old ms new → Grows old new
-sent_grows [] old new run = grows_none old new run
-sent_grows (m ∷ ms) old new run = grows_by old run.0 new (got m (Ok tt)) run.1 (sent_grows ms run.0 new run.2)
-
-waited_grows : (event : Event) (old new : List Act) → WaitsFor Gives old event new → Grows old new
-waited_grows event old new waits = (
-  map gave waits.passed ++ gave event ∷ [],
-  waited waits.passed event old new
-      waits.received,
-)
-
-met_grows : (listens : Receives (List Act)) (xs : List Exchange) (old new : Phase × List Act)
-    → FoldsTo (Meets Gives listens Gets) old xs new → Grows old.1 new.1
-met_grows listens [] old new run = grows_none old.1 new.1 (ap (λ (a : Phase × List Act). a.1) run)
-met_grows listens (x ∷ xs) old new run =
-    grows_both old.1 run.1.met new.1 (waited_grows (event_of x.came) old.1 run.1.met run.1.waited.0)
-    (grows_both run.1.met run.0.1 new.1 (sent_grows x.sent run.1.met run.0.1 run.1.taken) (met_grows listens xs run.0
-    new run.2))
-
-received_grows : (events : List Event) (old new : List Act) → FoldsTo Gives old events new → Grows old new
-received_grows [] old new run = grows_none old new run
-received_grows (e ∷ es) old new run = grows_by old run.0 new (gave e) run.1 (received_grows es run.0 new run.2)
-
-end_grows : (listens : Receives (List Act)) (phase : Phase) (count : ℕ) (stop : Stop) (shutdown_reply : Option Message)
-    (last : List Exchange) (old new : List Act) → EndsTalk Gives listens Gets phase count stop shutdown_reply last old
-    new → Grows old new
-end_grows listens phase count stop (Some shutdown_reply) last old new end =
-    grows_both old end.met new (waited_grows (message end.ask) old end.met end.waited.0)
-    (grows_both end.met end.parted new (sent_grows end.parting end.met end.parted end.taken)
-    (grows_by end.parted end.mid new (got shutdown_reply end.offered.outcome) end.offered.sent (received_grows
-    (behind end.late end.event) end.mid new end.received)))
-end_grows listens phase count (refused fault) None last old new end =
-    grows_both old end.met new (waited_grows (event_of end.came) old end.met end.waited.0)
-    (grows_both end.met end.mid new (sent_grows end.part end.met end.mid end.taken) (grows_by end.mid new new
-    (got end.not_sent (Err fault)) end.refuses (grows_none new new refl)))
-end_grows listens phase count decided None last old new end = grows_none old new (sym end.1)
-end_grows listens phase count no_more None last old new end = elim end.1 [
-  | inl waits ↦ waited_grows closed old new waits.0
-  | inr all ↦ grows_none old new (sym all.1)
-]
-end_grows listens phase count exhausted None last old new end = waited_grows (event_of end.1) old new end.2.0
-end_grows listens phase count timed_out None last old new end = absurd end
-
 -- ---- It waits twice, and says nothing for the first message.
-
-no_more_of : (part : List Message) (not_sent : Message) → part ++ not_sent ∷ [] ≡ [] → ⊥
-no_more_of [] not_sent e = cc (e)
-no_more_of (m ∷ ms) not_sent e = cc (e)
 
 module _ {S : Type 0} (may : Behavior S) (p : Phase) (ask : Message)
     (speaks : (s s' : S) (sent : List Message) (next : Phase) → Step may p s (Some ask) sent next s' → sent ≡ []
     → ⊥) where
-  step_as : (x y : Exchange) (s s' : S) (next : Phase) → x ≡ y → x.came ≡ Some ask → Step may p s y.came y.sent next s'
-      → Step may p s (Some ask) x.sent next s'
-  step_as x y s s' next same came step = rw (sym came, same) step
-
-  -- something is sent for the first message
-  sends_some : (stop : Stop) (s s' : S) (q : Phase) (x : Exchange) (rest : List Exchange) → Reaches may stop p s (x
-      ∷ rest) q s' → x.came ≡ Some ask → x.sent ≡ [] → ⊥
-  sends_some (refused fault) s s' q x rest broken came none = by_cut broken.earlier broken.cut broken.steps
+  -- so something is offered for it
+  offers_some : (s s' : S) (q : Phase) (x : Exchange) → TakesTurn may (p, s) x (q, s') → x.came ≡ Some ask
+      → x.sent ≡ [] → x.not_sent ≡ None → ⊥
+  offers_some s s' q x turn came silent none = at (turn_case may p q s s' x turn)
     where
-      by_cut : (earlier : List Exchange) → x ∷ rest ≡ earlier ++ record {
-        came = broken.came;
-        sent = broken.part
-            ++ broken.not_sent ∷ [];
-      } ∷ []
-          → Steps may p s earlier broken.next broken.mid → ⊥
-      by_cut [] cut steps =
-          let same : x ≡ record { came = broken.came; sent = broken.part ++ broken.not_sent ∷ [] } = cc (cut) in
-          no_more_of broken.part broken.not_sent (sym (ap (λ (y : Exchange). y.sent) same) ∙ none)
-      by_cut (y ∷ ys) cut steps =
-          let same : x ≡ y = cc (cut) in
-          speaks s steps.1 x.sent steps.0 (step_as x y s steps.1 steps.0 same came steps.2) none
-  sends_some stop s s' q x rest steps came none = speaks s steps.1 x.sent steps.0 (rw came at steps.2) none
+      at : TurnCase may p s x q s' → ⊥
+      at (whole is step) = speaks s s' x.sent q (rw came at step) silent
+      at (lost_reply m i is next step) = let e : None ≡ Some m = sym none ∙ is in cc (e)
+      at (breaks m more fault next is gone step other) = let e : None ≡ Some m = sym none ∙ is in cc (e)
 
   module _ (next : Event) (later : List Act) where
     -- it waits for the message, and then again
@@ -147,7 +48,7 @@ module _ {S : Type 0} (may : Behavior S) (p : Phase) (ask : Message)
     twice = gave (message ask) ∷ gave next ∷ later
 
     begins : (passed : List Event) (event : Event) (rest : List Act) → list_all is_timeout passed ≡ true
-        → (map gave passed ++ gave event ∷ []) ++ rest ≡ twice
+        → map gave (passed ++ event ∷ []) ++ rest ≡ twice
         → (event ≡ message ask) × (rest ≡ gave next ∷ later)
     begins [] event rest all e = (cc (e), cc (e))
     begins (timeout ∷ passed) event rest all e = absurd (cc (e))
@@ -157,86 +58,76 @@ module _ {S : Type 0} (may : Behavior S) (p : Phase) (ask : Message)
     asks None e = absurd (cc (e))
     asks (Some m) e = cc
 
-    -- after a wait something was sent
-    sends_one : (event : Event) (m : Message) (outcome : Result (Unit {0}) SendFault) (met here : List Act)
-        → WaitsFor Gives [] event met → here ≡ met ++ got m outcome ∷ [] → Grows here twice → ⊥
-    unfolding grows_by
-    sends_one event m outcome met here waits sent more =
-        let grown = grows_by met here twice (got m outcome) sent more in
-        let all : (map gave waits.passed ++ gave event ∷ []) ++ got m outcome ∷ more.0 ≡ twice =
-        ap (λ (l : List Act). l ++ got m outcome ∷ more.0) (sym (waited waits.passed event [] met waits.received))
-        ∙ sym grown.1 in
-        let rest : got m outcome ∷ more.0 ≡ gave next ∷ later = (begins waits.passed event (got m outcome ∷ more.0)
-        waits.only_timeouts all).1 in
-        absurd (cc (rest))
+    -- after the first wait comes the second
+    first_wait : (q : Phase) (event : Event) (met : List Act) → WaitsIn NotesReceive any_wait q [] event met
+        → (more : Grows met twice) → (event ≡ message ask) × (more.0 ≡ gave next ∷ later)
+    first_wait q event met waits more =
+        let w = waited_in q event [] met waits in
+        begins w.passed event more.0 w.only_timeouts (sym (more.1 ∙ ap (λ (l : List Act). l ++ more.0) w.are))
 
-    any_sent : (came : Option Message) (sent : List Message) (met mid : List Act) → WaitsFor Gives [] (event_of came)
-        met → FoldsTo (Takes Gets) met sent mid
-        → Grows mid twice → (came ≡ Some ask → sent ≡ [] → ⊥) → ⊥
-    any_sent came [] met mid waits taken more some =
-        let grown = grows_both met mid twice (grows_none met mid taken) more in
-        let all : (map gave waits.passed ++ gave (event_of came) ∷ []) ++ grown.0 ≡ twice =
-        ap (λ (l : List Act). l ++ grown.0) (sym (waited waits.passed (event_of came) [] met waits.received))
-        ∙ sym grown.1 in
-        some (asks came (begins waits.passed (event_of came) grown.0 waits.only_timeouts all).0) refl
-    any_sent came (m ∷ ms) met mid waits taken more some =
-        sends_one (event_of came) m (Ok tt) met taken.0 waits taken.1 (grows_both taken.0 mid twice (sent_grows ms
-        taken.0 mid taken.2) more)
+    -- nothing is sent in between
+    sends_none : (q r : Phase) (event : Event) (output : List Message) (lost_one : Option Message)
+        (met mid end : List Act) → WaitsIn NotesReceive any_wait q [] event met
+        → FoldsTo (Takes NotesSend) met output mid → Refuses NotesReceive any_wait NotesSend lost_one r mid end
+        → Grows end twice → (output ≡ []) × (lost_one ≡ None)
+    sends_none q r event [] None met mid end waits taken refuses more = (refl, refl)
+    sends_none q r event [] (Some m) met mid end waits taken refuses more =
+        let grown : Grows met twice = (
+          lost m ∷ more.0,
+          more.1 ∙ ap (λ (l : List Act). l ++ more.0) (refused_noted m r mid end refuses) ∙ append_assoc mid (lost m
+              ∷ []) more.0 ∙ ap (λ (l : List Act). l ++ lost m ∷ more.0) (sym taken),
+        ) in
+        let second : lost m ∷ more.0 ≡ gave next ∷ later = (first_wait q event met waits grown).1 in
+        absurd (cc (second))
+    sends_none q r event (m ∷ ms) lost_one met mid end waits taken refuses more =
+        let rest = grows_both taken.0 mid twice (map took ms, taken_noted ms taken.0 mid taken.2) (grows_both mid end
+        twice (refused_grows lost_one r mid end refuses) more) in
+        let grown : Grows met twice = (
+          took m ∷ rest.0,
+          rest.1 ∙ ap (λ (l : List Act). l ++ rest.0) taken.1 ∙ append_assoc met (took m ∷ []) rest.0,
+        ) in
+        let second : took m ∷ rest.0 ≡ gave next ∷ later = (first_wait q event met waits grown).1 in
+        absurd (cc (second))
 
-    -- nothing was sent
-    waits_alone : (event : Event) → WaitsFor Gives [] event twice → ⊥
-    waits_alone event waits =
-        let all : (map gave waits.passed ++ gave event ∷ []) ++ [] ≡ twice = append-nil (map gave waits.passed
-        ++ gave event ∷ []) ∙ sym (waited waits.passed event [] twice waits.received) in
-        let rest : [] ≡ gave next ∷ later = (begins waits.passed event [] waits.only_timeouts all).1 in
-        absurd (cc (rest))
+    -- nothing was sent, and nothing came later
+    waits_alone : (q : Phase) (event : Event) → WaitsIn NotesReceive any_wait q [] event twice → ⊥
+    waits_alone q event waits =
+        let second : [] ≡ gave next ∷ later = (first_wait q event twice waits ([], sym (append-nil twice))).1 in
+        cc (second)
 
-    pub waits_twice : (listens : Receives (List Act)) (s s' : S) (answer : SessionAnswer) → Talks Gives listens Gets p
+    pub waits_twice : (s s' : S) (answer : SessionAnswer) → Talks NotesReceive any_wait NotesSend p
         (SessionFrom may p s s') [] answer twice → ⊥
-    waits_twice listens s s' answer talks = by_first talks.whole talks.last talks.stop talks.shutdown_reply talks.prompt
-        talks.ends talks.part.reached
+    waits_twice s s' answer talks = by_first talks.exchanges talks.history.turns talks.part.reached
+        talks.history.ends
       where
-        by_first : (whole last : List Exchange) (stop : Stop) (shutdown_reply : Option Message)
-            → FoldsTo (Meets Gives listens Gets) (p, []) whole (talks.reached, talks.mid)
-            → EndsTalk Gives listens Gets talks.reached (length whole) stop shutdown_reply last talks.mid twice
-            → Reaches may stop p s (whole ++ last) talks.part.last talks.part.after → ⊥
-        by_first (x ∷ xs) last stop shutdown_reply prompt end reached =
-            any_sent x.came x.sent prompt.1.met prompt.0.1 prompt.1.waited.0 prompt.1.taken
-            (grows_both prompt.0.1 talks.mid twice (met_grows listens xs prompt.0 (talks.reached, talks.mid) prompt.2)
-            (end_grows listens talks.reached (length (x ∷ xs)) stop shutdown_reply last talks.mid twice end))
-            (sends_some stop s talks.part.after talks.part.last x (xs ++ last) reached)
-        by_first [] last stop shutdown_reply prompt end reached = by_end stop shutdown_reply
-            (rw (ap (λ (a : Phase × List Act). a.1) (sym prompt)) at end)
+        by_first : (xs : List Exchange) → FoldsTo (Meets NotesReceive any_wait NotesSend talks.history.passes_late)
+            (p, []) xs (talks.history.reached, talks.history.mid)
+            → Steps may p s xs talks.part.last talks.part.after
+            → AwaitsEnd NotesReceive any_wait talks.history.reached (length xs) talks.stop talks.history.mid twice → ⊥
+        by_first (x ∷ xs) turns steps ends =
+            let more = grows_both turns.0.1 talks.history.mid twice (turns_grow talks.history.passes_late xs turns.0
+            (talks.history.reached, talks.history.mid) turns.2) (end_grows talks.history.reached (length (x ∷ xs))
+            talks.stop talks.history.mid twice ends) in
+            let none = sends_none p turns.0.0 (event_of x.came) x.sent x.not_sent turns.1.met turns.1.mid turns.0.1
+            turns.1.waited turns.1.taken turns.1.refuses more in
+            let to_end = grows_both turns.1.met turns.1.mid twice (
+              map took x.sent,
+              taken_noted x.sent turns.1.met
+                  turns.1.mid turns.1.taken,
+            ) (grows_both turns.1.mid turns.0.1 twice (refused_grows x.not_sent turns.0.0
+            turns.1.mid turns.0.1 turns.1.refuses) more) in
+            let came = asks x.came (first_wait p (event_of x.came) turns.1.met turns.1.waited to_end).0 in
+            offers_some s steps.0.1 steps.0.0 x steps.1 came none.0 none.1
+        by_first [] turns steps ends = by_end talks.stop (subst (λ (a : Phase × List Act). AwaitsEnd NotesReceive
+            any_wait a.0 0 talks.stop a.1 twice) (sym turns) ends)
           where
-            by_end : (stop : Stop) (shutdown_reply : Option Message) → EndsTalk Gives listens Gets talks.reached 0 stop
-                shutdown_reply last [] twice → ⊥
-            by_end stop (Some shutdown_reply) end = by_part end.parting end.taken
-              where
-                by_part : (part : List Message) → FoldsTo (Takes Gets) end.met part end.parted → ⊥
-                by_part [] taken = sends_one (message end.ask) shutdown_reply end.offered.outcome end.met end.mid
-                    end.waited.0
-                    (end.offered.sent ∙ ap (λ (l : List Act). l ++ got shutdown_reply end.offered.outcome ∷ [])
-                    (sym taken)) (received_grows (behind end.late end.event) end.mid twice end.received)
-                by_part (m ∷ ms) taken = sends_one (message end.ask) m (Ok tt) end.met taken.0 end.waited.0 taken.1
-                    (grows_both taken.0 end.parted twice (sent_grows ms taken.0 end.parted taken.2)
-                    (grows_by end.parted end.mid twice (got shutdown_reply end.offered.outcome) end.offered.sent
-                    (received_grows (behind end.late end.event) end.mid twice end.received)))
-            by_end (refused fault) None end = by_part end.part end.taken
-              where
-                by_part : (part : List Message) → FoldsTo (Takes Gets) end.met part end.mid → ⊥
-                by_part [] taken = sends_one (event_of end.came) end.not_sent (Err fault) end.met twice end.waited.0
-                    (end.refuses ∙ ap (λ (l : List Act). l ++ got end.not_sent (Err fault) ∷ []) (sym taken))
-                    (grows_none twice twice refl)
-                by_part (m ∷ ms) taken = sends_one (event_of end.came) m (Ok tt) end.met taken.0 end.waited.0 taken.1
-                    (grows_both taken.0 end.mid twice (sent_grows ms taken.0 end.mid taken.2) (grows_by end.mid twice
-                    twice (got end.not_sent (Err fault)) end.refuses (grows_none twice twice refl)))
-            by_end decided None end = absurd (cc (end.1))
-            by_end no_more None end = elim end.1 [
-              | inl waits ↦ waits_alone closed waits.0
-              | inr all ↦ absurd (cc (all.1))
-            ]
-            by_end exhausted None end = waits_alone (event_of end.1) end.2.0
-            by_end timed_out None end = absurd end
+            by_end : (stop : Stop) → AwaitsEnd NotesReceive any_wait p 0 stop [] twice → ⊥
+            by_end no_more (inl waits) = waits_alone p closed waits
+            by_end no_more (inr all) = cc (all.1)
+            by_end timed_out waits = waits_alone p timeout waits
+            by_end exhausted waits = waits_alone p (event_of waits.0) waits.1
+            by_end decided same = cc (same)
+            by_end (refused fault) same = cc (same)
 
 one_sent : (m : Message) (sent : List Message) → sent ≡ m ∷ [] → sent ≡ [] → ⊥
 one_sent m sent one none = cc (one, none)
@@ -248,11 +139,11 @@ given_for may s s' m sent next served step = let given : may.outputs s m sent s'
     in given.0
 
 module _ {S : Type 0} (may : Behavior S) (s s' : S) (answer : SessionAnswer) (i : Id) (method : List ℕ) (params : Data)
-    (next : Event) (later : List Act) (listens : Receives (List Act)) where
+    (next : Event) (later : List Act) where
   -- The first request gets no reply before something else is awaited: neither the result of `initialize` nor an error.
-  pub first_reply_held : Talks Gives listens Gets starting (SessionOut may s s') [] answer
+  pub first_reply_held : Talks NotesReceive any_wait NotesSend starting (SessionFrom may starting s s') [] answer
       (gave (message (request i method params)) ∷ gave next ∷ later) → ⊥
-  first_reply_held = waits_twice may starting (request i method params) speaks next later listens s s' answer
+  first_reply_held = waits_twice may starting (request i method params) speaks next later s s' answer
     where
       speaks : (s s' : S) (sent : List Message) (next : Phase) → Step may starting s (Some (request i method params))
           sent next s' → sent ≡ [] → ⊥
@@ -268,22 +159,22 @@ module _ {S : Type 0} (may : Behavior S) (s s' : S) (answer : SessionAnswer) (i 
 
   -- `shutdown` gets no reply before `exit` is awaited.
   pub shutdown_reply_held : bytes_eq method (codes "shutdown") ≡ true
-      → Talks Gives listens Gets serving (SessionFrom may serving s s') [] answer
+      → Talks NotesReceive any_wait NotesSend serving (SessionFrom may serving s s') [] answer
       (gave (message (request i method params)) ∷ gave next ∷ later) → ⊥
-  shutdown_reply_held asks = waits_twice may serving (request i method params) speaks next later listens s s' answer
+  shutdown_reply_held asks = waits_twice may serving (request i method params) speaks next later s s' answer
     where
       speaks : (s s' : S) (sent : List Message) (next : Phase) → Step may serving s (Some (request i method params))
           sent next s' → sent ≡ [] → ⊥
       speaks s s' sent next step none =
           let left : Leaves may s (request i method params) sent next s' = rw asks at step in
-          no_more_of left.0 (null_reply i) (sym left.2 ∙ none)
+          no_one left.0 [] (null_reply i) (sym left.2 ∙ none)
 
   -- A service that says something for each request says nothing for one before something else is awaited.
   pub reply_held : is_served (request i method params) ≡ true
       → ((s s' : S) (sent : List Message) → may.outputs s (request i method params) sent s' → sent ≡ [] → ⊥)
-      → Talks Gives listens Gets serving (SessionFrom may serving s s') [] answer
+      → Talks NotesReceive any_wait NotesSend serving (SessionFrom may serving s s') [] answer
       (gave (message (request i method params)) ∷ gave next ∷ later) → ⊥
-  reply_held served gives = waits_twice may serving (request i method params) speaks next later listens s s' answer
+  reply_held served gives = waits_twice may serving (request i method params) speaks next later s s' answer
     where
       speaks : (s s' : S) (sent : List Message) (next : Phase) → Step may serving s (Some (request i method params))
           sent next s' → sent ≡ [] → ⊥
@@ -295,99 +186,181 @@ module _ {S : Type 0} (may : Behavior S) (s s' : S) (answer : SessionAnswer) (i 
 -- A handler's session goes on after a message that came after `shutdown`, whatever that is.
 pub handler_goes_on : {H : Type 0} (answers : H → Id → List ℕ → Data → Result Data ErrorObject → H → Type 0) (notes : H
     → List ℕ → Data → H → Type 0) (capabilities : Data)
-    (i : Id) (h h' : H) (m : Message) (sent : List Message) (y : Exchange) (more : List Exchange) (q : Phase)
-    → Steps (of_handler answers notes capabilities) (asked i) h (record { came = Some m; sent = sent } ∷ y ∷ more)
-    q h' → ⊥
-handler_goes_on answers notes capabilities i h h' m sent y more q steps = at (is_exit m) steps.2.0
+    (i : Id) (h h' : H) (m : Message) (x y : Exchange) (more : List Exchange) (q : Phase) → x.came ≡ Some m
+    → Steps (of_handler answers notes capabilities) (asked i) h (x ∷ y ∷ more) q h' → ⊥
+handler_goes_on {H} answers notes capabilities i h h' m x y more q came steps =
+    at (turn_case (of_handler answers notes capabilities) (asked i) steps.0.0 h steps.0.1 x steps.1)
   where
-    over : (shutdown_reply : Option Message) (by : SessionAnswer) → steps.0 ≡ ended shutdown_reply by → ⊥
-    over shutdown_reply by is =
-        let rest : Steps (of_handler answers notes capabilities) (ended shutdown_reply by) steps.1 (y ∷ more) q h' = rw
-        is at steps.3 in
-        rest.2
+    over : (given : List Message) (next : Phase) (mid : H) → Step (of_handler answers notes capabilities) (asked i) h
+        x.came given next mid → (given ≡ []) × ((by : SessionAnswer) × (next ≡ ended by))
+    over given next mid step = by (is_exit m) (rw came at step).0
+      where
+        by : (b : Bool) → MatchBool b ((given ≡ []) × (next ≡ ended (Ok ShutDown)))
+            (Fails unexpected_in_shutdown given next) → (given ≡ []) × ((by : SessionAnswer) × (next ≡ ended by))
+        by true step = (step.0, (Ok ShutDown, step.1))
+        by false step = (step.1, (Err (unexpected_in_shutdown step.0), step.2))
 
-    at : (b : Bool) → MatchBool b ((sent ≡ []) × (steps.0 ≡ ended (Some (null_reply i)) (Ok ShutDown)))
-        (Fails unexpected_in_shutdown (asked i) sent steps.0) → ⊥
-    at true step = over (Some (null_reply i)) (Ok ShutDown) step.1
-    at false step = over (Some (null_reply i)) (Err (unexpected_in_shutdown step.0)) step.2
+    at : TurnCase (of_handler answers notes capabilities) (asked i) h x steps.0.0 steps.0.1 → ⊥
+    at (whole is step) =
+        let ends = (over x.sent steps.0.0 steps.0.1 step).1 in
+        let none = none_ended (of_handler answers notes capabilities) ends.0 q steps.0.1 h' (y ∷ more) (subst (λ
+        (r : Phase). Steps (of_handler answers notes capabilities) r steps.0.1 (y ∷ more) q h') ends.1 steps.2) in
+        cc (none.0)
+    at (lost_reply n j is next step) = no_one x.sent [] n (over (x.sent ++ n ∷ []) (asked j) steps.0.1 step).0
+    at (breaks n others fault next is gone step other) = no_one x.sent others n (over (x.sent ++ n ∷ others) next
+        steps.0.1 step).0
 
 -- ---- It goes on after a refused message.
 
--- a message that was sent was taken
-abbrev is_fine : Act → Bool
-is_fine (got m (Err fault)) = false
-is_fine act = true
+none_in : (front rest : List Act) (act : Act) → ◌≡◌ {A = List Act} [] (front ++ act ∷ rest) → ⊥
+none_in [] rest act e = cc (e)
+none_in (a ∷ front) rest act e = cc (e)
 
-abbrev AllFine : List Act → Type 0
-AllFine acts = list_all is_fine acts ≡ true
+-- of a list and one more act, an act stands in the list, or it is that one
+push_split : (acts front rest : List Act) (a g : Act) → acts ++ a ∷ [] ≡ front ++ g ∷ rest
+    → ((earlier : List Act) × (acts ≡ front ++ g ∷ earlier)) ⊎ ((a ≡ g) × (rest ≡ []))
+push_split [] [] rest a g e = inr (cc (e), cc (e))
+push_split [] (b ∷ front) rest a g e = let tails : [] ≡ front ++ g ∷ rest = cc (e) in absurd (none_in front rest g
+    tails)
+push_split (x ∷ acts) [] rest a g e = let same : x ≡ g = cc (e) in inl (acts, rw same refl)
+push_split (x ∷ acts) (b ∷ front) rest a g e =
+    let same : x ≡ b = cc (e) in
+    let tails : acts ++ a ∷ [] ≡ front ++ g ∷ rest = cc (e) in
+    elim (push_split acts front rest a g tails) [
+      | inl more ↦ inl (more.0, rw (same, more.1) refl)
+      | inr last ↦ inr last
+    ]
 
-still_fine : (old new : List Act) (act : Act) → is_fine act ≡ true → new ≡ old ++ act ∷ [] → AllFine old → AllFine new
-still_fine old new act fine grown all = rw grown (list_all-push is_fine old act all fine)
+last_same : (xs ys : List Message) (x y : Message) → xs ++ x ∷ [] ≡ ys ++ y ∷ [] → x ≡ y
+last_same [] [] x y e = cc (e)
+last_same [] (b ∷ []) x y e = absurd (cc (e))
+last_same [] (b ∷ c ∷ ys) x y e = absurd (cc (e))
+last_same (a ∷ []) [] x y e = absurd (cc (e))
+last_same (a ∷ c ∷ xs) [] x y e = absurd (cc (e))
+last_same (a ∷ xs) (b ∷ ys) x y e = last_same xs ys x y (cc (e))
 
-fine_after : {A : Type 0} (R : List Act → A → List Act → Type 0) → ((old : List Act) (x : A) (new : List Act)
-    → R old x new → AllFine old → AllFine new)
-    → (xs : List A) (old new : List Act) → FoldsTo R old xs new → AllFine old → AllFine new
-fine_after R one [] old new run all = let same : old ≡ new = run in rw same at all
-fine_after R one (x ∷ xs) old new run all = fine_after R one xs run.0 new run.2 (one old x run.0 run.1 all)
+-- a message that is no reply to `shutdown`
+module _ (m : Message) (no_reply : (i : Id) → m ≡ null_reply i → ⊥) where
+  -- it was not refused
+  abbrev NotLost : List Act → Type 0
+  NotLost acts = (front rest : List Act) → acts ≡ front ++ lost m ∷ rest → ⊥
 
-fine_sent : (ms : List Message) (old new : List Act) → FoldsTo (Takes Gets) old ms new → AllFine old → AllFine new
-fine_sent = fine_after (Takes Gets) (λ old m new step all. still_fine old new (got m (Ok tt)) refl step all)
-
-fine_waited : (event : Event) (old new : List Act) → WaitsFor Gives old event new → AllFine old → AllFine new
-fine_waited event old new waits = fine_after Gives (λ old e new step all. still_fine old new (gave e) refl step all)
-    (waits.passed ++ event ∷ []) old new waits.received
-
-fine_met : (listens : Receives (List Act)) (xs : List Exchange) (old new : Phase × List Act)
-    → FoldsTo (Meets Gives listens Gets) old xs new → AllFine old.1 → AllFine new.1
-fine_met listens [] old new run all = let same : old ≡ new = run in rw same at all
-fine_met listens (x ∷ xs) old new run all = fine_met listens xs run.0 new run.2 (fine_sent x.sent run.1.met run.0.1
-    run.1.taken (fine_waited (event_of x.came) old.1 run.1.met run.1.waited.0 all))
-
-module _ (before : List Act) (m : Message) (fault : SendFault) (act : Act) (later : List Act) where
-  -- a message is refused, and something is done after that
-  abbrev pub goes_on : List Act
-  goes_on = before ++ got m (Err fault) ∷ act ∷ later
-
-  not_fine : AllFine goes_on → ⊥
-  not_fine all =
-      let both : list_all is_fine before && false ≡ true = sym (list_all-append is_fine before (got m (Err fault) ∷ act
-      ∷ later)) ∙ all in
-      let wrong : false ≡ true = (and-true (list_all is_fine before) false both).1 in
-      absurd (cc (wrong))
-
-  not_last : (earlier : List Act) (last : Act) (front : List Act) → AllFine earlier → earlier ++ last ∷ [] ≡ front
-      ++ got m (Err fault) ∷ act ∷ later → ⊥
-  not_last [] last [] all e = cc (e)
-  not_last [] last (b ∷ []) all e = cc (e)
-  not_last [] last (b ∷ b' ∷ bs) all e = cc (e)
-  not_last (x ∷ xs) last [] all e =
-      let same : x ≡ got m (Err fault) = cc (e) in
-      let fine : is_fine x ≡ true = (and-true (is_fine x) (list_all is_fine xs) all).0 in
-      let wrong : false ≡ true = rw same at fine in
-      absurd (cc (wrong))
-  not_last (x ∷ xs) last (b ∷ bs) all e =
-      let tails : xs ++ last ∷ [] ≡ bs ++ got m (Err fault) ∷ act ∷ later = cc (e) in
-      not_last xs last bs (and-true (is_fine x) (list_all is_fine xs) all).1 tails
-
-  -- Nothing is awaited and nothing is sent after a message that was refused, if no reply to `shutdown` was sent: after
-  -- a reply or the result of `initialize`, for two.
-  pub goes_on_after_refusal : (listens : Receives (List Act)) (phase : Phase) (P : SessionPart) (answer : SessionAnswer)
-      (talks : Talks Gives listens Gets phase P [] answer goes_on) → talks.shutdown_reply ≡ None → ⊥
-  goes_on_after_refusal listens phase P answer talks none = by_end talks.stop (rw none at talks.ends)
-    where
-      so_far : AllFine talks.mid
-      so_far = fine_met listens talks.whole (phase, []) (talks.reached, talks.mid) talks.prompt refl
-
-      by_end : (stop : Stop) → EndsTalk Gives listens Gets talks.reached (length talks.whole) stop None talks.last
-          talks.mid goes_on → ⊥
-      by_end (refused lost) end =
-          not_last end.mid (got end.not_sent (Err lost)) before
-          (fine_sent end.part end.met end.mid end.taken (fine_waited (event_of end.came) talks.mid end.met end.waited.0
-          so_far)) (sym end.refuses)
-      by_end decided end = not_fine (ap (λ (l : List Act). list_all is_fine l) end.1 ∙ so_far)
-      by_end no_more end = elim end.1 [
-        | inl waits ↦ not_fine (fine_waited closed talks.mid goes_on waits.0 so_far)
-        | inr all ↦ not_fine (ap (λ (l : List Act). list_all is_fine l) all.1 ∙ so_far)
+  push : (old new : List Act) (a : Act) → NotLost old → new ≡ old ++ a ∷ [] → (a ≡ lost m → ⊥) → NotLost new
+  push old new a all grown other = λ front rest e.
+      elim (push_split old front rest a (lost m) (sym grown ∙ e)) [
+        | inl more ↦ all front more.0 more.1
+        | inr last ↦ other last.0
       ]
-      by_end exhausted end = not_fine (fine_waited (event_of end.1) talks.mid goes_on end.2.0 so_far)
-      by_end timed_out end = absurd end
+
+  received : (events : List Event) (old new : List Act) → FoldsTo NotesReceive old events new → NotLost old
+      → NotLost new
+  received [] old new run all = subst NotLost run all
+  received (e ∷ events) old new run all = received events run.0 new run.2 (push old run.0 (gave e) all run.1 (λ is.
+      cc (is)))
+
+  taken : (ms : List Message) (old new : List Act) → FoldsTo (Takes NotesSend) old ms new → NotLost old → NotLost new
+  taken [] old new run all = subst NotLost run all
+  taken (n ∷ ms) old new run all = taken ms run.0 new run.2 (push old run.0 (took n) all run.1 (λ is. cc (is)))
+
+  awaited : (p : Phase) (event : Event) (old new : List Act) → WaitsIn NotesReceive any_wait p old event new
+      → NotLost old → NotLost new
+  awaited (asked i) event old new waits all = push old new (gave event) all waits (λ is. cc (is))
+  awaited (broken fault) event old new waits all = absurd waits
+  awaited (ended by) event old new waits all = absurd waits
+  awaited p event old new waits all = received (waits.0.passed ++ event ∷ []) old new waits.0.received all
+
+  -- a message was refused, and that ended the session
+  abbrev LastLost : Phase × List Act → Type 0
+  LastLost a = (fault : SendFault) × (a.0 ≡ broken fault) × (earlier : List Act) × (n : Message)
+      × (a.1 ≡ earlier ++ lost n ∷ []) × NotLost earlier
+
+  over : (passes : Bool) (fault : SendFault) (xs : List Exchange) (r new : Phase × List Act) → r.0 ≡ broken fault
+      → FoldsTo (Meets NotesReceive any_wait NotesSend passes) r xs new → r ≡ new
+  over passes fault [] r new is run = run
+  over passes fault (x ∷ xs) r new is run =
+      let turn = run.1.turn in
+      absurd (subst (λ (p : Phase). Step (any_service passes) p tt x.came turn.given turn.next tt) is turn.step)
+
+  turned : (passes : Bool) (xs : List Exchange) (old new : Phase × List Act) → NotLost old.1
+      → FoldsTo (Meets NotesReceive any_wait NotesSend passes) old xs new → NotLost new.1 ⊎ LastLost new
+  turned passes [] old new all run = inl (subst (λ (a : Phase × List Act). NotLost a.1) run all)
+  turned passes (x ∷ xs) old new all run =
+      at (λ fine. turned passes xs run.0 new fine run.2) (turn_case (any_service passes) old.0 run.0.0 tt tt x
+      run.1.turn)
+    where
+      so_far : NotLost run.1.mid
+      so_far = taken x.sent run.1.met run.1.mid run.1.taken (awaited old.0 (event_of x.came) old.1 run.1.met
+          run.1.waited all)
+
+      refuses_at : (lost_one : Option Message) → x.not_sent ≡ lost_one
+          → Refuses NotesReceive any_wait NotesSend lost_one
+          run.0.0 run.1.mid run.0.1
+      refuses_at lost_one is = subst (λ (l : Option Message). Refuses NotesReceive any_wait NotesSend l run.0.0
+          run.1.mid run.0.1) is run.1.refuses
+
+      at : (NotLost run.0.1 → NotLost new.1 ⊎ LastLost new) → TurnCase (any_service passes) old.0 tt x run.0.0 tt
+          → NotLost new.1 ⊎ LastLost new
+      at by (whole is step) = by (subst NotLost (sym (refuses_at None is)) so_far)
+      at by (lost_reply n i is next step) =
+          let null : (n ≡ null_reply i) = elim (asks_so (any_service passes) old.0 tt tt x.came (x.sent ++ n ∷ []) i
+          (row
+          (any_service passes) old.0 (asked i) tt tt x.came (x.sent ++ n ∷ []) step)) [
+            | inl silent ↦ absurd (no_one x.sent [] n silent)
+            | inr asks ↦ last_same x.sent asks.1 n (null_reply i) asks.2
+          ] in
+          by (push run.1.mid run.0.1 (lost n) so_far (refused_noted n run.0.0 run.1.mid run.0.1
+          (refuses_at (Some n) is)) (λ is. let same : n ≡ m = cc (is) in no_reply i (sym same ∙ null)))
+      at by (breaks n more fault next is gone step other) =
+          let same = over passes fault xs run.0 new gone run.2 in
+          inr (subst (λ (a : Phase × List Act). LastLost a) same (
+            fault,
+            gone,
+            run.1.mid,
+            n,
+            refused_noted n run.0.0 run.1.mid run.0.1 (refuses_at (Some n) is),
+            so_far,
+          ))
+
+  module _ (before : List Act) (act : Act) (later : List Act) where
+    -- the message is refused, and something is done after that
+    abbrev pub goes_on : List Act
+    goes_on = before ++ lost m ∷ act ∷ later
+
+    not_last : (earlier : List Act) (n : Message) → NotLost earlier → goes_on ≡ earlier ++ lost n ∷ [] → ⊥
+    not_last earlier n all e = elim (push_split earlier before (act ∷ later) (lost n) (lost m) (sym e)) [
+      | inl more ↦ all before more.0 more.1
+      | inr last ↦ cc (last.1)
+    ]
+
+    -- Nothing is awaited and nothing is sent after a message that was refused, but after a reply to `shutdown`.
+    pub goes_on_after_refusal : (phase : Phase) (P : SessionPart) (answer : SessionAnswer)
+        → Talks NotesReceive any_wait NotesSend phase P [] answer goes_on → ⊥
+    goes_on_after_refusal phase P answer talks =
+        elim (turned talks.history.passes_late talks.exchanges (phase, []) (talks.history.reached, talks.history.mid)
+        (λ front rest e. none_in front rest (lost m) e) talks.history.turns) [
+          | inl all ↦ still talks.history.reached talks.stop talks.history.ends all
+          | inr last ↦ not_last last.2 last.3 last.5 (ended_there last.0 last.1 talks.stop talks.history.ends ∙ last.4)
+        ]
+      where
+        still : (p : Phase) (stop : Stop) → AwaitsEnd NotesReceive any_wait p (length talks.exchanges) stop
+            talks.history.mid goes_on → NotLost talks.history.mid → ⊥
+        still p no_more (inl waits) all = awaited p closed talks.history.mid goes_on waits all before (act ∷ later) refl
+        still p no_more (inr same) all = all before (act ∷ later) (sym same.1)
+        still p timed_out waits all = awaited p timeout talks.history.mid goes_on waits all before (act ∷ later) refl
+        still p exhausted waits all = awaited p (event_of waits.0) talks.history.mid goes_on waits.1 all before (act
+            ∷ later) refl
+        still p decided same all = all before (act ∷ later) (sym same)
+        still p (refused fault) same all = all before (act ∷ later) (sym same)
+
+        ended_there : (fault : SendFault) → talks.history.reached ≡ broken fault → (stop : Stop)
+            → AwaitsEnd NotesReceive any_wait talks.history.reached (length talks.exchanges) stop talks.history.mid
+            goes_on → goes_on ≡ talks.history.mid
+        ended_there fault is no_more (inl waits) = absurd (subst (λ (p : Phase). WaitsIn NotesReceive any_wait p
+            talks.history.mid closed goes_on) is waits)
+        ended_there fault is no_more (inr same) = same.1
+        ended_there fault is timed_out waits = absurd (subst (λ (p : Phase). WaitsIn NotesReceive any_wait p
+            talks.history.mid timeout goes_on) is waits)
+        ended_there fault is exhausted waits = absurd (subst (λ (p : Phase). WaitsIn NotesReceive any_wait p
+            talks.history.mid (event_of waits.0) goes_on) is waits.1)
+        ended_there fault is decided same = same
+        ended_there fault is (refused by) same = same

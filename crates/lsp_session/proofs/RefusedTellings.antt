@@ -6,16 +6,19 @@ use Rattle.lsp_message.specs.Reading.{Reading}
 use Rattle.lsp_message.specs.declared.frame.ReadFault.{ReadFault}
 use Rattle.lsp_message.specs.declared.frame.ReadFault.TheVariants.{HeaderTooLong, LineEnd}
 use Rattle.lsp_message.specs.declared.frame.limits.Limits.{Limits}
-use Rattle.lsp_session.specs.Account.{Act, gave, took, Awaited, AreActsOf, EndsInOrder}
+use Rattle.lsp_session.proofs.ActsNoted.{waited_in, Grows, grows_both, rest_grows, turns_grow, end_grows}
+use Rattle.lsp_session.specs.Account.{Act, gave, NotesReceive, NotesSend}
 use Rattle.lsp_session.specs.ActBytes.{AreOf, ToldSession}
-use Rattle.lsp_session.specs.Event.{Event, message, closed}
-use Rattle.lsp_session.specs.Prompt.{event_of}
+use Rattle.lsp_session.specs.Event.{Event, timeout, closed}
+use Rattle.lsp_session.specs.Prompt.{event_of, WaitsIn, AwaitsEnd, Meets, any_wait}
 use Rattle.lsp_session.specs.Session.{Behavior, Exchange, Stop, decided, no_more, timed_out, refused, exhausted}
-use Rattle.lsp_session.specs.Session.{SessionOut}
+use Rattle.lsp_session.specs.Session.{Phase, starting, Stops, SessionOut}
+use Rattle.lsp_session.specs.declared.lifecycle.SendFault.{SendFault}
+use Rattle.std.specs.List.{FoldsTo}
 use Rattle.lsp_session.specs.declared.loops.handler.SessionEnd.{SessionEnd}
 use Rattle.lsp_session.specs.declared.loops.stream_session.SessionFault.{SessionFault}
-use Rattle.std.proofs.Common.{arith, ◌≡◌, refl, sym, ◌∙◌, ap, inl, inr, ℕ, ◌+◌, Bool, true, false, cond, nat_lt, drop}
-use Rattle.std.proofs.Common.{List, [], ◌∷◌, ◌++◌, length, map, Option, Some, None, Ok, Err}
+use Rattle.std.proofs.Common.{arith, ◌≡◌, refl, sym, ◌∙◌, ap, subst, inl, inr, ◌⊎◌, ℕ, ◌+◌, Bool, true, false, cond}
+use Rattle.std.proofs.Common.{nat_lt, drop, List, [], ◌∷◌, ◌++◌, length, map, Option, Some, None, Ok, Err}
 use Rattle.std.specs.Prelude.{Result}
 use Rattle.std.specs.Str.{is_utf8, chars}
 
@@ -59,50 +62,52 @@ append_none : (xs ys : List Act) → [] ≡ xs ++ ys → xs ≡ []
 append_none [] ys none = refl
 append_none (x ∷ xs) ys none = absurd (cc (none))
 
-awaited_some : (event : Event) (acts : List Act) → Awaited event acts → acts ≡ [] → ⊥
-awaited_some event acts waits none = at waits.passed (sym none ∙ waits.are)
-  where
-    at : (passed : List Event) → [] ≡ map gave (passed ++ event ∷ []) → ⊥
-    at [] is = absurd (cc (is))
-    at (p ∷ ps) is = absurd (cc (is))
-
 -- acts that begin with a wait
-begins_some : (event : Event) (waits more acts : List Act) → Awaited event waits → acts ≡ waits ++ more → acts ≡ [] → ⊥
-begins_some event waits more acts awaited are none = awaited_some event waits awaited (append_none waits more
-    (sym none ∙ are))
+waited_some : (p : Phase) (event : Event) (old met new : List Act) → WaitsIn NotesReceive any_wait p old event met
+    → Grows met new → [] ≡ new → ⊥
+waited_some p event old met new waits more none =
+    let w = waited_in p event old met waits in
+    never old w.passed (sym w.are ∙ append_none met more.0 (none ∙ more.1))
+  where
+    some : (passed : List Event) → map gave (passed ++ event ∷ []) ≡ [] → ⊥
+    some [] is = cc (is)
+    some (e ∷ passed) is = cc (is)
 
-whole_none : (whole : List Exchange) (acts : List Act) → AreActsOf whole acts → acts ≡ [] → whole ≡ []
-whole_none [] acts are none = refl
-whole_none (x ∷ xs) acts are none =
-    absurd (begins_some (event_of x.came) are.2.waits (map took x.sent) are.0 are.2.awaited are.2.are (append_none are.0
-    are.1 (sym none ∙ are.4)))
+    never : (front : List Act) (passed : List Event) → front ++ map gave (passed ++ event ∷ []) ≡ [] → ⊥
+    never [] passed is = some passed is
+    never (a ∷ front) passed is = cc (is)
 
-ends_none : (count : ℕ) (stop : Stop) (reply : Option Message) (last : List Exchange) (acts : List Act)
-    → EndsInOrder count stop reply last acts → acts ≡ [] → count ≡ 0
-    → (last ≡ []) × (stop ≡ decided)
-ends_none count stop (Some reply) last acts ends none zero = absurd (begins_some (message ends.ask) ends.waits _ acts
-    ends.awaited ends.are none)
-ends_none count (refused fault) None last acts ends none zero = absurd (begins_some (event_of ends.came) ends.waits _
-    acts ends.awaited ends.are none)
-ends_none count decided None last acts ends none zero = (ends.0, refl)
-ends_none count no_more None last acts ends none zero = elim ends.1 [
-  | inl closes ↦ absurd (awaited_some closed acts closes none)
-  | inr all ↦ let bad : ⊥ = omega (arith, all.0, zero) in absurd bad
-]
-ends_none count exhausted None last acts ends none zero = absurd (awaited_some (event_of ends.1) acts ends.2 none)
-ends_none count timed_out None last acts ends none zero = absurd ends
+turns_none : (passes : Bool) (xs : List Exchange) (old : Phase × List Act) (new : Phase × List Act) → FoldsTo
+    (Meets NotesReceive any_wait NotesSend passes) old xs new → [] ≡ new.1 → xs ≡ []
+turns_none passes [] old new run none = refl
+turns_none passes (x ∷ xs) old new run none =
+    absurd (waited_some old.0 (event_of x.came) old.1 run.1.met new.1 run.1.waited (grows_both run.1.met run.0.1 new.1
+    (rest_grows passes x old run.0 run.1) (turns_grow passes xs run.0 new run.2)) none)
+
+ends_none : (p : Phase) (count : ℕ) (stop : Stop) (old : List Act) → AwaitsEnd NotesReceive any_wait p count stop old []
+    → count ≡ 0 → (old ≡ []) × ((stop ≡ decided) ⊎ ((fault : SendFault) × (stop ≡ refused fault)))
+ends_none p count no_more old (inl waits) zero = absurd (waited_some p closed old [] [] waits ([], refl) refl)
+ends_none p count no_more old (inr all) zero = let bad : ⊥ = omega (arith, all.0, zero) in absurd bad
+ends_none p count timed_out old waits zero = absurd (waited_some p timeout old [] [] waits ([], refl) refl)
+ends_none p count exhausted old waits zero = absurd (waited_some p (event_of waits.0) old [] [] waits.1 ([], refl) refl)
+ends_none p count decided old same zero = (sym same, inl refl)
+ends_none p count (refused fault) old same zero = (sym same, inr (fault, refl))
 
 -- A session read something: a body that runs none, and answers as if it had, has no transcript for it.
 pub no_session_from_nothing : {S : Type 0} (may : Behavior S) (s s' : S) (limit : Limits) (result : Result SessionEnd
     SessionFault)
     → ToldSession limit (SessionOut may s s') [] result → ⊥
-no_session_from_nothing may s s' limit result told =
-    let order = told.in_order in
-    let exchanged : order.exchanged ≡ [] = append_none order.exchanged order.end order.are in
-    let whole : order.whole ≡ [] = whole_none order.whole order.exchanged order.in_order exchanged in
-    let end : order.end ≡ [] = sym (rw exchanged at order.are) in
-    let ends = ends_none (length order.whole) told.stop told.shutdown_reply order.last order.end order.ends end
-    (ap (λ (xs : List Exchange). length xs) whole) in
-    let none : told.exchanges ≡ [] = rw (whole, ends.0) at order.cut in
-    let part = rw (none, ends.1) at told.part in
-    rw (part.reached.0) at part.stopped
+no_session_from_nothing {S} may s s' limit result told =
+    let h = told.in_order in
+    let still = end_grows h.reached (length told.exchanges) told.stop h.mid [] h.ends in
+    let mid : [] ≡ h.mid = sym (append_none h.mid still.0 still.1) in
+    let none : told.exchanges ≡ [] = turns_none h.passes_late told.exchanges (starting, []) (h.reached, h.mid) h.turns
+    mid in
+    let ends = ends_none h.reached (length told.exchanges) told.stop h.mid h.ends (ap (λ (xs : List Exchange).
+    length xs) none) in
+    let out = subst (λ (xs : List Exchange). SessionOut may s s' xs told.stop told.answer) none told.part in
+    let stops = subst (λ (a : Phase × S). Stops may a.0 a.1 told.stop told.answer s') (sym out.reached) out.stopped in
+    elim ends.1 [
+      | inl is ↦ subst (λ (stop : Stop). Stops may starting s stop told.answer s') is stops
+      | inr is ↦ subst (λ (stop : Stop). Stops may starting s stop told.answer s') is.1 stops
+    ]

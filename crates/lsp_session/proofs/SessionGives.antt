@@ -8,16 +8,17 @@ use Rattle.lsp_message.specs.declared.frame.ReadFault.{ReadFault}
 use Rattle.lsp_message.specs.declared.frame.WriteFault.TheVariants.{Output, Memory as NoMemory}
 use Rattle.lsp_message.specs.declared.frame.WriteFault.{WriteFault}
 use Rattle.lsp_message.specs.declared.frame.limits.Limits.{Limits}
-use Rattle.lsp_session.proofs.Handing.{AreFramesOf-push, breaks_off, taken_frames, taken_keeps, Appends-Keeps}
-use Rattle.lsp_session.specs.Boxes.{Sends, Takes}
+use Rattle.lsp_session.proofs.Got.{Got, all_taken, one_lost}
+use Rattle.lsp_session.proofs.Handing.{breaks_off, taken_frames, taken_keeps, Appends-Keeps}
+use Rattle.lsp_session.proofs.Ran.{IsWhole}
+use Rattle.lsp_session.specs.Boxes.{Sends}
 use Rattle.lsp_session.specs.Event.{Event, closed, timeout}
 use Rattle.lsp_session.specs.Finish.{FinishAnswer, FinishesAt}
 use Rattle.lsp_session.specs.FrameBoxes.{FrameOutboxSends, Told, kept_write}
-use Rattle.lsp_session.specs.Session.{SessionAnswer, Stop, decided, no_more, refused}
-use Rattle.lsp_session.specs.SessionBytes.{IsUnsent, LeftAfter, Ends, Wrote, GetsAllButLast}
+use Rattle.lsp_session.specs.Session.{SessionAnswer, Exchange, sends_of, Stop, decided, no_more, refused}
+use Rattle.lsp_session.specs.SessionBytes.{LeftAfter, Ends, Wrote, lost_of}
 use Rattle.lsp_session.specs.SessionOutcome.{reason_of}
 use Rattle.lsp_session.specs.SessionFault.{session_answer}
-use Rattle.lsp_session.specs.SessionRun.{all_of, OffersLast, RefusesLast, Gets}
 use Rattle.lsp_session.specs.StreamBoxes.{stream_of, StreamInboxGives}
 use Rattle.lsp_session.specs.Streams.{Stream, StreamGives, StreamReads}
 use Rattle.lsp_session.specs.declared.lifecycle.SendFault.TheVariants.{Closed as Shut, Memory as Full}
@@ -28,7 +29,6 @@ use Rattle.lsp_session.specs.declared.loops.frame_outbox.FrameOutbox.{FrameOutbo
 use Rattle.lsp_session.specs.declared.loops.session_outcome.StopReason.TheVariants.{Decided, NoMore}
 use Rattle.lsp_session.specs.declared.loops.stream_inbox.StreamInbox.{StreamInbox}
 use Rattle.std.proofs.Common.{◌≡◌, refl, ◌∙◌, ap, inl, inr, ℕ, List, [], ◌∷◌, ◌++◌, Some, None, Option}
-use Rattle.std.proofs.KnownBytes.{Appends-trans}
 use Rattle.std.specs.Io.KnownBytes.{Keeps}
 use Rattle.std.specs.List.{FoldsTo}
 use Rattle.std.specs.Prelude.{Result, Ok, Err, MatchOption}
@@ -82,122 +82,70 @@ no_timeout limit old new gives = at old.end gives
     at None gives = gives
     at (Some end) gives = cc (gives.0)
 
--- what is written of messages if the write of the last one failed
-abbrev pub GetsPart : WriteFault → List Message → Option (List ℕ) → Option (List ℕ) → Type 0
-GetsPart (Output kind) ms old new = (whole : List Message) × (last : Message) × (ms ≡ whole ++ last ∷ [])
-    × GetsFramesAndPart whole last old new
-GetsPart NoMemory ms old new = GetsAllButLast ms old new
+-- what is written of a message whose write failed so, behind these
+abbrev PartOf : WriteFault → List Message → Message → Option (List ℕ) → Option (List ℕ) → Type 0
+PartOf (Output kind) ms m old new = GetsFramesAndPart ms m old new
+PartOf NoMemory ms m old new = GetsFrames ms old new
+
+-- what is written of all that was offered if the write of the last message failed, which was refused
+abbrev pub GetsPart : WriteFault → List Exchange → Option (List ℕ) → Option (List ℕ) → Type 0
+GetsPart fault xs old new = (whole : List Message) × (last : Message) × (lost_of xs ≡ Some last)
+    × (sends_of xs ≡ whole ++ last ∷ []) × PartOf fault whole last old new
 
 -- the outbox refused no reply
 abbrev pub NotRefused : Stop → Type 0
 NotRefused (refused fault) = ⊥
 NotRefused stop = Unit {0}
 
+whole_not_refused : (stop : Stop) → IsWhole stop → NotRefused stop
+whole_not_refused (refused fault) is = is
+whole_not_refused stop is = tt
+
 module _ {W : Type 0} (contents : W → Option (List ℕ)) where
   abbrev at : FrameOutbox W → Option (List ℕ)
   at outbox = contents outbox.writer.now
 
-  -- a message offered after those whose frames were written
-  offered : (ms : List Message) (m : Message) (a b c : Option (List ℕ)) (outcome : Result (Unit {0}) SendFault)
-      (fault : Option WriteFault) → GetsFrames ms a b
-      → Writes m b (kept_write fault) c → Told outcome fault
-      → MatchOption fault ((outcome ≡ Ok tt) × GetsFrames (ms ++ m ∷ []) a c) (λ f. GetsPart f (ms ++ m ∷ []) a c)
-  offered ms m a b c (Ok done) None got writes told = (
-    refl,
-    (
-      got.0 ++ writes.0,
-      AreFramesOf-push ms got.0 m writes.0 got.1 writes.1,
-      Appends-trans a b c got.0 writes.0
-          got.2 writes.2,
-    ),
-  )
-  offered ms m a b c (Err (Shut back)) None got writes told = absurd told
-  offered ms m a b c (Err (Full back)) None got writes told = absurd told
-  offered ms m a b c outcome (Some (Output kind)) got writes told = (
-    ms,
-    m,
-    refl,
-    breaks_off ms m (Output kind) a b c
-        got writes,
-  )
-  offered ms m a b c outcome (Some NoMemory) got writes told = (
-    ms,
-    m,
-    refl,
-    (
-      got.0,
-      got.1,
-      Appends-Keeps a b c got.0
-          got.2 writes,
-    ),
+  -- a message that was refused, after those whose frames were written
+  refused_part : (ms : List Message) (m : Message) (a b c : Option (List ℕ)) (back : SendFault)
+      (fault : Option WriteFault) → GetsFrames ms a b → Writes m b (kept_write fault) c → Told (Err back) fault
+      → MatchOption fault ⊥ (λ f. PartOf f ms m a c)
+  refused_part ms m a b c (Shut back) None got writes told = told
+  refused_part ms m a b c (Full back) None got writes told = told
+  refused_part ms m a b c back (Some (Output kind)) got writes told = breaks_off ms m (Output kind) a b c got writes
+  refused_part ms m a b c back (Some NoMemory) got writes told = (
+    got.0,
+    got.1,
+    Appends-Keeps a b c got.0 got.2 writes,
   )
 
-  -- the same, of an outbox that no write has failed in, and what follows
-  sent_after : {A B : Type 0} (ms : List Message) (m : Message) (a b : Option (List ℕ)) (mid new : FrameOutbox W)
-      (outcome : Result (Unit {0}) SendFault)
-      → mid.fault ≡ None
-      → b ≡ at mid → GetsFrames ms a b → FrameOutboxSends contents mid m outcome new → (outcome ≡ Ok tt → A) → B
-      → MatchOption new.fault (A × GetsFrames (ms ++ m ∷ []) a (at new)) (λ f. B × GetsPart f (ms ++ m ∷ []) a (at new))
-  sent_after {A} {B} ms m a b mid new outcome unfailed is got sends took lost =
-      let writes = rw unfailed at sends.0 in
-      pick new.fault (offered ms m a (at mid) (at new) outcome new.fault (rw is at got) writes.0 writes.1)
-    where
-      pick : (fault : Option WriteFault)
-          → MatchOption fault ((outcome ≡ Ok tt) × GetsFrames (ms ++ m ∷ []) a (at new)) (λ f. GetsPart f (ms ++ m ∷ [])
-          a (at new))
-          → MatchOption fault (A × GetsFrames (ms ++ m ∷ []) a (at new)) (λ f. B × GetsPart f (ms ++ m ∷ []) a (at new))
-      pick None both = (took both.0, both.1)
-      pick (Some f) part = (lost, part)
-
-  module _ (old new : FrameOutbox W) (output : List Message) (shutdown_reply : Option Message) (unfailed : old.fault
-      ≡ None) where
+  module _ (old new : FrameOutbox W) (xs : List Exchange) (stop : Stop) (unfailed : old.fault ≡ None) where
     -- the output is written, or a part of it if a write failed
-    abbrev pub IsWritten : Stop → Type 0
-    IsWritten stop =
-        MatchOption new.fault (NotRefused stop × GetsFrames (all_of output shutdown_reply) (at old) (at new))
-        (λ f. IsUnsent stop shutdown_reply × GetsPart f (all_of output shutdown_reply) (at old) (at new))
+    abbrev pub IsWritten : Type 0
+    IsWritten =
+        MatchOption new.fault (NotRefused stop × GetsFrames (sends_of xs) (at old) (at new))
+        (λ f. GetsPart f xs (at old) (at new))
 
-    taken_written : (stop : Stop) (mid : FrameOutbox W) → FoldsTo (Takes (FrameOutboxSends contents)) old output mid
-        → OffersLast (FrameOutboxSends contents) mid shutdown_reply new
-        → MatchOption new.fault (Unit {0} × GetsFrames (all_of output shutdown_reply) (at old) (at new)) (λ f. IsUnsent
-        stop shutdown_reply × GetsPart f (all_of output shutdown_reply) (at old) (at new))
-    taken_written stop mid taken offers = last shutdown_reply offers
+    pub gets_written : Got (FrameOutboxSends contents) old xs stop new → IsWritten
+    gets_written (all_taken taken none is_whole) =
+        let frames = taken_frames contents old (sends_of xs) new unfailed taken in
+        rw frames.0 (whole_not_refused stop is_whole, frames.1)
+    gets_written (one_lost taken m fault mid run refuses cut lost tie) =
+        let frames = taken_frames contents old taken mid unfailed run in
+        let writes = rw frames.0 at refuses.0 in
+        pick new.fault (refused_part taken m (at old) (at mid) (at new) fault new.fault frames.1 writes.0 writes.1)
       where
-        frames : (mid.fault ≡ None) × GetsFrames output (at old) (at mid)
-        frames = taken_frames contents old output mid unfailed taken
+        pick : (f : Option WriteFault) → MatchOption f ⊥ (λ f. PartOf f taken m (at old) (at new))
+            → MatchOption f (NotRefused stop × GetsFrames (sends_of xs) (at old) (at new)) (λ f. GetsPart f xs (at old)
+            (at new))
+        pick None never = absurd never
+        pick (Some f) part = (taken, m, lost, cut, part)
 
-        last : (shutdown_reply : Option Message) → OffersLast (FrameOutboxSends contents) mid shutdown_reply new
-            → MatchOption new.fault (Unit {0} × GetsFrames (all_of output shutdown_reply) (at old) (at new))
-            (λ f. IsUnsent stop shutdown_reply × GetsPart f (all_of output shutdown_reply) (at old) (at new))
-        last None same = rw (same, frames.0) (tt, frames.1)
-        last (Some shutdown_reply) offers = sent_after output shutdown_reply (at old) (at mid) mid new offers.outcome
-            frames.0 refl frames.1 offers.sent (λ e. tt) tt
-
-    refused_written : (fault : SendFault) → RefusesLast (FrameOutboxSends contents) old output fault new
-        → shutdown_reply ≡ None → IsWritten (refused fault)
-    refused_written fault last none =
-        let frames = taken_frames contents old last.0 last.2 unfailed last.4 in
-        rw (none, last.3) (sent_after last.0 last.1 (at old) (at last.2) last.2 new (Err fault) frames.0 refl frames.1
-        last.5 (λ e. cc (e)) tt)
-
-    pub gets_written : (stop : Stop) → Gets (FrameOutboxSends contents) old output shutdown_reply stop new
-        → IsWritten stop
-    gets_written (refused fault) got = refused_written fault got.0 got.1
-    gets_written stop got = taken_written stop got.0 got.1 got.2
-
-  last_keeps : (shutdown_reply : Option Message) (mid new : FrameOutbox W) → OffersLast (FrameOutboxSends contents) mid
-      shutdown_reply new → new.writer.ghost_name ≡ mid.writer.ghost_name
-  last_keeps None mid new same = ap (λ (o : FrameOutbox W). o.writer.ghost_name) same
-  last_keeps (Some shutdown_reply) mid new offers = offers.sent.1
-
-  -- an outbox keeps the writer that it was lent
-  pub gets_keeps : (old new : FrameOutbox W) (output : List Message) (shutdown_reply : Option Message) (stop : Stop)
-      → Gets (FrameOutboxSends contents) old output shutdown_reply stop new
-      → new.writer.ghost_name ≡ old.writer.ghost_name
-  gets_keeps old new output shutdown_reply (refused fault) got = got.0.5.1 ∙ taken_keeps contents old got.0.0
-      got.0.2 got.0.4
-  gets_keeps old new output shutdown_reply stop got = last_keeps shutdown_reply got.0 new got.2 ∙ taken_keeps contents
-      old output got.0 got.1
+    -- an outbox keeps the writer that it was lent
+    pub gets_keeps : Got (FrameOutboxSends contents) old xs stop new
+        → new.writer.ghost_name ≡ old.writer.ghost_name
+    gets_keeps (all_taken taken none is_whole) = taken_keeps contents old (sends_of xs) new taken
+    gets_keeps (one_lost taken m fault mid run refuses cut lost tie) = refuses.1 ∙ taken_keeps contents old taken mid
+        run
 
 module _ (limit : Limits) where
   -- a reading that failed
@@ -207,12 +155,12 @@ module _ (limit : Limits) where
 
   -- What is left, and what was written, of a session that stopped so, whose messages ended so, and of which no write
   -- failed.
-  module _ (shutdown_reply : Option Message) (answer : SessionAnswer) (sends : List Message) (a b : Option (List ℕ))
-      (wrote : GetsFrames sends a b) where
+  module _ (answer : SessionAnswer) (xs : List Exchange) (a b : Option (List ℕ))
+      (wrote : GetsFrames (sends_of xs) a b) where
     abbrev pub EndsSo : Stop → Option ReadEnd → Option (List ℕ) → List ℕ → Type 0
     EndsSo stop end left at =
-        Ends limit left (session_answer (reason_of stop) answer end None) answer stop shutdown_reply at
-        × Wrote a b (session_answer (reason_of stop) answer end None) stop shutdown_reply sends
+        Ends limit left (session_answer (reason_of stop) answer end None) answer stop at
+        × Wrote a b (session_answer (reason_of stop) answer end None) stop xs
 
     fault_ends : (fault : ReadFault) (left : Option (List ℕ)) (at : List ℕ) → Answers (λ (m : Message). m) (Err fault)
         left (reading_within limit at)
@@ -241,8 +189,8 @@ module _ (limit : Limits) where
         )
       where
         by_answer : (answer : SessionAnswer) → LeftAfter limit no_more at left
-            → Ends limit left (session_answer NoMore answer (Some End) None) answer no_more shutdown_reply at
-            × Wrote a b (session_answer NoMore answer (Some End) None) no_more shutdown_reply sends
+            → Ends limit left (session_answer NoMore answer (Some End) None) answer no_more at
+            × Wrote a b (session_answer NoMore answer (Some End) None) no_more xs
         by_answer (Ok end) after = ((refl, after), wrote)
         by_answer (Err fault) after = ((refl, after), wrote)
     closed_ends (Some (Fault fault)) left at reads = fault_ends fault left at reads.0
@@ -254,8 +202,8 @@ module _ (limit : Limits) where
     decided_ends end left at after = by_answer answer
       where
         by_answer : (answer : SessionAnswer)
-            → Ends limit left (session_answer Decided answer end None) answer decided shutdown_reply at
-            × Wrote a b (session_answer Decided answer end None) decided shutdown_reply sends
+            → Ends limit left (session_answer Decided answer end None) answer decided at
+            × Wrote a b (session_answer Decided answer end None) decided xs
         by_answer (Ok end) = ((refl, after), wrote)
         by_answer (Err fault) = ((refl, after), wrote)
 

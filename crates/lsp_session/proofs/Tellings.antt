@@ -1,12 +1,12 @@
 -- What a transport does from its first act to its last: a relation that each act keeps is kept by a session.
 use Rattle.lsp_message.specs.Message.{Message}
 use Rattle.lsp_session.specs.Boxes.{Sends, Receives, Takes, WaitsFor}
-use Rattle.lsp_session.specs.Event.{Event, message}
-use Rattle.lsp_session.specs.Prompt.{event_of, behind, Meets, BreaksOff, OffersShutdownReplyFirst, EndsTalk, Talks}
+use Rattle.lsp_session.specs.Event.{Event, closed, timeout}
+use Rattle.lsp_session.specs.Prompt.{event_of, WaitsIn, AwaitsEnd, Refuses, Meets, Talks}
 use Rattle.lsp_session.specs.Session.{Exchange, SessionAnswer, SessionPart, Stop, decided, no_more, timed_out, refused}
-use Rattle.lsp_session.specs.Session.{exhausted, Phase}
+use Rattle.lsp_session.specs.Session.{exhausted, Phase, asked, broken, ended}
 use Rattle.lsp_session.specs.declared.lifecycle.SendFault.{SendFault}
-use Rattle.std.proofs.Common.{◌≡◌, sym, ap, subst, inl, inr, ℕ, List, [], ◌∷◌, ◌++◌, length, Option, Some, None}
+use Rattle.std.proofs.Common.{◌≡◌, sym, ap, subst, inl, inr, ℕ, Bool, List, [], ◌∷◌, ◌++◌, length, Option, Some, None}
 use Rattle.std.specs.List.{FoldsTo}
 use Rattle.std.specs.Prelude.{Result, Ok, Err}
 
@@ -30,46 +30,43 @@ module _ {L : Type 0} (receives listens : Receives L) (sends : Sends L) (Rel : L
   waited : (event : Event) (old new : L) → WaitsFor receives old event new → Rel old new
   waited event old new waits = gave_all (waits.passed ++ event ∷ []) old new waits.received
 
-  turned : (x : Exchange) (old new : Phase × L) → Meets receives listens sends old x new → Rel old.1 new.1
-  turned x old new meets = then_ old.1 meets.met new.1 (waited (event_of x.came) old.1 meets.met meets.waited.0)
-      (took_all x.sent meets.met new.1 meets.taken)
+  waited_in : (p : Phase) (event : Event) (old new : L) → WaitsIn receives listens p old event new → Rel old new
+  waited_in (asked i) event old new waits = receiving old event new waits
+  waited_in (broken fault) event old new waits = absurd waits
+  waited_in (ended by) event old new waits = absurd waits
+  waited_in p event old new waits = waited event old new waits.0
 
-  turned_all : (xs : List Exchange) (old new : Phase × L) → FoldsTo (Meets receives listens sends) old xs new
+  refused_one : (lost : Option Message) (p : Phase) (old new : L) → Refuses receives listens sends lost p old new
+      → Rel old new
+  refused_one None p old new is = same old new (sym is)
+  refused_one (Some m) (broken fault) old new refuses = sending old m (Err fault) new refuses
+  refused_one (Some m) p old new refuses = sending old m (Err refuses.0) new refuses.1
+
+  turned : (passes : Bool) (x : Exchange) (old new : Phase × L) → Meets receives listens sends passes old x new
       → Rel old.1 new.1
-  turned_all [] old new run = same old.1 new.1 (ap (λ (a : Phase × L). a.1) run)
-  turned_all (x ∷ xs) old new run = then_ old.1 run.0.1 new.1 (turned x old run.0 run.1) (turned_all xs run.0 new run.2)
+  turned passes x old new meets = then_ old.1 meets.met new.1 (waited_in old.0 (event_of x.came) old.1 meets.met
+      meets.waited) (then_ meets.met meets.mid new.1 (took_all x.sent meets.met meets.mid meets.taken)
+      (refused_one x.not_sent new.0 meets.mid new.1 meets.refuses))
 
-  shutdown_turned : (phase : Phase) (shutdown_reply : Message) (stop : Stop) (last : List Exchange) (old new : L)
-      → OffersShutdownReplyFirst receives listens sends phase shutdown_reply stop last old new → Rel old new
-  shutdown_turned phase shutdown_reply stop last old new ends =
-      then_ old ends.met new (waited (message ends.ask) old ends.met ends.waited.0)
-      (then_ ends.met ends.parted new (took_all ends.parting ends.met ends.parted ends.taken)
-      (then_ ends.parted ends.mid new (sending ends.parted shutdown_reply ends.offered.outcome ends.mid
-      ends.offered.sent) (gave_all (behind ends.late ends.event) ends.mid new ends.received)))
+  turned_all : (passes : Bool) (xs : List Exchange) (old new : Phase × L)
+      → FoldsTo (Meets receives listens sends passes) old xs new → Rel old.1 new.1
+  turned_all passes [] old new run = same old.1 new.1 (ap (λ (a : Phase × L). a.1) run)
+  turned_all passes (x ∷ xs) old new run = then_ old.1 run.0.1 new.1 (turned passes x old run.0 run.1)
+      (turned_all passes xs run.0 new run.2)
 
-  broken : (phase : Phase) (fault : SendFault) (last : List Exchange) (old new : L) → BreaksOff receives listens sends
-      phase fault last old new → Rel old new
-  broken phase fault last old new ends =
-      then_ old ends.met new (waited (event_of ends.came) old ends.met ends.waited.0)
-      (then_ ends.met ends.mid new (took_all ends.part ends.met ends.mid ends.taken) (sending ends.mid ends.not_sent
-      (Err fault) new ends.refuses))
-
-  ended : (phase : Phase) (count : ℕ) (stop : Stop) (shutdown_reply : Option Message) (last : List Exchange)
-      (old new : L) → EndsTalk receives listens sends phase count stop shutdown_reply last old new → Rel old new
-  ended phase count stop (Some shutdown_reply) last old new ends = shutdown_turned phase shutdown_reply stop last old
-      new ends
-  ended phase count (refused fault) None last old new ends = broken phase fault last old new ends
-  ended phase count decided None last old new ends = same old new (sym ends.1)
-  ended phase count no_more None last old new ends = elim ends.1 [
-    | inl closes ↦ waited Rattle.lsp_session.specs.Event.closed old new closes.0
-    | inr all ↦ same old new (sym all.1)
-  ]
-  ended phase count exhausted None last old new ends = waited (event_of ends.1) old new ends.2.0
-  ended phase count timed_out None last old new ends = absurd ends
+  ended_so : (p : Phase) (count : ℕ) (stop : Stop) (old new : L) → AwaitsEnd receives listens p count stop old new
+      → Rel old new
+  ended_so p count no_more old new (inl waits) = waited_in p closed old new waits
+  ended_so p count no_more old new (inr all) = same old new (sym all.1)
+  ended_so p count timed_out old new waits = waited_in p timeout old new waits
+  ended_so p count exhausted old new waits = waited_in p (event_of waits.0) old new waits.1
+  ended_so p count decided old new is = same old new (sym is)
+  ended_so p count (refused fault) old new is = same old new (sym is)
 
   -- what each act keeps, a session keeps
   pub talks_keeps : (phase : Phase) (P : SessionPart) (old new : L) (answer : SessionAnswer) → Talks receives listens
       sends phase P old answer new → Rel old new
   talks_keeps phase P old new answer talks =
-      then_ old talks.mid new (turned_all talks.whole (phase, old) (talks.reached, talks.mid) talks.prompt)
-      (ended talks.reached (length talks.whole) talks.stop talks.shutdown_reply talks.last talks.mid new talks.ends)
+      let h = talks.history in
+      then_ old h.mid new (turned_all h.passes_late talks.exchanges (phase, old) (h.reached, h.mid) h.turns)
+      (ended_so h.reached (length talks.exchanges) talks.stop h.mid new h.ends)

@@ -6,15 +6,14 @@ use Rattle.lsp_session.proofs.Accounts.{talks_in_order}
 use Rattle.lsp_session.proofs.Knowing.{Knows}
 use Rattle.lsp_session.proofs.TransportInOrder.{keeps_account, keeps_ends}
 use Rattle.lsp_session.proofs.Tellings.{talks_keeps}
-use Rattle.lsp_session.specs.Account.{Act, gave, took, lost, sending, ActsInOrder}
+use Rattle.lsp_session.specs.Account.{Act, gave, took, lost, sending, InOrder}
 use Rattle.lsp_session.specs.ActBytes.{AsksPolicy, Note, EndsAfter, SkipsNothing, SentParts, TellsActs, ToldSession}
-use Rattle.lsp_session.specs.ActBytes.{acts_in, bytes_taken}
-use Rattle.lsp_session.specs.ActBytes.{bytes_given}
+use Rattle.lsp_session.specs.ActBytes.{acts_in, bytes_taken, bytes_given}
 use Rattle.lsp_session.specs.Boxes.{Receives}
 use Rattle.lsp_session.specs.Event.{Event, message, timeout, closed, woken}
 use Rattle.lsp_session.specs.Passing.{TolerantGives}
 use Rattle.lsp_session.specs.PassingBoxes.{stream_of}
-use Rattle.lsp_session.specs.PassingBytes.{PassesNothingOver}
+use Rattle.lsp_session.specs.PassingBytes.{SkipsNoContent}
 use Rattle.lsp_session.specs.Prompt.{Talks}
 use Rattle.lsp_session.specs.Session.{Behavior, starting, SessionAnswer, SessionPart, Exchange, Stop, SessionOut}
 use Rattle.lsp_session.specs.SessionOutcome.{StopsFor}
@@ -109,7 +108,7 @@ asks_sent limit passes m (Ok done) parts a b same = same
 asks_sent limit passes m (Err fault) parts a b same = same
 
 -- a policy that allows nothing to be skipped
-pub skips_nothing : {L : Type 0} (passes : L → ReadFault → L → Type 0) → PassesNothingOver passes → (limit : Limits)
+pub skips_nothing : {L : Type 0} (passes : L → ReadFault → L → Type 0) → SkipsNoContent passes → (limit : Limits)
     (notes : List Note) (old new : L) → AsksPolicy limit passes old notes new → SkipsNothing notes
 skips_nothing passes nothing limit [] old new asked = tt
 skips_nothing passes nothing limit ((gave woken, parts) ∷ notes) old new asked =
@@ -271,20 +270,18 @@ module _ {R W L : Type 0} (remaining : R → Option (List ℕ)) (passes : L → 
         new.fault)
     told_session =
         let t = talks_in_order (StreamTransportGives remaining passes) listens (StreamTransportSends contents)
-        (λ (t : StreamTransport R W L). account_of t) (keeps_account remaining passes contents) starting P old
+        (λ (t : StreamTransport R W L). account_of t) (keeps_account remaining passes contents) P old
         new answer talks in
         let all : t.0 ≡ acts_in (notes_of new.transcript.now) = sym (t.1 ∙ ap (λ (notes : List Note). acts_in notes
         ++ t.0) unused.2) in
         let run = t.2 in
-        let known = knows (run.whole ++ run.last) run.stop run.shutdown_reply answer run.part.0 in
+        let known = knows run.exchanges run.stop answer run.part.0 in
         record {
-          exchanges = run.whole ++ run.last;
+          exchanges = run.exchanges;
           stop = run.stop;
-          shutdown_reply = run.shutdown_reply;
           answer = answer;
           part = known.0;
-          in_order = subst (λ (acts : List Act). ActsInOrder acts (run.whole ++ run.last) run.stop run.shutdown_reply)
-              all run.part.1;
+          in_order = subst (λ (acts : List Act). InOrder acts run.exchanges run.stop answer) all run.part.1;
           end = new.end;
           fault = new.fault;
           told = tells_its_bytes;
@@ -307,17 +304,15 @@ module _ {R W L : Type 0} (remaining : R → Option (List ℕ)) (passes : L → 
 
 -- a session serves in other words
 pub serves_as : {R W L : Type 0} (passes : L → ReadFault → L → Type 0) (P Q : SessionPart) → ((xs : List Exchange)
-    (stop : Stop) (reply : Option Message)
-    (answer : SessionAnswer) → P xs stop reply answer → Q xs stop reply answer)
+    (stop : Stop) (answer : SessionAnswer) → P xs stop answer → Q xs stop answer)
     → (old new : StreamTransport R W L) (result : Result SessionEnd SessionFault) → Serves passes P old result
     new → Serves passes Q old result new
 serves_as passes P Q turned old new result serves = record {
   told = record {
     exchanges = serves.told.exchanges;
     stop = serves.told.stop;
-    shutdown_reply = serves.told.shutdown_reply;
     answer = serves.told.answer;
-    part = turned serves.told.exchanges serves.told.stop serves.told.shutdown_reply serves.told.answer serves.told.part;
+    part = turned serves.told.exchanges serves.told.stop serves.told.answer serves.told.part;
     in_order = serves.told.in_order;
     end = serves.told.end;
     fault = serves.told.fault;

@@ -57,7 +57,7 @@ module _ {R W L : Type 0} (remaining : R → Option (List ℕ)) (passes : L → 
         (Turns (account_of new)) old answer new
     in_order =
         let t = talks_in_order (StreamTransportGives remaining passes) listens (StreamTransportSends contents)
-        (λ (t : StreamTransport R W L). account_of t) keeps_account starting P old new answer talks in
+        (λ (t : StreamTransport R W L). account_of t) keeps_account P old new answer talks in
         let all : account_of new ≡ t.0 = t.1 ∙ ap (λ (notes : List Note). acts_in notes ++ t.0) unused.2 in
         subst (λ (acts : List Act). Talks (StreamTransportGives remaining passes) listens
         (StreamTransportSends contents) starting (Turns acts) old answer new) (sym all) t.2
@@ -87,15 +87,15 @@ module _ {R W L : Type 0} (remaining : R → Option (List ℕ)) (passes : L → 
             takes.2,
           ) refl,
         ))
-        starting (Turns (account_of new)) old answer new in_order
+        (Turns (account_of new)) old answer new in_order
 
     -- a session over a transport, in bytes
     pub gives_in_order : GivesInOrder remaining passes contents Q old (session_answer reason answer new.end new.fault)
         new
     gives_in_order = session_gives passes old.limits remaining contents (Turns (account_of new))
         (Both Q (InOrder (account_of new))) reason
-        (λ xs stop shutdown_reply answer both.
-        let known = knows xs stop shutdown_reply answer both.0 in ((known.0, both.1), known.1.0, known.1.1))
+        (λ xs stop answer both.
+        let known = knows xs stop answer both.0 in ((known.0, both.1), known.1.0, known.1.1))
         (inbox_of old) (inbox_of new) (outbox_of old) (outbox_of new) unused.0 refl unused.1 answer ran.0
         old.reader.now new.reader.now old.writer.now new.writer.now old.policy.now new.policy.now
         refl refl refl (λ same. refl) (λ same. refl) (λ same. refl)
@@ -111,8 +111,8 @@ module _ {R W L : Type 0} (remaining : R → Option (List ℕ)) (passes : L → 
         policy policy' (contents first') (contents last')
         (session_answer reason answer new.end new.fault))
     lent_gives limit limited = session_gives passes limit remaining contents (Turns (account_of new)) Q reason
-        (λ xs stop shutdown_reply answer both.
-        let known = knows xs stop shutdown_reply answer both.0 in (known.0, known.1.0, known.1.1))
+        (λ xs stop answer both.
+        let known = knows xs stop answer both.0 in (known.0, known.1.0, known.1.1))
         (inbox_of old) (inbox_of new) (outbox_of old) (outbox_of new) unused.0 limited unused.1 answer ran.0
 
     pub keeps_ends : KeepsEnds old new

@@ -1,11 +1,13 @@
 -- An inbox that was lent as one that may also give wakes: its waits, and a session over it.
 use Rattle.lsp_session.specs.Boxes.{Sends, Receives, WaitsFor}
 use Rattle.lsp_session.specs.Event.{Event}
-use Rattle.lsp_session.specs.Session.{SessionAnswer, SessionPart}
-use Rattle.lsp_session.specs.SessionRun.{Runs}
+use Rattle.lsp_session.proofs.Histories.{history_as}
+use Rattle.lsp_session.specs.Prompt.{any_wait}
+use Rattle.lsp_session.specs.Session.{SessionAnswer, SessionPart, starting}
+use Rattle.lsp_session.specs.SessionRun.{sends_nothing, Runs}
 use Rattle.lsp_session.specs.Unwoken.{UnwokenReceives}
 use Rattle.lsp_session.specs.declared.loops.unwoken.Unwoken.{Unwoken}
-use Rattle.std.proofs.Common.{◌≡◌, refl, sym, ◌∙◌, ap, List, [], ◌∷◌, ◌++◌}
+use Rattle.std.proofs.Common.{◌≡◌, refl, sym, ◌∙◌, subst, List, [], ◌∷◌, ◌++◌}
 use Rattle.std.specs.List.{FoldsTo}
 
 module _ {I : Type 0} (receives : Receives I) where
@@ -34,17 +36,6 @@ module _ {I : Type 0} (receives : Receives I) where
     received = received_by waits.passed event old new waits.received same;
   }
 
-  -- what was received, of the inbox that was lent
-  received_within : (events : List Event) (old new : Unwoken I) → FoldsTo (UnwokenReceives receives) old events new
-      → FoldsTo receives old.inbox.now events new.inbox.now × (new.inbox.ghost_name ≡ old.inbox.ghost_name)
-  received_within [] old new run = (
-    ap (λ (u : Unwoken I). u.inbox.now) run,
-    sym (ap (λ (u : Unwoken I). u.inbox.ghost_name) run),
-  )
-  received_within (e ∷ es) old new run =
-      let rest = received_within es run.0 new run.2 in
-      ((run.0.inbox.now, run.1.0, rest.0), rest.1 ∙ run.1.1)
-
   -- a session over it is one over the inbox that was lent
   pub unwoken_run : {O : Type 0} (sends : Sends O) (P : SessionPart) (old new : Unwoken I) (before after : O)
       (answer : SessionAnswer) (first last : I)
@@ -54,17 +45,25 @@ module _ {I : Type 0} (receives : Receives I) where
         before,
       ) answer (last, after)
   unwoken_run sends P old new before after answer first last is named run =
-      let within = received_within run.events old new run.received in
-      let received = within.0 in record {
-        events = run.events;
-        received = rw (← is, named within.1) received;
+      let came = history_as (UnwokenReceives receives) any_wait sends_nothing receives sends_nothing
+      (λ (u : Unwoken I) (i : I). (u.inbox.now ≡ i) × (u.inbox.ghost_name ≡ old.inbox.ghost_name))
+      (λ a event b gives i same. (
+        b.inbox.now,
+        subst (λ (j : I). receives j event b.inbox.now) same.0 gives.0,
+        (refl, gives.1 ∙ same.1),
+      ))
+      (λ a m outcome b nothing i same. (
+        i,
+        refl,
+        subst (λ (u : Unwoken I). (u.inbox.now ≡ i) × (u.inbox.ghost_name
+            ≡ old.inbox.ghost_name)) (sym nothing) same,
+      ))
+      starting run.exchanges run.stop answer old new run.came first (is, refl) in
+      let last_is : last ≡ came.0 = named came.2.1 ∙ came.2.0 in
+      record {
         exchanges = run.exchanges;
         stop = run.stop;
-        brought = run.brought;
-        output = run.output;
-        shutdown_reply = run.shutdown_reply;
-        all = run.all;
-        awaited = run.awaited;
-        got = run.got;
+        came = rw last_is came.1;
+        went = run.went;
         part = run.part;
       }

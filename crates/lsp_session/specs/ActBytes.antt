@@ -14,9 +14,9 @@ use Rattle.lsp_message.specs.declared.frame.ReadFault.{ReadFault}
 use Rattle.lsp_message.specs.declared.frame.WriteFault.{WriteFault}
 use Rattle.lsp_message.specs.declared.msg.Message as msg
 use Rattle.lsp_message.specs.declared.frame.limits.Limits.{Limits}
-use Rattle.lsp_session.specs.Account.{Act, gave, took, lost, ActsInOrder}
+use Rattle.lsp_session.specs.Account.{Act, gave, took, lost, InOrder}
 use Rattle.lsp_session.specs.Event.{Event, message, closed, woken}
-use Rattle.lsp_session.specs.Passing.{is_of_content}
+use Rattle.lsp_session.specs.Passing.{is_bad_content}
 use Rattle.lsp_session.specs.SessionOutcome.{StopsFor}
 use Rattle.lsp_session.specs.Session.{Exchange, SessionAnswer, SessionPart, Stop}
 use Rattle.lsp_session.specs.SessionFault.{session_answer}
@@ -57,7 +57,7 @@ module _ (limit : Limits) where
   -- taken.
   abbrev pub EventParts : Option ReadEnd → Event → Option ReadEnd → Parts → Type 0
   EventParts None (message m) new parts = AreOf (Ok (Some m)) parts
-  EventParts None woken new parts = (fault : ReadFault) × (is_of_content fault ≡ true) × AreOf (Err fault) parts
+  EventParts None woken new parts = (fault : ReadFault) × (is_bad_content fault ≡ true) × AreOf (Err fault) parts
   EventParts None closed (Some End) parts = AreOf (Ok None) parts
   EventParts None closed (Some (Fault fault)) parts = AreOf (Err fault) parts
   EventParts None event new parts = ⊥
@@ -67,7 +67,7 @@ module _ (limit : Limits) where
   -- policy allows to be skipped. At each other event the policy stays as it is.
   abbrev pub AllowsAt : {L : Type 0} → (L → ReadFault → L → Type 0) → L → Event → L → Parts → Type 0
   AllowsAt passes old woken new parts =
-      (fault : ReadFault) × (is_of_content fault ≡ true) × AreOf (Err fault) parts × passes old fault new
+      (fault : ReadFault) × (is_bad_content fault ≡ true) × AreOf (Err fault) parts × passes old fault new
   AllowsAt passes old event new parts = new ≡ old
 
   -- What is said of the parts that were taken for an event, of what ended the messages and of the policy.
@@ -127,15 +127,14 @@ pub record ToldSession (limit : Limits) (P : SessionPart) (notes : List Note) (r
     SessionFault) : Type 0 where
   pub exchanges : List Exchange
   pub stop : Stop
-  pub shutdown_reply : Option Message
   pub answer : SessionAnswer
-  pub part : P exchanges stop shutdown_reply answer
-  pub in_order : ActsInOrder (acts_in notes) exchanges stop shutdown_reply
+  pub part : P exchanges stop answer
+  pub in_order : InOrder (acts_in notes) exchanges stop answer
   pub end : Option ReadEnd
   pub fault : Option WriteFault
   pub told : TellsActs limit (None, None) notes (end, fault)
   pub reason : StopReason
-  pub stops : StopsFor reason exchanges stop shutdown_reply answer
+  pub stops : StopsFor reason exchanges stop answer
   pub is : result ≡ session_answer reason answer end fault
 
 -- These are all bytes that passed: the reader gave those that were taken, and the writer got those that were given, as

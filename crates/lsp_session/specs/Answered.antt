@@ -1,12 +1,12 @@
 -- Which requests of a session get which replies (JSON-RPC 2.0, section 5).
 use Rattle.serde_json.specs.Data.{Data}
 use Rattle.std.specs.List.{AllZip, filter_map}
-use Rattle.std.specs.Prelude.{◌≡◌, ◌⊎◌, ℕ, List, [], ◌∷◌, ◌++◌, Some, Result, IsErrAnd}
+use Rattle.std.specs.Prelude.{◌≡◌, ◌⊎◌, ℕ, List, [], ◌∷◌, ◌++◌, Some, None, Result, IsErrAnd}
 use Rattle.lsp_message.specs.Id.{Id}
 use Rattle.lsp_message.specs.Message.{Message, ErrorObject, request, response}
 use Rattle.lsp_message.specs.Methods.{request_id}
 use Rattle.lsp_session.specs.ProtocolError.{ShowsUnallowed}
-use Rattle.lsp_session.specs.Session.{Exchange, messages_of, SessionAnswer, SessionPart, Stop, decided}
+use Rattle.lsp_session.specs.Session.{Exchange, messages_of, offered, SessionAnswer, SessionPart, Stop, decided}
 
 -- the message is a reply under this id
 abbrev pub RepliesTo : Id → Message → Type 0
@@ -21,7 +21,7 @@ requests_of messages = filter_map request_id messages
 
 -- for this message, if it is a request, one reply is sent, and nothing else; nothing for a wake
 abbrev pub IsReplied : Exchange → Type 0
-IsReplied x = RepliesToEach (requests_of (messages_of (x ∷ []))) x.sent
+IsReplied x = RepliesToEach (requests_of (messages_of (x ∷ []))) (offered x)
 
 -- the same for each of these messages
 abbrev pub AllReplied : List Exchange → Type 0
@@ -35,7 +35,7 @@ pub record LastUnanswered (exchanges : List Exchange) (stop : Stop) (answer : Se
   pub id : Id
   pub method : List ℕ
   pub params : Data
-  pub cut : exchanges ≡ before ++ record { came = Some (request id method params); sent = [] } ∷ []
+  pub cut : exchanges ≡ before ++ record { came = Some (request id method params); sent = []; not_sent = None } ∷ []
   pub replied : AllReplied before
   pub decides : stop ≡ decided
   pub unallowed : IsErrAnd answer ShowsUnallowed
@@ -43,5 +43,5 @@ pub record LastUnanswered (exchanges : List Exchange) (stop : Stop) (answer : Se
 -- Each request gets exactly one reply, under its id, and nothing else is sent, but that a last request may be
 -- unanswered.
 abbrev pub AnswersRequests : SessionPart
-AnswersRequests exchanges stop shutdown_reply answer = AllReplied exchanges
+AnswersRequests exchanges stop answer = AllReplied exchanges
     ⊎ LastUnanswered exchanges stop answer

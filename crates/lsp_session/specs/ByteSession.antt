@@ -1,13 +1,15 @@
 -- A session between bytes and bytes (LSP 3.17, "Base Protocol" and "Server lifecycle"): what it took, and what it has
 -- to send.
 use Rattle.std.specs.List.{FoldsTo}
-use Rattle.std.specs.Prelude.{◌≡◌, ◌⊎◌, ◌≤◌, ◌++◌, ◌∷◌, ℕ, List, [], length, take, Option, Some, None, Result, Ok, Err}
+use Rattle.std.specs.Prelude.{◌≡◌, ◌≢◌, ◌⊎◌, ◌≤◌, ◌++◌, ◌∷◌, ℕ, List, [], length, Option, Some, None, Result, Ok, Err}
 use Rattle.lsp_message.specs.Frame.{Begins, reading_within}
+use Rattle.lsp_message.specs.Front.{front_of}
 use Rattle.lsp_message.specs.Message.{Message}
 use Rattle.lsp_message.specs.View.{message_view}
 use Rattle.lsp_message.specs.Written.{AreFramesOf}
+use Rattle.lsp_message.specs.declared.frame.Front.TheVariants.{More}
 use Rattle.lsp_message.specs.declared.frame.ReadFault.{ReadFault}
-use Rattle.lsp_message.specs.declared.frame.ReadFault.TheVariants.{Input, Memory}
+use Rattle.lsp_message.specs.declared.frame.ReadFault.TheVariants.{Input, Memory, HeaderTooLong, TooLong}
 use Rattle.lsp_message.specs.declared.frame.limits.Limits.{Limits}
 use Rattle.lsp_message.specs.declared.msg.Message as msg
 use Rattle.lsp_session.specs.Event.{Event, message}
@@ -28,11 +30,11 @@ BeginsWithFault limits text (Input kind) = Unit {0}
 BeginsWithFault limits text Memory = Unit {0}
 BeginsWithFault limits text fault = (reading_within limits text).outcome ≡ Err fault
 
--- the first message of the bytes and the length of its frame, no message, or their fault
-abbrev pub ReadsFirst : Limits → List ℕ → Result (Option (msg.Message × ℕ)) ReadFault → Type 0
-ReadsFirst limits text (Ok (Some found)) = IsFrameRead limits (message_view found.0) (take found.1 text)
-ReadsFirst limits text (Ok None) = Unit {0}
-ReadsFirst limits text (Err fault) = BeginsWithFault limits text fault
+-- No message is whole, and no limit is exceeded: more bytes of the first message have to come.
+pub record AwaitsMore (limits : Limits) (text : List ℕ) : Type 0 where
+  pub more : front_of text ≡ More
+  pub header_fits : (reading_within limits text).outcome ≢ Err HeaderTooLong
+  pub content_fits : (reading_within limits text).outcome ≢ Err TooLong
 
 -- the first message is taken off the bytes, or they stay
 abbrev pub ReadsOne : Limits → List ℕ → Result (Option msg.Message) ReadFault → List ℕ → Type 0

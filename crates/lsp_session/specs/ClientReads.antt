@@ -16,7 +16,7 @@ IsUnwritten result = ⊥
 -- Who reads what was written gets the messages that were sent, in order. Only the last one may be missing, if a write
 -- or an allocation failed.
 abbrev pub ClientReads : List ℕ → Result SessionEnd SessionFault → SessionPart
-ClientReads written result exchanges stop shutdown_reply answer =
+ClientReads written result exchanges stop answer =
     (whole : List Message) × (missing : List Message) × (sends_of exchanges ≡ whole ++ missing)
     × AreReadBack whole written
     × ((missing ≡ []) ⊎ ((last : Message) × (missing ≡ last ∷ []) × IsUnwritten result))

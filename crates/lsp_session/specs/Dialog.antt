@@ -5,7 +5,7 @@ use Rattle.lsp_message.specs.Message.{Message}
 use Rattle.lsp_session.specs.Account.{Act, gave, took, lost}
 use Rattle.lsp_session.specs.Answered.{RepliesToEach, requests_of}
 use Rattle.lsp_session.specs.Event.{message}
-use Rattle.lsp_session.specs.Session.{Behavior, Exchange, messages_of, sends_of, Phase, starting, ended, Steps}
+use Rattle.lsp_session.specs.Session.{Behavior, Exchange, messages_of, sends_of, Phase, starting, broken, ended, Steps}
 
 -- A client by its own rule: whether it sends on, or closes, after it sent these messages and got those. Otherwise it
 -- waits for more.
@@ -31,7 +31,8 @@ WaitsForReplies goes_on = (sent got : List Message) → RepliesToEach (requests_
 
 -- something is awaited in the phase
 abbrev pub awaits : Phase → Type 0
-awaits (ended shutdown_reply answer) = ⊥
+awaits (broken fault) = ⊥
+awaits (ended answer) = ⊥
 awaits phase = Unit {0}
 
 -- The client waits for what the session sends for its messages, and for nothing else: once it got all of that, it goes

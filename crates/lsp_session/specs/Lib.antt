@@ -9,9 +9,10 @@ pub mod ByteSessions
 pub mod ClientReads
 pub mod Dialog
 pub mod Event
-pub mod FaultCounts
+pub mod SkipAndCount
 pub mod Finish
 pub mod FrameBoxes
+pub mod FramePlace
 pub mod HandlerService
 pub mod HandlerSession
 pub mod Lists

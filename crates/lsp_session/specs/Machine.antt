@@ -4,7 +4,7 @@ use Rattle.lsp_message.specs.Id.{Id}
 use Rattle.lsp_message.specs.Message.{Message}
 use Rattle.lsp_message.specs.View.{message_view}
 use Rattle.lsp_session.specs.Event.{Event, message, timeout, closed, woken}
-use Rattle.lsp_session.specs.ProtocolError.{ProtocolFault, disconnected, out_of_memory}
+use Rattle.lsp_session.specs.ProtocolError.{ProtocolFault, disconnected, shutdown_disconnected}
 use Rattle.lsp_session.specs.Replies.{null_reply}
 use Rattle.lsp_session.specs.Session.{Behavior, SessionAnswer, Stop, no_more, timed_out, exhausted, Step, Stops}
 use Rattle.lsp_session.specs.Session.{Phase, starting, replied, serving, asked, ended}
@@ -51,11 +51,11 @@ phase_of Starting = starting
 phase_of Replied = replied
 phase_of Serving = serving
 phase_of (Asked id) = asked id
-phase_of (Ended outcome) = ended None outcome.answer
+phase_of (Ended outcome) = ended outcome.answer
 
 -- The machine has reached this phase of the table. A phase that ends the session says what the outcome is.
 abbrev pub StandsIn : Phase → Stage → Type 0
-StandsIn (ended shutdown_reply answer) stage = stage ≡ Ended (record { answer = answer; stop = Decided })
+StandsIn (ended answer) stage = stage ≡ Ended (record { answer = answer; stop = Decided })
 StandsIn phase stage = phase_of stage ≡ phase
 
 -- what a session waits for
@@ -77,7 +77,7 @@ abbrev pub outcome_of : Stage → SessionOutcome
 outcome_of Starting = served_by (Err disconnected)
 outcome_of Replied = served_by (Err disconnected)
 outcome_of Serving = record { answer = Ok Closed; stop = NoMore }
-outcome_of (Asked id) = served_by (Err out_of_memory)
+outcome_of (Asked id) = served_by (Err shutdown_disconnected)
 outcome_of (Ended outcome) = outcome
 
 -- The session takes this event. It takes a wake only while it serves, a timeout only after `shutdown`, and nothing once

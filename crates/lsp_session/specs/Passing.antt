@@ -9,16 +9,16 @@ use Rattle.lsp_session.specs.declared.loops.ReadEnd.{ReadEnd}
 use Rattle.lsp_session.specs.declared.loops.ReadEnd.TheVariants.{Fault}
 
 -- The content part was read to its end and is no message: it is not UTF-8, no JSON, another tree, or a batch.
-abbrev pub is_of_content : ReadFault → Bool
-is_of_content BodyNotText = true
-is_of_content NoJson = true
-is_of_content NoMessage = true
-is_of_content Batch = true
-is_of_content fault = false
+abbrev pub is_bad_content : ReadFault → Bool
+is_bad_content BodyNotText = true
+is_bad_content NoJson = true
+is_bad_content NoMessage = true
+is_bad_content Batch = true
+is_bad_content fault = false
 
 -- such a content part ended the messages
 abbrev pub ended_at_content : Option ReadEnd → Bool
-ended_at_content (Some (Fault fault)) = is_of_content fault
+ended_at_content (Some (Fault fault)) = is_bad_content fault
 ended_at_content end = false
 
 module _ {L : Type 0} (passes : L → ReadFault → L → Type 0) (limit : Limits) where
@@ -27,7 +27,7 @@ module _ {L : Type 0} (passes : L → ReadFault → L → Type 0) (limit : Limit
   -- and the policy allows nothing.
   abbrev pub TolerantGives : Stream × L → Event → Stream × L → Type 0
   TolerantGives old woken new =
-      (fault : ReadFault) × (is_of_content fault ≡ true)
+      (fault : ReadFault) × (is_bad_content fault ≡ true)
       × Reads limit old.0.remaining (Err fault) new.0.remaining × passes old.1 fault new.1
       × (old.0.end ≡ None) × (new.0.end ≡ None)
   TolerantGives old event new = StreamGives limit old.0 event new.0 × (new.1 ≡ old.1)

@@ -9,18 +9,18 @@ use Rattle.lsp_session.specs.Session.{SessionPart, Stop, exhausted}
 use Rattle.lsp_session.specs.SessionBytes.{SessionOver, Ends, Wrote}
 use Rattle.lsp_session.specs.declared.loops.handler.SessionEnd.{SessionEnd}
 use Rattle.lsp_session.specs.declared.loops.stream_session.SessionFault.{SessionFault}
-use Rattle.lsp_session.specs.Passing.{is_of_content}
+use Rattle.lsp_session.specs.Passing.{is_bad_content}
 
 -- a policy with this clause never skips anything
-abbrev pub PassesNothingOver : {L : Type 0} → (L → ReadFault → L → Type 0) → Type 0
-PassesNothingOver {L} passes = (old : L) (fault : ReadFault) (new : L) → passes old fault new → ⊥
+abbrev pub SkipsNoContent : {L : Type 0} → (L → ReadFault → L → Type 0) → Type 0
+SkipsNoContent {L} passes = (old : L) (fault : ReadFault) (new : L) → passes old fault new → ⊥
 
 -- of a text and a policy, if content parts have at most so many bytes
 module _ {L : Type 0} (passes : L → ReadFault → L → Type 0) (limit : Limits) where
   -- The text begins with a content part that is no message. The policy passes its fault, and what follows it is left.
   abbrev pub PassesOver : List ℕ × L → List ℕ × L → Type 0
   PassesOver old new =
-      (fault : ReadFault) × (is_of_content fault ≡ true)
+      (fault : ReadFault) × (is_bad_content fault ≡ true)
       × (reading_within limit old.0 ≡ record { outcome = Err fault; rest = new.0 })
       × passes old.1 fault new.1
 
@@ -40,6 +40,6 @@ module _ {L : Type 0} (passes : L → ReadFault → L → Type 0) (limit : Limit
   abbrev pub GivesAndTells : SessionPart → List ℕ → Option (List ℕ) → L → L → Option (List ℕ)
       → Option (List ℕ) → Result SessionEnd SessionFault → Type 0
   GivesAndTells P text left first last before after result =
-      SessionOver ReadsFrame P (text, first) (λ answer stop shutdown_reply at.
-      Ends limit left result answer stop shutdown_reply at.0
+      SessionOver ReadsFrame P (text, first) (λ answer stop at.
+      Ends limit left result answer stop at.0
       × HearsLast stop at last) (Wrote before after result)

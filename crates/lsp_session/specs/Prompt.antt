@@ -1,17 +1,16 @@
--- A session on one value with both ends: everything that is to be sent for a message is sent before the session waits
--- for anything else. So a client may wait for it before it sends more. For `initialize`, for each request before it and
--- for `shutdown` this includes the reply. For a request in between it does if the service answers at once, as
--- `AnswersRequests` says. From `initialized` up to `shutdown` the session also waits for wake-ups, as its transport
--- says. About two values, each with one end, this says neither.
-use Rattle.std.specs.List.{FoldsTo, list_all}
-use Rattle.std.specs.Prelude.{◌≡◌, ◌≤◌, ◌-◌, ◌^◌, ◌⊎◌, ◌&&◌, if◌then◌else◌, ℕ, Bool, true, false, List, [], ◌∷◌, ◌++◌}
-use Rattle.std.specs.Prelude.{length, map, Option, Some, None, Ok, Err}
-use Rattle.lsp_message.specs.Message.{Message, response}
-use Rattle.lsp_session.specs.Boxes.{Sends, Receives, Offers, Takes, WaitsFor}
+-- A session over one value with both ends: its turns, one after another, and its end. Everything that is to be sent for
+-- a message is sent before the session waits for anything else. So a client may wait for it before it sends more. For
+-- `initialize`, for each request before it and for `shutdown` this includes the reply. For a request in between it does
+-- if the service answers at once, as `AnswersRequests` says. From `initialized` up to `shutdown` the session also waits
+-- for wake-ups, as its transport says. About two values, each with one end, this says neither.
+use Rattle.std.specs.List.{FoldsTo}
+use Rattle.std.specs.Prelude.{◌≡◌, ◌≤◌, ◌-◌, ◌^◌, ◌⊎◌, ℕ, Bool, List, length, Option, Some, None, Err}
+use Rattle.lsp_message.specs.Message.{Message}
+use Rattle.lsp_session.specs.Boxes.{Sends, Receives, Takes, WaitsFor}
 use Rattle.lsp_session.specs.Event.{Event, message, timeout, closed, woken}
-use Rattle.lsp_session.specs.Session.{SessionAnswer, SessionPart, Exchange, is_initialize, is_shutdown, is_reply, Stop}
-use Rattle.lsp_session.specs.Session.{decided, no_more, timed_out, refused, exhausted, Phase, starting, replied}
-use Rattle.lsp_session.specs.Session.{serving}
+use Rattle.lsp_session.specs.Session.{SessionAnswer, SessionPart, Exchange, Stop, decided, no_more, timed_out, refused}
+use Rattle.lsp_session.specs.Session.{exhausted, Phase, starting, replied, serving, asked, broken, ended, TakesTurn}
+use Rattle.lsp_session.specs.Session.{Stops, any_service}
 use Rattle.lsp_session.specs.declared.lifecycle.SendFault.{SendFault}
 
 -- the event that brings a message, or that wakes the service
@@ -19,119 +18,64 @@ abbrev pub event_of : Option Message → Event
 event_of None = woken
 event_of (Some m) = message m
 
--- a response after `shutdown` that is skipped: nothing is sent for it
-abbrev pub passed_over : Message → Exchange
-passed_over m = record { came = Some m; sent = [] }
-
--- the events with these responses, and one event after them
-abbrev pub behind : List Message → Event → List Event
-behind late event = map message late ++ event ∷ []
-
--- After the reply to `shutdown`, and after responses that are skipped, there is one event. A message decides, and
--- nothing is sent for it, or an allocation fails at it; nothing arrives in time; or the messages end.
-abbrev pub StopsAfterShutdown : Event → Stop → List Exchange → Type 0
-StopsAfterShutdown (message m) decided later = later ≡ record { came = Some m; sent = [] } ∷ []
-StopsAfterShutdown (message m) exhausted later = later ≡ []
-StopsAfterShutdown timeout timed_out later = later ≡ []
-StopsAfterShutdown closed no_more later = later ≡ []
-StopsAfterShutdown event stop later = ⊥
-
--- a response with a result
-abbrev pub is_result : Message → Bool
-is_result (response i (Ok result)) = true
-is_result m = false
-
--- the request `initialize` came, and its result is all that is sent for it
-abbrev pub is_granted : Option Message → List Message → Bool
-is_granted (Some m) (reply ∷ []) = is_initialize m && is_result reply
-is_granted came sent = false
-
--- The phase after an exchange that a session goes on from, as the exchange itself tells: `initialize` gets a result,
--- and then one more message comes, which is `initialized`, since a session goes on from no other there.
-abbrev pub next_phase : Phase → Exchange → Phase
-next_phase starting x = if is_granted x.came x.sent then replied else starting
-next_phase replied x = serving
-next_phase phase x = phase
-
 module _ {L : Type 0} (receives listens : Receives L) where
   -- what the transport says besides of a wait in this phase: from `initialized` up to `shutdown` it also gives wakes
   abbrev pub ListensIn : Phase → L → Event → L → Type 0
   ListensIn serving old event new = listens old event new
   ListensIn phase old event new = Unit {0}
 
-  -- the event is awaited in this phase
+  -- The event is awaited in this phase. After `shutdown` a timeout is an event too. Nothing is awaited once the session
+  -- is over.
   abbrev pub WaitsIn : Phase → L → Event → L → Type 0
+  WaitsIn (asked i) old event new = receives old event new
+  WaitsIn (broken fault) old event new = ⊥
+  WaitsIn (ended answer) old event new = ⊥
   WaitsIn phase old event new = WaitsFor receives old event new × ListensIn phase old event new
 
+  -- What is awaited at the end of a session, in this phase and after so many exchanges: that no more comes, or nothing
+  -- after 2^64 - 1 exchanges; that nothing comes in time; or one more message or wake, at which an allocation fails. If
+  -- the last message decided or was refused, nothing is awaited.
+  abbrev pub AwaitsEnd : Phase → ℕ → Stop → L → L → Type 0
+  AwaitsEnd phase count no_more old new = WaitsIn phase old closed new ⊎ ((2 ^ 64 - 1 ≤ count) × (new ≡ old))
+  AwaitsEnd phase count timed_out old new = WaitsIn phase old timeout new
+  AwaitsEnd phase count exhausted old new = (came : Option Message) × WaitsIn phase old (event_of came) new
+  AwaitsEnd phase count stop old new = new ≡ old
+
   module _ (sends : Sends L) where
-    -- In this phase a message or a wake comes, and then all that is to be sent for it is sent, in order, and taken.
-    -- Nothing else is awaited in between. Then it is the next phase.
-    pub record Meets (old : Phase × L) (x : Exchange) (new : Phase × L) : Type 0 where
+    -- A message is refused, or none. The session is in this phase afterwards: it ends with the fault, or goes on.
+    abbrev pub Refuses : Option Message → Phase → L → L → Type 0
+    Refuses None phase old new = new ≡ old
+    Refuses (Some m) (broken fault) old new = sends old m (Err fault) new
+    Refuses (Some m) phase old new = (fault : SendFault) × sends old m (Err fault) new
+
+    -- A turn: a message or a wake comes in a phase in which it is awaited, and then what is to be sent for it is
+    -- offered, in order. Nothing else is awaited in between. The phase goes on by the table of a session.
+    pub record Meets (passes_late : Bool) (old : Phase × L) (x : Exchange) (new : Phase × L) : Type 0 where
+      pub turn : TakesTurn (any_service passes_late) (old.0, tt) x (new.0, tt)
       pub met : L
       pub waited : WaitsIn old.0 old.1 (event_of x.came) met
-      pub taken : FoldsTo (Takes sends) met x.sent new.1
-      pub next : new.0 ≡ next_phase old.0 x
+      pub mid : L
+      pub taken : FoldsTo (Takes sends) met x.sent mid
+      pub refuses : Refuses x.not_sent new.0 mid new.1
 
-    -- A last message or wake comes, and what is to be sent for it is sent up to a message that is refused. Nothing is
-    -- awaited after that.
-    pub record BreaksOff (phase : Phase) (fault : SendFault) (last : List Exchange)
+    -- The history of a session from some phase on: its turns, one after another, and its end.
+    pub record History (phase : Phase) (exchanges : List Exchange) (stop : Stop) (answer : SessionAnswer)
         (old new : L) : Type 0 where
-      pub came : Option Message
-      pub part : List Message
-      pub not_sent : Message
-      pub is : last ≡ record { came = came; sent = part ++ not_sent ∷ [] } ∷ []
-      pub met : L
-      pub waited : WaitsIn phase old (event_of came) met
-      pub mid : L
-      pub taken : FoldsTo (Takes sends) met part mid
-      pub refuses : sends mid not_sent (Err fault) new
-
-    -- `shutdown` arrives. The transport takes the messages that the service returns then, and the reply is sent,
-    -- whatever the transport answers. Only then the session receives: responses that are skipped, and one event, the
-    -- last one.
-    pub record OffersShutdownReplyFirst (phase : Phase) (shutdown_reply : Message) (stop : Stop)
-        (last : List Exchange) (old new : L) : Type 0 where
-      pub ask : Message
-      pub asks : is_shutdown ask ≡ true
-      pub met : L
-      pub waited : WaitsIn phase old (message ask) met
-      pub parting : List Message
-      pub parted : L
-      pub taken : FoldsTo (Takes sends) met parting parted
-      pub mid : L
-      pub offered : Offers sends shutdown_reply parted mid
-      pub late : List Message
-      pub responses : list_all is_reply late ≡ true
-      pub event : Event
-      pub received : FoldsTo receives mid (behind late event) new
-      pub later : List Exchange
-      pub stops : StopsAfterShutdown event stop later
-      pub is : last
-          ≡ record { came = Some ask; sent = parting ++ shutdown_reply ∷ [] } ∷ (map passed_over late ++ later)
-
-    -- How a session ends in this phase, after this many whole exchanges, and the exchanges of that end. If a message
-    -- decided, the session waits for nothing else. If the messages end, that is the event, or 2^64 - 1 exchanges were
-    -- all. If an allocation fails, there was one more message or wake-up.
-    abbrev pub EndsTalk : Phase → ℕ → Stop → Option Message → List Exchange → L → L → Type 0
-    EndsTalk phase count stop (Some shutdown_reply) last old new =
-        OffersShutdownReplyFirst phase shutdown_reply stop last old new
-    EndsTalk phase count (refused fault) None last old new = BreaksOff phase fault last old new
-    EndsTalk phase count decided None last old new = (last ≡ []) × (new ≡ old)
-    EndsTalk phase count no_more None last old new = (last ≡ [])
-        × (WaitsIn phase old closed new ⊎ ((2 ^ 64 - 1 ≤ count) × (new ≡ old)))
-    EndsTalk phase count exhausted None last old new = (last ≡ []) × (came : Option Message)
-        × WaitsIn phase old (event_of came) new
-    EndsTalk phase count timed_out None last old new = ⊥
-
-    -- A session from some phase on: whole exchanges, one after another, and then its end.
-    pub record Talks (phase : Phase) (P : SessionPart) (old : L) (answer : SessionAnswer)
-        (new : L) : Type 0 where
-      pub whole : List Exchange
-      pub last : List Exchange
-      pub stop : Stop
-      pub shutdown_reply : Option Message
+      pub passes_late : Bool
       pub reached : Phase
       pub mid : L
-      pub prompt : FoldsTo Meets (phase, old) whole (reached, mid)
-      pub ends : EndsTalk reached (length whole) stop shutdown_reply last mid new
-      pub part : P (whole ++ last) stop shutdown_reply answer
+      pub turns : FoldsTo (Meets passes_late) (phase, old) exchanges (reached, mid)
+      pub stopped : Stops (any_service passes_late) reached tt stop answer tt
+      pub ends : AwaitsEnd reached (length exchanges) stop mid new
+
+    -- a session from some phase on, of which this is said
+    pub record Talks (phase : Phase) (P : SessionPart) (old : L) (answer : SessionAnswer)
+        (new : L) : Type 0 where
+      pub exchanges : List Exchange
+      pub stop : Stop
+      pub history : History phase exchanges stop answer old new
+      pub part : P exchanges stop answer
+
+-- nothing more is said of a wait
+abbrev pub any_wait : {L : Type 0} → Receives L
+any_wait old event new = Unit {0}

@@ -2,7 +2,7 @@
 -- may stop.
 use Rattle.serde_json.specs.Data.{Data}
 use Rattle.std.specs.Bool.{MatchBool}
-use Rattle.std.specs.List.{filter_map}
+use Rattle.std.specs.List.{FoldsTo, filter_map}
 use Rattle.std.specs.Prelude.{◌≡◌, ◌⊎◌, ℕ, Bool, true, false, not, ◌&&◌, List, [], ◌∷◌, ◌++◌, map, Option, Some, None}
 use Rattle.std.specs.Prelude.{Result, Ok, Err}
 use Rattle.lsp_message.specs.Id.{Id}
@@ -34,12 +34,12 @@ pub record Behavior (S : Type 0) : Type 1 where
   -- whether a response that arrives after `shutdown` is skipped
   pub passes_late : Bool
 
--- A message that came, or none if the service was woken, and what the outbox was offered for it, in order. It took all
--- of that, unless the session stopped there since the outbox refused the last one, or that one is the reply to
--- `shutdown`, which may get lost.
+-- A message that came, or none if the service was woken; what the outbox took for it, in order; and the message that it
+-- refused. What was to follow that one was not offered.
 pub record Exchange : Type 0 where
   pub came : Option Message
   pub sent : List Message
+  pub not_sent : Option Message
 
 -- the messages and wake-ups of the exchanges, and then the messages alone
 abbrev pub came_of : List Exchange → List (Option Message)
@@ -48,9 +48,19 @@ came_of exchanges = map (λ (x : Exchange). x.came) exchanges
 abbrev pub messages_of : List Exchange → List Message
 messages_of exchanges = filter_map (λ (came : Option Message). came) (came_of exchanges)
 
+-- these messages were taken, and then perhaps one was refused
+abbrev pub and_refused : List Message → Option Message → List Message
+and_refused sent None = sent
+and_refused sent (Some m) = sent ++ m ∷ []
+
+-- what was offered for what came
+abbrev pub offered : Exchange → List Message
+offered x = and_refused x.sent x.not_sent
+
+-- all that was offered
 abbrev pub sends_of : List Exchange → List Message
 sends_of [] = []
-sends_of (x ∷ xs) = x.sent ++ sends_of xs
+sends_of (x ∷ xs) = offered x ++ sends_of xs
 
 abbrev pub SessionAnswer : Type 0
 SessionAnswer = Result SessionEnd ProtocolFault
@@ -68,10 +78,10 @@ pub data Stop : Type 0 where
   -- an allocation failed at the message that came next, or at a wake
   exhausted : Stop
 
--- What is said of a session: its exchanges, where it stopped, the reply to `shutdown`, which is the last message that
--- is sent, and its answer. Two things that are said of a session are said of the same exchanges.
+-- What is said of a session: its exchanges, where it stopped, and its answer. Two things that are said of a session are
+-- said of the same exchanges.
 abbrev pub SessionPart : Type 1
-SessionPart = List Exchange → Stop → Option Message → SessionAnswer → Type 0
+SessionPart = List Exchange → Stop → SessionAnswer → Type 0
 
 -- neither the request `shutdown` nor the notification `exit`
 abbrev pub is_served : Message → Bool
@@ -90,22 +100,12 @@ pub data Phase : Type 0 where
   replied : Phase
   -- `initialized` came
   serving : Phase
-  -- `shutdown` came under this id and got its reply, and `exit` is awaited; or the outbox refused a message before that
-  -- reply
+  -- `shutdown` came under this id, and `exit` is awaited
   asked : Id → Phase
-  -- A message decided, and this is the answer. Before it `shutdown` had got this reply, or had not come.
-  ended : Option Message → SessionAnswer → Phase
-
--- the reply that `shutdown` got
-abbrev pub shutdown_reply_of : Phase → Option Message
-shutdown_reply_of (asked i) = Some (null_reply i)
-shutdown_reply_of (ended shutdown_reply answer) = shutdown_reply
-shutdown_reply_of phase = None
-
--- The reply to `shutdown` that was offered at a stop in this phase: none if the outbox refused a message.
-abbrev pub offered_reply_of : Stop → Phase → Option Message
-offered_reply_of (refused fault) phase = None
-offered_reply_of stop phase = shutdown_reply_of phase
+  -- the outbox refused a message so, and that ended the session
+  broken : SendFault → Phase
+  -- a message decided, and this is the answer
+  ended : SessionAnswer → Phase
 
 -- where a session stands after `initialize` got this outcome: after an error the client may send it again
 abbrev pub phase_after : Result Data ErrorObject → Phase
@@ -113,16 +113,27 @@ phase_after (Ok result) = replied
 phase_after (Err error) = starting
 
 -- nothing is sent, and the session ends with a fault that shows the message
-abbrev pub Fails : (List ℕ → ProtocolFault) → Phase → List Message → Phase → Type 0
-Fails fault phase sent next = (shown : List ℕ) × (sent ≡ [])
-    × (next ≡ ended (shutdown_reply_of phase) (Err (fault shown)))
+abbrev pub Fails : (List ℕ → ProtocolFault) → List Message → Phase → Type 0
+Fails fault sent next = (shown : List ℕ) × (sent ≡ []) × (next ≡ ended (Err (fault shown)))
+
+-- The phase after the outbox refused a message, behind which these were to follow, if it is `next` where all is taken.
+-- The session is over. But the reply to `shutdown`, behind which nothing follows, may get lost.
+abbrev pub AfterRefusal : List Message → Phase → Phase → Type 0
+AfterRefusal [] (asked i) new = new ≡ asked i
+AfterRefusal more next new = (fault : SendFault) × (new ≡ broken fault)
+
+-- These messages are to be sent at an exchange. They are offered in order, up to one that is refused.
+abbrev pub IsOffered : List Message → List Message → Option Message → Phase → Phase → Type 0
+IsOffered given sent None next new = (sent ≡ given) × (new ≡ next)
+IsOffered given sent (Some m) next new = (more : List Message) × (given ≡ sent ++ m ∷ more)
+    × AfterRefusal more next new
 
 module _ {S : Type 0} (may : Behavior S) where
   -- `shutdown` is answered with null, after what the service gives then; and `exit` closes the session
   abbrev pub Leaves : S → Message → List Message → Phase → S → Type 0
   Leaves s (request i method params) sent next s' = (parting : List Message)
       × may.at_shutdown s i parting s' × (sent ≡ parting ++ null_reply i ∷ []) × (next ≡ asked i)
-  Leaves s m sent next s' = (sent ≡ []) × (next ≡ ended None (Ok Closed)) × (s' ≡ s)
+  Leaves s m sent next s' = (sent ≡ []) × (next ≡ ended (Ok Closed)) × (s' ≡ s)
 
   -- In this phase this message arrives; these messages are sent for it; this is the next phase, and the service then.
   -- Before `initialize` each other request is answered with an error, and a notification except `exit` is dropped. With
@@ -137,60 +148,46 @@ module _ {S : Type 0} (may : Behavior S) where
       × (s' ≡ s))
   Step starting s (Some m) sent next s' =
       MatchBool (is_early m) ((sent ≡ [])
-      × (next ≡ starting)) (Fails expected_initialize starting sent next) × (s' ≡ s)
+      × (next ≡ starting)) (Fails expected_initialize sent next) × (s' ≡ s)
   Step replied s (Some m) sent next s' =
       MatchBool (is_initialized m) (may.at_initialized s sent s'
-      × (next ≡ serving)) (Fails expected_initialized replied sent next × (s' ≡ s))
+      × (next ≡ serving)) (Fails expected_initialized sent next × (s' ≡ s))
   Step serving s (Some m) sent next s' =
       MatchBool (is_served m) (may.outputs s m sent s' × (next ≡ serving))
       (Leaves s m sent next s')
   Step serving s None sent next s' = may.wakes s sent s' × (next ≡ serving)
   Step (asked i) s (Some m) sent next s' =
-      MatchBool (is_exit m) ((sent ≡ []) × (next ≡ ended (Some (null_reply i)) (Ok ShutDown)))
+      MatchBool (is_exit m) ((sent ≡ []) × (next ≡ ended (Ok ShutDown)))
       (MatchBool (may.passes_late && is_reply m) ((sent ≡ []) × (next ≡ asked i))
-      (Fails unexpected_in_shutdown (asked i) sent next)) × (s' ≡ s)
+      (Fails unexpected_in_shutdown sent next)) × (s' ≡ s)
   Step phase s came sent next s' = ⊥
+
+  -- One exchange: a row of the table, and what it gives is offered.
+  pub record TakesTurn (old : Phase × S) (x : Exchange) (new : Phase × S) : Type 0 where
+    pub given : List Message
+    pub next : Phase
+    pub step : Step old.0 old.1 x.came given next new.1
+    pub offers : IsOffered given x.sent x.not_sent next new.0
 
   -- exchanges, one after another
   abbrev pub Steps : Phase → S → List Exchange → Phase → S → Type 0
-  Steps phase s [] phase' s' = (phase' ≡ phase) × (s' ≡ s)
-  Steps phase s (x ∷ xs) phase' s' = (next : Phase) × (mid : S)
-      × Step phase s x.came x.sent next mid × Steps next mid xs phase' s'
+  Steps phase s exchanges phase' s' = FoldsTo TakesTurn (phase, s) exchanges (phase', s')
 
-  -- The outbox refused what was offered last, and what was to follow it for the same message was not offered. If
-  -- nothing was to follow, it was not the reply to `shutdown`: that one may get lost.
-  pub record CutsOff (phase : Phase) (s : S) (exchanges : List Exchange) (phase' : Phase)
-      (s' : S) : Type 0 where
-    pub earlier : List Exchange
-    pub came : Option Message
-    pub part : List Message
-    pub not_sent : Message
-    pub more : List Message
-    pub cut : exchanges ≡ earlier ++ record { came = came; sent = part ++ not_sent ∷ [] } ∷ []
-    pub next : Phase
-    pub mid : S
-    pub steps : Steps phase s earlier next mid
-    pub step : Step next mid came (part ++ not_sent ∷ more) phase' s'
-    pub matters : more ≡ [] → shutdown_reply_of phase' ≡ None
-
-  abbrev pub Reaches : Stop → Phase → S → List Exchange → Phase → S → Type 0
-  Reaches (refused fault) phase s exchanges phase' s' = CutsOff phase s exchanges phase' s'
-  Reaches stop phase s exchanges phase' s' = Steps phase s exchanges phase' s'
-
-  -- In this phase, with this service, a session may stop so, give this answer, and leave the service as this. That the
-  -- reply to `shutdown` is refused is no matter. If an allocation failed, the service may have been called for the
-  -- message or the wake that came next.
+  -- In this phase, with this service, a session may stop so, give this answer, and leave the service as this. If an
+  -- allocation failed, the service may have been called for the message or the wake that came next.
   abbrev pub Stops : Phase → S → Stop → SessionAnswer → S → Type 0
-  Stops (ended shutdown_reply by) s decided answer s' = (answer ≡ by) × (s' ≡ s)
-  Stops (ended shutdown_reply by) s stop answer s' = ⊥
+  Stops (ended by) s decided answer s' = (answer ≡ by) × (s' ≡ s)
+  Stops (ended by) s stop answer s' = ⊥
+  Stops (broken by) s (refused fault) answer s' = (fault ≡ by) × (answer ≡ Err (fault_of_refusal fault)) × (s' ≡ s)
+  Stops (broken by) s stop answer s' = ⊥
   Stops phase s decided answer s' = ⊥
+  Stops phase s (refused fault) answer s' = ⊥
   Stops starting s no_more answer s' = (answer ≡ Err disconnected) × (s' ≡ s)
   Stops replied s no_more answer s' = (answer ≡ Err disconnected) × (s' ≡ s)
   Stops serving s no_more answer s' = (answer ≡ Ok Closed) × (s' ≡ s)
   Stops (asked i) s no_more answer s' = (answer ≡ Err shutdown_disconnected) × (s' ≡ s)
   Stops (asked i) s timed_out answer s' = (answer ≡ Err shutdown_timeout) × (s' ≡ s)
   Stops phase s timed_out answer s' = ⊥
-  Stops phase s (refused fault) answer s' = (answer ≡ Err (fault_of_refusal fault)) × (s' ≡ s)
   Stops (asked i) s exhausted answer s' = (answer ≡ Err out_of_memory) × (s' ≡ s)
   Stops serving s exhausted answer s' = answer ≡ Err out_of_memory
   Stops phase s exhausted answer s' = (answer ≡ Err out_of_memory)
@@ -198,13 +195,24 @@ module _ {S : Type 0} (may : Behavior S) where
 
   -- a session from some phase on
   pub record SessionFrom (phase : Phase) (s s' : S) (exchanges : List Exchange) (stop : Stop)
-      (shutdown_reply : Option Message) (answer : SessionAnswer) : Type 0 where
+      (answer : SessionAnswer) : Type 0 where
     pub last : Phase
     pub after : S
-    pub reached : Reaches stop phase s exchanges last after
-    pub shutdown_reply_is : shutdown_reply ≡ offered_reply_of stop last
+    pub reached : Steps phase s exchanges last after
     pub stopped : Stops last after stop answer s'
 
   -- a whole session
   abbrev pub SessionOut : S → S → SessionPart
   SessionOut = SessionFrom starting
+
+-- a service of which nothing is known, but whether it passes over a response that comes after `shutdown`
+abbrev pub any_service : Bool → Behavior (Unit {0})
+any_service passes = record {
+  initializes = λ old params outcome new. Unit {0};
+  at_initialized = λ old sent new. Unit {0};
+  outputs = λ old m sent new. Unit {0};
+  wakes = λ old sent new. Unit {0};
+  at_shutdown = λ old id sent new. Unit {0};
+  after_memory_fault = λ old new. Unit {0};
+  passes_late = passes;
+}

@@ -1,5 +1,6 @@
 -- A session over a reader and a writer: bytes in to bytes out (LSP 3.17, "Base Protocol" and "Server lifecycle").
 use Rattle.std.specs.List.{FoldsTo}
+use Rattle.std.specs.Option.{option_or}
 use Rattle.std.specs.Prelude.{◌≡◌, ◌⊎◌, ℕ, List, [], ◌∷◌, ◌++◌, Option, Some, None, Result, Ok, Err}
 use Rattle.lsp_message.specs.Frame.{Begins, reading_within}
 use Rattle.lsp_message.specs.Message.{Message}
@@ -19,33 +20,25 @@ abbrev pub ReadsMessage : Limits → List ℕ → Option Message → List ℕ �
 ReadsMessage limit text (Some m) rest = Begins limit text m rest
 ReadsMessage limit text None rest = ⊥
 
--- the writer got frames of all of these messages except the last one
-abbrev pub GetsAllButLast : List Message → Option (List ℕ) → Option (List ℕ) → Type 0
-GetsAllButLast ms old new = (whole : List Message) × (last : Message) × (ms ≡ whole ++ last ∷ [])
-    × GetsFrames whole old new
-
--- the last message was not sent: one that the outbox refused, or the reply to `shutdown`
-abbrev pub IsUnsent : Stop → Option Message → Type 0
-IsUnsent stop (Some shutdown_reply) = Unit {0}
-IsUnsent (refused fault) None = Unit {0}
-IsUnsent stop None = ⊥
+-- the message that the outbox refused, if there is one
+abbrev pub lost_of : List Exchange → Option Message
+lost_of [] = None
+lost_of (x ∷ xs) = option_or x.not_sent (lost_of xs)
 
 -- A session whose messages and wake-ups are read from a text, one after another, as `reads` says of each. `Ends` is
 -- about its end and the rest of the text, `Wrote` about the bytes that were written. A session in threads has three
 -- tables of its own for this record.
 pub record SessionOver {At : Type 0} (reads : At → Option Message → At
     → Type 0) (P : SessionPart) (text : At)
-    (Ends : SessionAnswer → Stop → Option Message → At → Type 0) (Wrote : Stop → Option Message
-    → List Message → Type 0) : Type 0 where
+    (Ends : SessionAnswer → Stop → At → Type 0) (Wrote : Stop → List Exchange → Type 0) : Type 0 where
   pub exchanges : List Exchange
   pub at : At
   pub read : FoldsTo reads text (came_of exchanges) at
   pub stop : Stop
-  pub shutdown_reply : Option Message
   pub answer : SessionAnswer
-  pub part : P exchanges stop shutdown_reply answer
-  pub ends : Ends answer stop shutdown_reply at
-  pub wrote : Wrote stop shutdown_reply (sends_of exchanges)
+  pub part : P exchanges stop answer
+  pub ends : Ends answer stop at
+  pub wrote : Wrote stop exchanges
 
 -- What follows the last message is left, if that one decided. If the text ended instead, what follows its end is left:
 -- nothing. A session over bytes has no timeout, and its failures stand below.
@@ -67,32 +60,33 @@ LeftWithin limit stop at left = StopsWithin left (reading_within limit at)
 -- For what a session over bytes answers: the answer by the lifecycle, and what is left of the text, of which `at`
 -- follows the last message that was used. The first row that fits counts.
 abbrev pub Ends : Limits → Option (List ℕ) → Result SessionEnd SessionFault → SessionAnswer → Stop
-    → Option Message → List ℕ → Type 0
-Ends limit left (Ok end) answer stop shutdown_reply at = (answer ≡ Ok end)
+    → List ℕ → Type 0
+Ends limit left (Ok end) answer stop at = (answer ≡ Ok end)
     × LeftAfter limit stop at left
-Ends limit left (Err (Protocol fault)) answer stop shutdown_reply at = (answer ≡ Err fault)
+Ends limit left (Err (Protocol fault)) answer stop at = (answer ≡ Err fault)
     × LeftAfter limit stop at left
-Ends limit left (Err (Read (Input kind))) answer stop shutdown_reply at = (stop ≡ no_more)
+Ends limit left (Err (Read (Input kind))) answer stop at = (stop ≡ no_more)
     × StopsWithin left (reading_within limit at)
-Ends limit left (Err (Read NoMemoryToRead)) answer stop shutdown_reply at = ⊥
-Ends limit left (Err (Read fault)) answer stop shutdown_reply at =
+Ends limit left (Err (Read NoMemoryToRead)) answer stop at = ⊥
+Ends limit left (Err (Read fault)) answer stop at =
     (stop ≡ no_more) × (rest : List ℕ)
     × (reading_within limit at ≡ record { outcome = Err fault; rest = rest })
     × (left ≡ Some rest)
-Ends limit left (Err (Write fault)) answer stop shutdown_reply at = LeftWithin limit stop at left
-Ends limit left (Err Memory) answer stop shutdown_reply at = LeftWithin limit stop at left
+Ends limit left (Err (Write fault)) answer stop at = LeftWithin limit stop at left
+Ends limit left (Err Memory) answer stop at = LeftWithin limit stop at left
 
 -- The bytes that the writer got: frames of all messages that were sent; or, if a write failed, frames of all except the
--- last one, which was not sent, and a prefix of a frame of that one; or, if an allocation failed, frames of all, or of
--- all except the last one, which was not sent.
+-- last one, which was refused, and a prefix of a frame of that one; or, if an allocation failed, frames of all, or of
+-- all except the last one, which was refused.
 abbrev pub Wrote : Option (List ℕ) → Option (List ℕ) → Result SessionEnd SessionFault → Stop
-    → Option Message → List Message → Type 0
-Wrote old new (Err (Write fault)) stop shutdown_reply sends =
-    IsOutput fault × IsUnsent stop shutdown_reply × (whole : List Message) × (last : Message)
-    × (sends ≡ whole ++ last ∷ []) × GetsFramesAndPart whole last old new
-Wrote old new (Err Memory) stop shutdown_reply sends = GetsFrames sends old new
-    ⊎ (IsUnsent stop shutdown_reply × GetsAllButLast sends old new)
-Wrote old new result stop shutdown_reply sends = GetsFrames sends old new
+    → List Exchange → Type 0
+Wrote old new (Err (Write fault)) stop exchanges =
+    IsOutput fault × (whole : List Message) × (last : Message) × (lost_of exchanges ≡ Some last)
+    × (sends_of exchanges ≡ whole ++ last ∷ []) × GetsFramesAndPart whole last old new
+Wrote old new (Err Memory) stop exchanges = GetsFrames (sends_of exchanges) old new
+    ⊎ ((whole : List Message) × (last : Message) × (lost_of exchanges ≡ Some last)
+    × (sends_of exchanges ≡ whole ++ last ∷ []) × GetsFrames whole old new)
+Wrote old new result stop exchanges = GetsFrames (sends_of exchanges) old new
 
 -- bytes in to bytes out
 abbrev pub Gives : Limits → SessionPart → List ℕ → Option (List ℕ) → Option (List ℕ) → Option (List ℕ)

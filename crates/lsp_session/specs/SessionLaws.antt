@@ -4,7 +4,7 @@ use Rattle.serde_json.specs.Data.{Data}
 use Rattle.std.specs.Bool.{MatchBool}
 use Rattle.std.specs.List.{list_all}
 use Rattle.std.specs.Prelude.{◌≡◌, ◌⊎◌, ℕ, Bool, true, false, not, List, [], ◌∷◌, ◌++◌, ◌&&◌, Option, Some, None}
-use Rattle.std.specs.Prelude.{IsSomeAnd, Ok, Err, IsErrAnd}
+use Rattle.std.specs.Prelude.{IsSome, IsSomeAnd, Ok, Err, IsErrAnd}
 use Rattle.lsp_message.specs.ErrorCode.{number_of}
 use Rattle.lsp_message.specs.Id.{Id}
 use Rattle.lsp_message.specs.Message.{Message, request, notification, response}
@@ -15,22 +15,21 @@ use Rattle.lsp_session.specs.ProtocolError.{ProtocolFault, Shows, disconnected, 
 use Rattle.lsp_session.specs.ProtocolError.{expected_initialized, unexpected_in_shutdown, shutdown_timeout}
 use Rattle.lsp_session.specs.ProtocolError.{shutdown_disconnected, out_of_memory, fault_of_refusal}
 use Rattle.lsp_session.specs.Replies.{null_reply}
-use Rattle.lsp_session.specs.Session.{Exchange, messages_of, sends_of, SessionAnswer, SessionPart, Stop, decided}
-use Rattle.lsp_session.specs.Session.{no_more, timed_out, refused, exhausted, Phase, starting, replied as awaiting}
-use Rattle.lsp_session.specs.Session.{serving, asked, ended, is_served}
+use Rattle.lsp_session.specs.Session.{Exchange, messages_of, offered, sends_of, SessionAnswer, SessionPart, Stop}
+use Rattle.lsp_session.specs.Session.{decided, no_more, timed_out, refused, exhausted, Phase, starting}
+use Rattle.lsp_session.specs.Session.{replied as awaiting, serving, asked, broken, ended, is_served}
 use Rattle.lsp_session.specs.declared.lifecycle.SendFault.{SendFault}
 use Rattle.lsp_session.specs.declared.loops.handler.SessionEnd.TheVariants.{Closed, ShutDown}
 pub use Rattle.lsp_session.specs.Session.{is_reply}
 
 -- of one session, both hold, and of the same exchanges
 abbrev pub Both : SessionPart → SessionPart → SessionPart
-Both P Q exchanges stop shutdown_reply answer = P exchanges stop shutdown_reply answer
-    × Q exchanges stop shutdown_reply answer
+Both P Q exchanges stop answer = P exchanges stop answer × Q exchanges stop answer
 
 -- whatever the exchanges are, if this holds of a session, so does that
 abbrev pub Implies : SessionPart → SessionPart → Type 0
-Implies P Q = (exchanges : List Exchange) (stop : Stop) (shutdown_reply : Option Message) (answer : SessionAnswer)
-    → P exchanges stop shutdown_reply answer → Q exchanges stop shutdown_reply answer
+Implies P Q = (exchanges : List Exchange) (stop : Stop) (answer : SessionAnswer)
+    → P exchanges stop answer → Q exchanges stop answer
 
 -- a reply that is an error
 abbrev pub is_refusal : Message → Bool
@@ -65,13 +64,14 @@ IsRefusedEarly came sent = Unit {0}
 -- Such a message came at each of these, and no wake; and requests got that error.
 abbrev pub AllEarly : List Exchange → Type 0
 AllEarly [] = Unit {0}
-AllEarly (x ∷ xs) = IsSomeAnd x.came (λ m. comes_early m ≡ true) × IsRefusedEarly x.came x.sent
+AllEarly (x ∷ xs) = IsSomeAnd x.came (λ m. comes_early m ≡ true) × IsRefusedEarly x.came (offered x)
     × AllEarly xs
 
 -- In this phase a session may stop so, and then gives this answer: what the table of `Stops` says of any service.
 abbrev pub StopsAt : Phase → Stop → SessionAnswer → Type 0
-StopsAt (ended shutdown_reply by) decided answer = answer ≡ by
-StopsAt (ended shutdown_reply by) stop answer = ⊥
+StopsAt (ended by) decided answer = answer ≡ by
+StopsAt (ended by) stop answer = ⊥
+StopsAt (broken by) stop answer = ⊥
 StopsAt phase decided answer = ⊥
 StopsAt starting no_more answer = answer ≡ Err disconnected
 StopsAt awaiting no_more answer = answer ≡ Err disconnected
@@ -89,7 +89,7 @@ abbrev pub StopsBefore : Phase → (Message → Bool) → (List ℕ → Protocol
     → SessionAnswer → Type 0
 StopsBefore phase is_awaited fault [] stop answer = StopsAt phase stop answer
 StopsBefore phase is_awaited fault (x ∷ rest) stop answer =
-    (rest ≡ []) × IsSomeAnd x.came (λ m. is_awaited m ≡ false) × (x.sent ≡ []) × (stop ≡ decided)
+    (rest ≡ []) × IsSomeAnd x.came (λ m. is_awaited m ≡ false) × (offered x ≡ []) × (stop ≡ decided)
     × IsErrAnd answer (Shows fault)
 
 -- `initialize` got no result: the session stopped before, or at an `exit` or a response
@@ -104,11 +104,10 @@ pub record EndsWithResult (exchanges : List Exchange) : Type 0 where
   pub params : Data
   pub result : Data
   pub asks : is_initialize (request id method params) ≡ true
-  pub cut : exchanges ≡ before ++ record {
-    came = Some (request id method params);
-    sent =
-        response id (Ok result) ∷ [];
-  } ∷ []
+  pub last : Exchange
+  pub cut : exchanges ≡ before ++ last ∷ []
+  pub came : last.came ≡ Some (request id method params)
+  pub gets : offered last ≡ response id (Ok result) ∷ []
 
 -- `initialized` comes first
 abbrev pub IsInvited : List Exchange → Type 0
@@ -131,18 +130,16 @@ pub record EndsWithExit (exchanges : List Exchange) (stop : Stop) (answer : Sess
     Type 0 where
   pub before : List Exchange
   pub last : Message
-  pub cut : exchanges ≡ before ++ record { came = Some last; sent = [] } ∷ []
+  pub cut : exchanges ≡ before ++ record { came = Some last; sent = []; not_sent = None } ∷ []
   pub none_before : list_all is_served (messages_of before) ≡ true
   pub leaves : is_exit last ≡ true
   pub decides : stop ≡ decided
   pub closes : answer ≡ Ok Closed
 
--- If the outbox refused a message, the last exchange was offered one: that is the last of its messages.
+-- If the session stopped since the outbox refused a message, that is one of the last exchange.
 abbrev pub WasOffered : Stop → List Exchange → Type 0
 WasOffered (refused fault) exchanges =
-    (earlier : List Exchange) × (came : Option Message) × (part : List Message)
-    × (not_sent : Message)
-    × (exchanges ≡ earlier ++ record { came = came; sent = part ++ not_sent ∷ [] } ∷ [])
+    (earlier : List Exchange) × (last : Exchange) × (exchanges ≡ earlier ++ last ∷ []) × IsSome last.not_sent
 WasOffered stop exchanges = Unit {0}
 
 -- Of a session that passes over responses after `shutdown`, or not, and whose service may speak before the reply to it,
@@ -152,29 +149,26 @@ module _ (passes_late speaks_last : Bool) where
   -- skipped; then no message arrives, or one that decides.
   abbrev pub AfterShutdown : Id → List Exchange → Stop → SessionAnswer → Type 0
   AfterShutdown id [] stop answer = StopsAt (asked id) stop answer
-  AfterShutdown id (x ∷ rest) stop answer = (x.sent ≡ [])
+  AfterShutdown id (x ∷ rest) stop answer = (offered x ≡ [])
       × ((IsSomeAnd x.came (λ m. (passes_late && is_reply m) ≡ true) × AfterShutdown id rest stop answer)
       ⊎ DecidesExit x.came rest stop answer)
 
   -- The first `shutdown` gets null, under its id, and that is the last message that is sent. What is sent for it before
   -- is the service's. No `exit` comes before it.
-  pub record EndsWithShutdown (exchanges : List Exchange) (stop : Stop)
-      (shutdown_reply : Option Message) (answer : SessionAnswer) : Type 0 where
+  pub record EndsWithShutdown (exchanges : List Exchange) (stop : Stop) (answer : SessionAnswer) : Type 0 where
     pub before : List Exchange
     pub id : Id
     pub method : List ℕ
     pub params : Data
     pub parting : List Message
     pub after : List Exchange
-    pub cut : exchanges ≡ before ++ record {
-      came = Some (request id method params);
-      sent =
-          parting ++ null_reply id ∷ [];
-    } ∷ after
+    pub asking : Exchange
+    pub cut : exchanges ≡ before ++ asking ∷ after
+    pub came : asking.came ≡ Some (request id method params)
+    pub gets : offered asking ≡ parting ++ null_reply id ∷ []
     pub none_before : list_all is_served (messages_of before) ≡ true
     pub asks : is_shutdown (request id method params) ≡ true
     pub silent : speaks_last ≡ false → parting ≡ []
-    pub is_null_reply : shutdown_reply ≡ Some (null_reply id)
     pub after_shutdown : AfterShutdown id after stop answer
 
   -- The first `shutdown` is the last of these messages, and no `exit` comes before it: the outbox refused a message
@@ -183,8 +177,9 @@ module _ (passes_late speaks_last : Bool) where
       Type 0 where
     pub before : List Exchange
     pub last : Message
-    pub sent : List Message
-    pub cut : exchanges ≡ before ++ record { came = Some last; sent = sent } ∷ []
+    pub breaking : Exchange
+    pub cut : exchanges ≡ before ++ breaking ∷ []
+    pub came : breaking.came ≡ Some last
     pub none_before : list_all is_served (messages_of before) ≡ true
     pub asks : is_shutdown last ≡ true
     pub speaks : speaks_last ≡ true
@@ -194,35 +189,31 @@ module _ (passes_late speaks_last : Bool) where
 
   -- No reply to `shutdown` is sent. No `shutdown` comes, and no message after `exit`, and where no `exit` comes the
   -- session stopped as it does while it serves. Or it stopped at the first `shutdown`.
-  abbrev pub HasNoShutdown : List Exchange → Stop → Option Message → SessionAnswer → Type 0
-  HasNoShutdown exchanges stop shutdown_reply answer =
-      (((list_all is_served (messages_of exchanges) ≡ true) × StopsAt serving stop answer)
-      ⊎ (EndsWithExit exchanges stop answer ⊎ BreaksAtShutdown exchanges stop answer))
-      × (shutdown_reply ≡ None)
+  abbrev pub HasNoShutdown : List Exchange → Stop → SessionAnswer → Type 0
+  HasNoShutdown exchanges stop answer =
+      ((list_all is_served (messages_of exchanges) ≡ true) × StopsAt serving stop answer)
+      ⊎ (EndsWithExit exchanges stop answer ⊎ BreaksAtShutdown exchanges stop answer)
 
   -- `initialize` got its result, and errors alone came before it. Then `initialized` comes, and from there on
   -- `shutdown` gets the reply that is the last message sent. If `initialized` does not come, nothing more is sent.
-  pub record IsOpened (early rest : List Exchange) (stop : Stop) (shutdown_reply : Option Message)
-      (answer : SessionAnswer) : Type 0 where
+  pub record IsOpened (early rest : List Exchange) (stop : Stop) (answer : SessionAnswer) : Type 0 where
     pub ends : EndsWithResult early
     pub refused : AllRefused ends.before
     pub came : AllEarly ends.before
     pub later : (IsInvited rest
-        × (HasNoShutdown rest stop shutdown_reply answer
-        ⊎ EndsWithShutdown rest stop shutdown_reply answer))
-        ⊎ (IsUnopened rest stop answer × (shutdown_reply ≡ None))
+        × (HasNoShutdown rest stop answer ⊎ EndsWithShutdown rest stop answer))
+        ⊎ IsUnopened rest stop answer
 
   -- Up to and with `initialize` each request gets one reply, and nothing else is sent: errors, and last its result. The
   -- errors of other requests have the code -32002. Neither `exit` nor a response comes before that result, unless it is
   -- the last message and decides. Each end has the answer of its phase. If a message was refused, one was offered.
-  pub record KeepsOrder (exchanges : List Exchange) (stop : Stop) (shutdown_reply : Option Message)
-      (answer : SessionAnswer) : Type 0 where
+  pub record KeepsOrder (exchanges : List Exchange) (stop : Stop) (answer : SessionAnswer) : Type 0 where
     pub early : List Exchange
     pub rest : List Exchange
     pub cut : exchanges ≡ early ++ rest
     pub replied : AllReplied early
-    pub opened : IsOpened early rest stop shutdown_reply answer
-        ⊎ (AllRefused early × AllEarly early × IsUnstarted rest stop answer × (shutdown_reply ≡ None))
+    pub opened : IsOpened early rest stop answer
+        ⊎ (AllRefused early × AllEarly early × IsUnstarted rest stop answer)
     pub offered : WasOffered stop exchanges
 
 -- `initialize` came and then `initialized`, and these messages, which were sent, hold all that was sent up to the

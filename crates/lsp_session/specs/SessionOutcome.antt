@@ -20,7 +20,7 @@ reason_of exhausted = Exhausted
 
 -- the session stopped for this reason
 abbrev pub StopsFor : StopReason → SessionPart
-StopsFor reason exchanges stop shutdown_reply answer = reason ≡ reason_of stop
+StopsFor reason exchanges stop answer = reason ≡ reason_of stop
 
 abbrev pub is_no_exit : Message → Bool
 is_no_exit m = not (is_exit m)
@@ -32,7 +32,7 @@ StopsAtExit stop messages = Unit {0}
 
 -- the session stopped for this reason, and at `exit`
 abbrev pub StopsBy : StopReason → SessionPart
-StopsBy reason exchanges stop shutdown_reply answer = StopsFor reason exchanges stop shutdown_reply answer
+StopsBy reason exchanges stop answer = StopsFor reason exchanges stop answer
     × StopsAtExit stop (messages_of exchanges)
 
 -- For private clauses: why a session stopped that ends with this fault.

@@ -9,7 +9,7 @@ use Rattle.lsp_session.specs.Event.{Event}
 use Rattle.lsp_session.specs.FrameBoxes.{FrameOutboxSends}
 use Rattle.lsp_session.specs.PassingBoxes.{EndsAtContent, TolerantInboxGives}
 use Rattle.lsp_session.specs.PassingBytes.{GivesAndTells}
-use Rattle.lsp_session.specs.Session.{SessionPart}
+use Rattle.lsp_session.specs.Session.{SessionPart, Phase, starting, replied, asked}
 use Rattle.lsp_session.specs.SessionLaws.{Both}
 use Rattle.lsp_session.specs.Transcripts.{notes_of}
 use Rattle.lsp_session.specs.declared.lifecycle.SendFault.{SendFault}
@@ -18,6 +18,13 @@ use Rattle.lsp_session.specs.declared.loops.handler.SessionEnd.{SessionEnd}
 use Rattle.lsp_session.specs.declared.loops.stream_session.SessionFault.{SessionFault}
 use Rattle.lsp_session.specs.declared.loops.stream_transport.StreamTransport.{StreamTransport}
 use Rattle.lsp_session.specs.declared.loops.tolerant_inbox.TolerantInbox.{TolerantInbox}
+
+-- The session stopped while it served its client, or since a message decided or was refused.
+abbrev pub StopsServing : Phase → Type 0
+StopsServing starting = ⊥
+StopsServing replied = ⊥
+StopsServing (asked i) = ⊥
+StopsServing phase = Unit {0}
 
 module _ {R W L : Type 0} where
   -- the transport as an inbox

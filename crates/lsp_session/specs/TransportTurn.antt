@@ -3,35 +3,23 @@ use Rattle.std.specs.Prelude.{◌≡◌, List, Option, Result, Ok, Err, MatchOpt
 use Rattle.lsp_message.specs.Id.{Id}
 use Rattle.lsp_message.specs.Message.{Message}
 use Rattle.lsp_session.specs.Boxes.{Sends, Receives, Offers}
-use Rattle.lsp_session.specs.Event.{Event, timeout, closed}
+use Rattle.lsp_session.specs.Event.{Event}
 use Rattle.lsp_session.specs.Machine.{Advances, IsAwaited, sends_with, reply_of, phase_of}
 use Rattle.lsp_session.specs.Outputs.{SendsAll}
 use Rattle.lsp_session.specs.Prompt.{WaitsIn}
-use Rattle.lsp_session.specs.ProtocolError.{ProtocolFault, out_of_memory, shutdown_timeout, shutdown_disconnected}
+use Rattle.lsp_session.specs.ProtocolError.{ProtocolFault}
 use Rattle.lsp_session.specs.Replies.{null_reply}
 use Rattle.lsp_session.specs.Session.{Behavior}
 use Rattle.lsp_session.specs.SessionOutcome.{served_by}
-use Rattle.lsp_session.specs.declared.loops.session_outcome.SessionOutcome.{SessionOutcome}
 use Rattle.lsp_session.specs.declared.loops.machine.Stage.{Stage}
-use Rattle.lsp_session.specs.declared.loops.machine.Stage.TheVariants.{Asked, Ended}
+use Rattle.lsp_session.specs.declared.loops.machine.Stage.TheVariants.{Ended}
 
 -- the session ended
 abbrev pub IsOver : Stage → Type 0
 IsOver (Ended outcome) = Unit {0}
 IsOver stage = ⊥
 
--- how a session ends that took 2^64 - 1 events and waits for `exit`
-abbrev pub spent_at : Event → SessionOutcome
-spent_at timeout = served_by (Err shutdown_timeout)
-spent_at closed = served_by (Err shutdown_disconnected)
-spent_at event = served_by (Err out_of_memory)
-
 module _ {L : Type 0} (receives listens : Receives L) where
-  -- The session waits once, as its phase does. After `shutdown` a timeout is an event too.
-  abbrev pub AwaitsIn : Stage → L → Event → L → Type 0
-  AwaitsIn (Asked id) old event new = receives old event new
-  AwaitsIn stage old event new = WaitsIn receives listens (phase_of stage) old event new
-
   module _ (sends : Sends L) where
     -- After the messages of a turn: if all were taken, the reply to `shutdown` is offered where it is due, and the
     -- session goes on as it decided. If one was refused, that fault ends the session.
@@ -46,7 +34,7 @@ module _ {L : Type 0} (receives listens : Receives L) where
         pub event : Event
         pub awaited : IsAwaited old.0 event
         pub met : L
-        pub awaits : AwaitsIn old.0 old.2 event met
+        pub awaits : WaitsIn receives listens (phase_of old.0) old.2 event met
         pub sent : List Message
         pub reply : Option Id
         pub gone : Stage

@@ -12,14 +12,14 @@ pub mod machine;
 pub use error::ProtocolError;
 pub use lifecycle::{
     Arrival, CallGate, Event, Gate, Inbox, ListGate, ListInbox, ListOutbox, OpenGate, Outbox,
-    SendFault, TextOutbox, WakingInbox, finish, finish_within, is_exit, shutdown, start_within,
-    wait_within, without_result,
+    SendFault, TextOutbox, WakingInbox, finish, finish_within, is_exit, null_response, shutdown,
+    start_within, wait_within,
 };
 pub use loops::{
-    Application, BadContentPolicy, ClientStreams, EndSession, FaultCounts, FrameOutbox, Handler,
-    HandlerApplication, HandlerService, Ignore, Output, PassedOver, ReadEnd, Sendable, Service,
-    ServiceApplication, SessionEnd, SessionFault, SessionOutcome, StopReason, StreamInbox,
-    StreamTransport, ToSend, TolerantInbox, Transcript, WriteEnd, initialize_result, is_of_content,
-    read_loop, read_loop_within, serve, serve_service, serve_transport, session, session_answer,
-    session_within, write_loop,
+    Application, BadContentPolicy, ClientStreams, EndOnBadContent, FrameOutbox, Handler,
+    HandlerApplication, HandlerService, Output, ReadEnd, Sendable, Service, ServiceApplication,
+    SessionEnd, SessionFault, SessionOutcome, SkipAndCount, SkipAndFlag, SkipSilently, StopReason,
+    StreamInbox, StreamTransport, ToSend, TolerantInbox, Transcript, WriteEnd, initialize_result,
+    is_bad_content, read_loop, read_loop_within, serve, serve_service, serve_transport, session,
+    session_answer, session_within, write_loop,
 };

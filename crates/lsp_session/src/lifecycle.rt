@@ -149,7 +149,7 @@ pub trait TextOutbox: Outbox {
 }
 
 /// Makes the response with this id and null as its result. A fault of `TextOutbox::send_text` returns it.
-pub fn without_result(id: RequestId) -> Message
+pub fn null_response(id: RequestId) -> Message
     ensures { message_view result ≡ response id (Ok null) }
 {
     Message::Response(Response {

@@ -23,7 +23,7 @@ use Rattle.lsp_relay.specs.declared.ends.Parcel.{Parcel}
 use Rattle.lsp_relay.specs.declared.ends.Parcel.TheVariants as parcel
 use Rattle.lsp_session.proofs.Passing.{GivesOr}
 use Rattle.lsp_session.specs.Event.{Event, message, closed, woken}
-use Rattle.lsp_session.specs.Passing.{is_of_content}
+use Rattle.lsp_session.specs.Passing.{is_bad_content}
 use Rattle.lsp_session.specs.Streams.{Stream, StreamReads, Reads}
 use Rattle.lsp_session.specs.declared.loops.ReadEnd.{ReadEnd}
 use Rattle.lsp_session.specs.declared.loops.ReadEnd.TheVariants.{Exit, End, Fault}
@@ -148,7 +148,8 @@ module _ (limit : Limits) where
       let left = rest_is at content rest begins in
       ((content_read at content rest begins ∙ ap found means, ap Some (sym left)), rw left at (front at))
 
-  passes_read : (fault : ReadFault) (at content rest : List ℕ) → is_of_content fault ≡ true → BeginsWithContent limit at
+  passes_read : (fault : ReadFault) (at content rest : List ℕ) → is_bad_content fault ≡ true → BeginsWithContent limit
+      at
       content rest → body_means content ≡ Err fault
       → Reads limit (Some at) (Err fault) (Some rest)
   passes_read BodyNotText at content rest is begins means = read_as BodyNotText at content rest begins means

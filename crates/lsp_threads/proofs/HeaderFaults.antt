@@ -16,12 +16,12 @@ use Rattle.lsp_message.specs.declared.frame.ReadFault.TheVariants.{ShortBody, To
 use Rattle.lsp_message.specs.declared.frame.header.HeaderLine.{HeaderLine}
 use Rattle.lsp_message.specs.declared.frame.header.HeaderLine.TheVariants.{Length, Other}
 use Rattle.lsp_message.specs.declared.frame.limits.Limits.{Limits}
-use Rattle.lsp_session.specs.Passing.{is_of_content}
+use Rattle.lsp_session.specs.Passing.{is_bad_content}
 
 -- an answer, or a fault that is none of a body
 abbrev OfNoBody : {A : Type 0} → Result A ReadFault → Type 0
 OfNoBody (Ok x) = Unit {0}
-OfNoBody (Err fault) = is_of_content fault ≡ false
+OfNoBody (Err fault) = is_bad_content fault ≡ false
 
 field_of : (name value : List ℕ) → OfNoBody (field name value)
 field_of name value = at (same_name name (codes "Content-Length")) (number value)
@@ -93,5 +93,5 @@ content_of_none limit text = at (header_under limit.header text).outcome (header
     at (Ok (Some n)) rest known = whole (nat_lt limit.content n) n rest
 
 pub is_of_no_body : (limit : Limits) (text : List ℕ) (fault : ReadFault) → (content_within limit text).outcome
-    ≡ Err fault → is_of_content fault ≡ false
+    ≡ Err fault → is_bad_content fault ≡ false
 is_of_no_body limit text fault is = subst OfNoBody is (content_of_none limit text)

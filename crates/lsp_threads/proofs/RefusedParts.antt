@@ -6,14 +6,14 @@ use Rattle.lsp_message.specs.declared.frame.ReadFault.{ReadFault}
 use Rattle.lsp_message.specs.declared.frame.ReadFault.TheVariants.{BodyNotText, NoJson, NoMessage, Batch}
 use Rattle.lsp_message.specs.declared.frame.limits.Limits.{Limits}
 use Rattle.lsp_session.specs.Event.{Event, message, woken}
-use Rattle.lsp_session.specs.Passing.{ended_at_content, is_of_content}
+use Rattle.lsp_session.specs.Passing.{ended_at_content, is_bad_content}
 use Rattle.lsp_session.specs.PassingBoxes.{MayEnd}
 use Rattle.lsp_session.specs.declared.loops.ReadEnd.{ReadEnd}
 use Rattle.lsp_session.specs.declared.loops.ReadEnd.TheVariants.{Fault}
 use Rattle.lsp_threads.specs.Contents.{ContentsListen, OpenGives, PassesPart, Receiving, StopsAt}
 
 -- the thread that reads keeps a content part back that is no message, and ends as it would have ended the session
-pub keeps_a_bad_part_back : (limit : Limits) (text : List ℕ) (fault : ReadFault) → is_of_content fault ≡ true
+pub keeps_a_bad_part_back : (limit : Limits) (text : List ℕ) (fault : ReadFault) → is_bad_content fault ≡ true
     → StopsAt limit text (Fault fault) → ⊥
 keeps_a_bad_part_back limit text BodyNotText is stops = true≢false stops.0
 keeps_a_bad_part_back limit text NoJson is stops = true≢false stops.0

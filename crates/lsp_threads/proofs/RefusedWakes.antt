@@ -8,8 +8,8 @@ use Rattle.lsp_message.specs.Message.{Message}
 use Rattle.lsp_message.specs.Reading.{Reading}
 use Rattle.lsp_message.specs.declared.frame.ReadFault.{ReadFault}
 use Rattle.lsp_message.specs.declared.frame.limits.Limits.{Limits}
-use Rattle.lsp_session.specs.Passing.{is_of_content}
-use Rattle.lsp_session.specs.PassingBytes.{HearsLast, PassesNothingOver}
+use Rattle.lsp_session.specs.Passing.{is_bad_content}
+use Rattle.lsp_session.specs.PassingBytes.{HearsLast, SkipsNoContent}
 use Rattle.lsp_session.specs.Session.{Exchange, came_of, no_more, SessionPart}
 use Rattle.lsp_session.specs.SessionBytes.{ReadsMessage}
 use Rattle.lsp_session.specs.SessionLaws.{Both}
@@ -20,24 +20,26 @@ use Rattle.lsp_threads.specs.Threads.{ReadsFrameOrWakes, ReadsOrWakes, ThreadsGi
 
 -- at some place the session answered a wake
 abbrev pub TellsAWake : SessionPart
-TellsAWake exchanges stop shutdown_reply answer =
-    (earlier : List Exchange) × (sent : List Message) × (later : List Exchange) × (exchanges ≡ earlier
-    ++ record { came = None; sent = sent } ∷ later)
+TellsAWake exchanges stop answer =
+    (earlier : List Exchange) × (x : Exchange) × (later : List Exchange) × (exchanges ≡ earlier ++ x ∷ later)
+    × (x.came ≡ None)
 
 module _ (limit : Limits) where
-  tells_none : (sent : List Message) (earlier later : List Exchange) (text at : List ℕ)
-      → FoldsTo (ReadsOrWakes false limit) text (came_of (earlier ++ record { came = None; sent = sent }
-      ∷ later)) at → ⊥
-  tells_none sent [] later text at run = let e : false ≡ true = run.1.0 in absurd (cc (e))
-  tells_none sent (x ∷ earlier) later text at run = tells_none sent earlier later run.0 at run.2
+  tells_none : (x : Exchange) (earlier later : List Exchange) (text at : List ℕ) → x.came ≡ None
+      → FoldsTo (ReadsOrWakes false limit) text (came_of (earlier ++ x ∷ later)) at → ⊥
+  tells_none x [] later text at woken run =
+      let read : ReadsOrWakes false limit text None run.0 = rw woken at run.1 in
+      let e : false ≡ true = read.0 in
+      absurd (cc (e))
+  tells_none x (y ∷ earlier) later text at woken run = tells_none x earlier later run.0 at woken run.2
 
   -- nobody can wake the session, and it answers a wake
   pub refuses_a_wake : (P : SessionPart) (text : List ℕ) (before after : Option (List ℕ)) (result : Result SessionEnd
       SessionFault)
       → ThreadsGive limit (Both P TellsAWake) text before after result → ⊥
   refuses_a_wake P text before after result gives =
-      let (earlier, sent, later, are) = gives.part.1 in
-      tells_none sent earlier later text gives.at (subst (λ xs. FoldsTo (ReadsOrWakes false limit) text (came_of xs)
+      let (earlier, x, later, are, woken) = gives.part.1 in
+      tells_none x earlier later text gives.at woken (subst (λ xs. FoldsTo (ReadsOrWakes false limit) text (came_of xs)
       gives.at) are gives.read)
 
   -- what came to it is what one thread would have read
@@ -60,8 +62,8 @@ module _ (limit : Limits) where
     abbrev outcome_at : (text : List ℕ) → Result (Option Message) ReadFault
     outcome_at text = (reading_within limit text).outcome
 
-    -- its policy passes over nothing, as `EndSession`, nobody can wake it, and it answers a wake
-    pub passes_with_no_leave : PassesNothingOver passes → (P : SessionPart) (text : List ℕ) (first last : L)
+    -- its policy passes over nothing, as `EndOnBadContent`, nobody can wake it, and it answers a wake
+    pub passes_with_no_leave : SkipsNoContent passes → (P : SessionPart) (text : List ℕ) (first last : L)
         (before after : Option (List ℕ)) (result : Result SessionEnd SessionFault)
         → ThreadsTell passes limit (Both P TellsAWake) text first last before after result → ⊥
     passes_with_no_leave never P text first last before after result tells =
@@ -87,7 +89,8 @@ module _ (limit : Limits) where
         cc (e)
 
     -- others wake it, and bytes are read; or no part is passed over, and its policy passes something
-    pub wake_takes_nothing : (text : List ℕ) (first : L) (new : List ℕ × L) → ((fault : ReadFault) → is_of_content fault
+    pub wake_takes_nothing : (text : List ℕ) (first : L) (new : List ℕ × L) →
+        ((fault : ReadFault) → is_bad_content fault
         ≡ true → outcome_at text ≡ Err fault → ⊥)
         → ReadsFrameOrWakes true passes limit (text, first) None new → new ≡ (text, first)
     wake_takes_nothing text first new no_bad_part (inl others) = others.1

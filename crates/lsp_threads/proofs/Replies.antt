@@ -11,17 +11,19 @@ use Rattle.lsp_message.specs.declared.frame.WriteFault.{WriteFault}
 use Rattle.lsp_message.specs.declared.frame.WriteFault.TheVariants.{Output, Memory as NoMemory}
 use Rattle.lsp_message.specs.declared.frame.limits.Limits.{Limits}
 use Rattle.lsp_relay.specs.declared.ends.Parcel.{Parcel}
-use Rattle.lsp_session.proofs.Handing.{AreFramesOf-push}
 use Rattle.lsp_session.proofs.Passing.{frames_end, GivesOr, left_after, ReadsFrames}
 use Rattle.lsp_session.proofs.SessionGives.{NotRefused}
 use Rattle.lsp_session.specs.Boxes.{Sends, Receives, Takes}
 use Rattle.lsp_session.specs.PassingBytes.{HearsLast}
 use Rattle.lsp_session.specs.Session.{came_of, messages_of, sends_of, Exchange, SessionAnswer, SessionPart, Stop}
-use Rattle.lsp_session.specs.Session.{refused}
+use Rattle.lsp_session.specs.Session.{refused, starting}
 use Rattle.lsp_session.specs.SessionBytes.{LeftWithin, Wrote}
 use Rattle.lsp_session.specs.SessionOutcome.{reason_of, StopsAtExit, StopsFor}
 use Rattle.lsp_session.specs.SessionFault.{session_answer}
-use Rattle.lsp_session.specs.SessionRun.{all_of, Gets, OffersLast, RefusesLast, Runs}
+use Rattle.lsp_session.proofs.Brought.{Brought, brought_by}
+use Rattle.lsp_session.proofs.Got.{Got, all_taken as all_got, one_lost}
+use Rattle.lsp_session.proofs.Ran.{IsWhole as SessionIsWhole}
+use Rattle.lsp_session.specs.SessionRun.{Runs}
 use Rattle.lsp_session.specs.Streams.{Stream}
 use Rattle.lsp_session.specs.declared.lifecycle.SendFault.{SendFault}
 use Rattle.lsp_session.specs.declared.lifecycle.SendFault.TheVariants.{Closed as Shut, Memory as IsFull}
@@ -58,6 +60,10 @@ taken_frames old new (m ∷ ms) run =
         frames.2 ∙ ap (λ l. l ++ frames.0) frame.2 ∙ append_assoc old.bytes frame.0 frames.0,
       ),
     )
+
+is_whole_here : (stop : Stop) → SessionIsWhole stop → IsWhole stop
+is_whole_here (refused fault) is = is
+is_whole_here stop is = tt
 
 -- Of these messages the first ones were sent as frames: all of them, and no message was refused, unless the outbox says
 -- that one was.
@@ -104,42 +110,12 @@ module _ (old mid new : Replying) (ms : List Message) (run : FoldsTo (Takes Repl
         whole = λ none. (refl, whole);
       }
 
-  -- one message more was offered
-  one_offered : (m : Message) (stop : Stop) → IsWhole stop → (outcome : Result (Unit {0}) SendFault) → RepliesSend mid m
-      outcome new → Replied old new stop (ms ++ m ∷ [])
-  one_offered m stop whole (Err fault) sent = one_refused m stop fault sent
-  one_offered m stop whole (Ok done) (same, before, after, (frame, is, more)) =
-      let first = taken_frames old mid ms run in
-      record {
-        same_relay = same ∙ first.0;
-        sent = ms ++ m ∷ [];
-        unsent = [];
-        cut = sym (append-nil (ms ++ m ∷ []));
-        text = first.1.0 ++ frame;
-        frames = AreFramesOf-push ms first.1.0 m frame first.1.1 is;
-        bytes = more ∙ ap (λ l. l ++ frame) first.1.2 ∙ append_assoc old.bytes first.1.0 frame;
-        whole = λ none. (refl, whole);
-      }
-
-  last_replied : (stop : Stop) → IsWhole stop → (shutdown_reply : Option Message) → OffersLast RepliesSend mid
-      shutdown_reply new → Replied old new stop (all_of ms shutdown_reply)
-  last_replied stop whole None same = all_taken stop whole same
-  last_replied stop whole (Some shutdown_reply) offers = one_offered shutdown_reply stop whole offers.outcome
-      offers.sent
-
-refused_replied : (old new : Replying) (output : List Message) (fault : SendFault) (shutdown_reply : Option Message)
-    → RefusesLast RepliesSend old output fault new → shutdown_reply ≡ None
-    → Replied old new (refused fault) (all_of output shutdown_reply)
-refused_replied old new output fault shutdown_reply last none = rw (none, last.3) (one_refused old last.2 new last.0
-    last.4 last.1 (refused fault) fault last.5)
-
-pub all_replied : (old new : Replying) (output : List Message) (shutdown_reply : Option Message) (stop : Stop)
-    → Gets RepliesSend old output shutdown_reply stop new
-    → Replied old new stop (all_of output shutdown_reply)
-all_replied old new output shutdown_reply (refused fault) got = refused_replied old new output fault shutdown_reply
-    got.0 got.1
-all_replied old new output shutdown_reply stop got = last_replied old got.0 new output got.1 stop tt
-    shutdown_reply got.2
+pub all_replied : (old new : Replying) (xs : List Exchange) (stop : Stop) → Got RepliesSend old xs stop new
+    → Replied old new stop (sends_of xs)
+all_replied old new xs stop (all_got taken none is_whole) = all_taken old new new (sends_of xs) taken stop
+    (is_whole_here stop is_whole) refl
+all_replied old new xs stop (one_lost taken m fault mid run refuses cut lost tie) = rw cut (one_refused old mid new
+    taken run m stop fault refuses)
 
 -- ---- what was written
 module _ (stop : Stop) (ms : List Message) (a b : Option (List ℕ)) where
@@ -187,14 +163,12 @@ module _ (stop : Stop) (ms : List Message) (a b : Option (List ℕ)) where
 
 -- ---- a session over such an outbox
 -- what was written of a session over bytes, as one in threads says it
-wrote_so : (a b : Option (List ℕ)) (result : Result SessionEnd SessionFault) (stop : Stop) (shutdown_reply : Option
-    Message) (sends : List Message) → Wrote a b result stop shutdown_reply sends
-    → WroteInThreads a b result stop shutdown_reply sends
-wrote_so a b (Err (Write fault)) stop shutdown_reply sends (output, unsent, whole, last, cut, got) =
-    (output, (whole, last, [], cut, got))
-wrote_so a b (Err Memory) stop shutdown_reply sends (inl wrote) = (sends, [], sym (append-nil sends), wrote)
-wrote_so a b (Err Memory) stop shutdown_reply sends (inr most) = (most.1.0, most.1.1 ∷ [], most.1.2, most.1.3)
-wrote_so a b result stop shutdown_reply sends wrote = wrote
+wrote_so : (a b : Option (List ℕ)) (result : Result SessionEnd SessionFault) (stop : Stop) (xs : List Exchange)
+    → Wrote a b result stop xs → WroteInThreads a b result stop xs
+wrote_so a b (Err (Write fault)) stop xs (output, whole, last, lost, cut, got) = (output, (whole, last, [], cut, got))
+wrote_so a b (Err Memory) stop xs (inl wrote) = (sends_of xs, [], sym (append-nil (sends_of xs)), wrote)
+wrote_so a b (Err Memory) stop xs (inr most) = (most.0, most.1 ∷ [], most.3, most.4)
+wrote_so a b result stop xs wrote = wrote
 
 not_refused : (stop : Stop) → IsWhole stop → NotRefused stop
 not_refused (refused fault) whole = absurd whole
@@ -202,15 +176,16 @@ not_refused stop whole = tt
 
 module _ {I O L : Type 0} (receives : Receives I) (sends : Sends O) (wakeable : Bool) (passes : L → ReadFault → L
     → Type 0) (limit : Limits) (P Q : SessionPart) (reason : StopReason)
-    (knows : (xs : List Exchange) (stop : Stop) (shutdown_reply : Option Message) (answer : SessionAnswer)
-    → P xs stop shutdown_reply answer
-    → Q xs stop shutdown_reply answer × StopsFor reason xs stop shutdown_reply answer × StopsAtExit stop
-    (messages_of xs))
+    (knows : (xs : List Exchange) (stop : Stop) (answer : SessionAnswer) → P xs stop answer
+    → Q xs stop answer × StopsFor reason xs stop answer × StopsAtExit stop (messages_of xs))
     (a b : Option (List ℕ)) (old new : I × O) (answer : SessionAnswer) (runs : Runs receives sends P old answer
     new) where
-  known_of : Q runs.exchanges runs.stop runs.shutdown_reply answer × StopsFor reason runs.exchanges runs.stop
-      runs.shutdown_reply answer × StopsAtExit runs.stop (messages_of runs.exchanges)
-  known_of = knows runs.exchanges runs.stop runs.shutdown_reply answer runs.part
+  known_of : Q runs.exchanges runs.stop answer × StopsFor reason runs.exchanges runs.stop answer
+      × StopsAtExit runs.stop (messages_of runs.exchanges)
+  known_of = knows runs.exchanges runs.stop answer runs.part
+
+  abbrev heard : Brought receives old.0 runs.exchanges runs.stop new.0
+  heard = brought_by receives starting runs.exchanges runs.stop answer old.0 new.0 runs.came
 
   -- others wake it only if they can
   abbrev Others : Type 0
@@ -225,22 +200,21 @@ module _ {I O L : Type 0} (receives : Receives I) (sends : Sends O) (wakeable : 
 
   -- what came in, as an inbox over the text brings it
   module _ (text : List ℕ) (first : L) (s : Stream × L)
-      (run : FoldsTo (GivesOr Others passes limit) (record { remaining = Some text; end = None }, first) runs.events
+      (run : FoldsTo (GivesOr Others passes limit) (record { remaining = Some text; end = None }, first) heard.events
       s) where
     abbrev start : Stream × L
     start = (record { remaining = Some text; end = None }, first)
 
     over : (result : Result SessionEnd SessionFault) (at : List ℕ × L) → ReadsFrames Others passes limit (text, first)
         (came_of runs.exchanges) at
-        → HearsLast passes limit runs.stop at s.1 → EndsInThreads limit result answer runs.stop runs.shutdown_reply at.0
-        → WroteInThreads a b result runs.stop runs.shutdown_reply (sends_of runs.exchanges) → ThreadsTellOver wakeable
+        → HearsLast passes limit runs.stop at s.1 → EndsInThreads limit result answer runs.stop at.0
+        → WroteInThreads a b result runs.stop runs.exchanges → ThreadsTellOver wakeable
         passes limit Q text first s.1 a b result
     over result at read policy ends wrote = record {
       exchanges = runs.exchanges;
       at = at;
       read = reads_all (came_of runs.exchanges) (text, first) at read;
       stop = runs.stop;
-      shutdown_reply = runs.shutdown_reply;
       answer = answer;
       part = known_of.0;
       ends = (ends, policy);
@@ -250,18 +224,18 @@ module _ {I O L : Type 0} (receives : Receives I) (sends : Sends O) (wakeable : 
     read : (at : List ℕ × L) × ReadsFrames Others passes limit (text, first) (came_of runs.exchanges) at
         × HearsLast passes limit runs.stop at s.1
         × LeftWithin limit runs.stop at.0 s.0.remaining
-    read = left_after Others passes limit text start s refl refl runs.events run (came_of runs.exchanges) runs.stop
-        runs.brought known_of.2
+    read = left_after Others passes limit text start s refl refl heard.events run (came_of runs.exchanges) runs.stop
+        heard.brought known_of.2
 
     pub session_gives : (fault : Option WriteFault) → WritesReplies runs.stop (sends_of runs.exchanges) fault a b
         → ThreadsTellOver wakeable passes limit Q text first s.1 a b (session_answer reason answer s.0.end fault)
     session_gives None (whole, written) =
-        let all = frames_end Others passes limit text start s refl refl runs.events run (came_of runs.exchanges)
-        runs.shutdown_reply answer (sends_of runs.exchanges) a b written
-        runs.stop runs.brought (not_refused runs.stop whole) known_of.2 in
+        let all = frames_end Others passes limit text start s refl refl heard.events run (came_of runs.exchanges)
+        answer runs.exchanges a b written
+        runs.stop heard.brought (not_refused runs.stop whole) known_of.2 in
         let result = session_answer (reason_of runs.stop) answer s.0.end None in
         rw known_of.1 (over result all.0 all.1 all.2 (s.0.remaining, all.3.0) (wrote_so a b result runs.stop
-        runs.shutdown_reply (sends_of runs.exchanges) all.3.1))
+        runs.exchanges all.3.1))
     session_gives (Some (Output kind)) broken = over (Err (Write (Output kind))) read.0 read.1 read.2 (
       s.0.remaining,
       read.3,

@@ -11,10 +11,13 @@ use Rattle.lsp_message.specs.declared.frame.WriteFault.{WriteFault}
 use Rattle.lsp_relay.specs.Relay.{ended, has_end, Sending}
 use Rattle.lsp_relay.specs.declared.ends.Parcel.{Parcel}
 use Rattle.lsp_session.proofs.Lending.{over_as}
-use Rattle.lsp_session.specs.PassingBytes.{PassesNothingOver}
-use Rattle.lsp_session.specs.Session.{came_of, Exchange, messages_of, SessionAnswer, SessionPart, sends_of, Stop}
+use Rattle.lsp_session.specs.PassingBytes.{SkipsNoContent}
+use Rattle.lsp_session.specs.Session.{starting, came_of, Exchange, messages_of, SessionAnswer, SessionPart, sends_of}
+use Rattle.lsp_session.specs.Session.{Stop}
 use Rattle.lsp_session.specs.SessionOutcome.{StopsAtExit, StopsFor}
 use Rattle.lsp_session.specs.SessionFault.{session_answer}
+use Rattle.lsp_session.proofs.Brought.{Brought, brought_by}
+use Rattle.lsp_session.proofs.Got.{got_by}
 use Rattle.lsp_session.specs.SessionRun.{Runs}
 use Rattle.lsp_session.specs.declared.loops.ReadEnd.{ReadEnd}
 use Rattle.lsp_session.specs.declared.loops.application.ServiceApplication.{ServiceApplication}
@@ -34,12 +37,15 @@ use Rattle.lsp_threads.specs.Threads.{ReadsFrameOrWakes, ReadsOrWakes, session_e
 
 -- over what is seen of the inbox and of the outbox
 module _ {L : Type 0} (passes : L → ReadFault → L → Type 0) (limit : Limits) (P Q : SessionPart) (reason : StopReason)
-    (knows : (xs : List Exchange) (stop : Stop) (shutdown_reply : Option Sent) (answer : SessionAnswer)
-    → P xs stop shutdown_reply answer
-    → Q xs stop shutdown_reply answer × StopsFor reason xs stop shutdown_reply answer × StopsAtExit stop
+    (knows : (xs : List Exchange) (stop : Stop) (answer : SessionAnswer)
+    → P xs stop answer
+    → Q xs stop answer × StopsFor reason xs stop answer × StopsAtExit stop
     (messages_of xs))
     (a b : Option (List ℕ)) (inbox inbox' : Receiving × L) (outbox outbox' : Replying) (answer : SessionAnswer)
     (runs : Runs (ContentsGive passes) RepliesSend P (inbox, outbox) answer (inbox', outbox')) where
+  abbrev heard : Brought (ContentsGive passes) inbox runs.exchanges runs.stop inbox'
+  heard = brought_by (ContentsGive passes) starting runs.exchanges runs.stop answer inbox inbox' runs.came
+
   -- what the threads of a session come to in bytes
   module _ (none : inbox.0.taken ≡ []) (all_given : inbox.0.waiting ≡ [])
       (unended : inbox.0.end ≡ None) (unsent : outbox.bytes ≡ [])
@@ -54,9 +60,9 @@ module _ {L : Type 0} (passes : L → ReadFault → L → Type 0) (limit : Limit
     -- the output was written
     output_written : WritesReplies runs.stop (sends_of runs.exchanges) (reply_fault fault outbox'.failed) a b
     output_written =
-        subst (λ ms. WritesReplies runs.stop ms (reply_fault fault outbox'.failed) a b) runs.all
-        (replies_written runs.stop _ a b outbox outbox' unsent (all_replied outbox outbox' runs.output
-        runs.shutdown_reply runs.stop runs.got) replies_taken replies all finished replies_settled fault written)
+        replies_written runs.stop _ a b outbox outbox' unsent (all_replied outbox outbox' runs.exchanges runs.stop
+        (got_by RepliesSend runs.exchanges runs.stop answer outbox outbox' runs.went)) replies_taken replies all
+        finished replies_settled fault written
 
     -- a wake that was taken was given by others
     woke : (wakeable : Bool) → (wakeable ≡ false → inbox'.0.wakes ≡ 0) → 1 ≤ inbox'.0.wakes
@@ -71,7 +77,7 @@ module _ {L : Type 0} (passes : L → ReadFault → L → Type 0) (limit : Limit
     threads_tell None handed = tt
     threads_tell (Some text) handed =
         let s = as_stream limit passes (tx.wakeable ≡ true) inbox inbox' none all_given unended
-        runs.events runs.received
+        heard.events heard.received
         (woke tx.wakeable (λ e. silent (handed.2 ∙ e))) taken tx back drained settled read text handed in
         subst (λ policy. ThreadsTellOver tx.wakeable passes limit Q text inbox.1 policy a b
         (session_answer reason answer (session_end inbox'.0.end (has_end inbox'.0.taken) read)
@@ -84,8 +90,8 @@ module _ {L : Type 0} (passes : L → ReadFault → L → Type 0) (limit : Limit
 
 -- A session in threads that is described otherwise.
 module _ (P Q : SessionPart)
-    (to : (xs : List Exchange) (stop : Stop) (shutdown_reply : Option Sent) (answer : SessionAnswer)
-    → P xs stop shutdown_reply answer → Q xs stop shutdown_reply answer) (wakeable : Bool) (limit : Limits) where
+    (to : (xs : List Exchange) (stop : Stop) (answer : SessionAnswer)
+    → P xs stop answer → Q xs stop answer) (wakeable : Bool) (limit : Limits) where
   -- if the bytes are known, and both threads were started
   pub started_as : {T F : Type 0} (contents : T → Option (List ℕ)) (answer_of : T → Result SessionEnd SessionFault)
       (known old : Option (List ℕ)) (result : Result T F)
@@ -100,8 +106,8 @@ module _ (P Q : SessionPart)
 -- The same of one that asks a policy.
 module _ (wakeable : Bool) {L : Type 0} (passes : L → ReadFault → L → Type 0) (limit : Limits) (first last : L) where
   pub started_told_as : (P Q : SessionPart)
-      (to : (xs : List Exchange) (stop : Stop) (shutdown_reply : Option Sent) (answer : SessionAnswer)
-      → P xs stop shutdown_reply answer → Q xs stop shutdown_reply answer)
+      (to : (xs : List Exchange) (stop : Stop) (answer : SessionAnswer)
+      → P xs stop answer → Q xs stop answer)
       {T F : Type 0} (contents : T → Option (List ℕ)) (answer_of : T → Result SessionEnd SessionFault)
       (known old : Option (List ℕ)) (result : Result T F)
       → IfSome known (λ text. IfOk result (λ done. ThreadsTellOver wakeable passes limit P text first last old
@@ -114,8 +120,8 @@ module _ (wakeable : Bool) {L : Type 0} (passes : L → ReadFault → L → Type
 
   -- the same of the bytes that were taken
   pub taken_told_as : (P Q : SessionPart)
-      (to : (xs : List Exchange) (stop : Stop) (shutdown_reply : Option Sent) (answer : SessionAnswer)
-      → P xs stop shutdown_reply answer → Q xs stop shutdown_reply answer)
+      (to : (xs : List Exchange) (stop : Stop) (answer : SessionAnswer)
+      → P xs stop answer → Q xs stop answer)
       {T F : Type 0} (taken : T → Parts) (given : T → Option (List ℕ)) (answer_of : T → Result SessionEnd SessionFault)
       (result : Result T F)
       → IfOk result (λ done. OfTaken (taken done) (λ text. ThreadsTellOver wakeable passes limit P text first last
@@ -130,7 +136,7 @@ module _ (wakeable : Bool) {L : Type 0} (passes : L → ReadFault → L → Type
   taken_told_as P Q to taken given answer_of (Err fault) tells = tt
 
   -- A policy that passes over nothing: each frame is a message, and each wake is given by others.
-  module _ (never : PassesNothingOver passes) where
+  module _ (never : SkipsNoContent passes) where
     reads_or_wakes : (came : List (Option Sent)) (from to : List ℕ × L) → FoldsTo (ReadsFrameOrWakes wakeable passes
         limit) from came to
         → FoldsTo (ReadsOrWakes wakeable limit) from.0 came to.0
@@ -150,7 +156,6 @@ module _ (wakeable : Bool) {L : Type 0} (passes : L → ReadFault → L → Type
       at = tells.at.0;
       read = reads_or_wakes (came_of tells.exchanges) (text, first) tells.at tells.read;
       stop = tells.stop;
-      shutdown_reply = tells.shutdown_reply;
       answer = tells.answer;
       part = tells.part;
       ends = tells.ends.0;
@@ -171,8 +176,8 @@ module _ (wakeable : Bool) {L : Type 0} (passes : L → ReadFault → L → Type
 
     -- the same of the bytes that were taken, if it is described otherwise
     pub started_told : (P Q : SessionPart)
-        (to : (xs : List Exchange) (stop : Stop) (shutdown_reply : Option Sent) (answer : SessionAnswer)
-        → P xs stop shutdown_reply answer → Q xs stop shutdown_reply answer)
+        (to : (xs : List Exchange) (stop : Stop) (answer : SessionAnswer)
+        → P xs stop answer → Q xs stop answer)
         {T F : Type 0} (taken : T → Parts) (given : T → Option (List ℕ)) (answer_of : T → Result SessionEnd
         SessionFault) (result : Result T F)
         → IfOk result (λ done. OfTaken (taken done) (λ text. ThreadsTellOver wakeable passes limit P text first last

@@ -20,7 +20,7 @@ use Rattle.lsp_message.specs.declared.frame.WriteFault.TheVariants.{Output, Memo
 use Rattle.lsp_message.specs.declared.frame.passed.Passed.{Passed}
 use Rattle.lsp_message.specs.declared.frame.limits.Limits.{Limits}
 use Rattle.lsp_session.specs.ReadLoop.{Extent, ReadsOver}
-use Rattle.lsp_session.specs.Session.{SessionPart, Stop}
+use Rattle.lsp_session.specs.Session.{Exchange, sends_of, SessionPart, Stop}
 use Rattle.lsp_session.specs.declared.loops.handler.SessionEnd.{SessionEnd}
 use Rattle.lsp_session.specs.declared.loops.stream_session.SessionFault.{SessionFault}
 use Rattle.lsp_session.specs.declared.loops.stream_session.SessionFault.TheVariants.{Write as WriteFailed}
@@ -155,11 +155,9 @@ module _ (all : List ℕ) (old new : Option (List ℕ)) (given : Appends old new
     got = subst (Appends old new) gets.got given;
   }
 
-  wrote_known : (result : Result SessionEnd SessionFault) (stop : Stop) (shutdown_reply : Option Message)
-      (sends : List Message)
-      → WroteInThreads (Some []) (Some all) result stop shutdown_reply sends → WroteInThreads old new result stop
-      shutdown_reply sends
-  wrote_known (Err (WriteFailed fault)) stop shutdown_reply sends (output, begun) = (
+  wrote_known : (result : Result SessionEnd SessionFault) (stop : Stop) (xs : List Exchange)
+      → WroteInThreads (Some []) (Some all) result stop xs → WroteInThreads old new result stop xs
+  wrote_known (Err (WriteFailed fault)) stop xs (output, begun) = (
     output,
     (
       begun.0,
@@ -169,8 +167,8 @@ module _ (all : List ℕ) (old new : Option (List ℕ)) (given : Appends old new
       part_known begun.0 begun.1 begun.4,
     ),
   )
-  wrote_known (Err Full) stop shutdown_reply sends first = (first.0, first.1, first.2, gets_known first.0 first.3)
-  wrote_known result stop shutdown_reply sends gets = gets_known sends gets
+  wrote_known (Err Full) stop xs first = (first.0, first.1, first.2, gets_known first.0 first.3)
+  wrote_known result stop xs gets = gets_known (sends_of xs) gets
 
   pub session_known : (wakeable : Bool) {L : Type 0} (passes : L → ReadFault → L → Type 0) (limit : Limits)
       (P : SessionPart) (first last : L) (result : Result SessionEnd SessionFault) (text : List ℕ)
@@ -181,11 +179,10 @@ module _ (all : List ℕ) (old new : Option (List ℕ)) (given : Appends old new
     at = tells.at;
     read = tells.read;
     stop = tells.stop;
-    shutdown_reply = tells.shutdown_reply;
     answer = tells.answer;
     part = tells.part;
     ends = tells.ends;
-    wrote = wrote_known result tells.stop tells.shutdown_reply _ tells.wrote;
+    wrote = wrote_known result tells.stop tells.exchanges tells.wrote;
   }
 
   module _ (limit : Limits) (text : List ℕ) where

@@ -6,7 +6,7 @@ use Rattle.lsp_session.proofs.Waiting.{waits_none}
 use Rattle.lsp_session.specs.Boxes.{Receives, WaitsFor}
 use Rattle.lsp_session.specs.Event.{Event}
 use Rattle.lsp_session.specs.Prompt.{Talks}
-use Rattle.lsp_session.specs.Session.{SessionAnswer, SessionPart, Phase}
+use Rattle.lsp_session.specs.Session.{SessionAnswer, SessionPart, starting}
 use Rattle.lsp_session.specs.SessionRun.{Runs}
 use Rattle.lsp_threads.specs.Contents.{ContentsGive, ContentsListen, Receiving}
 use Rattle.lsp_threads.specs.Replies.{Gathered, RepliesSend}
@@ -42,17 +42,17 @@ module _ {R L : Type 0} where
   pub ruleset ready_waits = (ends_give, ends_wait, ends_listen)
 
   -- a session over both ends
-  pub ends_run : (passes : L → ReadFault → L → Type 0) (listens : Receives (ThreadEnds R L)) (phase : Phase)
+  pub ends_run : (passes : L → ReadFault → L → Type 0) (listens : Receives (ThreadEnds R L))
       (P : SessionPart) (old new : ThreadEnds R L) (answer : SessionAnswer)
-      → Talks (EndsGive passes) listens EndsSend phase P old answer new
+      → Talks (EndsGive passes) listens EndsSend starting P old answer new
       → Runs (ContentsGive passes) RepliesSend P (seen_of old, old.outbox.now.replies) answer
       (seen_of new, new.outbox.now.replies) × KeepsLent old new
-  ends_run passes listens phase P old new answer talks =
+  ends_run passes listens P old new answer talks =
       let run = transport_runs (ContentsGive passes) RepliesSend (EndsGive passes) listens EndsSend
       (λ (b : ThreadEnds R L). (seen_of b, b.outbox.now.replies))
       (λ (b : ThreadEnds R L). (b.parts.ghost_name, b.policy.ghost_name, b.outbox.ghost_name))
       (λ a event b gives. (gives.0, gives.1, rw (gives.3.0, gives.3.1, gives.3.2) refl))
-      (λ a m outcome b takes. (takes.0, takes.1, rw (takes.2.0, takes.2.1, takes.2.2) refl)) phase P old answer new
+      (λ a m outcome b takes. (takes.0, takes.1, rw (takes.2.0, takes.2.1, takes.2.2) refl)) P old answer new
       talks in
       let names = run.1 in (
         run.0,

@@ -14,7 +14,7 @@ use Rattle.lsp_message.specs.declared.frame.ReadFault.{ReadFault}
 use Rattle.lsp_message.specs.declared.frame.ReadFault.TheVariants.{Input, Memory as NoMemory}
 use Rattle.lsp_message.specs.declared.frame.limits.Limits.{Limits}
 use Rattle.lsp_session.specs.Event.{Event, message, closed, woken}
-use Rattle.lsp_session.specs.Passing.{ended_at_content, is_of_content}
+use Rattle.lsp_session.specs.Passing.{ended_at_content, is_bad_content}
 use Rattle.lsp_session.specs.PassingBoxes.{MayEnd}
 use Rattle.lsp_session.specs.declared.loops.ReadEnd.{ReadEnd}
 use Rattle.lsp_session.specs.declared.loops.ReadEnd.TheVariants.{Exit, End, Fault}
@@ -65,7 +65,7 @@ module _ (limit : Limits) where
   StopsAt text (Fault (Input kind)) = Unit {0}
   StopsAt text (Fault NoMemory) = Unit {0}
   StopsAt text (Fault fault) =
-      (is_of_content fault ≡ false) × (rest : List ℕ)
+      (is_bad_content fault ≡ false) × (rest : List ℕ)
       × (reading_within limit text ≡ record { outcome = Err fault; rest = rest })
   StopsAt text end = ⊥
 
@@ -228,7 +228,7 @@ module _ {L : Type 0} (passes : L → ReadFault → L → Type 0) where
   PassesPart old new =
       (content : List ℕ) × (fault : ReadFault) × TakesContent old.0 new.0 content
       × (new.0.end ≡ None) × (new.0.wakes ≡ old.0.wakes)
-      × (is_of_content fault ≡ true) × (body_means content ≡ Err fault) × passes old.1 fault new.1
+      × (is_bad_content fault ≡ true) × (body_means content ≡ Err fault) × passes old.1 fault new.1
 
   -- Of an open inbox: it gives the message that the next content part is. It gives a wake for one of the relay, or for
   -- a content part that was passed over, and the policy passes nothing but of such a part. After `exit`, after a

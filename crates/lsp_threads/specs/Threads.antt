@@ -7,7 +7,7 @@ use Rattle.lsp_message.specs.Written.{GetsFrames, GetsFramesAndPart, IsOutput}
 use Rattle.lsp_message.specs.declared.frame.ReadFault.{ReadFault}
 use Rattle.lsp_message.specs.declared.frame.limits.Limits.{Limits}
 use Rattle.lsp_session.specs.PassingBytes.{HearsLast, PassesOver}
-use Rattle.lsp_session.specs.Session.{SessionAnswer, SessionPart, Stop}
+use Rattle.lsp_session.specs.Session.{Exchange, sends_of, SessionAnswer, SessionPart, Stop}
 use Rattle.lsp_session.specs.SessionBytes.{Ends, SessionOver}
 use Rattle.lsp_session.specs.declared.loops.ReadEnd.{ReadEnd}
 use Rattle.lsp_session.specs.declared.loops.handler.SessionEnd.{SessionEnd}
@@ -34,18 +34,17 @@ ReadsOrWakes wakeable limit text None rest = (wakeable ≡ true) × (rest ≡ te
 -- For what a session in threads answers: as one over bytes ends, whatever is left of the text, since the reader is
 -- gone.
 abbrev pub EndsInThreads : Limits → Result SessionEnd SessionFault → SessionAnswer → Stop
-    → Option Message → List ℕ → Type 0
-EndsInThreads limit result answer stop shutdown_reply at = (left : Option (List ℕ))
-    × Ends limit left result answer stop shutdown_reply at
+    → List ℕ → Type 0
+EndsInThreads limit result answer stop at = (left : Option (List ℕ)) × Ends limit left result answer stop at
 
 -- What the writer got of all that was sent: frames of it; or, if a write failed, frames of the first messages and a
 -- beginning of the next; or, if an allocation failed, frames of the first messages.
 abbrev pub WroteInThreads : Option (List ℕ) → Option (List ℕ) → Result SessionEnd SessionFault
-    → Stop → Option Message → List Message → Type 0
-WroteInThreads old new (Err (Write fault)) stop shutdown_reply sends = IsOutput fault
-    × BreaksOffWithin sends old new
-WroteInThreads old new (Err Memory) stop shutdown_reply sends = GetsFirst sends old new
-WroteInThreads old new result stop shutdown_reply sends = GetsFrames sends old new
+    → Stop → List Exchange → Type 0
+WroteInThreads old new (Err (Write fault)) stop exchanges = IsOutput fault
+    × BreaksOffWithin (sends_of exchanges) old new
+WroteInThreads old new (Err Memory) stop exchanges = GetsFirst (sends_of exchanges) old new
+WroteInThreads old new result stop exchanges = GetsFrames (sends_of exchanges) old new
 
 -- bytes in to bytes out, of a session that passes over nothing, and that others can wake or not
 abbrev pub ThreadsGiveOver : Bool → Limits → SessionPart → List ℕ → Option (List ℕ) → Option (List ℕ)
@@ -74,7 +73,7 @@ module _ (wakeable : Bool) {L : Type 0} (passes : L → ReadFault → L → Type
       → Result SessionEnd SessionFault → Type 0
   ThreadsTellOver P text first last old new result =
       SessionOver ReadsFrameOrWakes P (text, first)
-      (λ answer stop shutdown_reply at. EndsInThreads limit result answer stop shutdown_reply at.0
+      (λ answer stop at. EndsInThreads limit result answer stop at.0
       × HearsLast passes limit stop at last) (WroteInThreads old new result)
 
 -- nobody can wake the session but for a content part that is passed over

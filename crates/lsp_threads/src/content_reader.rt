@@ -9,7 +9,7 @@ use crate::goes_on::surely_goes_on;
 use crate::peeking_reader::PeekingReader;
 use crate::workers::ReadsInto;
 use json::Scratch;
-use lsp_message::{Limits, Passed, ReadFault, read_content_telling};
+use lsp_message::{Limits, Passed, ReadFault, read_content_traced};
 use lsp_relay::RelayTx;
 use lsp_session::ReadEnd;
 use std::alloc::Global;
@@ -36,7 +36,7 @@ fn read_contents<R: Wait + Drop, S: BufRead>(
 {
     let mut scratch = Scratch::new(alloc);
     for _ in 0..u64::MAX {
-        let content = match read_content_telling(alloc, reader, limits, taken) {
+        let content = match read_content_traced(alloc, reader, limits, taken) {
             Ok(Some(content)) => content,
             Ok(None) => return ReadEnd::End,
             Err(fault) => return ReadEnd::Fault(fault),

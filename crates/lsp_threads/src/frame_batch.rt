@@ -8,7 +8,7 @@ ghost use Rattle.lsp_threads.specs.Passing.{GivenTo, GivesMore, noted};
 
 use crate::backlog::{Backlog, Takes};
 use crate::parcels::{collect, deliver};
-use lsp_message::{Message, Passed, WriteFault, write_frames_telling};
+use lsp_message::{Message, Passed, WriteFault, write_frames_traced};
 use lsp_relay::{Parcel, RelayRx, RelayTx, Taken};
 use std::alloc::{AllocError, Global};
 use std::io::Write;
@@ -236,5 +236,5 @@ fn write_after<W: Write>(
     if before.is_some() || text.is_empty() {
         return before;
     }
-    write_frames_telling(writer, text, given).err()
+    write_frames_traced(writer, text, given).err()
 }

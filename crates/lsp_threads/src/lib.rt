@@ -22,9 +22,9 @@ mod watched_writer;
 mod workers;
 
 pub use content_batch::{Contents, ContentsPlan, ContentsRx, ContentsTx};
-pub use pumping::{PumpFault, PumpOutcome, pump, pump_by, pump_telling, pump_within};
+pub use pumping::{PumpFault, PumpOutcome, pump, pump_by, pump_traced, pump_within};
 pub use run::{
-    ThreadOptions, Threaded, UNREAD_BYTES, UNWRITTEN_BYTES, run_in_threads, run_in_threads_over,
-    run_threads, run_threads_within,
+    DEFAULT_READ_AHEAD_BYTES, ThreadOptions, Threaded, UNWRITTEN_BYTES, run_in_threads,
+    run_in_threads_over, run_threads, run_threads_within,
 };
 pub use workers::StartFault;

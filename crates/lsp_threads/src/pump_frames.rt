@@ -29,7 +29,7 @@ fn read_frames<R: Wait + Drop, S: BufRead>(
     ensures relay { outbox.new.relay ≡ outbox.old.relay }
 {
     for _ in 0..u64::MAX {
-        let message = match Message::read_telling(alloc, reader, limits, taken) {
+        let message = match Message::read_traced(alloc, reader, limits, taken) {
             Ok(Some(message)) => message,
             Ok(None) => return ReadEnd::End,
             Err(fault) => return ReadEnd::Fault(fault),

@@ -63,7 +63,7 @@ impl Error for PumpFault {}
 /// `Ok` means that the messages ended with `exit` or with the input. After a failed write nothing more is written, and
 /// the remaining messages are read and dropped. So the call returns only when the reader is at its end. If no memory is
 /// left for a frame, the fault is `PumpFault::Write` with `WriteFault::Memory`, and nothing more is read. The clause
-/// applies to a reader whose bytes are known. `pump_telling` says the same for every reader, including standard input
+/// applies to a reader whose bytes are known. `pump_traced` says the same for every reader, including standard input
 /// and a socket.
 pub fn pump<T, R, W>(rt: &T, alloc: Global, reader: R, writer: &mut W) -> Result<(), PumpFault>
 where
@@ -117,7 +117,7 @@ where
     ensures { IfSome (R.remaining reader) (λ text.
         Pumps limits text (W.contents writer.old) (W.contents writer.new) result) }
 {
-    pump_telling(rt, builder, alloc, reader, writer, limits).answer
+    pump_traced(rt, builder, alloc, reader, writer, limits).answer
 }
 
 /// The result of a pump, and accounts of the bytes that it took and gave, which only clauses see.
@@ -138,7 +138,7 @@ pub struct PumpOutcome {
 /// The clause `told` is that of `pump`, for each text that begins with the bytes that were taken, and for a writer that
 /// began empty. The clauses `taken` and `given` say that these are the bytes that were read and written, if they are
 /// known. No clause says in which order bytes were taken and given.
-pub fn pump_telling<T, R, W>(
+pub fn pump_traced<T, R, W>(
     rt: &T,
     builder: Builder,
     alloc: Global,

@@ -15,7 +15,7 @@ use crate::parcels::deliver;
 use crate::watched_writer::WriteFaults;
 use lsp_message::{Message, RequestId, ResultText, WriteFault};
 use lsp_relay::{Parcel, RelayTx};
-use lsp_session::{SendFault, without_result};
+use lsp_session::{SendFault, null_response};
 use std::alloc::Global;
 use std::marker::Model;
 use std::mem;
@@ -121,7 +121,7 @@ impl<R: Wait + Drop> ReplyOutbox<R> {
         if self.failed || self.faults.any() {
             self.failed = true;
             drop(text);
-            return Err(SendFault::Memory(without_result(id)));
+            return Err(SendFault::Memory(null_response(id)));
         }
         match text.into_frame(self.alloc, &id) {
             Ok(frame) => {
@@ -131,7 +131,7 @@ impl<R: Wait + Drop> ReplyOutbox<R> {
             }
             Err(_) => {
                 self.failed = true;
-                Err(SendFault::Memory(without_result(id)))
+                Err(SendFault::Memory(null_response(id)))
             }
         }
     }

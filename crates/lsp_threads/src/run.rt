@@ -13,7 +13,7 @@ use crate::workers::{ROOM, StartFault};
 use lsp_message::{Limits, Passed};
 use lsp_relay::relay;
 use lsp_session::{
-    Application, BadContentPolicy, EndSession, Handler, HandlerService, ServiceApplication,
+    Application, BadContentPolicy, EndOnBadContent, Handler, HandlerService, ServiceApplication,
     SessionEnd, SessionFault,
 };
 use serde_json::Value;
@@ -41,7 +41,7 @@ pub struct Threaded<W> {
 }
 
 /// How many bytes of content parts a session in threads reads ahead by default: 1 MiB.
-pub const UNREAD_BYTES: u64 = 1_048_576;
+pub const DEFAULT_READ_AHEAD_BYTES: u64 = 1_048_576;
 
 /// How many bytes of messages of a session in threads may wait to be written by default: 1 MiB.
 pub const UNWRITTEN_BYTES: u64 = 1_048_576;
@@ -66,7 +66,7 @@ pub struct ThreadOptions {
 }
 
 impl ThreadOptions {
-    /// Makes options with builders that set nothing, no limits, `UNREAD_BYTES` and `UNWRITTEN_BYTES`.
+    /// Makes options with builders that set nothing, no limits, `DEFAULT_READ_AHEAD_BYTES` and `UNWRITTEN_BYTES`.
     pub fn new() -> ThreadOptions
         ensures limits { result.limits ≡ no_limit }
         ensures unread { result.unread ≡ 1048576 }
@@ -79,7 +79,7 @@ impl ThreadOptions {
                 header: None,
                 content: u64::MAX,
             },
-            unread: UNREAD_BYTES,
+            unread: DEFAULT_READ_AHEAD_BYTES,
             unwritten: UNWRITTEN_BYTES,
         }
     }
@@ -123,13 +123,13 @@ where
     ensures unstarted { OnErr result (handler.new ≡ handler.old) }
     ensures told { IfOk result (λ done. OfTaken done.taken.parts (λ text.
         ThreadsGive no_limit
-        (SessionOut (of_handler H.answers H.notes (view capabilities)) handler.old handler.new)
+        (SessionOut (of_handler H.answer_post H.note_post (view capabilities)) handler.old handler.new)
         text (Some []) (noted done.given) done.answer)) }
     ensures passed { IfOk result (λ done. TakenFrom (R.remaining reader) done.taken.parts
         × GivenTo (W.contents writer) done.given.parts (W.contents done.writer)) }
     ensures session { IfSome (R.remaining reader) (λ text. IfOk result (λ done.
         ThreadsGive no_limit
-        (SessionOut (of_handler H.answers H.notes (view capabilities)) handler.old handler.new)
+        (SessionOut (of_handler H.answer_post H.note_post (view capabilities)) handler.old handler.new)
         text (W.contents writer) (W.contents done.writer) done.answer)) }
 {
     run_threads_within(rt, alloc, reader, writer, capabilities, handler, u64::MAX)
@@ -155,13 +155,13 @@ where
     ensures unstarted { OnErr result (handler.new ≡ handler.old) }
     ensures told { IfOk result (λ done. OfTaken done.taken.parts (λ text.
         ThreadsGive (of_content limit)
-        (SessionOut (of_handler H.answers H.notes (view capabilities)) handler.old handler.new)
+        (SessionOut (of_handler H.answer_post H.note_post (view capabilities)) handler.old handler.new)
         text (Some []) (noted done.given) done.answer)) }
     ensures passed { IfOk result (λ done. TakenFrom (R.remaining reader) done.taken.parts
         × GivenTo (W.contents writer) done.given.parts (W.contents done.writer)) }
     ensures session { IfSome (R.remaining reader) (λ text. IfOk result (λ done.
         ThreadsGive (of_content limit)
-        (SessionOut (of_handler H.answers H.notes (view capabilities)) handler.old handler.new)
+        (SessionOut (of_handler H.answer_post H.note_post (view capabilities)) handler.old handler.new)
         text (W.contents writer) (W.contents done.writer) done.answer)) }
 {
     let mut capabilities = capabilities;
@@ -178,7 +178,7 @@ where
         reader,
         writer,
         &mut application,
-        &mut EndSession,
+        &mut EndOnBadContent,
         options,
     )
 }
@@ -193,12 +193,12 @@ where
 /// that are no messages. A `StartFault` means that a thread was not started, or that an allocation failed. Then nothing
 /// was read or written, and the application and the policy are as they were.
 ///
-/// At a content part that is no message (see `lsp_session::is_of_content`) `policy` is asked, at once and on your
+/// At a content part that is no message (see `lsp_session::is_bad_content`) `policy` is asked, at once and on your
 /// thread, from `initialized` up to `shutdown`, if the application can be woken. If it says to read on, nothing is
 /// answered, the application is woken, and the next message follows. If the policy ends the session, such a part is
 /// `SessionFault::Read`, and the messages read after it are dropped. Before `initialized` and after `shutdown` it is so
-/// in any case, and so is each other fault of reading at any time. With `EndSession` nothing is ever skipped
-/// (`laws::nothing_is_passed_over_in_threads`).
+/// in any case, and so is each other fault of reading at any time. With `EndOnBadContent` nothing is ever skipped
+/// (`laws::nothing_is_skipped_in_threads`).
 pub fn run_in_threads<T, R, W, A, L>(
     rt: &T,
     alloc: Global,

@@ -14,7 +14,7 @@ use crate::reply_outbox::ReplyOutbox;
 use lsp_message::{Message, ReadFault, RequestId, ResultText};
 use lsp_session::{
     Application, Arrival, BadContentPolicy, Event, Inbox, Outbox, ReadEnd, SendFault,
-    SessionOutcome, TextOutbox, WakingInbox, is_exit, is_of_content,
+    SessionOutcome, TextOutbox, WakingInbox, is_bad_content, is_exit,
 };
 use std::alloc::Global;
 use std::sync::Wait;
@@ -23,7 +23,7 @@ use std::sync::Wait;
 /// content part that is no message and was not skipped, and once End was taken. It has no timeouts.
 ///
 /// `receive_or_woken` returns each wake-up of the relay. It also asks the policy at a content part that is no message
-/// (`is_of_content`). Then it skips the part and returns `Arrival::Woken`, or ends the messages. In the other calls
+/// (`is_bad_content`). Then it skips the part and returns `Arrival::Woken`, or ends the messages. In the other calls
 /// there is no wake-up: those of the relay are ignored, and such a part ends the messages. Any other fault ends the
 /// messages in each call.
 ///
@@ -115,7 +115,7 @@ impl<'a, R: Wait + Copy + Drop, L: BadContentPolicy> ThreadEnds<'a, R, L> {
         match self.read_next() {
             Ok(arrival) => arrival,
             Err(fault) => {
-                if is_of_content(fault) && self.policy.passes_over(fault) {
+                if is_bad_content(fault) && self.policy.skips(fault) {
                     self.parts.go_on();
                     return Arrival::Woken;
                 }

@@ -221,7 +221,7 @@ fn is_path_of(names: &[u8], path: &[u8]) -> bool
 }
 
 /// Returns whether a file URI names a path, as `path_of_uri` reads it. Editors spell the URI of a path in several ways,
-/// and `uri_of_path` returns one of them. So find the document of a path with `TextDocuments::at_path` of
+/// and `uri_of_path` returns one of them. So find the document of a path with `TextDocuments::get_by_path` of
 /// `lsp_documents`, which calls this for each URI.
 pub fn names_path(uri: &str, path: &str) -> bool
     ensures { MatchBool result (Names uri.now path.now) (Names uri.now path.now → ⊥) }

@@ -7,7 +7,7 @@ ghost use Rattle.std.specs.Prelude.{◌⊎◌, ◌<◌, ℕ, List};
 ghost use Rattle.lsp_waiting.specs.Threads.{AllGone, HandsOverFirst, IsStuck, Runs, State, WaitsAtOnce, WaitsForClient, start};
 
 /// The threads of a session do not wait for one another. If no thread can go on, there are three cases: the client does
-/// not read what is written; it has received everything for the messages that it sent, and sends nothing more; or all
+/// not read the output; it has received everything for the messages that it sent, and sends nothing more; or all
 /// threads are gone. This holds in each state that they reach, whatever the client does, if each thread passes on what
 /// it holds before it waits, and a relay has room for at least one parcel.
 ///

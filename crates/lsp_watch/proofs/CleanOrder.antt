@@ -15,8 +15,8 @@ use Rattle.lsp_watch.specs.Rules.{initialize_result, lifecycle_of, is_early, tel
 use Rattle.lsp_watch.specs.Rules.{client_finding, opening_finding, opened_finding, lifecycle_finding}
 use Rattle.lsp_watch.specs.declared.rule.Rule.TheVariants.{BeforeResult, BeforeInitialized, SentAgain, AfterShutdown}
 use Rattle.lsp_watch.specs.declared.rule.Rule.TheVariants.{AfterExit}
-use Rattle.lsp_watch.specs.declared.way.Way.{Way}
-use Rattle.lsp_watch.specs.declared.way.Way.TheVariants.{ToServer, ToClient}
+use Rattle.lsp_watch.specs.declared.direction.Direction.{Direction}
+use Rattle.lsp_watch.specs.declared.direction.Direction.TheVariants.{ToServer, ToClient}
 use Rattle.lsp_watch.specs.declared.lifecycle.Lifecycle.{Lifecycle}
 use Rattle.lsp_watch.proofs.CleanReplies.{first_none, second_none, mapped_none, lifecycle_fits}
 
@@ -93,7 +93,7 @@ swap_or true b e = or_right b true refl
 swap_or false true e = refl
 swap_or false false e = cc
 
-opened_by : (way : Way) (place : ℕ) (m : Message) (before : Log)
+opened_by : (way : Direction) (place : ℕ) (m : Message) (before : Log)
     → (list_any opens_session (open_of before) ≡ true → list_any is_initialize before ≡ true)
     → list_any opens_session (open_after way place m (open_of before)) ≡ true
     → (is_initialize (record { way = way; place = place; message = m }) || list_any is_initialize before) ≡ true
@@ -306,7 +306,7 @@ server_order before m fits = by (is_some (initialize_result before)) (is_some (i
     by false true false at waits early fits = cc
     by false false e at waits early fits = cc
 
-call_order : (before : Log) (way : Way) (m : Message) → lifecycle_finding before way m ≡ None → is_call m ≡ true
+call_order : (before : Log) (way : Direction) (m : Message) → lifecycle_finding before way m ≡ None → is_call m ≡ true
     → MatchBool (from_client way) (ClientKeepsOrder before m) (ServerKeepsOrder before m)
 call_order before ToServer (request i method params) fits is = client_order before (request i method params) fits
 call_order before ToServer (notification method params) fits is = client_order before (notification method params) fits

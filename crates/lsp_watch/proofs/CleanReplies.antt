@@ -13,8 +13,8 @@ use Rattle.lsp_watch.specs.Log.{Log, Passed, Open, passed, other, same_way, is_r
 use Rattle.lsp_watch.proofs.Queues.{first, rest, queue, waiting_is, queue_request, queue_notification, queue_reply}
 use Rattle.lsp_watch.proofs.Queues.{both, same_way_is, other_ways}
 use Rattle.lsp_watch.specs.Rules.{session_finding, lifecycle_finding, id_finding, reply_finding}
-use Rattle.lsp_watch.specs.declared.way.Way.{Way}
-use Rattle.lsp_watch.specs.declared.way.Way.TheVariants.{ToServer, ToClient}
+use Rattle.lsp_watch.specs.declared.direction.Direction.{Direction}
+use Rattle.lsp_watch.specs.declared.direction.Direction.TheVariants.{ToServer, ToClient}
 
 -- ---- logs
 
@@ -37,7 +37,7 @@ pub mapped_none : {A B : Type 0} (f : A → B) (o : Option A) → option_map f o
 mapped_none f None e = refl
 mapped_none f (Some x) e = cc
 
-module _ (before : Log) (way : Way) (m : Message) (fits : session_finding before way m ≡ None) where
+module _ (before : Log) (way : Direction) (m : Message) (fits : session_finding before way m ≡ None) where
   pub lifecycle_fits : lifecycle_finding before way m ≡ None
   lifecycle_fits = first_none _ (id_finding before way m) fits
 
@@ -50,7 +50,7 @@ neither : (a b : Bool) → (a && b) ≡ true → b ≡ false → a ≡ false
 neither true b e f = cc
 neither false b e f = refl
 
-other_way_is : (a b : Way) → same_way (other a) b ≡ true → other b ≡ a
+other_way_is : (a b : Direction) → same_way (other a) b ≡ true → other b ≡ a
 other_way_is ToServer ToServer e = cc
 other_way_is ToServer ToClient e = refl
 other_way_is ToClient ToServer e = refl
@@ -60,13 +60,14 @@ and_false : {A : Type 0} (a : Bool) → (a && false) ≡ true → A
 and_false true e = cc
 and_false false e = cc
 
-module _ (before : Log) (way : Way) (id : Id) where
-  at_id : (w : Way) (i : Id) (o : Option Open) → w ≡ way → i ≡ id → waiting w i before ≡ o → waiting way id before ≡ o
+module _ (before : Log) (way : Direction) (id : Id) where
+  at_id : (w : Direction) (i : Id) (o : Option Open) → w ≡ way → i ≡ id → waiting w i before ≡ o → waiting way id
+      before ≡ o
   at_id w i o same_w same_i e =
       subst (λ v. waiting v id before ≡ o) same_w (subst (λ j. waiting w j before ≡ o) same_i e)
 
   -- a request that fits comes where none waits
-  none_waits : (w : Way) (place : ℕ) (m : Message) → is_request way id (passed w place m) ≡ true
+  none_waits : (w : Direction) (place : ℕ) (m : Message) → is_request way id (passed w place m) ≡ true
       → id_finding before w m ≡ None → waiting way id before ≡ None
   none_waits w place (request i method params) is fits =
       let parts = both (same_way way w) (same_id id i) is in
@@ -79,7 +80,7 @@ module _ (before : Log) (way : Way) (id : Id) where
   replied_some (Some asked) e = (asked, refl)
 
   -- a reply that fits comes where one waits
-  one_waits : (w : Way) (place : ℕ) (m : Message) → is_reply way id (passed w place m) ≡ true
+  one_waits : (w : Direction) (place : ℕ) (m : Message) → is_reply way id (passed w place m) ≡ true
       → id_finding before w m ≡ None → (asked : Open) × (waiting way id before ≡ Some asked)
   one_waits w place (request i method params) is fits = and_false (same_way (other way) w) is
   one_waits w place (notification method params) is fits = and_false (same_way (other way) w) is
@@ -103,7 +104,7 @@ never : (b : Bool) → (b && false) ≡ false
 never true = refl
 never false = refl
 
-module _ (way : Way) (id : Id) where
+module _ (way : Direction) (id : Id) where
   -- none waits, or one that was asked, alone
   abbrev Alone : Log → Type 0
   Alone log = (queue way id log ≡ []) ⊎ ((q : Open) × (queue way id log ≡ q ∷ []) × IsAsked log way id)
@@ -131,7 +132,7 @@ module _ (way : Way) (id : Id) where
   at_reply before (inl none) = ap rest none
   at_reply before (inr one) = ap rest one.1
 
-  step : (went : Way) (place : ℕ) (m : Message) (before : Log) → id_finding before went m ≡ None → Alone before
+  step : (went : Direction) (place : ℕ) (m : Message) (before : Log) → id_finding before went m ≡ None → Alone before
       → Alone (passed went place m ∷ before)
   step went place (notification method params) before fits alone = beside (passed went place
       (notification method params)) before (queue_notification way id went place before method params)

@@ -1,8 +1,11 @@
 mod CleanOrder
 mod CleanReplies
+mod EachOrder
 mod NoFalseAlarm
 pub mod Queues
 mod Refused
 mod RefusedContent
 mod RefusedLawful
+mod RefusedOrders
 mod Removed
+mod Tokens

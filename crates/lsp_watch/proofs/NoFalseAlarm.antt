@@ -1,6 +1,6 @@
 -- A lawful log breaks no rule of ids or of progress.
 use Rattle.std.proofs.Common.{◌≡◌, Bool, true, false, cond, ◌&&◌, ◌||◌, List, [], ◌∷◌, ◌++◌, Option, Some, None}
-use Rattle.std.proofs.Common.{refl, sym, ap, ◌∙◌, subst, ℕ, option_map, true≢false}
+use Rattle.std.proofs.Common.{refl, sym, ap, ◌∙◌, subst, ℕ, option_map, true≢false, ◌⊎◌, inl, inr, ⊎_elim, not, filter}
 use Rattle.std.specs.List.{list_any}
 use Rattle.std.specs.Prelude.{find, option_and_then}
 use Rattle.lsp_message.proofs.Ids.{same_own, same_is}
@@ -8,13 +8,16 @@ use Rattle.lsp_message.specs.Id.{Id, same_id}
 use Rattle.lsp_message.specs.Message.{Message, request, notification, response}
 use Rattle.lsp_watch.proofs.Queues.{same_way_is, both}
 use Rattle.lsp_watch.specs.CleanLog.{AtEach}
-use Rattle.lsp_watch.specs.Lawful.{MayTell, MayPass, IsLawful, BreaksNone}
-use Rattle.lsp_watch.specs.Log.{Log, Passed, Open, passed, other, same_way, is_for, request_of, without_first, open_of}
-use Rattle.lsp_watch.specs.Log.{progress_token}
-use Rattle.lsp_watch.specs.Progress.{gives, token_finding, created_finding, progress_finding, live_of, ended_of}
+use Rattle.lsp_watch.specs.Lawful.{IsGiven, IsAccepted, MayTell, MayPass, IsLawful, BreaksNone, without, with}
+use Rattle.lsp_watch.specs.Log.{Log, Passed, Open, Finding, passed, other, same_way, is_for, request_of, without_first}
+use Rattle.lsp_watch.specs.Log.{open_of, progress_token, is_success}
+use Rattle.lsp_watch.specs.Progress.{gives, token_finding, created_finding, progress_finding, token_of}
+use Rattle.lsp_watch.specs.Progress.{after_end, after_accept, once_ended, ended_by}
 use Rattle.lsp_watch.specs.Rules.{id_finding, reply_finding}
-use Rattle.lsp_watch.specs.declared.way.Way.{Way}
-use Rattle.lsp_watch.specs.declared.way.Way.TheVariants.{ToServer, ToClient}
+use Rattle.lsp_watch.specs.declared.progress.Token.{Token}
+use Rattle.lsp_watch.specs.declared.progress.Token.TheVariants.{Live}
+use Rattle.lsp_watch.specs.declared.direction.Direction.{Direction}
+use Rattle.lsp_watch.specs.declared.direction.Direction.TheVariants.{ToServer, ToClient}
 
 -- ---- lists
 
@@ -71,7 +74,7 @@ Distinct [] = Unit {0}
 Distinct (x ∷ xs) = AllNot (is_for x.way x.id) xs × Distinct xs
 
 -- if one of these has the id, the other has not
-not_both : (way : Way) (id : Id) (x o : Open) → is_for way id o ≡ true → is_for x.way x.id o ≡ false
+not_both : (way : Direction) (id : Id) (x o : Open) → is_for way id o ≡ true → is_for x.way x.id o ≡ false
     → is_for way id x ≡ false
 not_both way id x o is other = by (is_for way id x) refl
   where
@@ -84,7 +87,7 @@ not_both way id x o is other = by (is_for way id x) refl
         ∙ ap (λ k. is_for way k o) (sym (same_is id x.id parts.1)) in
         absurd (true≢false (sym is ∙ sym same ∙ other))
 
-own_way : (w : Way) → same_way w w ≡ true
+own_way : (w : Direction) → same_way w w ≡ true
 own_way ToServer = refl
 own_way ToClient = refl
 
@@ -113,7 +116,7 @@ distinct_without (x ∷ xs) o ys apart = (
   distinct_without xs o ys apart.1,
 )
 
-none_before : (way : Way) (id : Id) (xs : List Open) (o : Open) (ys : List Open) → is_for way id o ≡ true
+none_before : (way : Direction) (id : Id) (xs : List Open) (o : Open) (ys : List Open) → is_for way id o ≡ true
     → Distinct (xs ++ o ∷ ys) → AllNot (is_for way id) xs
 none_before way id [] o ys is apart = tt
 none_before way id (x ∷ xs) o ys is apart = (
@@ -137,54 +140,143 @@ each_more p log here there [] before q is =
     subst (λ l. Fine l q) rest (subst (Fine log) same here)
 each_more p log here there (x ∷ later) before q is = there later before q cc
 
--- what is kept is what is open
-abbrev Keeps : Log → List Open → Type 0
-Keeps log asked = (open_of log ≡ asked) × Distinct asked
+-- ---- the live tokens
 
-told : (way : Way) (before : Log) (asked : List Open) → open_of before ≡ asked → (name : Option Id)
-    → MayTell way name asked
-    → option_and_then (token_finding (open_of before) (live_of before) (ended_of before) way) name ≡ None
-told way before asked is None may = refl
-told way before asked is (Some name) may =
-    ap (λ b. cond b None (created_finding (live_of before) (ended_of before) way name))
-    (ap (list_any (gives way name)) (is ∙ may.3) ∙ one_any (gives way name) may.1 may.0 may.2 may.4)
+or_right : (a b : Bool) → b ≡ true → (a || b) ≡ true
+or_right true b is = refl
+or_right false b is = is
 
-step : (way : Way) (place : ℕ) (m : Message) (before : Log) (old new : List Open) → Keeps before old
-    → MayPass way place m old new → Keeps (passed way place m ∷ before) new × Fine before (passed way place m)
-step way place (request i method params) before old new keeps may =
+abbrev Kept : Id → Id → List Id → Type 0
+Kept name ended live = list_any (same_id name) (filter (λ n. not (same_id ended n)) live) ≡ true
+    → (list_any (same_id name) live ≡ true) × (same_id ended name ≡ false)
+
+kept_at : (name ended x : Id) (live : List Id) → same_id ended x ≡ false → (c : Bool) → same_id name x ≡ c
+    → Kept name ended live → (c || list_any (same_id name) (filter (λ n. not (same_id ended n)) live)) ≡ true
+    → ((c || list_any (same_id name) live) ≡ true) × (same_id ended name ≡ false)
+kept_at name ended x live at true here more is = (refl, ap (same_id ended) (same_is name x here) ∙ at)
+kept_at name ended x live at false here more is = more is
+
+kept_other : (name ended : Id) (live : List Id) → Kept name ended live
+kept_other name ended [] is = cc
+kept_other name ended (x ∷ live) is = by (same_id ended x) refl (kept_other name ended live) is
+  where
+    by : (b : Bool) → same_id ended x ≡ b → Kept name ended live
+        → list_any (same_id name) (cond (not b) (x ∷ filter (λ n. not (same_id ended n)) live)
+        (filter (λ n. not (same_id ended n)) live)) ≡ true
+        → ((same_id name x || list_any (same_id name) live) ≡ true) × (same_id ended name ≡ false)
+    by true at more is = (or_right (same_id name x) (list_any (same_id name) live) (more is).0, (more is).1)
+    by false at more is = kept_at name ended x live at (same_id name x) refl more is
+
+-- each of these tokens was accepted, and has not ended
+abbrev Lives : Log → List Id → Type 0
+Lives log live = (name : Id) → list_any (same_id name) live ≡ true → token_of name log ≡ Some Live
+
+lives_end : (name : Id) (place : ℕ) (ended : Option Id) (live : List Id) (token : Option Token)
+    → (list_any (same_id name) live ≡ true → token ≡ Some Live)
+    → list_any (same_id name) (without ended live) ≡ true → after_end name place ended token ≡ Some Live
+lives_end name place None live token lives is = lives is
+lives_end name place (Some ended) live token lives is =
+    let kept = kept_other name ended live is in
+    ap (λ b. cond b (once_ended place token) token) kept.1 ∙ lives kept.0
+
+lives_with : (name : Id) (succeeds : Bool) (created : Option Id) (live : List Id) (token : Option Token)
+    → (list_any (same_id name) live ≡ true → token ≡ Some Live) → list_any (same_id name) (with succeeds created live)
+    ≡ true
+    → after_accept name (cond succeeds created None) token ≡ Some Live
+lives_with name true None live token lives is = lives is
+lives_with name true (Some accepted) live token lives is = by (same_id accepted name) refl
+  where
+    by : (b : Bool) → same_id accepted name ≡ b → cond b (Some Live) token ≡ Some Live
+    by true same = refl
+    by false same = lives (this (same_id name accepted) refl is)
+      where
+        this : (c : Bool) → same_id name accepted ≡ c → (c || list_any (same_id name) live) ≡ true
+            → list_any (same_id name) live ≡ true
+        this true at is = absurd (true≢false (sym at ∙ ap (λ n. same_id n accepted) (same_is name accepted at)
+            ∙ ap (same_id accepted) (sym (same_is name accepted at)) ∙ same))
+        this false at is = is
+lives_with name false created live token lives is = lives is
+
+-- what is kept is what is open, and what lives
+abbrev Keeps : Log → List Open → List Id → Type 0
+Keeps log asked live = (open_of log ≡ asked) × Distinct asked × Lives log live
+
+fine_if_given : (b : Bool) (found : Option Finding) → (b ≡ true) ⊎ (found ≡ None) → cond b None found ≡ None
+fine_if_given true found is = refl
+fine_if_given false found is = ⊎_elim (λ e. absurd (true≢false (sym e))) (λ e. e) is
+
+accepted_fine : (way : Direction) (before : Log) (live : List Id) → Lives before live → (name : Id)
+    → IsAccepted way name live → created_finding way (token_of name before) ≡ None
+accepted_fine ToServer before live lives name may = absurd may
+accepted_fine ToClient before live lives name may = ap (created_finding ToClient) (lives name
+    (ap (list_any (same_id name)) may.2 ∙ one_any (same_id name) may.0 name may.1 (same_own name)))
+
+told : (way : Direction) (before : Log) (asked : List Open) (live : List Id) → Keeps before asked live
+    → (name : Option Id) → MayTell way name asked live
+    → option_and_then (λ name. token_finding (open_of before) (token_of name before) way name) name ≡ None
+told way before asked live keeps None may = refl
+told way before asked live keeps (Some name) may = fine_if_given (list_any (gives way name) (open_of before))
+    (created_finding way (token_of name before)) (⊎_elim given accepted may)
+  where
+    given : IsGiven way name asked
+        → (list_any (gives way name) (open_of before) ≡ true) ⊎ (created_finding way (token_of name before) ≡ None)
+    given may = inl (ap (list_any (gives way name)) (keeps.0 ∙ may.3) ∙ one_any (gives way name) may.1 may.0 may.2
+        may.4)
+
+    accepted : IsAccepted way name live
+        → (list_any (gives way name) (open_of before) ≡ true) ⊎ (created_finding way (token_of name before) ≡ None)
+    accepted may = inr (accepted_fine way before live keeps.2 name may)
+
+step : (way : Direction) (place : ℕ) (m : Message) (before : Log) (old new : List Open) (was live : List Id)
+    → Keeps before old was → MayPass way place m old new was live
+    → Keeps (passed way place m ∷ before) new live × Fine before (passed way place m)
+step way place (request i method params) before old new was live keeps may =
     let none : AllNot (is_for way i) old = all_not (is_for way i) old may.0 in (
       (
         ap (λ l. l ++ request_of way place i method params ∷ []) keeps.0 ∙ sym may.1,
         subst Distinct (sym may.1) (distinct_push old (request_of way place i method params) none keeps.1),
+        subst (Lives (passed way place (request i method params) ∷ before)) (sym may.2) keeps.2,
       ),
       (ap (option_map _) (ap (find (is_for way i)) keeps.0 ∙ none_found (is_for way i) old none), refl),
     )
-step way place (notification method params) before old new keeps may = (
-  (keeps.0 ∙ sym may.1, subst Distinct (sym may.1) keeps.1),
-  (refl, told way before old keeps.0 (progress_token (notification method params)) may.0),
+step way place (notification method params) before old new was live keeps may = (
+  (
+    keeps.0 ∙ sym may.1,
+    subst Distinct (sym may.1) keeps.1,
+    λ name is. lives_end name place (ended_by way (notification method params)) was (token_of name before)
+        (keeps.2 name) (ap (list_any (same_id name)) (sym may.2) ∙ is),
+  ),
+  (refl, told way before old was keeps (progress_token (notification method params)) may.0),
 )
-step way place (response i outcome) before old new keeps may =
+step way place (response i outcome) before old new was live keeps may =
     let at : open_of before ≡ may.1 ++ may.0 ∷ may.2 = keeps.0 ∙ may.3 in
     let apart : Distinct (may.1 ++ may.0 ∷ may.2) = subst Distinct may.3 keeps.1 in
-    let none = none_before (other way) i may.1 may.0 may.2 may.4 apart in (
+    let none = none_before (other way) i may.1 may.0 may.2 may.4 apart in
+    let found : find (is_for (other way) i) (open_of before) ≡ Some may.0 =
+    ap (find (is_for (other way) i)) at ∙ one_found (is_for (other way) i) may.1 may.0 may.2 none may.4 in (
       (
         ap (without_first (is_for (other way) i)) at
             ∙ one_goes (is_for (other way) i) may.1 may.0 may.2 none may.4 ∙ sym may.5,
         subst Distinct (sym may.5) (distinct_without may.1 may.0 may.2 apart),
+        λ name is. ap (λ f. after_accept name (cond (is_success (response i outcome))
+            (option_and_then (λ o. o.created) f)
+            None) (token_of name before)) found
+            ∙ lives_with name (is_success (response i outcome)) may.0.created was (token_of name before) (keeps.2 name)
+            (ap (list_any (same_id name)) (sym may.6) ∙ is),
       ),
-      (
-        ap reply_finding (ap (find (is_for (other way) i)) at
-            ∙ one_found (is_for (other way) i) may.1 may.0 may.2 none may.4),
-        refl,
-      ),
+      (ap reply_finding found, refl),
     )
 
-lawful : (log : Log) (asked : List Open) → IsLawful log asked → Keeps log asked × BreaksNone log
-lawful [] asked is = ((sym is, subst Distinct (sym is) tt), each_none)
-lawful (p ∷ before) asked is =
-    let more = lawful before is.0 is.1 in
-    let one = step p.way p.place p.message before is.0 asked more.0 is.2 in
+lawful : (log : Log) (asked : List Open) (live : List Id) → IsLawful log asked live → Keeps log asked live × BreaksNone
+    log
+lawful [] asked live is = (
+  (sym is.0, subst Distinct (sym is.0) tt, subst (Lives []) (sym is.1) (λ name any. cc)),
+  each_none,
+)
+lawful (p ∷ before) asked live is =
+    let more = lawful before is.0 is.1 is.2 in
+    let one = step p.way p.place p.message before is.0 asked is.1 live more.0 is.3 in
     (one.0, each_more p before one.1 more.1)
 
-pub breaks_none : (log : Log) (asked : List Open) → IsLawful log asked → BreaksNone log
-breaks_none log asked is = (lawful log asked is).1
+pub breaks_none : (log : Log) (asked : List Open) (live : List Id) → IsLawful log asked live → BreaksNone log
+breaks_none log asked live is = (lawful log asked live is).1

@@ -7,8 +7,8 @@ use Rattle.lsp_message.specs.Id.{Id, same_id}
 use Rattle.lsp_message.specs.Message.{request, notification, response}
 use Rattle.lsp_watch.specs.Log.{Log, Open, passed, other, same_way, is_for, request_of, without_first}
 use Rattle.lsp_watch.specs.Log.{open_of, waiting}
-use Rattle.lsp_watch.specs.declared.way.Way.{Way}
-use Rattle.lsp_watch.specs.declared.way.Way.TheVariants.{ToServer, ToClient}
+use Rattle.lsp_watch.specs.declared.direction.Direction.{Direction}
+use Rattle.lsp_watch.specs.declared.direction.Direction.TheVariants.{ToServer, ToClient}
 
 -- ---- lists
 
@@ -84,17 +84,17 @@ module _ {A : Type 0} (p : A → Bool) where
 
 -- ---- ways and ids
 
-pub same_way_is : (a b : Way) → same_way a b ≡ true → b ≡ a
+pub same_way_is : (a b : Direction) → same_way a b ≡ true → b ≡ a
 same_way_is ToServer ToServer e = refl
 same_way_is ToServer ToClient e = cc
 same_way_is ToClient ToServer e = cc
 same_way_is ToClient ToClient e = refl
 
-pub same_way_own : (a : Way) → same_way a a ≡ true
+pub same_way_own : (a : Direction) → same_way a a ≡ true
 same_way_own ToServer = refl
 same_way_own ToClient = refl
 
-pub other_ways : (a b : Way) → same_way a (other b) ≡ same_way (other a) b
+pub other_ways : (a b : Direction) → same_way a (other b) ≡ same_way (other a) b
 other_ways ToServer ToServer = refl
 other_ways ToServer ToClient = refl
 other_ways ToClient ToServer = refl
@@ -109,13 +109,13 @@ and_true true b e f = f
 and_true false b e f = cc
 
 -- the requests of this way and id that have no reply, the first first
-abbrev pub queue : Way → Id → Log → List Open
+abbrev pub queue : Direction → Id → Log → List Open
 queue way id log = filter (is_for way id) (open_of log)
 
-pub waiting_is : (way : Way) (id : Id) (log : Log) → waiting way id log ≡ first (queue way id log)
+pub waiting_is : (way : Direction) (id : Id) (log : Log) → waiting way id log ≡ first (queue way id log)
 waiting_is way id log = find_is (is_for way id) (open_of log)
 
-module _ (way : Way) (id : Id) (went : Way) (place : ℕ) (before : Log) where
+module _ (way : Direction) (id : Id) (went : Direction) (place : ℕ) (before : Log) where
   pub queue_request : (i : Id) (method : List ℕ) (params : _)
       → queue way id (passed went place (request i method params) ∷ before)
       ≡ queue way id before ++ cond (same_way way went && same_id id i) (request_of went place i method params ∷ []) []

@@ -8,11 +8,11 @@ use Rattle.lsp_watch.specs.Log.{Log, Finding, passed}
 use Rattle.lsp_watch.specs.Rules.{session_finding}
 use Rattle.lsp_watch.specs.declared.rule.Rule.TheVariants.{NobodyAsked, IdStillOpen, BeforeResult, BeforeInitialized}
 use Rattle.lsp_watch.specs.declared.rule.Rule.TheVariants.{SentAgain, AfterShutdown, AfterExit}
-use Rattle.lsp_watch.specs.declared.way.Way.{Way}
-use Rattle.lsp_watch.specs.declared.way.Way.TheVariants.{ToServer, ToClient}
+use Rattle.lsp_watch.specs.declared.direction.Direction.{Direction}
+use Rattle.lsp_watch.specs.declared.direction.Direction.TheVariants.{ToServer, ToClient}
 
 -- the rule that a message breaks, and against the message at which place
-abbrev broken : Log → Way → Message → Option Finding
+abbrev broken : Log → Direction → Message → Option Finding
 broken = session_finding
 
 abbrev asks : ℕ → List ℕ → Message

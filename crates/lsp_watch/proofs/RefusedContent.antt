@@ -8,13 +8,13 @@ use Rattle.lsp_message.specs.Message.{Message, request, notification, response}
 use Rattle.lsp_watch.specs.Documents.{document_finding}
 use Rattle.lsp_watch.specs.Log.{Log, Finding, passed}
 use Rattle.lsp_watch.specs.Progress.{progress_finding}
-use Rattle.lsp_watch.specs.declared.way.Way.{Way}
-use Rattle.lsp_watch.specs.declared.way.Way.TheVariants.{ToServer, ToClient}
+use Rattle.lsp_watch.specs.declared.direction.Direction.{Direction}
+use Rattle.lsp_watch.specs.declared.direction.Direction.TheVariants.{ToServer, ToClient}
 use Rattle.lsp_watch.specs.declared.rule.Rule.TheVariants.{AlreadyOpen, NotOpen, VersionNotHigher}
 use Rattle.lsp_watch.specs.declared.rule.Rule.TheVariants.{NoSuchToken, TokenEnded}
 
 -- the rule that a message breaks, and against the message at which place
-abbrev broken : Log → Way → Message → Option Finding
+abbrev broken : Log → Direction → Message → Option Finding
 broken log way m = option_or (document_finding log way m) (progress_finding log way m)
 
 -- ---- documents

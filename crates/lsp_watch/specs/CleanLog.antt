@@ -6,7 +6,7 @@ use Rattle.lsp_message.specs.Message.{Message, request, notification, response}
 use Rattle.lsp_watch.specs.Log.{Log, Passed, asks, tells, is_success, from_client, is_request, is_reply}
 use Rattle.lsp_watch.specs.Log.{is_initialize, answers_initialize}
 use Rattle.lsp_watch.specs.Rules.{session_finding, client_tells, client_asks, is_early, tells_opening}
-use Rattle.lsp_watch.specs.declared.way.Way.{Way}
+use Rattle.lsp_watch.specs.declared.direction.Direction.{Direction}
 
 -- at each place of a log this holds of what passed before it, and the message
 abbrev pub AtEach : (Log → Passed → Type 0) → Log → Type 0
@@ -17,7 +17,7 @@ abbrev pub IsClean : Log → Type 0
 IsClean log = AtEach (λ before p. session_finding before p.way p.message ≡ None) log
 
 -- A request of this way and id passed, and since then no reply to the id and no other request under it.
-pub record IsAsked (before : Log) (way : Way) (id : Id) : Type 0 where
+pub record IsAsked (before : Log) (way : Direction) (id : Id) : Type 0 where
   pub earlier : Log
   pub asked : Passed
   pub since : Log
@@ -29,7 +29,8 @@ pub record IsAsked (before : Log) (way : Way) (id : Id) : Type 0 where
 -- Each reply answers one request that passed before it the other way. That one has no other reply before it, so each
 -- request has at most one.
 abbrev pub RepliesOnce : Log → Type 0
-RepliesOnce log = (way : Way) (id : Id) → AtEach (λ before p. is_reply way id p ≡ true → IsAsked before way id) log
+RepliesOnce log = (way : Direction) (id : Id) → AtEach (λ before p. is_reply way id p ≡ true → IsAsked before way id)
+    log
 
 -- `initialize` got its result in these messages
 pub record HasResult (before : Log) : Type 0 where

@@ -10,7 +10,7 @@ use Rattle.lsp_watch.specs.declared.rule.Rule.TheVariants.{AlreadyOpen, NotOpen,
 use Rattle.lsp_watch.specs.declared.documents.Deed.{Deed}
 use Rattle.lsp_watch.specs.declared.documents.Deed.TheVariants.{Opens, Changes, Closes}
 use Rattle.lsp_watch.specs.declared.documents.Document.{Document}
-use Rattle.lsp_watch.specs.declared.way.Way.{Way}
+use Rattle.lsp_watch.specs.declared.direction.Direction.{Direction}
 
 -- ---- what a message tells
 
@@ -35,7 +35,7 @@ deed_named method = if bytes_eq method (codes "textDocument/didOpen") then Some 
     else None
 
 -- what the client does with a document by a message, if it does so with one
-abbrev pub deed_in : Way → Message → Option Deed
+abbrev pub deed_in : Direction → Message → Option Deed
 deed_in way (notification method params) = if from_client way then deed_named method else None
 deed_in way (request i method params) = None
 deed_in way (response i outcome) = None
@@ -90,7 +90,7 @@ deed_finding Changes version (Some d) = if is_not_higher version d.version
     then Some (VersionNotHigher, Some d.told) else None
 
 -- what a message breaks of the rules of documents
-abbrev pub document_finding : Log → Way → Message → Option Finding
+abbrev pub document_finding : Log → Direction → Message → Option Finding
 document_finding before way m =
     option_and_then (λ deed.
     option_and_then (λ uri. deed_finding deed (version_in (params_in m)) (document_of uri before))

@@ -7,6 +7,7 @@ pub mod Keys
 pub mod Lawful
 pub mod Log
 pub mod Methods
+pub mod Orders
 pub mod Progress
 pub mod RuleData
 pub mod Rules

@@ -8,16 +8,16 @@ use Rattle.lsp_message.specs.Message.{Message, request, notification, response}
 use Rattle.lsp_message.specs.Methods.{request_id}
 use Rattle.lsp_watch.specs.Keys.{key_in}
 use Rattle.lsp_watch.specs.declared.rule.Rule.{Rule}
-use Rattle.lsp_watch.specs.declared.way.Way.{Way}
-use Rattle.lsp_watch.specs.declared.way.Way.TheVariants.{ToServer, ToClient}
+use Rattle.lsp_watch.specs.declared.direction.Direction.{Direction}
+use Rattle.lsp_watch.specs.declared.direction.Direction.TheVariants.{ToServer, ToClient}
 
 -- a message that passed, which way it went, and its place: the number by which a person finds it again
 pub record Passed : Type 0 where
-  pub way : Way
+  pub way : Direction
   pub place : ℕ
   pub message : Message
 
-abbrev pub passed : Way → ℕ → Message → Passed
+abbrev pub passed : Direction → ℕ → Message → Passed
 passed way place message = record { way = way; place = place; message = message }
 
 -- What passed, the last message first: behind each message in the list stand those that passed before it.
@@ -49,15 +49,15 @@ abbrev pub is_success : Message → Bool
 is_success (response i (Ok value)) = true
 is_success m = false
 
-abbrev pub from_client : Way → Bool
+abbrev pub from_client : Direction → Bool
 from_client ToServer = true
 from_client ToClient = false
 
-abbrev pub other : Way → Way
+abbrev pub other : Direction → Direction
 other ToServer = ToClient
 other ToClient = ToServer
 
-abbrev pub same_way : Way → Way → Bool
+abbrev pub same_way : Direction → Direction → Bool
 same_way ToServer way = from_client way
 same_way ToClient way = from_client (other way)
 
@@ -66,11 +66,11 @@ is_id id None = false
 is_id id (Some i) = same_id id i
 
 -- a request under this id that goes this way
-abbrev pub is_request : Way → Id → Passed → Bool
+abbrev pub is_request : Direction → Id → Passed → Bool
 is_request way id p = same_way way p.way && is_id id (request_id p.message)
 
 -- a reply to such a request: it goes the other way
-abbrev pub is_reply : Way → Id → Passed → Bool
+abbrev pub is_reply : Direction → Id → Passed → Bool
 is_reply way id p = same_way (other way) p.way && is_id id (reply_id p.message)
 
 -- the token under which a message tells progress
@@ -89,7 +89,7 @@ Finding = Rule × Option ℕ
 -- A request that has no reply yet: which way it went, its place, its id and its method; the tokens of its params under
 -- which progress may be told; and the one that it creates.
 pub record Open : Type 0 where
-  pub way : Way
+  pub way : Direction
   pub place : ℕ
   pub id : Id
   pub method : List ℕ
@@ -98,12 +98,12 @@ pub record Open : Type 0 where
   pub created : Option Id
 
 -- the token under which a server asks the client to show progress
-abbrev pub created_name : Way → List ℕ → Data → Option Id
+abbrev pub created_name : Direction → List ℕ → Data → Option Id
 created_name ToServer method params = None
 created_name ToClient method params = if bytes_eq method (codes "window/workDoneProgress/create")
     then key_in (codes "token") params else None
 
-abbrev pub request_of : Way → ℕ → Id → List ℕ → Data → Open
+abbrev pub request_of : Direction → ℕ → Id → List ℕ → Data → Open
 request_of way place i method params = record {
   way = way;
   place = place;
@@ -114,7 +114,7 @@ request_of way place i method params = record {
   created = created_name way method params;
 }
 
-abbrev pub is_for : Way → Id → Open → Bool
+abbrev pub is_for : Direction → Id → Open → Bool
 is_for way id o = same_way way o.way && same_id id o.id
 
 -- without the first that is such
@@ -123,11 +123,11 @@ without_first such [] = []
 without_first such (x ∷ xs) = if such x then xs else x ∷ without_first such xs
 
 -- a reply answers the first request of the other way that has its id and no reply yet
-abbrev pub answered : Way → Id → List Open → List Open
+abbrev pub answered : Direction → Id → List Open → List Open
 answered way id asked = without_first (is_for (other way) id) asked
 
 -- the requests that have no reply, after one more message
-abbrev pub open_after : Way → ℕ → Message → List Open → List Open
+abbrev pub open_after : Direction → ℕ → Message → List Open → List Open
 open_after way place (request i method params) asked = asked ++ request_of way place i method params ∷ []
 open_after way place (notification method params) asked = asked
 open_after way place (response i outcome) asked = answered way i asked
@@ -138,7 +138,7 @@ open_of [] = []
 open_of (p ∷ before) = open_after p.way p.place p.message (open_of before)
 
 -- the request of this way and id that the next reply to it answers
-abbrev pub waiting : Way → Id → Log → Option Open
+abbrev pub waiting : Direction → Id → Log → Option Open
 waiting way id log = find (is_for way id) (open_of log)
 
 -- the request that a message replies to

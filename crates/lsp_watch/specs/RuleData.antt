@@ -1,5 +1,7 @@
--- How strongly the standards demand each rule, and who breaks it.
+-- How strongly the standards demand each rule, who breaks it, and which group it belongs to.
 use Rattle.std.specs.Prelude.{List, [], ◌∷◌}
+use Rattle.lsp_watch.specs.declared.rule.Group.{Group}
+use Rattle.lsp_watch.specs.declared.rule.Group.TheVariants.{Session, Capabilities}
 use Rattle.lsp_watch.specs.declared.rule.Level.{Level}
 use Rattle.lsp_watch.specs.declared.rule.Level.TheVariants.{Must, Should, Implied}
 use Rattle.lsp_watch.specs.declared.rule.Rule.{Rule}
@@ -8,7 +10,8 @@ use Rattle.lsp_watch.specs.declared.rule.Rule.TheVariants.{NoMessage, BadMethod,
 use Rattle.lsp_watch.specs.declared.rule.Rule.TheVariants.{NoOutcome, BadError, NeedsId, TakesNoId, NobodyAsked}
 use Rattle.lsp_watch.specs.declared.rule.Rule.TheVariants.{IdStillOpen, NoReply, BeforeResult, BeforeInitialized}
 use Rattle.lsp_watch.specs.declared.rule.Rule.TheVariants.{SentAgain, AfterShutdown, AfterExit, AlreadyOpen, NotOpen}
-use Rattle.lsp_watch.specs.declared.rule.Rule.TheVariants.{VersionNotHigher, NoSuchToken, TokenEnded}
+use Rattle.lsp_watch.specs.declared.rule.Rule.TheVariants.{VersionNotHigher, NoSuchToken, TokenEnded, NotAnnounced}
+use Rattle.lsp_watch.specs.declared.rule.Rule.TheVariants.{AnnouncedUnknown, ClientCannot, NeverOpened}
 use Rattle.lsp_watch.specs.declared.rule.Side.{Side}
 use Rattle.lsp_watch.specs.declared.rule.Side.TheVariants.{Sender, Receiver, Client}
 
@@ -19,6 +22,10 @@ level_of IdStillOpen = Implied
 level_of AfterExit = Implied
 level_of NeedsId = Implied
 level_of TakesNoId = Implied
+level_of NotAnnounced = Implied
+level_of AnnouncedUnknown = Implied
+level_of ClientCannot = Implied
+level_of NeverOpened = Implied
 level_of rule = Must
 
 abbrev pub side_of : Rule → Side
@@ -32,8 +39,15 @@ side_of NotOpen = Client
 side_of VersionNotHigher = Client
 side_of rule = Sender
 
+abbrev pub group_of : Rule → Group
+group_of NotAnnounced = Capabilities
+group_of AnnouncedUnknown = Capabilities
+group_of ClientCannot = Capabilities
+group_of NeverOpened = Capabilities
+group_of rule = Session
+
 abbrev pub all_rules : List Rule
 all_rules = NotUtf8 ∷ NotJson ∷ Unreadable ∷ Batch ∷ NoObject ∷ BadVersion ∷ NoMessage ∷ BadMethod ∷ BadId ∷ WideId
     ∷ BadParams ∷ BothOutcomes ∷ NoOutcome ∷ BadError ∷ NeedsId ∷ TakesNoId ∷ NobodyAsked ∷ IdStillOpen ∷ NoReply
     ∷ BeforeResult ∷ BeforeInitialized ∷ SentAgain ∷ AfterShutdown ∷ AfterExit ∷ AlreadyOpen ∷ NotOpen
-    ∷ VersionNotHigher ∷ NoSuchToken ∷ TokenEnded ∷ []
+    ∷ VersionNotHigher ∷ NoSuchToken ∷ TokenEnded ∷ NotAnnounced ∷ AnnouncedUnknown ∷ ClientCannot ∷ NeverOpened ∷ []

@@ -10,8 +10,8 @@ use Rattle.lsp_watch.specs.Log.{open_of, waiting, answers_initialize, opens_sess
 use Rattle.lsp_watch.specs.declared.rule.Rule.{Rule}
 use Rattle.lsp_watch.specs.declared.rule.Rule.TheVariants.{NobodyAsked, IdStillOpen, BeforeResult, BeforeInitialized}
 use Rattle.lsp_watch.specs.declared.rule.Rule.TheVariants.{SentAgain, AfterShutdown, AfterExit}
-use Rattle.lsp_watch.specs.declared.way.Way.{Way}
-use Rattle.lsp_watch.specs.declared.way.Way.TheVariants.{ToServer, ToClient}
+use Rattle.lsp_watch.specs.declared.direction.Direction.{Direction}
+use Rattle.lsp_watch.specs.declared.direction.Direction.TheVariants.{ToServer, ToClient}
 use Rattle.lsp_watch.specs.declared.lifecycle.Lifecycle.{Lifecycle}
 
 -- ---- where the lifecycle stands: the place of the last message that is such
@@ -88,7 +88,7 @@ module _ (stands : Lifecycle) (waits : Option ℕ) where
       else option_or (option_or (broken_by AfterExit stands.exit) (broken_by AfterShutdown stands.shutdown))
       (opening_finding m)
 
-abbrev pub lifecycle_finding : Log → Way → Message → Option Finding
+abbrev pub lifecycle_finding : Log → Direction → Message → Option Finding
 lifecycle_finding before way (response i outcome) = None
 lifecycle_finding before ToServer m = client_finding (lifecycle_of before) (initializing before) m
 lifecycle_finding before ToClient m =
@@ -102,7 +102,7 @@ reply_finding None = Some (NobodyAsked, None)
 reply_finding (Some asked) = None
 
 -- a request needs an id under which none waits
-abbrev pub id_finding : Log → Way → Message → Option Finding
+abbrev pub id_finding : Log → Direction → Message → Option Finding
 id_finding before way (request i method params) =
     option_map (λ asked. (IdStillOpen, Some asked.place)) (waiting way i before)
 id_finding before way (notification method params) = None
@@ -111,5 +111,5 @@ id_finding before way (response i outcome) = reply_finding (waiting (other way) 
 -- ---- what a message breaks
 
 -- the rule of the lifecycle or of ids that a message breaks
-abbrev pub session_finding : Log → Way → Message → Option Finding
+abbrev pub session_finding : Log → Direction → Message → Option Finding
 session_finding before way m = option_or (lifecycle_finding before way m) (id_finding before way m)

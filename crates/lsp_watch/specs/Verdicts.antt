@@ -12,7 +12,7 @@ use Rattle.lsp_watch.specs.declared.breach.Verdict.TheVariants as verdict
 use Rattle.lsp_watch.specs.declared.rule.Rule.{Rule}
 use Rattle.lsp_watch.specs.declared.rule.Rule.TheVariants.{Unreadable}
 use Rattle.lsp_watch.specs.declared.breach.Verdict.{Verdict}
-use Rattle.lsp_watch.specs.declared.way.Way.{Way}
+use Rattle.lsp_watch.specs.declared.direction.Direction.{Direction}
 
 -- what is broken only because something did not pass cannot be told of a log that begins in the middle of a session
 abbrev pub verdict_of : Bool → Bool → Verdict
@@ -23,7 +23,7 @@ as_breach is_whole found =
     record { rule = found.0; verdict = verdict_of is_whole (is_some found.1); against = found.1 }
 
 -- the rules that a message breaks, by all that passed before it
-abbrev pub findings_of : Log → Way → Message → List Finding
+abbrev pub findings_of : Log → Direction → Message → List Finding
 findings_of before way m = option_to_list (session_finding before way m)
     ++ (option_to_list (document_finding before way m) ++ option_to_list (progress_finding before way m))
 
@@ -35,23 +35,23 @@ shape_verdict rule = verdict.Breach
 abbrev pub shape_breach : Rule → Breach
 shape_breach rule = record { rule = rule; verdict = shape_verdict rule; against = None }
 
-abbrev pub entry_findings : Log → Way → Option Message → List Finding
+abbrev pub entry_findings : Log → Direction → Option Message → List Finding
 entry_findings before way None = []
 entry_findings before way (Some m) = findings_of before way m
 
 -- What is said of a message, which may be one that cannot be placed in a session: the rules of its shape, and then
 -- those of the session.
-abbrev pub breaches_of : Bool → Log → Way → List Rule → Option Message → List Breach
+abbrev pub breaches_of : Bool → Log → Direction → List Rule → Option Message → List Breach
 breaches_of is_whole before way faults m =
     map shape_breach faults ++ map (as_breach is_whole) (entry_findings before way m)
 
 -- the log after the message
-abbrev pub entered : Way → ℕ → Option Message → Log → Log
+abbrev pub entered : Direction → ℕ → Option Message → Log → Log
 entered way place None log = log
 entered way place (Some m) log = passed way place m ∷ log
 
 -- A message begins a new session: `initialize` behind `exit`, or any in a log that began in the middle of a session.
-abbrev pub begins_in : Bool → Log → Way → Option Message → Bool
+abbrev pub begins_in : Bool → Log → Direction → Option Message → Bool
 begins_in is_whole before way None = false
 begins_in is_whole before way (Some m) =
     from_client way && (asks (codes "initialize") m && (not is_whole || is_some ((lifecycle_of before).exit)))

@@ -2,9 +2,9 @@
 ghost use Rattle.std.specs.Prelude.{◌≡◌};
 ghost use Rattle.lsp_watch.specs.Verdicts.{as_breach, shape_breach as breach_of_shape, told_of as told_by, is_over as is_over_for};
 
+use crate::direction::Direction;
 use crate::open::Asked;
 use crate::rule::Rule;
-use crate::way::Way;
 use std::fmt;
 
 /// Whether a rule is broken.
@@ -31,7 +31,7 @@ pub struct Breach {
 #[derive(Clone, Copy, Debug)]
 pub struct Unanswered {
     /// Which way the request went.
-    pub way: Way,
+    pub way: Direction,
     /// The place of the request.
     pub place: u64,
     /// A breach if the server was asked. A client may end before its user has answered, so this is not known of a client.

@@ -9,9 +9,9 @@ ghost use Rattle.lsp_watch.specs.Held.{held, Opened};
 ghost use Rattle.lsp_watch.specs.Documents.{uri_in as uri_of, version_in as version_of, deed_named as named, deed_in as deed_of, params_in, changed as changed_at, after_deed, is_not_higher as is_below, deed_finding, document_finding};
 ghost use Rattle.lsp_watch.specs.Log.{Log, passed};
 
+use crate::direction::Direction;
 use crate::logged::{Entry, Kind};
 use crate::rule::Rule;
-use crate::way::Way;
 use serde_json::Value;
 use std::alloc::{AllocError, Global};
 use std::collections::BTreeMap;
@@ -60,7 +60,7 @@ impl Documents {
     }
 
     /// What a message breaks.
-    pub fn breaks(&self, way: Way, message: &Entry) -> Option<(Rule, Option<u64>)>
+    pub fn breaks(&self, way: Direction, message: &Entry) -> Option<(Rule, Option<u64>)>
         ensures { (log : Log) → Opened self.now log
             → result ≡ document_finding log way (entry_view message.now) }
     {
@@ -71,7 +71,7 @@ impl Documents {
     }
 
     /// Keeps what a message does. If the allocation fails, nothing is changed.
-    pub fn keep(&mut self, place: u64, way: Way, message: &Entry) -> Result<(), AllocError>
+    pub fn keep(&mut self, place: u64, way: Direction, message: &Entry) -> Result<(), AllocError>
         ensures ok { (log : Log) → Opened self.old log
             → OnOk result (Opened self.new (passed way place (entry_view message.now) ∷ log)) }
         ensures err { OnErr result ((q : List ℕ) → held self.new q ≡ held self.old q) }
@@ -190,11 +190,11 @@ fn is_not_higher(version: Option<i64>, before: Option<i64>) -> bool
 }
 
 /// What the client does by a message with a document.
-fn deed_in(way: Way, message: &Entry) -> Option<Deed>
+fn deed_in(way: Direction, message: &Entry) -> Option<Deed>
     ensures { result ≡ deed_of way (entry_view message.now) }
 {
     match (way, message.kind()) {
-        (Way::ToServer, Kind::Notification) => deed_named(message.method()),
+        (Direction::ToServer, Kind::Notification) => deed_named(message.method()),
         _ => None,
     }
 }

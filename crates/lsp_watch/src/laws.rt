@@ -1,8 +1,10 @@
 //! Laws of logs. Each is the contract of a function, so the proofs of callers can use it.
+ghost use Rattle.lsp_message.specs.Id.{Id};
 ghost use Rattle.lsp_watch.specs.CleanLog.{IsClean, RepliesOnce, KeepsOrder};
 ghost use Rattle.lsp_watch.specs.Lawful.{IsLawful, BreaksNone};
 ghost use Rattle.lsp_watch.specs.Log.{Log, Open};
-ghost use Rattle.std.specs.Prelude.{List};
+ghost use Rattle.lsp_watch.specs.Orders.{AreOrders, breaks, is_sure, any_finding};
+ghost use Rattle.std.specs.Prelude.{◌≡◌, List, true};
 
 /// In a log in which no message breaks a rule:
 ///
@@ -14,9 +16,16 @@ pub fn a_clean_log_keeps_order()
     ensures order { (log : Log) → IsClean log → KeepsOrder log }
 {}
 
-/// A log in which each request has an id that is free, each reply its request, and progress the token of a request that is open, breaks
-/// no rule of ids or of progress, whoever the two sides are. `IsLawful` is a grammar of such logs: it knows nothing of how a reply
-/// finds its request.
+/// A lawful log breaks no rule of ids or of progress, whoever the two sides are. In a lawful log each request has an id that is free, and
+/// each reply has its request. Progress has the token of a request that is open, or one that the client accepted and that has not ended.
+///
+/// `IsLawful` is a grammar of such logs. It knows nothing of how a reply finds its request.
 pub fn a_lawful_log_breaks_none()
-    ensures { (log : Log) (asked : List Open) → IsLawful log asked → BreaksNone log }
+    ensures { (log : Log) (asked : List Open) (live : List Id) → IsLawful log asked live → BreaksNone log }
+{}
+
+/// A breach that looks only at what its own side sent is there in each order of the messages: if a message breaks such a rule in one
+/// order, the log has a breach in each other order, in which each side sends the same. `is_in_each_order` names these rules.
+pub fn a_sure_breach_is_in_each_order()
+    ensures { (log order : Log) → AreOrders log order → breaks is_sure log ≡ true → breaks any_finding order ≡ true }
 {}

@@ -3,6 +3,7 @@
 #![tactic(auto)]
 
 mod breach;
+mod direction;
 mod documents;
 pub mod laws;
 mod lifecycle;
@@ -14,13 +15,12 @@ mod rule;
 mod shape;
 mod unread;
 mod watch;
-mod way;
 
 pub use breach::{Breach, Unanswered, Verdict};
+pub use direction::Direction;
 pub use documents::document_uri;
 pub use logged::{Entry, Kind, LoggedId, LoggedMessage};
 pub use open::Asked;
 pub use progress::progress_token;
-pub use rule::{Level, Rule, Side, rules};
+pub use rule::{Group, Level, Rule, Side, rules};
 pub use watch::Watch;
-pub use way::Way;

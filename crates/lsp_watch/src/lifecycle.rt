@@ -4,9 +4,9 @@ ghost use Rattle.lsp_watch.specs.Entries.{entry_view};
 ghost use Rattle.lsp_watch.specs.Log.{Log, asks as has_request, tells as has_notification, is_success as has_result, passed, answers_initialize};
 ghost use Rattle.lsp_watch.specs.Rules.{lifecycle_of, is_early as early_spec, broken_by, server_finding, client_finding, opening_finding};
 
+use crate::direction::Direction;
 use crate::logged::{Entry, Kind};
 use crate::rule::Rule;
-use crate::way::Way;
 
 /// The places of the messages by which the lifecycle goes on.
 #[derive(Clone, Copy, Debug)]
@@ -34,7 +34,7 @@ impl Lifecycle {
     }
 
     /// After one more message. `answers` says whether it is a reply to `initialize`.
-    pub fn after(self, place: u64, way: Way, message: &Entry, answers: bool) -> Lifecycle
+    pub fn after(self, place: u64, way: Direction, message: &Entry, answers: bool) -> Lifecycle
         ensures { (log : Log) → self ≡ lifecycle_of log
             → answers ≡ answers_initialize log (passed way place (entry_view message.now))
             → result ≡ lifecycle_of (passed way place (entry_view message.now) ∷ log) }

@@ -64,11 +64,7 @@ impl LoggedId {
     pub fn is(&self, other: &LoggedId) -> bool
         ensures { result ≡ same_id self.now other.now }
     {
-        match (&self.0, &other.0) {
-            (KeptId::Number(a), KeptId::Number(b)) => *a == *b,
-            (KeptId::Text(a), KeptId::Text(b)) => a.cmp(b) == Ordering::Equal,
-            (KeptId::Number(_), KeptId::Text(_)) | (KeptId::Text(_), KeptId::Number(_)) => false,
-        }
+        self.cmp(other) == Ordering::Equal
     }
 
     /// The same id. The error means that an allocation failed.
@@ -78,6 +74,63 @@ impl LoggedId {
         match &self.0 {
             KeptId::Number(number) => Ok(LoggedId(KeptId::Number(*number))),
             KeptId::Text(text) => Ok(LoggedId(KeptId::Text(text.clone()?))),
+        }
+    }
+}
+
+impl PartialEq for LoggedId {
+    ghost use Rattle.std.specs.Ordering.{eq_by_cmp};
+    ghost use Rattle.std.specs.Cmp.{partial_equiv_from_equiv};
+    ghost use Rattle.lsp_message.specs.Id.{id_cmp};
+    ghost use Rattle.lsp_message.specs.IdLaws.{id_equiv};
+
+    ghost eq = { eq_by_cmp id_cmp };
+
+    ghost laws = { partial_equiv_from_equiv id_equiv };
+
+    fn eq(&self, other: &LoggedId) -> bool {
+        self.cmp(other) == Ordering::Equal
+    }
+}
+
+impl Eq for LoggedId {
+    ghost use Rattle.lsp_message.specs.IdLaws.{id_equiv};
+
+    ghost laws = { id_equiv };
+}
+
+impl PartialOrd for LoggedId {
+    ghost use Rattle.std.specs.Ordering.{as_partial_cmp};
+    ghost use Rattle.lsp_message.specs.Id.{id_cmp};
+    ghost use Rattle.lsp_message.specs.IdLaws.{id_partial_order};
+
+    ghost partial_cmp = { as_partial_cmp id_cmp };
+
+    ghost laws = { id_partial_order };
+
+    fn partial_cmp(&self, other: &LoggedId) -> Option<Ordering> {
+        Some(self.cmp(other))
+    }
+}
+
+impl Ord for LoggedId {
+    ghost use Rattle.lsp_message.specs.Id.{id_cmp};
+    ghost use Rattle.lsp_message.specs.IdLaws.{id_total, id_agrees, id_ties};
+
+    ghost cmp = { id_cmp };
+
+    ghost total = { id_total };
+
+    ghost matches_partial_cmp = { id_agrees };
+
+    ghost matches_eq = { id_ties };
+
+    fn cmp(&self, other: &LoggedId) -> Ordering {
+        match (&self.0, &other.0) {
+            (KeptId::Number(a), KeptId::Number(b)) => a.cmp(b),
+            (KeptId::Number(_), KeptId::Text(_)) => Ordering::Less,
+            (KeptId::Text(_), KeptId::Number(_)) => Ordering::Greater,
+            (KeptId::Text(a), KeptId::Text(b)) => a.cmp(b),
         }
     }
 }

@@ -6,8 +6,8 @@ ghost use Rattle.lsp_watch.specs.Entries.{method_in, params_in};
 ghost use Rattle.lsp_watch.specs.Keys.{key_in as key_in_data};
 ghost use Rattle.lsp_watch.specs.Log.{is_for as is_for_it, opens_session, created_name as created_name_of, without_first, request_of};
 
+use crate::direction::Direction;
 use crate::logged::{Entry, LoggedId};
-use crate::way::Way;
 use serde_json::Value;
 use std::alloc::{AllocError, Global};
 use std::marker::Model;
@@ -16,7 +16,7 @@ use std::marker::Model;
 #[derive(Debug, Drop)]
 pub struct Asked {
     /// Which way it went.
-    pub way: Way,
+    pub way: Direction,
     /// The place of the message.
     pub place: u64,
     /// Its id.
@@ -42,7 +42,7 @@ impl Model for Asked {
 
 impl Asked {
     /// Whether a reply under this id, to a request of this way, may answer it.
-    pub fn is_for(&self, way: Way, id: &LoggedId) -> bool
+    pub fn is_for(&self, way: Direction, id: &LoggedId) -> bool
         ensures { result ≡ is_for_it way id.now self.now }
     {
         way == self.way && id.is(&self.id)
@@ -57,7 +57,7 @@ impl Asked {
 }
 
 /// The first request of this way and id.
-pub fn first_for<'a>(asked: &'a [Asked], way: Way, id: &LoggedId) -> Option<&'a Asked>
+pub fn first_for<'a>(asked: &'a [Asked], way: Direction, id: &LoggedId) -> Option<&'a Asked>
     ensures { option_map (λ a. a.now) result ≡ find (is_for_it way id.now) asked.now }
 {
     asked.iter().find(|it| it.is_for(way, id))
@@ -74,7 +74,7 @@ pub fn place_of_opening(asked: &[Asked]) -> Option<u64>
 }
 
 /// Takes out the first request of this way and id.
-pub fn answer(asked: &mut Vec<Asked>, way: Way, id: &LoggedId)
+pub fn answer(asked: &mut Vec<Asked>, way: Direction, id: &LoggedId)
     ensures { asked.new.items ≡ without_first (is_for_it way id.now) asked.old.items }
 {
     let at = place_for(asked, way, id);
@@ -90,7 +90,7 @@ fn take_out(asked: &mut Vec<Asked>, at: Option<usize>)
     }
 }
 
-fn place_for(asked: &[Asked], way: Way, id: &LoggedId) -> Option<usize>
+fn place_for(asked: &[Asked], way: Direction, id: &LoggedId) -> Option<usize>
     ensures { result ≡ position (is_for_it way id.now) asked.now }
 {
     asked.iter().position(|it| it.is_for(way, id))
@@ -99,7 +99,7 @@ fn place_for(asked: &[Asked], way: Way, id: &LoggedId) -> Option<usize>
 /// What is kept of a request.
 pub fn kept_of(
     alloc: Global,
-    way: Way,
+    way: Direction,
     place: u64,
     id: &LoggedId,
     message: &Entry,
@@ -126,7 +126,7 @@ pub fn kept_of(
 
 /// The token under which a server asks the client to show progress.
 fn created_by(
-    way: Way,
+    way: Direction,
     method: &str,
     params: Option<&Value>,
 ) -> Result<Option<LoggedId>, AllocError>

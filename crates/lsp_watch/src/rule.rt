@@ -1,6 +1,6 @@
 // The rules of the protocol, and their data.
 ghost use Rattle.std.specs.Prelude.{◌≡◌, IfOk};
-ghost use Rattle.lsp_watch.specs.RuleData.{level_of, side_of, all_rules};
+ghost use Rattle.lsp_watch.specs.RuleData.{level_of, side_of, group_of, all_rules};
 
 use std::alloc::{AllocError, Global};
 use std::fmt;
@@ -80,6 +80,23 @@ pub enum Rule {
     NoSuchToken,
     /// A token of `window/workDoneProgress/create` is used once.
     TokenEnded,
+    /// A server gives a result for a method only if it announced or registered the method.
+    NotAnnounced,
+    /// A server that announced or registered a method knows it.
+    AnnouncedUnknown,
+    /// A server sends a request only if the client announced that it can answer.
+    ClientCannot,
+    /// A server publishes diagnostics for documents that the client opened.
+    NeverOpened,
+}
+
+/// Which rules are judged together. It prints as one word.
+#[derive(Clone, Copy, Debug, PartialEq, Eq)]
+pub enum Group {
+    /// The rules of messages, ids, the lifecycle, documents and progress.
+    Session,
+    /// The rules of what both sides announced.
+    Capabilities,
 }
 
 /// How strongly the standards demand what a rule says. It prints as one word.
@@ -111,10 +128,27 @@ impl Rule {
     {
         match self {
             Rule::TokenEnded => Level::Should,
-            Rule::Batch | Rule::IdStillOpen | Rule::AfterExit | Rule::NeedsId | Rule::TakesNoId => {
-                Level::Implied
-            }
+            Rule::Batch
+            | Rule::IdStillOpen
+            | Rule::AfterExit
+            | Rule::NeedsId
+            | Rule::TakesNoId
+            | Rule::NotAnnounced
+            | Rule::AnnouncedUnknown
+            | Rule::ClientCannot
+            | Rule::NeverOpened => Level::Implied,
             _ => Level::Must,
+        }
+    }
+
+    /// The group that it belongs to.
+    pub fn group(self) -> Group
+        ensures { result ≡ group_of self }
+    {
+        match self {
+            Rule::NotAnnounced | Rule::AnnouncedUnknown | Rule::ClientCannot | Rule::NeverOpened =>
+                Group::Capabilities,
+            _ => Group::Session,
         }
     }
 
@@ -172,6 +206,10 @@ impl Rule {
             Rule::NotOpen => "NotOpen",
             Rule::VersionNotHigher => "VersionNotHigher",
             Rule::NoSuchToken => "NoSuchToken",
+            Rule::NotAnnounced => "NotAnnounced",
+            Rule::AnnouncedUnknown => "AnnouncedUnknown",
+            Rule::ClientCannot => "ClientCannot",
+            Rule::NeverOpened => "NeverOpened",
             _ => "TokenEnded",
         }
     }
@@ -215,6 +253,12 @@ impl Rule {
             Rule::NotOpen => "the document is not open",
             Rule::VersionNotHigher => "the version of the document is not higher",
             Rule::NoSuchToken => "no request has this token, or it is over",
+            Rule::NotAnnounced =>
+                "the server gives a result for a method that it did not announce or register",
+            Rule::AnnouncedUnknown =>
+                "the server announced or registered this method, and answers that it does not know it",
+            Rule::ClientCannot => "the client did not announce that it answers this request",
+            Rule::NeverOpened => "the client never opened the document of these diagnostics",
             _ => "the progress of this token has ended",
         }
     }
@@ -249,6 +293,10 @@ impl Rule {
                 "LSP 3.17, \"Work Done Progress\" and \"Partial Result Progress\""
             }
             Rule::TokenEnded => "LSP 3.17, \"Creating Work Done Progress\"",
+            Rule::NotAnnounced | Rule::AnnouncedUnknown | Rule::ClientCannot => {
+                "LSP 3.17, \"Capabilities\""
+            }
+            Rule::NeverOpened => "LSP 3.17, \"PublishDiagnostics Notification\"",
         }
     }
 }
@@ -287,6 +335,10 @@ pub fn rules(alloc: Global) -> Result<Vec<Rule>, AllocError>
         Rule::VersionNotHigher,
         Rule::NoSuchToken,
         Rule::TokenEnded,
+        Rule::NotAnnounced,
+        Rule::AnnouncedUnknown,
+        Rule::ClientCannot,
+        Rule::NeverOpened,
     ];
     match Vec::from_array(alloc, rules) {
         Ok(rules) => Ok(rules),
@@ -313,6 +365,15 @@ impl fmt::Display for Level {
             Level::Must => "must",
             Level::Should => "should",
             Level::Implied => "implied",
+        })
+    }
+}
+
+impl fmt::Display for Group {
+    fn fmt<W: fmt::Write>(&self, f: &mut fmt::Formatter<W>) -> fmt::Result {
+        f.write_str(match self {
+            Group::Session => "session",
+            Group::Capabilities => "capabilities",
         })
     }
 }

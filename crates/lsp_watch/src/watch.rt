@@ -2,23 +2,24 @@
 ghost use Rattle.std.specs.Prelude.{◌≡◌, ◌∷◌, [], ◌++◌, ℕ, false, true, IfOk, OnOk, OnErr, option_map, option_to_list, unwrap_or, map, filter};
 ghost use Rattle.std.specs.List.{list_any};
 ghost use Rattle.serde_json.specs.View.{view};
+ghost use Rattle.lsp_message.specs.Id.{Id};
 ghost use Rattle.lsp_message.specs.Message.{Message};
 ghost use Rattle.lsp_watch.specs.Entries.{entry_view, method_in, params_in};
-ghost use Rattle.lsp_watch.specs.Held.{Opened};
+ghost use Rattle.lsp_watch.specs.Held.{Opened, token_held};
 ghost use Rattle.lsp_watch.specs.Log.{Log, passed, waiting, open_of, answered, request_of, is_some_such, progress_token as token_named, answers_initialize as replies_to_it};
-ghost use Rattle.lsp_watch.specs.Progress.{progress_finding, live_before, with_accepted, ended_before, with_ended, ended_by, accepted_in};
+ghost use Rattle.lsp_watch.specs.Progress.{progress_finding, after_end, after_accept, ended_by, accepted_in};
 ghost use Rattle.lsp_watch.specs.Rules.{session_finding, lifecycle_finding, id_finding, opens_under};
 ghost use Rattle.lsp_watch.specs.Saw.{Saw, KeepsSame};
 ghost use Rattle.lsp_watch.specs.Verdicts.{breaches_of, findings_of, as_breach, shape_breach as breach_of_shape, entered, unanswered_of, begins_in, told_of as told_by, is_over as is_over_for};
 
 use crate::breach::{Breach, Unanswered, breach_of, is_over, shape_breach, told_of};
+use crate::direction::Direction;
 use crate::documents::Documents;
 use crate::lifecycle::{Lifecycle, asks};
 use crate::logged::{Entry, Kind, LoggedId, LoggedMessage};
 use crate::open::{Asked, answer, first_for, kept_of, place_of_opening};
 use crate::progress::{Created, may_tell, progress_token};
 use crate::rule::Rule;
-use crate::way::Way;
 use std::alloc::{AllocError, Global};
 
 /// Sees each message that passes between a client and a server in one session, and says which rules it breaks.
@@ -72,10 +73,10 @@ impl Watch {
     ///
     /// A message that breaks a rule counts all the same: a `shutdown` was sent, also where it came too early. The error means that
     /// an allocation failed, and nothing has changed.
-    pub fn pass(
+    pub fn observe(
         &mut self,
         place: u64,
-        way: Way,
+        way: Direction,
         message: &LoggedMessage,
     ) -> Result<Vec<Breach>, AllocError>
         ensures ok { (log : Log) → Saw self.old log → IfOk result (λ found.
@@ -96,7 +97,11 @@ impl Watch {
     }
 
     /// The rules that a message would break if it passed now. The error means that an allocation failed.
-    pub fn breaches(&self, way: Way, message: &LoggedMessage) -> Result<Vec<Breach>, AllocError>
+    pub fn breaches(
+        &self,
+        way: Direction,
+        message: &LoggedMessage,
+    ) -> Result<Vec<Breach>, AllocError>
         ensures { (log : Log) → Saw self.now log → IfOk result (λ found.
             found.items ≡ breaches_of self.now.is_whole log way message.now.faults.items (option_map entry_view message.now.entry)) }
     {
@@ -110,7 +115,7 @@ impl Watch {
     fn push_breaches(
         &self,
         found: &mut Vec<Breach>,
-        way: Way,
+        way: Direction,
         message: &Entry,
     ) -> Result<(), AllocError>
         ensures { (log : Log) → Saw self.now log → OnOk result (found.new.items
@@ -139,7 +144,11 @@ impl Watch {
         Ok(())
     }
 
-    fn progress_breaks(&self, way: Way, token: Option<&LoggedId>) -> Option<(Rule, Option<u64>)>
+    fn progress_breaks(
+        &self,
+        way: Direction,
+        token: Option<&LoggedId>,
+    ) -> Option<(Rule, Option<u64>)>
         ensures { (log : Log) → Saw self.now log → (m : Message) → option_map (λ t. t.now) token.entry ≡ token_named m
             → result ≡ progress_finding log way m }
     {
@@ -148,7 +157,7 @@ impl Watch {
 
     fn session_breaks(
         &self,
-        way: Way,
+        way: Direction,
         message: &Entry,
         token: Option<&LoggedId>,
     ) -> Option<(Rule, Option<u64>)>
@@ -161,7 +170,7 @@ impl Watch {
 
     fn lifecycle_breaks(
         &self,
-        way: Way,
+        way: Direction,
         message: &Entry,
         token: Option<&LoggedId>,
     ) -> Option<(Rule, Option<u64>)>
@@ -171,8 +180,8 @@ impl Watch {
         let waiting = place_of_opening(&self.asked);
         match (way, message.kind()) {
             (_, Kind::Reply(_, _)) => None,
-            (Way::ToServer, _) => self.stands.client_breaks(waiting, message),
-            (Way::ToClient, _) => {
+            (Direction::ToServer, _) => self.stands.client_breaks(waiting, message),
+            (Direction::ToClient, _) => {
                 let tells = self.tells_opening(token);
                 self.stands.server_breaks(waiting, tells, message)
             }
@@ -188,7 +197,7 @@ impl Watch {
         }
     }
 
-    fn id_breaks(&self, way: Way, message: &Entry) -> Option<(Rule, Option<u64>)>
+    fn id_breaks(&self, way: Direction, message: &Entry) -> Option<(Rule, Option<u64>)>
         ensures { (log : Log) → Saw self.now log
             → result ≡ id_finding log way (entry_view message.now) }
     {
@@ -207,7 +216,7 @@ impl Watch {
 
     /// Whether the message begins a new session: an `initialize` after `exit`, or any `initialize` if the session was seen from its middle
     /// on. Call `finish` then, and go on with a new watch.
-    pub fn begins_session(&self, way: Way, message: &LoggedMessage) -> bool
+    pub fn begins_session(&self, way: Direction, message: &LoggedMessage) -> bool
         ensures { (log : Log) → Saw self.now log
             → result ≡ begins_in self.now.is_whole log way (option_map entry_view message.now.entry) }
     {
@@ -249,14 +258,19 @@ impl Watch {
     }
 
     /// The request that the next reply of this id answers, if a request of this way waits under it.
-    pub fn waiting(&self, way: Way, id: &LoggedId) -> Option<&Asked>
+    pub fn waiting(&self, way: Direction, id: &LoggedId) -> Option<&Asked>
         ensures { (log : Log) → Saw self.now log
             → option_map (λ a. a.now) result ≡ waiting way id.now log }
     {
         first_for(&self.asked, way, id)
     }
 
-    fn enter(&mut self, place: u64, way: Way, message: &LoggedMessage) -> Result<(), AllocError>
+    fn enter(
+        &mut self,
+        place: u64,
+        way: Direction,
+        message: &LoggedMessage,
+    ) -> Result<(), AllocError>
         ensures ok { (log : Log) → Saw self.old log
             → OnOk result (Saw self.new (entered way place (option_map entry_view message.now.entry) log)) }
         ensures whole { self.new.is_whole ≡ self.old.is_whole }
@@ -268,7 +282,7 @@ impl Watch {
         }
     }
 
-    fn keep(&mut self, place: u64, way: Way, message: &Entry) -> Result<(), AllocError>
+    fn keep(&mut self, place: u64, way: Direction, message: &Entry) -> Result<(), AllocError>
         ensures ok { (log : Log) → Saw self.old log
             → OnOk result (Saw self.new (passed way place (entry_view message.now) ∷ log)) }
         ensures whole { self.new.is_whole ≡ self.old.is_whole }
@@ -285,7 +299,7 @@ impl Watch {
         Ok(())
     }
 
-    fn answers_initialize(&self, way: Way, message: &Entry) -> bool
+    fn answers_initialize(&self, way: Direction, message: &Entry) -> bool
         ensures { (log : Log) (place : ℕ) → Saw self.now log
             → result ≡ replies_to_it log (passed way place (entry_view message.now)) }
     {
@@ -301,7 +315,7 @@ impl Watch {
     fn keep_request(
         &mut self,
         place: u64,
-        way: Way,
+        way: Direction,
         id: &LoggedId,
         message: &Entry,
     ) -> Result<(), AllocError>
@@ -317,30 +331,31 @@ impl Watch {
     }
 
     /// Keeps what a notification does: a client's with a document, a server's with a token.
-    fn keep_told(&mut self, place: u64, way: Way, message: &Entry) -> Result<(), AllocError>
+    fn keep_told(&mut self, place: u64, way: Direction, message: &Entry) -> Result<(), AllocError>
         ensures documents { (log : Log) → Opened self.old.documents log → OnOk result (Opened self.new.documents
             (passed way place (entry_view message.now) ∷ log)) }
-        ensures live { OnOk result (self.new.created.live.items
-            ≡ live_before (ended_by way (entry_view message.now)) self.old.created.live.items) }
-        ensures ended { OnOk result (self.new.created.ended.items
-            ≡ with_ended self.old.created.live.items place (ended_by way (entry_view message.now)) self.old.created.ended.items) }
+        ensures tokens { OnOk result ((name : Id) → token_held self.new.created name
+            ≡ after_end name place (ended_by way (entry_view message.now)) (token_held self.old.created name)) }
         ensures same { (self.new.asked.items ≡ self.old.asked.items) × (self.new.stands ≡ self.old.stands)
             × (self.new.is_whole ≡ self.old.is_whole) }
         ensures err { OnErr result (KeepsSame self.old self.new) }
     {
         match way {
-            Way::ToServer => self.documents.keep(place, way, message),
-            Way::ToClient => self.created.end(place, message),
+            Direction::ToServer => self.documents.keep(place, way, message),
+            Direction::ToClient => self.created.end(place, message),
         }
     }
 
     /// Keeps what a reply does: it answers a request, and may let a token be created.
-    fn keep_reply(&mut self, way: Way, id: &LoggedId, succeeds: bool) -> Result<(), AllocError>
+    fn keep_reply(
+        &mut self,
+        way: Direction,
+        id: &LoggedId,
+        succeeds: bool,
+    ) -> Result<(), AllocError>
         ensures asked { OnOk result (self.new.asked.items ≡ answered way id.now self.old.asked.items) }
-        ensures live { OnOk result (self.new.created.live.items
-            ≡ with_accepted (accepted_in succeeds way id.now self.old.asked.items) self.old.created.live.items) }
-        ensures ended { OnOk result (self.new.created.ended.items
-            ≡ ended_before (accepted_in succeeds way id.now self.old.asked.items) self.old.created.ended.items) }
+        ensures tokens { OnOk result ((name : Id) → token_held self.new.created name
+            ≡ after_accept name (accepted_in succeeds way id.now self.old.asked.items) (token_held self.old.created name)) }
         ensures same { (self.new.documents ≡ self.old.documents) × (self.new.stands ≡ self.old.stands)
             × (self.new.is_whole ≡ self.old.is_whole) }
         ensures err { OnErr result (KeepsSame self.old self.new) }
@@ -354,7 +369,7 @@ impl Watch {
     /// The token that a reply lets be created.
     fn accepted(
         &self,
-        way: Way,
+        way: Direction,
         id: &LoggedId,
         succeeds: bool,
     ) -> Result<Option<LoggedId>, AllocError>

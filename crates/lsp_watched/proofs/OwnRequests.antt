@@ -1,6 +1,6 @@
 -- A server's own requests have the ids 0, 1, 2, ..: it asks under none that waits.
 use Rattle.std.proofs.Common.{◌≡◌, ◌≤◌, ◌+◌, inl, inr, ℕ, Bool, true, false, cond, ◌&&◌, ◌||◌, List, [], ◌∷◌, ◌++◌}
-use Rattle.std.proofs.Common.{Option, Some, None, refl, sym, ap, ◌∙◌, subst, arith, append_assoc, append-nil, pos}
+use Rattle.std.proofs.Common.{Option, Some, None, Ok, refl, sym, ap, ◌∙◌, subst, arith, append_assoc, append-nil, pos}
 use Rattle.std.specs.Bool.{MatchBool}
 use Rattle.std.specs.List.{list_all}
 use Rattle.std.specs.Option.{option_or}
@@ -15,15 +15,15 @@ use Rattle.lsp_acts.specs.Law.{acts_of, all_sent, request_of, requests_in}
 use Rattle.lsp_acts.specs.Law.{KeepsLaws, GivesPayloads, GoesOn, TakesPart, WasToSend}
 use Rattle.lsp_acts.specs.declared.server.Server.{Ghosts as Stated}
 use Rattle.lsp_session.specs.Finish.{is_initialized}
-use Rattle.lsp_session.specs.Session.{Exchange, sends_of, SessionAnswer}
+use Rattle.lsp_session.specs.Session.{Exchange, offered, sends_of, SessionAnswer}
 use Rattle.lsp_session.specs.Session.{Stop, refused, decided, no_more, timed_out, exhausted}
 use Rattle.lsp_session.specs.SessionLaws.{is_refusal}
 use Rattle.lsp_watch.specs.CleanLog.{is_call}
 use Rattle.lsp_watch.specs.Log.{Log, Open, passed, from_client, is_id, waiting, request_of as kept_of}
 use Rattle.lsp_watch.proofs.Queues.{first, rest, queue, waiting_is, queue_request, queue_reply}
 use Rattle.lsp_watch.specs.Rules.{session_finding, lifecycle_finding, id_finding}
-use Rattle.lsp_watch.specs.declared.way.Way.{Way}
-use Rattle.lsp_watch.specs.declared.way.Way.TheVariants.{ToServer, ToClient}
+use Rattle.lsp_watch.specs.declared.direction.Direction.{Direction}
+use Rattle.lsp_watch.specs.declared.direction.Direction.TheVariants.{ToServer, ToClient}
 use Rattle.lsp_watched.specs.Recorded.{gone, IsSentAt, IsRecorded}
 use Rattle.lsp_watched.specs.Sessions.{ClientKeepsIds, ServerIsClean}
 use Rattle.lsp_watched.proofs.Recorded.{sends_append}
@@ -134,7 +134,7 @@ free_queue id (p ∷ log) free = by p.way p.place p.message (λ f. free_queue id
     answered true xs none = ap rest none
     answered false xs none = none
 
-    by : (way : Way) (place : ℕ) (m : Message)
+    by : (way : Direction) (place : ℕ) (m : Message)
         → (Free id (requests_in (gone ToClient log)) → queue ToClient id log ≡ [])
         → Free id (requests_in (gone ToClient (passed way place m ∷ log)))
         → queue ToClient id (passed way place m ∷ log) ≡ []
@@ -183,27 +183,32 @@ module _ {S P : Type 0} (may : Stated S P) where
 
   all_ascend : (first after : S) (all : List Exchange) → GivesPayloads may first after all
       → Ascends 0 (requests_in (sends_of all))
-  all_ascend first after all (inl none) = subst (Ascends 0) (sym (none_refused (sends_of all) none.0)) tt
-  all_ascend first after all (inr (early, rest, cut, ends, refusals, start, answers, goes)) =
+  all_ascend first_state after all (inl none) = subst (Ascends 0) (sym (none_refused (sends_of all) none.0)) tt
+  all_ascend first_state after all (inr (early, later, cut, ends, refusals, start, answers, goes)) =
       let early_sends : requests_in (sends_of early) ≡ [] =
       ap (λ xs. requests_in (sends_of xs)) ends.cut
-      ∙ ap requests_in (sends_append ends.before _)
-      ∙ requests_append (sends_of ends.before) _
-      ∙ ap (λ ms. ms ++ []) (none_refused (sends_of ends.before) refusals) in
-      subst (Ascends 0) (sym (ap (λ xs. requests_in (sends_of xs)) cut ∙ ap requests_in (sends_append early rest)
-      ∙ requests_append (sends_of early) (sends_of rest) ∙ ap (λ ms. ms ++ requests_in (sends_of rest)) early_sends))
-      (opened_ascends start after rest goes)
+      ∙ ap requests_in (sends_append ends.before (ends.last ∷ [])
+      ∙ ap (λ (ms : List Message). sends_of ends.before ++ (ms ++ [])) ends.gets)
+      ∙ requests_append (sends_of ends.before) (response ends.id (Ok ends.result) ∷ [])
+      ∙ ap (λ (ms : List Message). ms ++ []) (none_refused (sends_of ends.before) refusals) in
+      subst (Ascends 0) (sym (ap (λ xs. requests_in (sends_of xs)) cut ∙ ap requests_in (sends_append early later)
+      ∙ requests_append (sends_of early) (sends_of later) ∙ ap (λ ms. ms ++ requests_in (sends_of later)) early_sends))
+      (opened_ascends start after later goes)
 
 -- what was sent is the front of what was to be sent
 sent_of_all : (stop : Stop) (exchanges all : List Exchange) → WasToSend stop exchanges all
     → (lost : List Message) × (sends_of all ≡ sends_of exchanges ++ lost)
-sent_of_all (refused fault) exchanges all (earlier, came, sent, lost, was, is) = (
-  lost,
-  ap sends_of is ∙ sends_append earlier _ ∙ ap (λ l. sends_of earlier ++ l) (append-nil (sent ++ lost))
-      ∙ sym (append_assoc (sends_of earlier) sent lost)
-      ∙ ap (λ l. l ++ lost) (sym (ap sends_of was ∙ sends_append earlier _
-      ∙ ap (λ l. sends_of earlier ++ l) (append-nil sent))),
-)
+sent_of_all (refused fault) exchanges all (earlier, last, lost, was, is) =
+    let whole : Exchange = record { came = last.came; sent = offered last ++ lost; not_sent = None } in
+    let sent : sends_of exchanges ≡ sends_of earlier ++ offered last =
+    ap sends_of was ∙ sends_append earlier (last ∷ [])
+    ∙ ap (λ (l : List Message). sends_of earlier ++ l) (append-nil (offered last)) in (
+      lost,
+      ap sends_of is ∙ sends_append earlier (whole ∷ [])
+          ∙ ap (λ (l : List Message). sends_of earlier ++ l) (append-nil (offered last ++ lost))
+          ∙ sym (append_assoc (sends_of earlier) (offered last) lost)
+          ∙ ap (λ (l : List Message). l ++ lost) (sym sent),
+    )
 sent_of_all decided exchanges all is = ([], ap sends_of is ∙ sym (append-nil (sends_of exchanges)))
 sent_of_all no_more exchanges all is = ([], ap sends_of is ∙ sym (append-nil (sends_of exchanges)))
 sent_of_all timed_out exchanges all is = ([], ap sends_of is ∙ sym (append-nil (sends_of exchanges)))
@@ -227,11 +232,11 @@ module _ (exchanges : List Exchange) (own : Ascends 0 (requests_in (sends_of exc
       free_before 0 (requests_in (gone ToClient before)) m (requests_in later) id
       (subst (Ascends 0) (ap requests_in cut ∙ requests_append (gone ToClient before) (m ∷ later)) own) refl
 
-  clean : (before : Log) (way : Way) (m : Message) → lifecycle_finding before way m ≡ None
+  clean : (before : Log) (way : Direction) (m : Message) → lifecycle_finding before way m ≡ None
       → id_finding before way m ≡ None → session_finding before way m ≡ None
   clean before way m keeps fits = λ k. option_or (keeps k) (fits k)
 
-  call_is_clean : (before : Log) (way : Way) (m : Message) → from_client way ≡ false → is_call m ≡ true
+  call_is_clean : (before : Log) (way : Direction) (m : Message) → from_client way ≡ false → is_call m ≡ true
       → IsSentAt exchanges before m → lifecycle_finding before way m ≡ None → session_finding before way m ≡ None
   call_is_clean before ToServer m way call at keeps = cc
   call_is_clean before ToClient (response i outcome) way call at keeps = cc
@@ -243,10 +248,10 @@ module _ (exchanges : List Exchange) (own : Ascends 0 (requests_in (sends_of exc
 
 pub server_is_clean : {S P : Type 0} (may : Stated S P) (first last : S) (held : Pending (Unit {0}))
     (exchanges : List Exchange) (stop : Stop)
-    (shutdown_reply : Option Message) (answer : SessionAnswer) (log : Log)
-    → KeepsLaws may first last held exchanges stop shutdown_reply answer
+    (answer : SessionAnswer) (log : Log)
+    → KeepsLaws may first last held exchanges stop answer
     → IsRecorded exchanges log → ClientKeepsIds log → ServerIsClean log
-server_is_clean may first last held exchanges stop shutdown_reply answer log laws recorded anew later before p is way =
+server_is_clean may first last held exchanges stop answer log laws recorded anew later before p is way =
     let lost = sent_of_all stop exchanges laws.all laws.to_send in
     let own : Ascends 0 (requests_in (sends_of exchanges)) =
     ascends_front 0 (requests_in (sends_of exchanges)) (requests_in lost.0) (subst (Ascends 0)
@@ -257,6 +262,6 @@ server_is_clean may first last held exchanges stop shutdown_reply answer log law
     by : Ascends 0 (requests_in (sends_of exchanges)) → (b : Bool) → is_call p.message ≡ b
         → session_finding before p.way p.message ≡ None
     by own true call = call_is_clean exchanges own before p.way p.message way call (recorded later before p is way)
-        (recorded_keeps_lifecycle true true exchanges stop shutdown_reply answer log laws.order recorded anew
+        (recorded_keeps_lifecycle true true exchanges stop answer log laws.order recorded anew
         later before p is way)
     by own false reply = replies_fit exchanges log laws.never_more recorded anew later before p is way reply

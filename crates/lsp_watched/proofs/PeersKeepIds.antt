@@ -25,7 +25,7 @@ use Rattle.lsp_peers.specs.declared.step.Step.{Step}
 use Rattle.lsp_peers.specs.declared.step.Step.TheVariants.{Register, Tell, Answer, Refuse, Cancel}
 use Rattle.lsp_watch.specs.Log.{Log, passed, same_way, other as back}
 use Rattle.lsp_watch.specs.Rules.{id_finding}
-use Rattle.lsp_watch.specs.declared.way.Way.{Way}
+use Rattle.lsp_watch.specs.declared.direction.Direction.{Direction}
 use Rattle.lsp_watched.specs.Passing.{Pass}
 use Rattle.lsp_watched.specs.Peers.{PassAll, way_from, IsLogOf, KeepsIds}
 use Rattle.lsp_watched.proofs.Waits.{at_each_none, at_each_more, waits, after_request, after_notification}
@@ -191,7 +191,7 @@ replied_to false h x = refl
 module _ (client t : Side) (own others : List Entry) (before : Log)
     (mine : (id : Id) → waits (way_from client t) id before ≡ open_at own others id)
     (theirs : (id : Id) → waits (way_from client (other t)) id before ≡ open_at others own id) where
-  abbrev way : Way
+  abbrev way : Direction
   way = way_from client t
 
   -- a registered request is new
@@ -226,7 +226,7 @@ module _ (client t : Side) (own others : List Entry) (before : Log)
   own_after new (Cancel side key) Cancelled is_new passes id = own_reply new key _ passes id
   own_after new step outcome is_new passes id = ap (waits way id) passes ∙ own_same id
 
-  abbrev far : Way
+  abbrev far : Direction
   far = way_from client (other t)
 
   far_same : (id : Id) → waits far id before ≡ cond (has id (replied own ++ [])) false (is_some (item_at

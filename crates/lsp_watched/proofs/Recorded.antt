@@ -8,10 +8,10 @@ use Rattle.lsp_message.specs.Id.{Id}
 use Rattle.lsp_message.specs.Message.{Message, request, notification, response}
 use Rattle.lsp_acts.specs.Law.{one_if, is_request_under, is_reply_under, came_with, how_many, NeverMore}
 use Rattle.lsp_session.specs.Answered.{RepliesToEach, requests_of, IsReplied, AllReplied, AnswersRequests}
-use Rattle.lsp_session.specs.Session.{Exchange, messages_of, sends_of, SessionAnswer, Stop}
+use Rattle.lsp_session.specs.Session.{Exchange, offered, messages_of, sends_of, SessionAnswer, Stop}
 use Rattle.lsp_watch.specs.CleanLog.{is_call}
 use Rattle.lsp_watch.specs.Log.{Log, Passed, passed, from_client}
-use Rattle.lsp_watch.specs.declared.way.Way.TheVariants.{ToServer, ToClient}
+use Rattle.lsp_watch.specs.declared.direction.Direction.TheVariants.{ToServer, ToClient}
 use Rattle.lsp_watched.specs.Recorded.{gone, IsSentAt, IsRecorded}
 use Rattle.lsp_watched.specs.Sessions.{PassSession, IsLogOfSession, ClientKeepsIds, ServerIsClean}
 use Rattle.lsp_watched.specs.Passing.{Pass}
@@ -22,7 +22,7 @@ use Rattle.lsp_watched.proofs.Replies.{how_many_append, one_came, replies_fit}
 
 pub sends_append : (xs ys : List Exchange) → sends_of (xs ++ ys) ≡ sends_of xs ++ sends_of ys
 sends_append [] ys = refl
-sends_append (x ∷ xs) ys = ap (λ l. x.sent ++ l) (sends_append xs ys) ∙ sym (append_assoc x.sent (sends_of xs)
+sends_append (x ∷ xs) ys = ap (λ l. offered x ++ l) (sends_append xs ys) ∙ sym (append_assoc (offered x) (sends_of xs)
     (sends_of ys))
 
 came_first : (c : Option Message) (all front : List (Option Message)) (ms : List Message)
@@ -63,11 +63,11 @@ module _ (exchanges : List Exchange) where
 
   module _ (earlier : List Exchange) (x : Exchange) (later : List Exchange)
       (cut : exchanges ≡ earlier ++ x ∷ later) where
-    server_passes : (first ms : List Message) (old new : Log) → Pass ToClient ms old new → x.sent ≡ first ++ ms
+    server_passes : (first ms : List Message) (old new : Log) → Pass ToClient ms old new → offered x ≡ first ++ ms
         → gone ToClient old ≡ sends_of earlier ++ first → gone ToServer old ≡ messages_of (earlier ++ x ∷ [])
         → IsRecorded exchanges old
         → IsRecorded exchanges new × (gone ToServer new ≡ messages_of (earlier ++ x ∷ []))
-        × (gone ToClient new ≡ sends_of earlier ++ x.sent)
+        × (gone ToClient new ≡ sends_of earlier ++ (offered x))
     server_passes first [] old new passes sends sent took recorded = (
       subst (IsRecorded exchanges) (sym passes) recorded,
       ap (gone ToServer) passes ∙ took,
@@ -96,11 +96,11 @@ module _ (exchanges : List Exchange) where
   all_pass before [] old new is passes took sent recorded = subst (IsRecorded exchanges) (sym passes) recorded
   all_pass before (x ∷ xs) old new is passes took sent recorded =
       let came = client_passes (option_to_list x.came) old passes.0 passes.2 recorded in
-      let then = server_passes before x xs is [] x.sent passes.0 passes.1 passes.3 refl
+      let then = server_passes before x xs is [] (offered x) passes.0 passes.1 passes.3 refl
       (came.2 ∙ sent ∙ sym (append-nil (sends_of before)))
       (came.1 ∙ ap (λ l. l ++ option_to_list x.came) took ∙ sym (came_last before x)) came.0 in
       all_pass (before ++ x ∷ []) xs passes.1 new (is ∙ sym (append_assoc before (x ∷ []) xs)) passes.4 then.1
-      (then.2 ∙ sym (sends_append before (x ∷ []) ∙ ap (λ l. sends_of before ++ l) (append-nil x.sent))) then.0
+      (then.2 ∙ sym (sends_append before (x ∷ []) ∙ ap (λ l. sends_of before ++ l) (append-nil (offered x)))) then.0
 
 pub session_is_recorded : (exchanges : List Exchange) (log : Log) → IsLogOfSession exchanges log
     → IsRecorded exchanges log
@@ -111,7 +111,7 @@ session_is_recorded exchanges log passes = all_pass exchanges [] exchanges [] lo
 
 -- one reply, or none, for a request, and nothing else
 abbrev pub RepliesAtMost : Exchange → Type 0
-RepliesAtMost x = IsReplied x ⊎ (x.sent ≡ [])
+RepliesAtMost x = IsReplied x ⊎ (offered x ≡ [])
 
 abbrev pub AllAtMost : List Exchange → Type 0
 AllAtMost [] = Unit {0}
@@ -129,16 +129,17 @@ pub at_most_at : (xs : List Exchange) (x : Exchange) (ys : List Exchange) → Al
 at_most_at [] x ys all = all.0
 at_most_at (y ∷ xs) x ys all = at_most_at xs x ys all.1
 
-at_most : (exchanges : List Exchange) (stop : Stop) (shutdown_reply : Option Message) (answer : SessionAnswer)
-    → AnswersRequests exchanges stop shutdown_reply answer → AllAtMost exchanges
-at_most exchanges stop shutdown_reply answer (inl all) = subst AllAtMost (append-nil exchanges)
+at_most : (exchanges : List Exchange) (stop : Stop) (answer : SessionAnswer)
+    → AnswersRequests exchanges stop answer → AllAtMost exchanges
+at_most exchanges stop answer (inl all) = subst AllAtMost (append-nil exchanges)
     (at_most_each exchanges [] all tt)
-at_most exchanges stop shutdown_reply answer (inr last) = subst AllAtMost (sym last.cut)
+at_most exchanges stop answer (inr last) = subst AllAtMost (sym last.cut)
     (at_most_each last.before _ last.replied (inr refl, tt))
 
 -- what is sent for a message, in numbers
 replied_once : (came : Option Message) (sent : List Message)
-    → RepliesToEach (requests_of (messages_of (record { came = came; sent = sent } ∷ []))) sent → (id : Id)
+    → RepliesToEach (requests_of (messages_of (record { came = came; sent = sent; not_sent = None } ∷ []))) sent
+    → (id : Id)
     → how_many (is_reply_under id) sent ≡ one_if (came_with (is_request_under id) came)
 replied_once None [] replies id = refl
 replied_once None (m ∷ ms) replies id = absurd replies
@@ -154,8 +155,8 @@ replied_once (Some (request i method params)) (m ∷ []) replies id = omega (
 )
 
 no_more : (x : Exchange) → RepliesAtMost x → (id : Id)
-    → how_many (is_reply_under id) x.sent ≤ one_if (came_with (is_request_under id) x.came)
-no_more x (inl replied) id = omega (arith, replied_once x.came x.sent replied id)
+    → how_many (is_reply_under id) (offered x) ≤ one_if (came_with (is_request_under id) x.came)
+no_more x (inl replied) id = omega (arith, replied_once x.came (offered x) replied id)
 no_more x (inr none) id = omega (arith, ap (how_many (is_reply_under id)) none)
 
 pub never_more_of : (xs : List Exchange) → AllAtMost xs → (id : Id)
@@ -163,7 +164,7 @@ pub never_more_of : (xs : List Exchange) → AllAtMost xs → (id : Id)
 never_more_of [] all id = omega arith
 never_more_of (x ∷ xs) all id = omega (
   arith,
-  how_many_append (is_reply_under id) x.sent (sends_of xs),
+  how_many_append (is_reply_under id) (offered x) (sends_of xs),
   no_more x all.0 id,
   one_came (is_request_under id) x.came (map (λ (y : Exchange). y.came) xs),
   never_more_of xs all.1 id,
@@ -187,16 +188,16 @@ none_there [] m rest is = cc
 none_there (n ∷ first) m rest is = cc
 
 pub is_a_reply : (x : Exchange) (first : List Message) (m : Message) (rest : List Message) → RepliesAtMost x
-    → x.sent ≡ first ++ m ∷ rest → is_call m ≡ false
+    → offered x ≡ first ++ m ∷ rest → is_call m ≡ false
 is_a_reply x first m rest (inl replied) is = sends_replies (requests_of (messages_of (x ∷ []))) first m rest
     (subst (RepliesToEach (requests_of (messages_of (x ∷ [])))) is replied)
 is_a_reply x first m rest (inr none) is = none_there first m rest (sym is ∙ none)
 
-pub replies_are_clean : (exchanges : List Exchange) (stop : Stop) (shutdown_reply : Option Message)
-    (answer : SessionAnswer) (log : Log) → AnswersRequests exchanges stop shutdown_reply answer
+pub replies_are_clean : (exchanges : List Exchange) (stop : Stop)
+    (answer : SessionAnswer) (log : Log) → AnswersRequests exchanges stop answer
     → IsRecorded exchanges log → ClientKeepsIds log → ServerIsClean log
-replies_are_clean exchanges stop shutdown_reply answer log answers recorded anew later before p is way =
-    let all = at_most exchanges stop shutdown_reply answer answers in
+replies_are_clean exchanges stop answer log answers recorded anew later before p is way =
+    let all = at_most exchanges stop answer answers in
     let at = recorded later before p is way in
     replies_fit exchanges log (never_more exchanges all) recorded anew later before p is way
     (is_a_reply at.exchange at.first p.message at.rest

@@ -5,21 +5,22 @@ use Rattle.std.proofs.Common.{append-nil, codes, Ok, length}
 use Rattle.serde_json.specs.Data.{Data}
 use Rattle.std.proofs.lemmas.List.{length-append}
 use Rattle.std.specs.Option.{option_or}
+use Rattle.std.specs.Prelude.{option_to_list}
 use Rattle.std.specs.Str.{bytes_eq}
 use Rattle.lsp_message.specs.Id.{Id, same_id}
 use Rattle.lsp_message.specs.Message.{Message, request, notification, response}
 use Rattle.lsp_message.proofs.Ids.{same_own}
 use Rattle.lsp_acts.specs.Law.{one_if, is_request_under, is_reply_under, how_many}
 use Rattle.lsp_session.specs.Answered.{AllReplied}
-use Rattle.lsp_session.specs.Session.{Exchange, messages_of, sends_of, SessionAnswer, Stop}
+use Rattle.lsp_session.specs.Session.{Exchange, offered, messages_of, sends_of, SessionAnswer, Stop}
 use Rattle.lsp_session.specs.SessionLaws.{KeepsOrder, IsOpened, IsUnstarted, AllRefused, AllEarly}
 use Rattle.lsp_watch.specs.CleanLog.{AtEach, is_call}
 use Rattle.lsp_watch.specs.Log.{Log, Passed, Open, passed, from_client, same_way, waiting}
 use Rattle.lsp_watch.specs.Log.{request_of, is_some_such, opens_session}
 use Rattle.lsp_watch.proofs.Queues.{first, rest, queue, waiting_is, queue_request, queue_reply}
 use Rattle.lsp_watch.specs.Rules.{lifecycle_finding, initialize_result}
-use Rattle.lsp_watch.specs.declared.way.Way.{Way}
-use Rattle.lsp_watch.specs.declared.way.Way.TheVariants.{ToServer, ToClient}
+use Rattle.lsp_watch.specs.declared.direction.Direction.{Direction}
+use Rattle.lsp_watch.specs.declared.direction.Direction.TheVariants.{ToServer, ToClient}
 use Rattle.lsp_watched.specs.Recorded.{gone, IsSentAt, IsRecorded}
 use Rattle.lsp_watched.specs.Sessions.{ClientKeepsIds, ServerKeepsLifecycle}
 use Rattle.lsp_watched.proofs.Recorded.{RepliesAtMost, AllAtMost, at_most_each, at_most_at, never_more, never_more_of}
@@ -50,7 +51,7 @@ cuts (w ∷ a) x c (z ∷ b) y d is =
 
 -- ---- where a message passed
 
-record PassedAt (way : Way) (log : Log) (front : List Message) (m : Message) : Type 0 where
+record PassedAt (way : Direction) (log : Log) (front : List Message) (m : Message) : Type 0 where
   pub later : Log
   pub one : Passed
   pub before : Log
@@ -59,7 +60,7 @@ record PassedAt (way : Way) (log : Log) (front : List Message) (m : Message) : T
   pub is : one.message ≡ m
   pub behind : gone way before ≡ front
 
-further : (way : Way) (p : Passed) (log : Log) (front : List Message) (m : Message) → PassedAt way log front m
+further : (way : Direction) (p : Passed) (log : Log) (front : List Message) (m : Message) → PassedAt way log front m
     → PassedAt way (p ∷ log) front m
 further way p log front m at = record {
   later = p ∷ at.later;
@@ -71,7 +72,7 @@ further way p log front m at = record {
   behind = at.behind;
 }
 
-passed_at : (way : Way) (log : Log) (front : List Message) (m : Message) (rest : List Message)
+passed_at : (way : Direction) (log : Log) (front : List Message) (m : Message) (rest : List Message)
     → gone way log ≡ front ++ m ∷ rest
     → PassedAt way log front m
 passed_at way [] [] m rest is = cc
@@ -110,27 +111,27 @@ passed_at way (p ∷ log) front m rest is = by (λ r e. passed_at way log front 
 -- ---- how much was sent
 
 sent_length : (xs : List Exchange) (x : Exchange) (ys : List Exchange) → length (sends_of (xs ++ x ∷ ys))
-    ≡ length (sends_of xs) + (length x.sent + length (sends_of ys))
-sent_length [] x ys = omega (arith, length-append x.sent (sends_of ys))
+    ≡ length (sends_of xs) + (length (offered x) + length (sends_of ys))
+sent_length [] x ys = omega (arith, length-append (offered x) (sends_of ys))
 sent_length (y ∷ xs) x ys = omega (
   arith,
-  length-append y.sent (sends_of (xs ++ x ∷ ys)),
-  length-append y.sent (sends_of xs),
+  length-append (offered y) (sends_of (xs ++ x ∷ ys)),
+  length-append (offered y) (sends_of xs),
   sent_length xs x ys,
 )
 
-grows_once : (way : Way) (p : Passed) (log : Log) → length (gone way log) ≤ length (gone way (p ∷ log))
+grows_once : (way : Direction) (p : Passed) (log : Log) → length (gone way log) ≤ length (gone way (p ∷ log))
 grows_once way p log = by (same_way way p.way)
   where
     by : (b : Bool) → length (gone way log) ≤ length (cond b (gone way log ++ p.message ∷ []) (gone way log))
     by true = omega (arith, length-append (gone way log) (p.message ∷ []))
     by false = omega arith
 
-grows : (way : Way) (later log : Log) → length (gone way log) ≤ length (gone way (later ++ log))
+grows : (way : Direction) (later log : Log) → length (gone way log) ≤ length (gone way (later ++ log))
 grows way [] log = omega arith
 grows way (p ∷ later) log = omega (arith, grows way later log, grows_once way p (later ++ log))
 
-went_client : (way : Way) → from_client way ≡ false → way ≡ ToClient
+went_client : (way : Direction) → from_client way ≡ false → way ≡ ToClient
 went_client ToServer is = cc
 went_client ToClient is = refl
 
@@ -179,7 +180,7 @@ within exchanges front x rest before m cut less at =
 -- and what is sent next is sent at the next exchange
 at_next : (exchanges front : List Exchange) (x : Exchange) (rest : List Exchange) (before : Log) (m : Message)
     → exchanges ≡ front ++ x ∷ rest
-    → gone ToClient before ≡ sends_of front → length x.sent ≡ 1 → (at : IsSentAt exchanges before m)
+    → gone ToClient before ≡ sends_of front → length (offered x) ≡ 1 → (at : IsSentAt exchanges before m)
     → (at.earlier ≡ front) × (at.exchange ≡ x)
 at_next exchanges front x rest before m cut all one at =
     by (cuts at.earlier at.exchange at.later front x rest (sym at.cut ∙ cut))
@@ -234,7 +235,7 @@ module _ (id : Id) where
   abbrev next : Log → Option Open
   next log = first (queue ToServer id log)
 
-  stays_once : (way : Way) (place : ℕ) (m : Message) (log : Log) (q : Open)
+  stays_once : (way : Direction) (place : ℕ) (m : Message) (log : Log) (q : Open)
       → told id (passed way place m ∷ log) ≤ told id log
       → next log ≡ Some q → next (passed way place m ∷ log) ≡ Some q
   stays_once way place (request i method params) log q less is =
@@ -257,7 +258,7 @@ module _ (id : Id) where
 
 -- ---- small steps
 
-went_server : (way : Way) → from_client way ≡ true → way ≡ ToServer
+went_server : (way : Direction) → from_client way ≡ true → way ≡ ToServer
 went_server ToServer is = refl
 went_server ToClient is = cc
 
@@ -265,7 +266,7 @@ is_from_client : (p : Passed) (m : Message) → same_way ToServer p.way ≡ true
     → p ≡ passed ToServer p.place m
 is_from_client p m goes is = λ k. passed (went_server p.way goes k) p.place (is k)
 
-goes_to_client : (way : Way) → same_way ToClient way ≡ true → way ≡ ToClient
+goes_to_client : (way : Direction) → same_way ToClient way ≡ true → way ≡ ToClient
 goes_to_client ToServer is = cc
 goes_to_client ToClient is = refl
 
@@ -277,7 +278,8 @@ begun_all : (later log : Log) → HasBegun log → HasBegun (later ++ log)
 begun_all [] log begun = begun
 begun_all (p ∷ later) log begun = begun_more (later ++ log) p (begun_all later log begun)
 
-reply_keeps_order : (before : Log) (way : Way) (m : Message) → is_call m ≡ false → lifecycle_finding before way m ≡ None
+reply_keeps_order : (before : Log) (way : Direction) (m : Message) → is_call m ≡ false → lifecycle_finding before way m
+    ≡ None
 reply_keeps_order before way (response i outcome) reply = refl
 reply_keeps_order before way (request i method params) reply = cc
 reply_keeps_order before way (notification method params) reply = cc
@@ -286,16 +288,14 @@ reply_keeps_order before way (notification method params) reply = cc
 
 module _ (exchanges : List Exchange) (log : Log) (recorded : IsRecorded exchanges log) (anew : ClientKeepsIds log)
     (front rest : List Exchange) (id : Id) (method : List ℕ) (params result : Data)
-    (is_initialize : bytes_eq method (codes "initialize") ≡ true) (replied : AllReplied front)
+    (is_initialize : bytes_eq method (codes "initialize") ≡ true) (replied : AllReplied front) (exchange : Exchange)
+    (takes : exchange.came ≡ Some (request id method params)) (gets : offered exchange ≡ response id (Ok result) ∷ [])
   where
     abbrev initialize : Message
     initialize = request id method params
 
     abbrev gives : Message
     gives = response id (Ok result)
-
-    abbrev exchange : Exchange
-    exchange = record { came = Some initialize; sent = gives ∷ [] }
 
     all_at_most : AllAtMost front
     all_at_most = subst AllAtMost (append-nil front) (at_most_each front [] replied tt)
@@ -364,10 +364,11 @@ module _ (exchanges : List Exchange) (log : Log) (recorded : IsRecorded exchange
       begun_at later b replies is sent =
           let reply : Passed = passed ToClient replies gives in
           let at = recorded later b reply is refl in
-          let same = at_next exchanges front exchange rest b gives cut sent refl at in
+          let same = at_next exchanges front exchange rest b gives cut sent (ap length gets) at in
           let took : gone ToServer b ≡ messages_of front ++ initialize ∷ at.ahead =
           at.took ∙ (λ k. messages_of (same.0 k ++ same.1 k ∷ []) ++ at.ahead)
-          ∙ ap (λ l. l ++ at.ahead) (came_last front exchange)
+          ∙ ap (λ l. l ++ at.ahead) (came_last front exchange
+          ∙ ap (λ (c : Option Message). messages_of front ++ option_to_list c) takes)
           ∙ append_assoc (messages_of front) (initialize ∷ []) at.ahead in
           let found = passed_at ToServer b (messages_of front) initialize at.ahead took in
           let b_is : b ≡ found.later ++ passed ToServer found.one.place initialize ∷ found.before =
@@ -383,9 +384,12 @@ module _ (exchanges : List Exchange) (log : Log) (recorded : IsRecorded exchange
           → (at : IsSentAt exchanges before p.message)
           → (u : List Exchange) → at.earlier ≡ front ++ exchange ∷ u → HasBegun before
       begun_before later before p is at u behind =
+          let begun : sends_of (front ++ exchange ∷ u) ≡ sends_of front ++ (gives ∷ sends_of u) =
+          sends_append front (exchange ∷ u)
+          ∙ ap (λ (ms : List Message). sends_of front ++ (ms ++ sends_of u)) gets in
           let sent : gone ToClient before ≡ sends_of front ++ gives ∷ (sends_of u ++ at.first) =
           at.sent ∙ ap (λ xs. sends_of xs ++ at.first) behind
-          ∙ ap (λ ms. ms ++ at.first) (sends_append front (exchange ∷ u))
+          ∙ ap (λ (ms : List Message). ms ++ at.first) begun
           ∙ append_assoc (sends_of front) (gives ∷ sends_of u) at.first in
           let found = passed_at ToClient before (sends_of front) gives (sends_of u ++ at.first) sent in
           let before_is : before ≡ found.later ++ passed ToClient found.one.place gives ∷ found.before =
@@ -421,20 +425,20 @@ unstarted_at_most [] stop answer is = tt
 unstarted_at_most (x ∷ rest) stop answer is = (inr is.2, subst AllAtMost (sym is.0) tt)
 
 pub recorded_keeps_lifecycle : (passes_late speaks_last : Bool) (exchanges : List Exchange) (stop : Stop)
-    (shutdown_reply : Option Message) (answer : SessionAnswer) (log : Log)
-    → KeepsOrder passes_late speaks_last exchanges stop shutdown_reply answer → IsRecorded exchanges log
+    (answer : SessionAnswer) (log : Log)
+    → KeepsOrder passes_late speaks_last exchanges stop answer → IsRecorded exchanges log
     → ClientKeepsIds log → ServerKeepsLifecycle log
-recorded_keeps_lifecycle passes_late speaks_last exchanges stop shutdown_reply answer log order recorded anew =
+recorded_keeps_lifecycle passes_late speaks_last exchanges stop answer log order recorded anew =
     by order.opened
   where
-    by : IsOpened passes_late speaks_last order.early order.rest stop shutdown_reply answer
-        ⊎ (AllRefused order.early × AllEarly order.early × IsUnstarted order.rest stop answer × (shutdown_reply ≡ None))
+    by : IsOpened passes_late speaks_last order.early order.rest stop answer
+        ⊎ (AllRefused order.early × AllEarly order.early × IsUnstarted order.rest stop answer)
         → ServerKeepsLifecycle log
     by (inl opened) =
         let ends = opened.ends in
         let early = subst AllReplied ends.cut order.replied in
         keeps_from_there exchanges log recorded anew ends.before order.rest ends.id ends.method ends.params ends.result
-        ends.asks (front_replied ends.before _ early)
+        ends.asks (front_replied ends.before _ early) ends.last ends.came ends.gets
         (order.cut ∙ ap (λ l. l ++ order.rest) ends.cut ∙ append_assoc ends.before _ order.rest)
         (at_most_at ends.before _ []
         (subst AllAtMost (append-nil _) (at_most_each (ends.before ++ _ ∷ []) [] early tt)))

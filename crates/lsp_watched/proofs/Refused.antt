@@ -1,5 +1,5 @@
 -- Wrong runs whose logs the laws do not let pass.
-use Rattle.std.proofs.Common.{ℕ, ◌≡◌, List, [], ◌∷◌, ◌++◌, sym, ◌∙◌, String, Global, Some, Ok, codes, pos, refl}
+use Rattle.std.proofs.Common.{ℕ, ◌≡◌, List, [], ◌∷◌, ◌++◌, sym, ◌∙◌, String, Global, Some, None, Ok, codes, pos, refl}
 use Rattle.std.specs.Prelude.{string_bytes}
 use Rattle.serde_json.specs.Data.{null}
 use Rattle.serde_json.specs.View.{view}
@@ -14,7 +14,7 @@ use Rattle.lsp_peers.specs.declared.step.Side.TheVariants.{A, B}
 use Rattle.lsp_peers.specs.declared.step.Step.TheVariants.{Register, Answer}
 use Rattle.lsp_session.specs.Session.{Exchange, messages_of}
 use Rattle.lsp_watch.specs.Log.{Log, passed}
-use Rattle.lsp_watch.specs.declared.way.Way.TheVariants.{ToServer, ToClient}
+use Rattle.lsp_watch.specs.declared.direction.Direction.TheVariants.{ToServer, ToClient}
 use Rattle.lsp_watched.specs.Peers.{IsLogOf, KeepsIds}
 use Rattle.lsp_watched.specs.Recorded.{IsRecorded}
 use Rattle.lsp_watched.specs.Sessions.{IsLogOfSession, ClientKeepsIds, ServerIsClean, ServerKeepsLifecycle}
@@ -76,7 +76,7 @@ abbrev note : Message
 note = notification (codes "demo/note") null
 
 abbrev exchange : List Message → Exchange
-exchange sent = record { came = Some initialize; sent = sent }
+exchange sent = record { came = Some initialize; sent = sent; not_sent = None }
 
 abbrev begun : Log
 begun = passed ToServer 1 initialize ∷ []

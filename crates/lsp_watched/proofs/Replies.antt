@@ -6,12 +6,12 @@ use Rattle.lsp_message.specs.Id.{Id, same_id}
 use Rattle.lsp_message.specs.Message.{Message, request, notification, response}
 use Rattle.lsp_message.proofs.Ids.{same_own, same_is}
 use Rattle.lsp_acts.specs.Law.{one_if, is_request_under, is_reply_under, came_with, how_many, NeverMore}
-use Rattle.lsp_session.specs.Session.{Exchange, messages_of, sends_of}
+use Rattle.lsp_session.specs.Session.{Exchange, offered, messages_of, sends_of}
 use Rattle.lsp_watch.specs.CleanLog.{AtEach, is_call}
 use Rattle.lsp_watch.specs.Log.{Log, Passed, passed, from_client}
 use Rattle.lsp_watch.specs.Rules.{session_finding}
-use Rattle.lsp_watch.specs.declared.way.Way.{Way}
-use Rattle.lsp_watch.specs.declared.way.Way.TheVariants.{ToServer, ToClient}
+use Rattle.lsp_watch.specs.declared.direction.Direction.{Direction}
+use Rattle.lsp_watch.specs.declared.direction.Direction.TheVariants.{ToServer, ToClient}
 use Rattle.lsp_watched.specs.Recorded.{gone, IsSentAt, IsRecorded}
 use Rattle.lsp_watched.specs.Sessions.{AsksAnew, ClientKeepsIds, ServerRepliesFit}
 use Rattle.lsp_watched.proofs.Waits.{waits, after_request, after_notification, after_reply, reply_fits, none_asks}
@@ -43,12 +43,12 @@ one_came p None cs = omega arith
 one_came p (Some m) cs = omega arith
 
 how_sent : (p : Message → Bool) (before : List Exchange) (x : Exchange) → how_many p (sends_of (before ++ x ∷ []))
-    ≡ how_many p (sends_of before) + how_many p x.sent
-how_sent p [] x = omega (arith, how_many_append p x.sent [])
+    ≡ how_many p (sends_of before) + how_many p (offered x)
+how_sent p [] x = omega (arith, how_many_append p (offered x) [])
 how_sent p (y ∷ before) x = omega (
   arith,
-  how_many_append p y.sent (sends_of (before ++ x ∷ [])),
-  how_many_append p y.sent (sends_of before),
+  how_many_append p (offered y) (sends_of (before ++ x ∷ [])),
+  how_many_append p (offered y) (sends_of before),
   how_sent p before x,
 )
 
@@ -134,7 +134,7 @@ server_step place (notification method params) old bound balance = λ id. omega 
   ap one_if (after_notification ToServer ToClient id place old method params),
 )
 
-step : (way : Way) (place : ℕ) (m : Message) (old : Log) → (from_client way ≡ true → AsksAnew old m)
+step : (way : Direction) (place : ℕ) (m : Message) (old : Log) → (from_client way ≡ true → AsksAnew old m)
     → (from_client way ≡ false → OneMore old m) → Balances old → Balances (passed way place m ∷ old)
 step ToServer place m old new bound balance = client_step place m old (new refl) balance
 step ToClient place m old new bound balance = server_step place m old (bound refl) balance
@@ -167,7 +167,7 @@ one_more exchanges before m never at = λ id. omega (
   how_many_append (is_request_under id) (messages_of (at.earlier ++ at.exchange ∷ [])) at.ahead,
 )
 
-fits : (before : Log) (way : Way) (place : ℕ) (m : Message) → (from_client way ≡ false → OneMore before m)
+fits : (before : Log) (way : Direction) (place : ℕ) (m : Message) → (from_client way ≡ false → OneMore before m)
     → Balances before → from_client way ≡ false → is_call m ≡ false → session_finding before way m ≡ None
 fits before ToServer place m bound balance = λ way reply. cc
 fits before ToClient place (response i outcome) bound balance = λ way reply.

@@ -7,7 +7,7 @@ use Rattle.lsp_message.specs.Id.{Id, same_id}
 use Rattle.lsp_message.specs.Message.{Message, request, notification, response}
 use Rattle.lsp_message.proofs.Ids.{same_own}
 use Rattle.lsp_session.specs.Answered.{RepliesToEach, requests_of, AllReplied, AnswersRequests}
-use Rattle.lsp_session.specs.Session.{Exchange, messages_of, SessionAnswer, Stop}
+use Rattle.lsp_session.specs.Session.{Exchange, offered, messages_of, SessionAnswer, Stop}
 use Rattle.lsp_session.specs.SessionLaws.{KeepsOrder, EndsWithResult, IsOpened, IsUnstarted, AllRefused, AllEarly}
 use Rattle.lsp_watch.specs.Log.{Log, Passed, Open, passed, from_client, waiting, answers_initialize, is_success}
 use Rattle.lsp_watch.specs.Log.{request_of, is_some_such, opens_session}
@@ -15,7 +15,7 @@ use Rattle.lsp_watch.proofs.Queues.{first, rest, queue, waiting_is, queue_reques
 use Rattle.lsp_watch.specs.Rules.{session_finding, lifecycle_finding, initialize_result, initializing, is_early}
 use Rattle.lsp_watch.specs.Rules.{tells_opening}
 use Rattle.lsp_watch.specs.declared.rule.Rule.TheVariants.{BeforeResult}
-use Rattle.lsp_watch.specs.declared.way.Way.TheVariants.{ToServer, ToClient}
+use Rattle.lsp_watch.specs.declared.direction.Direction.TheVariants.{ToServer, ToClient}
 use Rattle.lsp_watched.specs.Passing.{Pass}
 use Rattle.lsp_watched.specs.Sessions.{PassSession, IsLogOfSession, ServerIsClean, ServerKeepsLifecycle}
 use Rattle.lsp_watched.proofs.Waits.{at_each_none, at_each_more, one_found}
@@ -98,7 +98,7 @@ module _ (P : Log → Passed → Type 0) (of_client : (before : Log) (place : �
       )
 
   exchanged : (came : Option Message) (sent : List Message) (old mid new : Log)
-      → RepliesToEach (requests_of (messages_of (record { came = came; sent = sent } ∷ []))) sent
+      → RepliesToEach (requests_of (messages_of (record { came = came; sent = sent; not_sent = None } ∷ []))) sent
       → Pass ToServer (option_to_list came) old mid → Pass ToClient sent mid new → Quiet old → Log_holds old
       → Log_holds new × Quiet new
   exchanged None sent old mid new replies came passes quiet holds =
@@ -140,7 +140,7 @@ module _ (P : Log → Passed → Type 0) (of_client : (before : Log) (place : �
       → Log_holds new × Quiet new
   all_exchanged [] old new all passes quiet holds = subst (λ l. Log_holds l × Quiet l) (sym passes) (holds, quiet)
   all_exchanged (x ∷ xs) old new all passes quiet holds =
-      let one = exchanged x.came x.sent old passes.0 passes.1 all.0 passes.2 passes.3 quiet holds in
+      let one = exchanged x.came (offered x) old passes.0 passes.1 all.0 passes.2 passes.3 quiet holds in
       all_exchanged xs passes.1 new all.1 passes.4 one.1 one.0
 
 quiet_first : Quiet []
@@ -159,12 +159,12 @@ abbrev replied_clean : (xs : List Exchange) (new : Log) → AllReplied xs → Pa
 replied_clean xs new all passes = (all_exchanged IsClean client_clean reply_clean xs [] new all passes quiet_first
     (at_each_none IsClean)).0
 
-pub server_is_clean : (exchanges : List Exchange) (stop : Stop) (shutdown_reply : Option Message)
+pub server_is_clean : (exchanges : List Exchange) (stop : Stop)
     (answer : SessionAnswer)
-    (log : Log) → AnswersRequests exchanges stop shutdown_reply answer → IsLogOfSession exchanges log
+    (log : Log) → AnswersRequests exchanges stop answer → IsLogOfSession exchanges log
     → ServerIsClean log
-server_is_clean exchanges stop shutdown_reply answer log (inl all) passes = replied_clean exchanges log all passes
-server_is_clean exchanges stop shutdown_reply answer log (inr last) passes =
+server_is_clean exchanges stop answer log (inl all) passes = replied_clean exchanges log all passes
+server_is_clean exchanges stop answer log (inr last) passes =
     let parts = pass_split last.before _ [] log (subst (λ xs. PassSession xs [] log) last.cut passes) in
     let end = parts.2 in
     let first = replied_clean last.before parts.0 last.replied parts.1 in
@@ -218,7 +218,7 @@ begun_session [] old new passes begun keeps = subst ServerKeepsLifecycle (sym pa
 begun_session (x ∷ xs) old new passes begun keeps =
     let ms = option_to_list x.came in
     let came = after_client KeepsLifecycle client_keeps ms old passes.0 passes.2 keeps in
-    let sent = after_server KeepsLifecycle client_keeps HasBegun begun_step x.sent passes.0 passes.1 passes.3
+    let sent = after_server KeepsLifecycle client_keeps HasBegun begun_step (offered x) passes.0 passes.1 passes.3
     (begun_after_client ms old passes.0 passes.2 begun) came in
     begun_session xs passes.1 new passes.4 sent.1 sent.0
 
@@ -249,8 +249,8 @@ begun_at early log ends all passes =
     let quiet = (replied_keeps ends.before parts.0 (front_replied ends.before _
     (subst AllReplied ends.cut all)) parts.1).1 in
     let end = parts.2 in
-    let came = end.2 in
-    let sent = end.3 in
+    let came = subst (λ (c : Option Message). Pass ToServer (option_to_list c) parts.0 end.0) ends.came end.2 in
+    let sent = subst (λ (ms : List Message). Pass ToClient ms end.0 end.1) ends.gets end.3 in
     subst HasBegun (sym (end.4 ∙ sent.1 ∙ ap (λ l. passed ToClient sent.0 (response ends.id
     (Ok ends.result)) ∷ l) came.1))
     (begins ends.id ends.method ends.params ends.result came.0 sent.0 parts.0 quiet ends.asks)
@@ -265,17 +265,17 @@ unstarted_keeps (x ∷ rest) stop answer old new is passes keeps =
     subst ServerKeepsLifecycle (sym (last ∙ none)) came
 
 pub server_keeps_lifecycle : (passes_late speaks_last : Bool) (exchanges : List Exchange) (stop : Stop)
-    (shutdown_reply : Option Message) (answer : SessionAnswer) (log : Log)
-    → KeepsOrder passes_late speaks_last exchanges stop shutdown_reply answer → IsLogOfSession exchanges log
+    (answer : SessionAnswer) (log : Log)
+    → KeepsOrder passes_late speaks_last exchanges stop answer → IsLogOfSession exchanges log
     → ServerKeepsLifecycle log
-server_keeps_lifecycle passes_late speaks_last exchanges stop shutdown_reply answer log order passes =
+server_keeps_lifecycle passes_late speaks_last exchanges stop answer log order passes =
     let parts = pass_split order.early order.rest [] log (subst (λ xs. PassSession xs [] log) order.cut passes) in
     let first = replied_keeps order.early parts.0 order.replied parts.1 in
     by parts.0 parts.1 parts.2 first.0 order.opened
   where
     by : (mid : Log) → PassSession order.early [] mid → PassSession order.rest mid log → ServerKeepsLifecycle mid
-        → IsOpened passes_late speaks_last order.early order.rest stop shutdown_reply answer
-        ⊎ (AllRefused order.early × AllEarly order.early × IsUnstarted order.rest stop answer × (shutdown_reply ≡ None))
+        → IsOpened passes_late speaks_last order.early order.rest stop answer
+        ⊎ (AllRefused order.early × AllEarly order.early × IsUnstarted order.rest stop answer)
         → ServerKeepsLifecycle log
     by mid early rest keeps (inl opened) = begun_session order.rest mid log rest
         (begun_at order.early mid opened.ends order.replied early) keeps

@@ -10,7 +10,7 @@ use Rattle.lsp_watch.proofs.Queues.{first, rest, queue, waiting_is, queue_reques
 use Rattle.lsp_watch.proofs.Queues.{other_ways, same_way_is}
 use Rattle.lsp_message.proofs.Ids.{same_is}
 use Rattle.lsp_watch.specs.Rules.{id_finding, reply_finding}
-use Rattle.lsp_watch.specs.declared.way.Way.{Way}
+use Rattle.lsp_watch.specs.declared.direction.Direction.{Direction}
 
 -- ---- a log, message by message
 
@@ -28,7 +28,7 @@ at_each_more P p log here there (x ∷ later) before q is = there later before q
 -- ---- what waits
 
 -- the last message of this way and id is a request: so it waits, if each comes where none waits
-abbrev pub waits : Way → Id → Log → Bool
+abbrev pub waits : Direction → Id → Log → Bool
 waits way id [] = false
 waits way id (p ∷ before) = cond (is_reply way id p) false (is_request way id p || waits way id before)
 
@@ -36,7 +36,7 @@ and_false : (b : Bool) → (b && false) ≡ false
 and_false true = refl
 and_false false = refl
 
-module _ (way went : Way) (id : Id) (place : ℕ) (before : Log) where
+module _ (way went : Direction) (id : Id) (place : ℕ) (before : Log) where
   pub after_request : (key : Id) (method : List ℕ) (params : _)
       → waits way id (passed went place (request key method params) ∷ before)
       ≡ ((same_way way went && same_id id key) || waits way id before)
@@ -59,7 +59,7 @@ module _ (way went : Way) (id : Id) (place : ℕ) (before : Log) where
 
 -- ---- it does wait
 
-module _ (way : Way) (id : Id) where
+module _ (way : Direction) (id : Id) where
   abbrev some_waits : Log → Bool
   some_waits log = is_some (first (queue way id log))
 
@@ -82,7 +82,7 @@ module _ (way : Way) (id : Id) where
   does_wait [] e = cc
   does_wait (p ∷ before) e = by p.way p.place p.message (does_wait before) e
     where
-      by : (went : Way) (place : ℕ) (m : Message) → (waits way id before ≡ true → some_waits before ≡ true)
+      by : (went : Direction) (place : ℕ) (m : Message) → (waits way id before ≡ true → some_waits before ≡ true)
           → waits way id (passed went place m ∷ before) ≡ true → some_waits (passed went place m ∷ before) ≡ true
       by went place (request i method params) more e =
           ap (λ xs. is_some (first xs)) (queue_request way id went place before i method params)
@@ -114,7 +114,7 @@ module _ (way : Way) (id : Id) where
 abbrev pub FitsIds : Log → Type 0
 FitsIds log = AtEach (λ before p. id_finding before p.way p.message ≡ None) log
 
-module _ (way : Way) (id : Id) where
+module _ (way : Direction) (id : Id) where
   -- none waits, or one
   abbrev pub AtMostOne : Log → Type 0
   AtMostOne log = ((queue way id log ≡ []) × (waits way id log ≡ false))
@@ -141,7 +141,8 @@ module _ (way : Way) (id : Id) where
   same p before q w (inl none) = inl (q ∙ none.0, w ∙ none.1)
   same p before q w (inr one) = inr (one.0, q ∙ one.1, w ∙ one.2)
 
-  step : (went : Way) (place : ℕ) (m : Message) (before : Log) → id_finding before went m ≡ None → AtMostOne before
+  step : (went : Direction) (place : ℕ) (m : Message) (before : Log) → id_finding before went m ≡ None → AtMostOne
+      before
       → AtMostOne (passed went place m ∷ before)
   step went place (notification method params) before fits one = same (passed went place (notification method params))
       before (queue_notification way id went place before method params)
@@ -205,7 +206,8 @@ module _ (way : Way) (id : Id) where
 none_found : {A B : Type 0} (f : A → B) (o : Option A) → o ≡ None → option_map f o ≡ None
 none_found f o e = ap (option_map f) e
 
-pub request_fits : (before : Log) (way : Way) (id : Id) (method : List ℕ) (params : _) → waiting way id before ≡ None
+pub request_fits : (before : Log) (way : Direction) (id : Id) (method : List ℕ) (params : _) → waiting way id before ≡
+    None
     → id_finding before way (request id method params) ≡ None
 request_fits before way id method params none = none_found _ _ none
 
@@ -213,7 +215,7 @@ pub one_found : (o : Option Open) → is_some o ≡ true → reply_finding o ≡
 one_found None e = cc
 one_found (Some x) e = refl
 
-pub reply_fits : (before : Log) (way : Way) (id : Id) (outcome : _) → waits (other way) id before ≡ true
+pub reply_fits : (before : Log) (way : Direction) (id : Id) (outcome : _) → waits (other way) id before ≡ true
     → id_finding before way (response id outcome) ≡ None
 reply_fits before way id outcome one = one_found (waiting (other way) id before)
     (ap (λ (o : Option Open). is_some o) (waiting_is (other way) id before) ∙ does_wait (other way) id before one)

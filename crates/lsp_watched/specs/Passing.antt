@@ -2,9 +2,9 @@
 use Rattle.std.specs.Prelude.{◌≡◌, ℕ, List, [], ◌∷◌}
 use Rattle.lsp_message.specs.Message.{Message}
 use Rattle.lsp_watch.specs.Log.{Log, passed}
-use Rattle.lsp_watch.specs.declared.way.Way.{Way}
+use Rattle.lsp_watch.specs.declared.direction.Direction.{Direction}
 
 -- these messages pass this way, in order and at whatever places: the log is old before them, and new behind them
-abbrev pub Pass : Way → List Message → Log → Log → Type 0
+abbrev pub Pass : Direction → List Message → Log → Log → Type 0
 Pass way [] old new = new ≡ old
 Pass way (m ∷ ms) old new = (place : ℕ) × Pass way ms (passed way place m ∷ old) new

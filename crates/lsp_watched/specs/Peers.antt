@@ -7,12 +7,12 @@ use Rattle.lsp_peers.specs.declared.step.Side.TheVariants.{A, B}
 use Rattle.lsp_watch.specs.CleanLog.{AtEach}
 use Rattle.lsp_watch.specs.Log.{Log}
 use Rattle.lsp_watch.specs.Rules.{id_finding}
-use Rattle.lsp_watch.specs.declared.way.Way.{Way}
-use Rattle.lsp_watch.specs.declared.way.Way.TheVariants.{ToServer, ToClient}
+use Rattle.lsp_watch.specs.declared.direction.Direction.{Direction}
+use Rattle.lsp_watch.specs.declared.direction.Direction.TheVariants.{ToServer, ToClient}
 use Rattle.lsp_watched.specs.Passing.{Pass}
 
 -- which way a side sends, if this one is the client
-abbrev pub way_from : Side → Side → Way
+abbrev pub way_from : Side → Side → Direction
 way_from A A = ToServer
 way_from B B = ToServer
 way_from client side = ToClient

@@ -1,14 +1,14 @@
 -- What a recorder sees that stands between a client and a session.
 use Rattle.std.specs.Prelude.{◌≡◌, false, List, [], ◌∷◌, ◌++◌, if◌then◌else◌}
 use Rattle.lsp_message.specs.Message.{Message}
-use Rattle.lsp_session.specs.Session.{Exchange, messages_of, sends_of}
+use Rattle.lsp_session.specs.Session.{Exchange, offered, messages_of, sends_of}
 use Rattle.lsp_watch.specs.CleanLog.{AtEach}
 use Rattle.lsp_watch.specs.Log.{Log, from_client, same_way}
-use Rattle.lsp_watch.specs.declared.way.Way.{Way}
-use Rattle.lsp_watch.specs.declared.way.Way.TheVariants.{ToServer, ToClient}
+use Rattle.lsp_watch.specs.declared.direction.Direction.{Direction}
+use Rattle.lsp_watch.specs.declared.direction.Direction.TheVariants.{ToServer, ToClient}
 
 -- the messages that went this way, in order
-abbrev pub gone : Way → Log → List Message
+abbrev pub gone : Direction → Log → List Message
 gone way [] = []
 gone way (p ∷ before) = if same_way way p.way then gone way before ++ p.message ∷ [] else gone way before
 
@@ -21,7 +21,7 @@ pub record IsSentAt (exchanges : List Exchange) (before : Log) (m : Message) : T
   pub cut : exchanges ≡ earlier ++ exchange ∷ later
   pub first : List Message
   pub rest : List Message
-  pub sends : exchange.sent ≡ first ++ m ∷ rest
+  pub sends : offered exchange ≡ first ++ m ∷ rest
   pub sent : gone ToClient before ≡ sends_of earlier ++ first
   pub ahead : List Message
   pub took : gone ToServer before ≡ messages_of (earlier ++ exchange ∷ []) ++ ahead

@@ -32,12 +32,13 @@ pub fn peers_keep_ids()
     each_request_is_in_one_place();
 }
 
-/// A session in which each request gets its one reply sends nothing that breaks a rule, whatever its client does: a fact
-/// of each session of a `Handler` (`lsp_session::laws::sessions::session_answers_requests`).
+/// A session in which each request gets its one reply breaks no rule of ids or of the lifecycle, whatever its client
+/// does: a fact of each session of a `Handler`
+/// (`lsp_session::laws::sessions::session_answers_requests`).
 pub fn server_of_replies_is_clean()
-    ensures { (exchanges : List Exchange) (stop : Stop) (shutdown_reply : Option Message)
+    ensures { (exchanges : List Exchange) (stop : Stop)
         (answer : SessionAnswer) (log : Log)
-        → AnswersRequests exchanges stop shutdown_reply answer → IsLogOfSession exchanges log
+        → AnswersRequests exchanges stop answer → IsLogOfSession exchanges log
         → ServerIsClean log }
 {}
 
@@ -45,13 +46,13 @@ pub fn server_of_replies_is_clean()
 /// service do: a fact of each session (`lsp_session::laws::sessions::session_keeps_order`).
 pub fn server_keeps_lifecycle()
     ensures { (passes_late speaks_last : Bool) (exchanges : List Exchange) (stop : Stop)
-        (shutdown_reply : Option Message) (answer : SessionAnswer) (log : Log)
-        → KeepsOrder passes_late speaks_last exchanges stop shutdown_reply answer
+        (answer : SessionAnswer) (log : Log)
+        → KeepsOrder passes_late speaks_last exchanges stop answer
         → IsLogOfSession exchanges log → ServerKeepsLifecycle log }
 {}
 
-/// A session in which there are never more replies under an id than requests sends no reply that breaks a rule, as a
-/// recorder sees it, if its client reuses no id before the reply: a fact of each session of a `Server`
+/// A session in which there are never more replies under an id than requests sends no reply that breaks a rule of ids,
+/// as a recorder sees it, if its client reuses no id before the reply: a fact of each session of a `Server`
 /// (`lsp_acts::laws::server_keeps_laws`).
 pub fn server_replies_fit()
     ensures { (exchanges : List Exchange) (log : Log) → ((id : Id) → NeverMore id exchanges)
@@ -62,31 +63,32 @@ pub fn server_replies_fit()
 /// client reuses no id before the reply.
 pub fn recorded_server_keeps_lifecycle()
     ensures { (passes_late speaks_last : Bool) (exchanges : List Exchange) (stop : Stop)
-        (shutdown_reply : Option Message) (answer : SessionAnswer) (log : Log)
-        → KeepsOrder passes_late speaks_last exchanges stop shutdown_reply answer
+        (answer : SessionAnswer) (log : Log)
+        → KeepsOrder passes_late speaks_last exchanges stop answer
         → IsRecorded exchanges log → ClientKeepsIds log → ServerKeepsLifecycle log }
 {}
 
-/// As a recorder sees it, a session in which each request gets its one reply sends nothing that breaks a rule, if its
-/// client reuses no id before the reply.
+/// As a recorder sees it, a session in which each request gets its one reply breaks no rule of ids or of the lifecycle,
+/// if its client reuses no id before the reply.
 pub fn recorded_server_of_replies_is_clean()
-    ensures { (exchanges : List Exchange) (stop : Stop) (shutdown_reply : Option Message)
+    ensures { (exchanges : List Exchange) (stop : Stop)
         (answer : SessionAnswer) (log : Log)
-        → AnswersRequests exchanges stop shutdown_reply answer → IsRecorded exchanges log
+        → AnswersRequests exchanges stop answer → IsRecorded exchanges log
         → ClientKeepsIds log → ServerIsClean log }
 {}
 
-/// As a recorder sees it, a session of a `Server` sends nothing at all that breaks a rule, if its client reuses no id before
-/// the reply: a fact of each session that keeps the laws (`lsp_acts::laws::server_keeps_laws`). Its own requests have
+/// As a recorder sees it, a session of a `Server` breaks no rule of ids or of the lifecycle, if its client reuses no id
+/// before the reply: a fact of each session that keeps the laws (`lsp_acts::laws::server_keeps_laws`). Its own requests have
 /// the ids 0, 1, 2, and so on.
 pub fn recorded_server_is_clean<S: Server>()
     ensures { (first last : S) (held : Pending (Unit {0})) (exchanges : List Exchange) (stop : Stop)
-        (shutdown_reply : Option Message) (answer : SessionAnswer) (log : Log)
-        → KeepsLaws S.Server first last held exchanges stop shutdown_reply answer
+        (answer : SessionAnswer) (log : Log)
+        → KeepsLaws S.Server first last held exchanges stop answer
         → IsRecorded exchanges log → ClientKeepsIds log → ServerIsClean log }
 {}
 
-/// The log of a session is one that a recorder may see: the client waits for what is sent for each message.
+/// The log of a session is one that a recorder may see: the client waits for the messages that are sent for each of its
+/// own.
 pub fn a_session_is_recorded()
     ensures { (exchanges : List Exchange) (log : Log) → IsLogOfSession exchanges log
         → IsRecorded exchanges log }

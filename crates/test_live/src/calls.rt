@@ -9,12 +9,12 @@ use crate::sessions::{
 };
 use crate::signals::Signals;
 use crate::table::{Call, Device, Given};
-use lsp_acts::QueuedServer;
+use lsp_acts::ServerApplication;
 use lsp_message::{Front, Limits, Message, Passed, ReadFault, WriteFault, front, write_frames};
 use lsp_session::{
-    Application, BadContentPolicy, EndSession, Event, FaultCounts, FrameOutbox, Ignore, Inbox,
-    ListOutbox, Outbox, ReadEnd, SendFault, SessionEnd, SessionFault, StreamInbox, StreamTransport,
-    Transcript, read_loop, read_loop_within, session, session_within,
+    Application, BadContentPolicy, EndOnBadContent, Event, FrameOutbox, Inbox, ListOutbox, Outbox,
+    ReadEnd, SendFault, SessionEnd, SessionFault, SkipAndCount, SkipSilently, StreamInbox,
+    StreamTransport, Transcript, read_loop, read_loop_within, session, session_within,
 };
 use serde_json::{Map, Value};
 use std::alloc::{AllocError, Global};
@@ -75,7 +75,7 @@ fn read(trial: &mut Trial) -> Result<Attempt, Stop> {
     let read = match (trial.run.device, trial.run.limit()) {
         (Device::Headers, _) => {
             let mut taken = Passed::new();
-            Message::read_telling(alloc, &mut trial.reader, trial.run.limits(), &mut taken)
+            Message::read_traced(alloc, &mut trial.reader, trial.run.limits(), &mut taken)
         }
         (_, Some(limit)) => Message::read_within(alloc, &mut trial.reader, limit),
         _ => Message::read(alloc, &mut trial.reader),
@@ -287,7 +287,7 @@ fn talker(trial: &Trial) -> Result<Talker, AllocError> {
 fn spoken(trial: &mut Trial) -> Result<Attempt, Stop> {
     let talker = talker(trial)?;
     let end = if trial.run.is_limited() {
-        limited(trial, talker, &mut EndSession)
+        limited(trial, talker, &mut EndOnBadContent)
     } else {
         unlimited(trial, talker)
     };
@@ -300,15 +300,15 @@ fn limited<L: BadContentPolicy>(
     policy: &mut L,
 ) -> Result<SessionEnd, SessionFault> {
     let limits = trial.run.limits();
-    let mut queued = QueuedServer::new(trial.alloc, talker);
+    let mut queued = ServerApplication::new(trial.alloc, talker);
     let end = served(trial, &mut queued, policy, limits);
     drop(queued);
     end
 }
 
 fn unlimited(trial: &mut Trial, talker: Talker) -> Result<SessionEnd, SessionFault> {
-    let mut queued = QueuedServer::new(trial.alloc, talker);
-    let end = served(trial, &mut queued, &mut EndSession, Limits::none());
+    let mut queued = ServerApplication::new(trial.alloc, talker);
+    let end = served(trial, &mut queued, &mut EndOnBadContent, Limits::none());
     drop(queued);
     end
 }
@@ -338,7 +338,7 @@ fn served<A: Application, L: BadContentPolicy>(
 fn spoken_over_transport(trial: &mut Trial) -> Result<Attempt, Stop> {
     let alloc = trial.alloc;
     let talker = talker(trial)?;
-    let mut policy = EndSession;
+    let mut policy = EndOnBadContent;
     let mut transcript = Transcript::new();
     let mut transport = StreamTransport::within(
         alloc,
@@ -348,7 +348,7 @@ fn spoken_over_transport(trial: &mut Trial) -> Result<Attempt, Stop> {
         Limits::none(),
         &mut transcript,
     );
-    let mut queued = QueuedServer::new(alloc, talker);
+    let mut queued = ServerApplication::new(alloc, talker);
     let end = transport.serve(&mut queued);
     drop(queued);
     drop(transport);
@@ -360,10 +360,10 @@ fn spoken_over_transport(trial: &mut Trial) -> Result<Attempt, Stop> {
 fn spoken_woken(trial: &mut Trial) -> Result<Attempt, Stop> {
     let talker = talker(trial)?;
     if trial.run.is_limited() {
-        let end = limited(trial, talker, &mut Ignore);
+        let end = limited(trial, talker, &mut SkipSilently);
         return ended(trial, end);
     }
-    let mut counts = FaultCounts::new();
+    let mut counts = SkipAndCount::new();
     let end = woken(trial, talker, &mut counts);
     let mut came = ended(trial, end)?;
     add_counts(&mut came, counts)?;
@@ -373,10 +373,10 @@ fn spoken_woken(trial: &mut Trial) -> Result<Attempt, Stop> {
 fn woken(
     trial: &mut Trial,
     mut talker: Talker,
-    counts: &mut FaultCounts,
+    counts: &mut SkipAndCount,
 ) -> Result<SessionEnd, SessionFault> {
     talker.tells_wakes = true;
-    let mut queued = QueuedServer::new(trial.alloc, talker);
+    let mut queued = ServerApplication::new(trial.alloc, talker);
     let end = served(trial, &mut queued, counts, Limits::none());
     drop(queued);
     end

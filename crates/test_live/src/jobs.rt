@@ -3,7 +3,7 @@ ghost use Rattle.serde_json.specs.Data.{Data};
 ghost use Rattle.std.specs.Prelude.{ℕ, List};
 
 use crate::signals::{Signal, Signals};
-use lsp_jobs::{Interrupted, Job, JobContext, JobResult, PartialResults, Slot, WorkDone};
+use lsp_jobs::{Interrupted, Job, JobContext, JobKey, JobResult, PartialResults, WorkDone};
 use lsp_message::{ErrorCode, Notification, ResponseError};
 use serde_json::Value;
 use std::alloc::{AllocError, Global};
@@ -61,8 +61,8 @@ impl Means {
     ) -> Result<Means, AllocError> {
         let signals = Arc::try_clone(signals)?;
         let script = String::from_str(alloc, script)?;
-        let work = WorkDone::of(alloc, params)?;
-        match PartialResults::of(alloc, params) {
+        let work = WorkDone::from_params(alloc, params)?;
+        match PartialResults::from_params(alloc, params) {
             Ok(parts) => Ok(Means {
                 signals,
                 script,
@@ -107,7 +107,7 @@ struct Course {
 impl Course {
     fn act<C: JobContext>(&mut self, word: &str, context: &mut C) -> Result<(), Interrupted>
         requires reporting { (method : List ℕ) (params : Data) → C.may method params }
-        requires asking { (method : List ℕ) (params : Data) → C.may_ask method params }
+        requires asking { (method : List ℕ) (params : Data) → C.may_send_request method params }
     {
         let (name, rest) = word.split_once(" ").unwrap_or((word, "0"));
         let number = rest.parse::<u64>().unwrap_or(0);
@@ -141,7 +141,7 @@ impl Course {
     /// Sleeps or checks. If the job is to end, that counts as stopped.
     fn stop_if_told<C: JobContext>(&self, name: &str, context: &mut C) -> Result<(), Interrupted> {
         let outcome = match name {
-            "rests" => context.rest(Duration::from_secs(3600)),
+            "rests" => context.sleep(Duration::from_secs(3600)),
             _ => context.check(),
         };
         if outcome.is_err() {
@@ -165,10 +165,10 @@ impl Course {
     }
 
     fn ask<C: JobContext>(&mut self, context: &mut C) -> Result<(), AllocError>
-        requires { (method : List ℕ) (params : Data) → C.may_ask method params }
+        requires { (method : List ℕ) (params : Data) → C.may_send_request method params }
     {
         let method = String::from_str(self.alloc, "demo/asked")?;
-        let reply = context.ask(method, self.value.clone()?)?;
+        let reply = context.send_request(method, self.value.clone()?)?;
         if reply.is_none() {
             self.signals.tell(Signal::Stopped);
         }
@@ -177,7 +177,7 @@ impl Course {
     }
 
     fn create<C: JobContext>(&mut self, token: &str, context: &mut C) -> Result<(), AllocError>
-        requires { (method : List ℕ) (params : Data) → C.may_ask method params }
+        requires { (method : List ℕ) (params : Data) → C.may_send_request method params }
     {
         let token = Value::String(String::from_str(self.alloc, token)?);
         let work = WorkDone::create(self.alloc, context, token)?;
@@ -377,7 +377,7 @@ impl Course {
         context: &mut C,
     ) -> Result<Result<Value, ResponseError>, Interrupted>
         requires reporting { (method : List ℕ) (params : Data) → C.may method params }
-        requires asking { (method : List ℕ) (params : Data) → C.may_ask method params }
+        requires asking { (method : List ℕ) (params : Data) → C.may_send_request method params }
     {
         let acted = self.act_all(script, context);
         self.signals.tell(Signal::Ended);
@@ -390,7 +390,7 @@ impl Course {
 
     fn act_all<C: JobContext>(&mut self, script: &str, context: &mut C) -> Result<(), Interrupted>
         requires reporting { (method : List ℕ) (params : Data) → C.may method params }
-        requires asking { (method : List ℕ) (params : Data) → C.may_ask method params }
+        requires asking { (method : List ℕ) (params : Data) → C.may_send_request method params }
     {
         for word in script.split(", ") {
             self.act(word, context)?;
@@ -413,6 +413,6 @@ impl Course {
 }
 
 /// The slot of a job that answers no request.
-pub fn own_slot(alloc: Global) -> Result<Slot, AllocError> {
-    Ok(Slot::from(String::from_str(alloc, "own")?))
+pub fn own_slot(alloc: Global) -> Result<JobKey, AllocError> {
+    Ok(JobKey::from(String::from_str(alloc, "own")?))
 }

@@ -1,12 +1,12 @@
 // What all rows do at content parts that are no messages.
 use lsp_message::ReadFault;
-use lsp_session::{BadContentPolicy, FaultCounts};
+use lsp_session::{BadContentPolicy, SkipAndCount};
 
 /// Reads on after content parts that are no messages and counts them, or ends the session at the first.
 #[derive(Drop)]
 pub struct Listening {
     reads_on: bool,
-    pub counts: FaultCounts,
+    pub counts: SkipAndCount,
 }
 
 impl Listening {
@@ -14,7 +14,7 @@ impl Listening {
     pub fn new(reads_on: bool) -> Listening {
         Listening {
             reads_on,
-            counts: FaultCounts::new(),
+            counts: SkipAndCount::new(),
         }
     }
 }
@@ -26,9 +26,9 @@ impl BadContentPolicy for Listening {
 
     ghost ends = { λ _ _. ⊤ };
 
-    fn passes_over(&mut self, fault: ReadFault) -> bool {
+    fn skips(&mut self, fault: ReadFault) -> bool {
         if self.reads_on {
-            self.counts.passes_over(fault);
+            self.counts.skips(fault);
         }
         self.reads_on
     }

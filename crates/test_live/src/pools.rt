@@ -20,7 +20,7 @@ use crate::jobs::{Found, Means, Scripted, list_of};
 use crate::signals::{Signal, Signals};
 use crate::table::pool_of;
 use crossbeam_channel::Receiver;
-use lsp_jobs::{DoneJob, Interrupted, JobMessage, JobName, JobPool, Slot, SubmitFault};
+use lsp_jobs::{DoneJob, Interrupted, JobKey, JobMessage, JobName, JobPool, SubmitFault};
 use lsp_message::RequestId;
 use serde_json::Value;
 use std::alloc::{AllocError, Global};
@@ -73,7 +73,7 @@ fn small_of(text: &str) -> i32 {
 /// Returns the request with this number as its id, or the slot of this number after an `s`.
 fn name_of(word: &str) -> JobName {
     match word.strip_prefix("s") {
-        Some(number) => JobName::Slot(Slot::from(small_of(number))),
+        Some(number) => JobName::Keyed(JobKey::from(small_of(number))),
         None => JobName::Request(RequestId::from(small_of(word))),
     }
 }
@@ -82,7 +82,7 @@ fn name_of(word: &str) -> JobName {
 fn tell_name(told: &mut String, name: &JobName) -> Result<(), AllocError> {
     match name {
         JobName::Request(id) => write!(told, "{id}"),
-        JobName::Slot(slot) => write!(told, "s{slot}"),
+        JobName::Keyed(slot) => write!(told, "s{slot}"),
     }
 }
 
@@ -148,10 +148,10 @@ impl<R: Wait + Drop> Bench<R> {
     fn go_silently(&mut self, name: &str, rest: &str) {
         match name {
             "forget" => {
-                let _ = self.pool.forget(&name_of(rest));
+                let _ = self.pool.cancel(&name_of(rest));
             }
             "reply" => self.pool.reply(count_of(rest), Ok(Value::Bool(true))),
-            _ => self.pool.give_up(count_of(rest)),
+            _ => self.pool.abandon(count_of(rest)),
         }
     }
 
@@ -173,7 +173,7 @@ impl<R: Wait + Drop> Bench<R> {
     }
 
     fn tell_unneeded(&mut self) -> Result<(), AllocError> {
-        match self.pool.take_unneeded() {
+        match self.pool.take_request_to_cancel() {
             Some(number) => write!(self.told, "unneeded {number}, "),
             None => self.told.push_str("all needed, "),
         }
@@ -190,7 +190,7 @@ impl<R: Wait + Drop> Bench<R> {
         let (id, words) = words.split_once(" ").unwrap_or(("", words));
         let (number, script) = words.split_once(" ").unwrap_or(("", words));
         let name = name_of(id);
-        let is_in_slot = matches!(name, JobName::Slot(_));
+        let is_in_slot = matches!(name, JobName::Keyed(_));
         let job = job_of(
             self.alloc,
             &self.signals,

@@ -2,7 +2,7 @@
 use crate::jobs::{Found, Means, Scripted, list_of, own_slot};
 use crate::signals::{Signal, Signals};
 use lsp_acts::{Act, Server};
-use lsp_jobs::{AnsweredBy, JobEnd, JobName, JobServer, Slot, SlotChange, Slots};
+use lsp_jobs::{AnsweredBy, JobCommand, JobEnd, JobKey, JobName, JobServer, KeyedJobs};
 use lsp_message::{Notification, Request, RequestId, ResponseError};
 use lsp_session::{Handler, initialize_result};
 use serde_json::{Map, Value};
@@ -96,7 +96,7 @@ fn first_of(params: &Value) -> Result<Option<RequestId>, AllocError> {
 
 type Acts = Vec<Act<Asked>>;
 
-type Change = SlotChange<Scripted>;
+type Change = JobCommand<Scripted>;
 
 impl Talker {
     /// Makes a server that has received nothing.
@@ -123,7 +123,7 @@ impl Talker {
 
     fn tell(&self, method: &str, params: Value) -> Result<Acts, AllocError> {
         match String::from_str(self.alloc, method) {
-            Ok(method) => self.one(Act::Tell(Notification { method, params })),
+            Ok(method) => self.one(Act::SendNotification(Notification { method, params })),
             Err(error) => {
                 drop(params);
                 Err(error)
@@ -135,14 +135,14 @@ impl Talker {
     fn ask_configuration(&mut self, acts: &mut Acts) -> Result<(), AllocError> {
         self.questions = self.questions.saturating_add(1);
         let method = String::from_str(self.alloc, "workspace/configuration")?;
-        acts.push(Act::Ask(method, Value::Null, Asked::Configuration(self.questions)))?;
+        acts.push(Act::SendRequest(method, Value::Null, Asked::Configuration(self.questions)))?;
         Ok(())
     }
 
     /// Sends its client a request, to answer this request with the reply.
     fn ask(&self, id: RequestId, params: Value) -> Result<Acts, AllocError> {
         match String::from_str(self.alloc, "demo/asked") {
-            Ok(method) => self.one(Act::Ask(method, params, Asked::For(id))),
+            Ok(method) => self.one(Act::SendRequest(method, params, Asked::For(id))),
             Err(error) => {
                 drop(params);
                 drop(id);
@@ -187,7 +187,7 @@ impl Talker {
         };
         let name = format!(in self.alloc; "later {id}")?;
         let number = job.number;
-        self.later.push(SlotChange::Start(Slot::from(name), job))?;
+        self.later.push(JobCommand::Start(JobKey::from(name), job))?;
         self.kept.push((id, number))?;
         Ok(Vec::new(self.alloc))
     }
@@ -196,7 +196,7 @@ impl Talker {
     fn start_job(&mut self, script: &str, params: Value) -> Result<Acts, AllocError> {
         let job = self.job_of(script, params, true)?;
         self.changes
-            .push(SlotChange::Start(own_slot(self.alloc)?, job))?;
+            .push(JobCommand::Start(own_slot(self.alloc)?, job))?;
         Ok(Vec::new(self.alloc))
     }
 
@@ -265,9 +265,9 @@ impl Talker {
 impl Server for Talker {
     ghost use Rattle.std.specs.Prelude.{⊤};
 
-    ghost wakes = { λ _ _ _. ⊤ };
+    ghost woken_post = { λ _ _ _. ⊤ };
 
-    type Payload = Asked;
+    type PendingData = Asked;
 
     fn initialize(&mut self, params: Value) -> Result<Result<Value, ResponseError>, AllocError> {
         drop(params);
@@ -311,7 +311,7 @@ impl Server for Talker {
             }
             "stop" => {
                 drop(params);
-                self.changes.push(SlotChange::Stop(own_slot(self.alloc)?))?;
+                self.changes.push(JobCommand::Stop(own_slot(self.alloc)?))?;
                 Ok(Vec::new(self.alloc))
             }
             "answer" => {
@@ -357,14 +357,14 @@ impl Server for Talker {
         self.tell("demo/bye", Value::Null)
     }
 
-    fn unsent(&mut self, asked: Asked) -> Result<(), AllocError> {
+    fn ids_exhausted(&mut self, asked: Asked) -> Result<(), AllocError> {
         drop(asked);
         Ok(())
     }
 }
 
 impl JobServer<Scripted> for Talker {
-    type Slots = Talker;
+    type KeyedJobs = Talker;
 
     fn is_long(&self, request: &Request) -> bool {
         let method = request.method.as_str();
@@ -385,16 +385,16 @@ impl JobServer<Scripted> for Talker {
     }
 }
 
-impl Slots<Talker, Scripted> for Talker {
+impl KeyedJobs<Talker, Scripted> for Talker {
     ghost use Rattle.std.specs.Prelude.{⊤};
 
-    ghost changes = { λ _ _ _. ⊤ };
+    ghost take_commands_post = { λ _ _ _. ⊤ };
 
-    ghost hears = { λ _ _ _ _ _. ⊤ };
+    ghost found_post = { λ _ _ _ _ _. ⊤ };
 
-    ghost finishes = { λ _ _ _ _ _. ⊤ };
+    ghost ended_post = { λ _ _ _ _ _. ⊤ };
 
-    fn take_changes(server: &mut Talker, alloc: Global) -> Result<Vec<Change>, AllocError> {
+    fn take_commands(server: &mut Talker, alloc: Global) -> Result<Vec<Change>, AllocError> {
         Ok(mem::replace(&mut server.changes, Vec::new(alloc)))
     }
 
@@ -407,7 +407,7 @@ impl Slots<Talker, Scripted> for Talker {
         let Found { number, value } = found;
         match name {
             JobName::Request(id) => write!(server.finished, " {id}:{number}")?,
-            JobName::Slot(slot) => write!(server.finished, " {slot}:{number}")?,
+            JobName::Keyed(slot) => write!(server.finished, " {slot}:{number}")?,
         }
         match value {
             Some(value) => server.show(number, value),
@@ -431,10 +431,10 @@ impl Slots<Talker, Scripted> for Talker {
         };
         match name {
             JobName::Request(id) => write!(server.finished, " {id} {how}")?,
-            JobName::Slot(slot) => write!(server.finished, " {slot} {how}")?,
+            JobName::Keyed(slot) => write!(server.finished, " {slot} {how}")?,
         }
         match name {
-            JobName::Slot(slot) if end == JobEnd::Refused => server.tell_refused(slot),
+            JobName::Keyed(slot) if end == JobEnd::Refused => server.tell_refused(slot),
             _ => Ok(Vec::new(alloc)),
         }
     }
@@ -449,7 +449,7 @@ impl Talker {
     }
 
     /// Sends the name of a slot for whose job there was no room.
-    fn tell_refused(&self, slot: &Slot) -> Result<Acts, AllocError> {
+    fn tell_refused(&self, slot: &JobKey) -> Result<Acts, AllocError> {
         let printed = format!(in self.alloc; "{slot}")?;
         match Value::from_str(self.alloc, printed.as_str()) {
             Ok(name) => self.tell("refused", list_of(self.alloc, name)?),

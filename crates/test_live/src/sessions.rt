@@ -8,14 +8,14 @@ use crate::owners::parted;
 use crate::servers::{Echo, Talker};
 use crate::signals::{Signal, Signals, is_alone};
 use crate::table::{Call, Device, Given};
-use lsp_acts::QueuedServer;
+use lsp_acts::ServerApplication;
 use lsp_jobs::{JobOptions, PoolSize, run_jobs};
-use lsp_server::running::UNREAD_WEIGHT;
+use lsp_server::running::DEFAULT_READ_AHEAD_WEIGHT;
 use lsp_server::{Connection, Limits};
-use lsp_session::{Application, FaultCounts, HandlerApplication, SessionEnd, SessionFault};
+use lsp_session::{Application, HandlerApplication, SessionEnd, SessionFault, SkipAndCount};
 use lsp_threads::{
-    PumpFault, StartFault, ThreadOptions, Threaded, UNREAD_BYTES, UNWRITTEN_BYTES, pump_by,
-    run_in_threads,
+    DEFAULT_READ_AHEAD_BYTES, PumpFault, StartFault, ThreadOptions, Threaded, UNWRITTEN_BYTES,
+    pump_by, run_in_threads,
 };
 use serde_json::{Map, Value};
 use std::alloc::{AllocError, Global};
@@ -67,7 +67,7 @@ impl Run {
     fn bound(self) -> u64 {
         match self.device {
             Device::Bounds => self.count as u64,
-            _ => UNREAD_WEIGHT,
+            _ => DEFAULT_READ_AHEAD_WEIGHT,
         }
     }
 }
@@ -221,7 +221,7 @@ where
     R: Threads + Wait + Copy + Drop + Send + 'static,
 {
     let talker = Talker::new(alloc, Arc::try_clone(signals)?);
-    let mut queued = QueuedServer::new(alloc, talker);
+    let mut queued = ServerApplication::new(alloc, talker);
     let came = served(rt, alloc, run, reader, writer, signals, &mut queued);
     drop(queued);
     came
@@ -312,8 +312,8 @@ fn with_passed(
 }
 
 /// Adds how many content parts of each kind were skipped.
-pub fn add_counts(came: &mut Attempt, counts: FaultCounts) -> Result<(), AllocError> {
-    let FaultCounts {
+pub fn add_counts(came: &mut Attempt, counts: SkipAndCount) -> Result<(), AllocError> {
+    let SkipAndCount {
         not_text,
         no_json,
         no_message,
@@ -357,7 +357,7 @@ fn options(run: Run) -> ThreadOptions {
         writer: builder(matches!(run.device, Device::NoWriter)),
         reader: builder(matches!(run.device, Device::NoReader)),
         limits: run.limits(),
-        unread: UNREAD_BYTES,
+        unread: DEFAULT_READ_AHEAD_BYTES,
         unwritten: UNWRITTEN_BYTES,
     }
 }

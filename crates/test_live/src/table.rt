@@ -106,7 +106,7 @@ pub struct Case<'a> {
 pub enum Call {
     /// `front`.
     Front,
-    /// `Message::read`, once; with a limit `Message::read_within`, with a bound `Message::read_telling`.
+    /// `Message::read`, once; with a limit `Message::read_within`, with a bound `Message::read_traced`.
     Read,
     /// A `StreamInbox`, up to the first event that is no message, and once more.
     Inbox,
@@ -120,12 +120,12 @@ pub enum Call {
     Outbox,
     /// `session` of the handler, with no capabilities; with a limit `session_within`. In threads `run_in_threads`.
     Session,
-    /// `StreamTransport::serve` of the server that speaks, with `EndSession`. In threads as above.
+    /// `StreamTransport::serve` of the server that speaks, with `EndOnBadContent`. In threads as above.
     Speaks,
     /// The same with a transport that holds the devices.
     Line,
-    /// `StreamTransport::serve` of the same, which reports its wake-ups, with `FaultCounts`; with a limit or a bound it
-    /// reports none, with `Ignore`.
+    /// `StreamTransport::serve` of the same, which reports its wake-ups, with `SkipAndCount`; with a limit or a bound it
+    /// reports none, with `SkipSilently`.
     Tolerant,
     /// `run_jobs`, with that server.
     Jobs,

@@ -8,7 +8,8 @@ use crate::types::get;
 use lsp_acts::Act;
 use lsp_message::{ErrorCode, Message, Notification, Request, RequestId, ResponseError};
 use lsp_methods::{
-    Configuration, answer, on_notification, on_request, read_params, reply, tell, try_answer,
+    Configuration, answer, on_notification, on_request, read_params, reply, send_notification,
+    try_answer,
 };
 use lsp_types::methods::{
     CompletionRequest, DefinitionRequest, DidCloseTextDocumentNotification, HoverRequest,
@@ -129,7 +130,7 @@ fn told(alloc: Global, notification: Notification) -> Acts {
 
 fn unmarked(alloc: Global, closed: DidCloseTextDocumentParams) -> Acts {
     let params = PublishDiagnosticsParams::new(closed.text_document.uri, Vec::new(alloc));
-    let told = tell::<PublishDiagnosticsNotification, u32>(alloc, &params);
+    let told = send_notification::<PublishDiagnosticsNotification, u32>(alloc, &params);
     drop(params);
     listed(alloc, told)
 }
@@ -165,14 +166,14 @@ fn say(said: &mut Said, act: Act<u32>) {
                 said.is_short = true;
             }
         },
-        Act::Tell(notification) => {
+        Act::SendNotification(notification) => {
             let Notification { method, params } = notification;
             said.push("tell ");
             said.show(method);
             said.push(" ");
             said.show(params);
         }
-        Act::Ask(method, params, payload) => {
+        Act::SendRequest(method, params, payload) => {
             said.push("ask ");
             said.show(method);
             said.push(" ");
@@ -192,7 +193,7 @@ pub fn configuration(said: &mut Said, text: &str) {
         Ok(found) => {
             let client = get(said, &found, "client", Value::Null);
             let mut configuration = Configuration::new("lines", 80);
-            configuration.agree(&client);
+            configuration.read_capabilities(&client);
             drop(client);
             configured(said, &found, configuration);
             drop(found);
@@ -203,7 +204,7 @@ pub fn configuration(said: &mut Said, text: &str) {
 
 fn configured(said: &mut Said, found: &Value, mut configuration: Configuration<u32>) {
     let alloc = said.alloc;
-    match configuration.ask(alloc, 7) {
+    match configuration.send_request(alloc, 7) {
         Ok(Some(act)) => say(said, act),
         Ok(None) => said.push("nothing"),
         Err(_) => said.is_short = true,

@@ -13,8 +13,8 @@ use crate::messages::text_in;
 use crate::said::Said;
 use crate::types::say_written;
 use lsp_documents::{
-    Agreed, DocumentFault, DocumentOptions, DocumentUpdate, OpenText, Remark, TextDocuments,
-    UpdateFault, position_in,
+    DocumentFault, DocumentOptions, DocumentSnapshot, DocumentUpdate, SyncOptions, SyncWarning,
+    TextDocuments, UpdateFault, position_from,
 };
 use lsp_message::Notification;
 use lsp_text::{ContentChange, LineEnds, Position, Range, Text, TextDocument};
@@ -29,7 +29,7 @@ use std::mem;
 pub struct Documents {
     alloc: Global,
     documents: TextDocuments,
-    copies: Vec<OpenText>,
+    copies: Vec<DocumentSnapshot>,
     seen: String,
     told: String,
 }
@@ -39,7 +39,7 @@ impl Documents {
     pub fn new(alloc: Global) -> Documents {
         Documents {
             alloc,
-            documents: TextDocuments::new(alloc, Agreed::unannounced()),
+            documents: TextDocuments::new(alloc, SyncOptions::defaults()),
             copies: Vec::new(alloc),
             seen: String::new(alloc),
             told: String::new(alloc),
@@ -58,7 +58,7 @@ impl Documents {
     /// Sends all notifications again to new documents.
     fn hear_again(&mut self) {
         let told = mem::replace(&mut self.told, String::new(self.alloc));
-        let agreed = self.documents.agreed();
+        let agreed = self.documents.sync_options();
         self.begin(agreed);
         let mut said = Said::new(self.alloc);
         for text in told.lines() {
@@ -68,7 +68,7 @@ impl Documents {
     }
 
     /// Starts again, with what was agreed on.
-    fn begin(&mut self, agreed: Agreed) {
+    fn begin(&mut self, agreed: SyncOptions) {
         self.documents = TextDocuments::new(self.alloc, agreed);
         self.copies.clear();
         self.seen.clear();
@@ -117,7 +117,7 @@ impl Documents {
     fn initialize(&mut self, said: &mut Said, params: &Value) {
         let includes_text = flag_in(params, "includeText") != Some(false);
         let mut can = Value::Null;
-        let agreed = Agreed::announced(self.alloc, params, includes_text, &mut can);
+        let agreed = SyncOptions::negotiate(self.alloc, params, includes_text, &mut can);
         drop(can);
         match agreed {
             Ok(agreed) => {
@@ -142,7 +142,7 @@ impl Documents {
 
     /// Says the URI and the version of the document of a path.
     fn show_path(&self, said: &mut Said, path: &str) {
-        match self.documents.at_path(path) {
+        match self.documents.get_by_path(path) {
             Some((uri, document)) => {
                 said.push(uri);
                 said.push(" ");
@@ -190,10 +190,10 @@ impl Documents {
         &self,
         said: &mut Said,
         uri: &str,
-        outcome: Result<Option<Remark>, DocumentFault>,
+        outcome: Result<Option<SyncWarning>, DocumentFault>,
     ) {
         match outcome {
-            Ok(remark) => said.debug(remark),
+            Ok(warning) => said.debug(warning),
             Err(DocumentFault::Memory) => said.is_short = true,
             Err(fault) => said.show(fault),
         }
@@ -230,7 +230,7 @@ impl Documents {
                 let seen = self.see(made.uri);
                 said.note(seen);
             }
-            Some(Err(missed)) => match missed.unless_memory() {
+            Some(Err(missed)) => match missed.or_out_of_memory() {
                 Ok(missed) => {
                     said.show(missed);
                     if missed.lost {
@@ -283,7 +283,7 @@ impl Documents {
     /// Each URI whose text is known with its version, and then with a copy of the document.
     fn show_known(&self, said: &mut Said) {
         said.push("known");
-        for (uri, document) in self.documents.known() {
+        for (uri, document) in self.documents.in_sync() {
             said.push(" ");
             said.push(uri);
             said.push(" ");
@@ -322,8 +322,8 @@ impl Documents {
 
     /// The document that params name, if its text is known, and where their position is in it.
     fn place_in(&self, params: &Value) -> Option<(&TextDocument, usize)> {
-        let position = position_in(params.get("position")?)?;
-        self.documents.place(text_in(params.get("uri")), position)
+        let position = position_from(params.get("position")?)?;
+        self.documents.resolve(text_in(params.get("uri")), position)
     }
 
     fn show_places(&self, said: &mut Said, text: &Text) {
@@ -353,7 +353,7 @@ impl Documents {
 }
 
 /// Says copies of documents, each after a tab.
-fn show_copies(said: &mut Said, copies: &[OpenText]) {
+fn show_copies(said: &mut Said, copies: &[DocumentSnapshot]) {
     for copy in copies {
         said.push("\t");
         said.push(copy.uri.as_str());
@@ -368,7 +368,7 @@ fn show_copies(said: &mut Said, copies: &[OpenText]) {
 
 /// The line of a position that params have.
 fn line_of<'t>(text: &'t Text, params: &Value) -> Option<&'t str> {
-    text.line(position_in(params.get("position")?)?.line)
+    text.line(position_from(params.get("position")?)?.line)
 }
 
 fn flag_in(params: &Value, name: &str) -> Option<bool> {

@@ -15,7 +15,7 @@ use crate::boxes::{Events, Habit, Sent};
 use crate::messages::message_in;
 use crate::said::{Said, Stepped};
 use crate::servers::{Echo, Talker};
-use lsp_acts::QueuedServer;
+use lsp_acts::ServerApplication;
 use lsp_message::{Request, RequestId, WriteFault};
 use lsp_session::{
     Event, ListGate, ListInbox, ListOutbox, ProtocolError, SessionEnd, WriteEnd, finish,
@@ -265,7 +265,7 @@ fn woken(
 ) -> Result<SessionEnd, ProtocolError> {
     let mut talker = Talker::new(alloc);
     talker.tells_wakes = true;
-    let mut service = QueuedServer::new(alloc, talker);
+    let mut service = ServerApplication::new(alloc, talker);
     let served = serve_service(alloc, inbox, outbox, &mut service);
     drop(service);
     served.answer
@@ -276,7 +276,7 @@ fn served(
     inbox: &mut Events<'_>,
     outbox: &mut Sent<'_>,
 ) -> Result<SessionEnd, ProtocolError> {
-    let mut service = QueuedServer::new(alloc, Talker::new(alloc));
+    let mut service = ServerApplication::new(alloc, Talker::new(alloc));
     let served = serve_service(alloc, inbox, outbox, &mut service);
     drop(service);
     served.answer

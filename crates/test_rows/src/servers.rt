@@ -72,7 +72,7 @@ fn echoed(alloc: Global, request: Request) -> Result<Acts, AllocError> {
 /// A notification.
 fn told(alloc: Global, method: &str, params: Value) -> Result<Act<Asked>, AllocError> {
     match String::from_str(alloc, method) {
-        Ok(method) => Ok(Act::Tell(Notification { method, params })),
+        Ok(method) => Ok(Act::SendNotification(Notification { method, params })),
         Err(error) => {
             drop(params);
             Err(error)
@@ -83,7 +83,7 @@ fn told(alloc: Global, method: &str, params: Value) -> Result<Act<Asked>, AllocE
 /// The question of this number for the configuration.
 fn question(alloc: Global, number: u64) -> Result<Act<Asked>, AllocError> {
     match String::from_str(alloc, "workspace/configuration") {
-        Ok(method) => Ok(Act::Ask(method, Value::Null, Asked::Configuration(number))),
+        Ok(method) => Ok(Act::SendRequest(method, Value::Null, Asked::Configuration(number))),
         Err(error) => Err(error),
     }
 }
@@ -153,7 +153,7 @@ impl Talker {
         let Request { id, method, params } = request;
         drop(method);
         match String::from_str(self.alloc, "demo/asked") {
-            Ok(method) => Act::one(self.alloc, Act::Ask(method, params, Asked::For(id))),
+            Ok(method) => Act::one(self.alloc, Act::SendRequest(method, params, Asked::For(id))),
             Err(error) => {
                 drop(params);
                 drop(id);
@@ -174,9 +174,9 @@ impl Talker {
 impl Server for Talker {
     ghost use Rattle.std.specs.Prelude.{⊤};
 
-    ghost wakes = { λ _ _ _. ⊤ };
+    ghost woken_post = { λ _ _ _. ⊤ };
 
-    type Payload = Asked;
+    type PendingData = Asked;
 
     fn initialize(&mut self, params: Value) -> Result<Result<Value, ResponseError>, AllocError> {
         drop(params);
@@ -215,7 +215,10 @@ impl Server for Talker {
             Asked::For(id) => Act::one(self.alloc, Act::Reply(id, outcome)),
             Asked::Configuration(number) => {
                 drop(outcome);
-                listed(self.alloc, Act::tell(self.alloc, "demo/pushed", &number))
+                listed(
+                    self.alloc,
+                    Act::send_notification(self.alloc, "demo/pushed", &number),
+                )
             }
         }
     }
@@ -224,7 +227,10 @@ impl Server for Talker {
         if !self.tells_wakes {
             return Ok(Vec::new(self.alloc));
         }
-        let acts = listed(self.alloc, Act::tell(self.alloc, "demo/woken", &()));
+        let acts = listed(
+            self.alloc,
+            Act::send_notification(self.alloc, "demo/woken", &()),
+        );
         self.release(acts)
     }
 
@@ -232,10 +238,10 @@ impl Server for Talker {
         if self.held.is_empty() {
             return Ok(Vec::new(alloc));
         }
-        listed(alloc, Act::tell(alloc, "demo/bye", &()))
+        listed(alloc, Act::send_notification(alloc, "demo/bye", &()))
     }
 
-    fn unsent(&mut self, asked: Asked) -> Result<(), AllocError> {
+    fn ids_exhausted(&mut self, asked: Asked) -> Result<(), AllocError> {
         drop(asked);
         Ok(())
     }

@@ -37,11 +37,11 @@ pub fn asked<P: Drop + PartialEq>(
         "typed/above" => Act::try_answer(alloc, request, |place: Place| {
             above(alloc, place.position)
         }),
-        "typed/show" => Act::of_request(alloc, request, |id, place: Place| {
+        "typed/show" => Act::from_request(alloc, request, |id, place: Place| {
             drop(place);
             shown(alloc, id)
         }),
-        "typed/marks" => Act::of_request(alloc, request, |id, place| marked(alloc, id, place)),
+        "typed/marks" => Act::from_request(alloc, request, |id, place| marked(alloc, id, place)),
         _ => listed(alloc, Act::method_not_found(alloc, taken_id(request))),
     }
 }
@@ -94,7 +94,7 @@ pub fn noticed<P: Drop + PartialEq>(
     alloc: Global,
     notification: Notification,
 ) -> Result<Vec<Act<P>>, AllocError> {
-    Act::of_notification(alloc, notification, |place: Place| {
+    Act::from_notification(alloc, notification, |place: Place| {
         told(alloc, place.position)
     })
 }
@@ -126,7 +126,7 @@ pub fn refused<T: Drop, E: Drop>(made: Result<E, AllocError>) -> Result<Result<T
 }
 
 fn shown<P: Drop + PartialEq>(alloc: Global, id: RequestId) -> Result<Vec<Act<P>>, AllocError> {
-    let shown = Act::show(alloc, MessageType::INFO, "here");
+    let shown = Act::show_message(alloc, MessageType::INFO, "here");
     both(alloc, shown, Act::reply(alloc, id, &()))
 }
 
@@ -147,6 +147,10 @@ fn marked<P: Drop + PartialEq>(
 }
 
 fn told<P: Drop + PartialEq>(alloc: Global, at: Position) -> Result<Vec<Act<P>>, AllocError> {
-    let told = Act::tell(alloc, "typed/told", &at);
-    both(alloc, told, Act::log(alloc, MessageType::WARNING, "told"))
+    let told = Act::send_notification(alloc, "typed/told", &at);
+    both(
+        alloc,
+        told,
+        Act::log_message(alloc, MessageType::WARNING, "told"),
+    )
 }

@@ -2,7 +2,7 @@
 use crate::messages::{text_in, value_in};
 use crate::more_types;
 use crate::said::Said;
-use lsp_documents::Agreed;
+use lsp_documents::SyncOptions;
 use lsp_types::json::Misfit;
 use lsp_types::{
     ApplyWorkspaceEditParams, ApplyWorkspaceEditResult, CancelParams, ChangeNotifications,
@@ -245,7 +245,7 @@ fn document_capabilities(said: &mut Said, params: &Value) {
     let asked = params.get("includeText").and_then(|asked| asked.as_bool());
     let include_text = asked == Some(true);
     let client = params.get("capabilities").unwrap_or(&none);
-    match Agreed::with_capabilities(said.alloc, client, include_text) {
+    match SyncOptions::with_capabilities(said.alloc, client, include_text) {
         Ok((_, can)) => {
             say_json(said, &can);
             drop(can);
@@ -255,7 +255,7 @@ fn document_capabilities(said: &mut Said, params: &Value) {
     drop(none);
     said.begin_step();
     let mut can = get(said, params, "server", Value::Null);
-    match Agreed::announced(said.alloc, params, include_text, &mut can) {
+    match SyncOptions::negotiate(said.alloc, params, include_text, &mut can) {
         Ok(_) => said.show(can),
         Err(_) => {
             drop(can);

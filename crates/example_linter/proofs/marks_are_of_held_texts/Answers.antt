@@ -2,7 +2,7 @@ use Rattle.example_linter.proofs.Turns.{all_shown}
 use Rattle.example_linter.proofs.marks_are_of_held_texts.Goals as goal
 
 pub returns : goal.returns
-returns g c = λ first last exchanges stop shutdown_reply answer none empty lawful. all_shown _ _ _ (record {
+returns g c = λ first last exchanges stop answer none empty lawful. all_shown _ _ _ (record {
   initialized = λ old params outcome new h. h;
   applied = λ old method params acts new h. h.0;
   began = λ old acts new h. h.1;

@@ -8,11 +8,11 @@ use Rattle.example_linter.proofs.serve.Goals as goal
 
 pub returns-clause-told : goal.returns-clause-told
 returns-clause-told g c =
-    taken_told_as true _ c.args.client.limits _ _ _ _ (λ exchanges stop shutdown_reply answer session.
-    let lawful = c.session_with_jobs_keeps_laws.ensures.exchanges _ _ exchanges stop shutdown_reply answer session in
+    taken_told_as true _ c.args.client.limits _ _ _ _ (λ exchanges stop answer session.
+    let lawful = c.session_with_jobs_keeps_laws.ensures.exchanges _ _ exchanges stop answer session in
     record {
       session = lawful;
-      shows = c.marks_are_of_held_texts.ensures _ _ exchanges stop shutdown_reply answer c.requires.changes
+      shows = c.marks_are_of_held_texts.ensures _ _ exchanges stop answer c.requires.changes
           c.requires.documents lawful;
     })
     (λ (done : Threaded _). done.taken.parts) (λ (done : Threaded _). noted done.given)

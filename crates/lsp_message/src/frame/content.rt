@@ -16,7 +16,7 @@ use std::io::BufRead;
 /// Reads the content part of one message, and the header part before it, within `limits` (LSP 3.17, "Base Protocol").
 /// `Ok(None)` means that the input ended at the start of a header line.
 ///
-/// The faults are those of `Message::read_telling`, except those about the meaning of the content part, which
+/// The faults are those of `Message::read_traced`, except those about the meaning of the content part, which
 /// `Message::from_content` finds. After `Memory` none of the content part was taken.
 pub fn read_content_within<R: BufRead>(
     alloc: Global,
@@ -30,12 +30,12 @@ pub fn read_content_within<R: BufRead>(
     ensures memory { result ≡ Err ReadFault.Memory → IfSome (R.remaining reader.old) (λ text.
         RunsOutBefore limits text (R.remaining reader.new)) }
 {
-    read_content_telling(alloc, reader, limits, &mut Passed::new())
+    read_content_traced(alloc, reader, limits, &mut Passed::new())
 }
 
 /// Reads the content part of one message, as `read_content_within` does, and adds the bytes that it takes to the
 /// account.
-pub fn read_content_telling<R: BufRead>(
+pub fn read_content_traced<R: BufRead>(
     alloc: Global,
     reader: &mut R,
     limits: Limits,

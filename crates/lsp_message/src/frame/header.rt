@@ -5,19 +5,21 @@ ghost use Rattle.lsp_message.specs.HeaderPart.{header_line as line_spec, header_
 use crate::frame::ReadFault;
 use memchr::memmem;
 
-/// A good line of the header part.
+/// A good line of the header part (LSP 3.17, "Header Part").
 #[derive(Clone, Copy)]
 pub enum HeaderLine {
     /// The empty line, which ends the header part.
     Blank,
-    /// The field `Content-Length`.
+    /// The field `Content-Length`, with its value in bytes.
     Length(u64),
     /// Another field.
     Other,
 }
 
-/// Returns what a line of the header part is. The line includes its end.
-pub(crate) fn header_line(line: &[u8]) -> Result<HeaderLine, ReadFault>
+/// Returns what a line of the header part is (LSP 3.17, "Header Part"). The line includes its end, `\r\n`.
+///
+/// The fault is `LineNotText`, `LineEnd`, `NoSeparator` or `BadLength`, which `ReadFault` describes.
+pub fn header_line(line: &[u8]) -> Result<HeaderLine, ReadFault>
     ensures { result ≡ line_spec line.now }
 {
     if std::str::from_utf8(line).is_err() {

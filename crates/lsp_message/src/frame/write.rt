@@ -30,7 +30,7 @@ pub(crate) fn write_body<W: Write>(
         given.new.parts (W.contents writer.old) (W.contents writer.new) }
 {
     let frame = with_header(alloc, body)?;
-    write_frames_telling(writer, frame.as_str(), given)
+    write_frames_traced(writer, frame.as_str(), given)
 }
 
 /// Writes a text of whole frames, as `Message::to_frame` makes them (LSP 3.17, "Base Protocol"), and flushes the writer
@@ -42,11 +42,11 @@ pub fn write_frames<W: Write>(writer: &mut W, frames: &str) -> Result<(), WriteF
     ensures begun { AppendsBeginning (W.contents writer.old) (W.contents writer.new) frames.now }
     ensures fault { IfErr result IsOutput }
 {
-    write_frames_telling(writer, frames, &mut Passed::new())
+    write_frames_traced(writer, frames, &mut Passed::new())
 }
 
 /// Writes a text of whole frames, as `write_frames` does, and adds the bytes that the writer takes to the account.
-pub fn write_frames_telling<W: Write>(
+pub fn write_frames_traced<W: Write>(
     writer: &mut W,
     frames: &str,
     given: &mut Passed,

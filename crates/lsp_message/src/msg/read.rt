@@ -13,7 +13,7 @@ ghost use Rattle.lsp_message.specs.Told.{Given, IsOfParts, Told, WritesParts};
 ghost use Rattle.lsp_message.specs.View.{message_view};
 ghost use Rattle.lsp_message.specs.Written.{IsFrameOf, Writes};
 
-use crate::frame::content::read_content_telling;
+use crate::frame::content::read_content_traced;
 use crate::frame::limits::Limits;
 use crate::frame::passed::Passed;
 use crate::frame::write::{with_header, write_body};
@@ -49,7 +49,7 @@ impl Message {
     /// If the length is above the limit, the fault is `TooLong`, and the content part stays unread. The fault is then
     /// never that no memory was left for it. That none is reserved for it is tested, and not part of the contract. If
     /// there are several lines with `Content-Length`, the last one counts. The header part is not bounded: the reader
-    /// gathers everything from a peer that sends no line end. `read_telling` bounds it.
+    /// gathers everything from a peer that sends no line end. `read_traced` bounds it.
     pub fn read_within<R: BufRead>(
         alloc: Global,
         reader: &mut R,
@@ -65,7 +65,7 @@ impl Message {
             header: None,
             content: limit,
         };
-        Message::read_telling(alloc, reader, limits, &mut Passed::new())
+        Message::read_traced(alloc, reader, limits, &mut Passed::new())
     }
 
     /// Reads one message within `limits`, as `read_within` does, and adds the bytes that it takes to the account.
@@ -75,7 +75,7 @@ impl Message {
     ///
     /// The account is known for every reader, also for one that does not say which bytes it has left, such as standard
     /// input.
-    pub fn read_telling<R: BufRead>(
+    pub fn read_traced<R: BufRead>(
         alloc: Global,
         reader: &mut R,
         limits: Limits,
@@ -89,7 +89,7 @@ impl Message {
         ensures told { Told (IsOfParts message_view (reading_within limits) result) taken.old.parts
             taken.new.parts (R.remaining reader.old) (R.remaining reader.new) }
     {
-        let content = match read_content_telling(alloc, reader, limits, taken)? {
+        let content = match read_content_traced(alloc, reader, limits, taken)? {
             Some(content) => content,
             None => return Ok(None),
         };
@@ -120,11 +120,11 @@ impl Message {
             WritesReadably (message_view self.now) (W.contents writer.old)
             (W.contents writer.new)) }
     {
-        self.write_telling(alloc, writer, &mut Passed::new())
+        self.write_traced(alloc, writer, &mut Passed::new())
     }
 
     /// Writes one message, as `write` does, and adds the bytes that the writer takes to the account.
-    pub fn write_telling<W: Write>(
+    pub fn write_traced<W: Write>(
         &self,
         alloc: Global,
         writer: &mut W,

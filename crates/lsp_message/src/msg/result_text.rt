@@ -121,9 +121,9 @@ impl ResultText {
         with_header(alloc, body)
     }
 
-    /// Writes the response with this id and this result, as `Message::write_telling` does, and adds the bytes that the
+    /// Writes the response with this id and this result, as `Message::write_traced` does, and adds the bytes that the
     /// writer takes to the account.
-    pub fn write_telling<W: Write>(
+    pub fn write_traced<W: Write>(
         self,
         alloc: Global,
         writer: &mut W,

@@ -1,7 +1,6 @@
 //! What a client of a session may wait for.
 ghost use Rattle.serde_json.specs.Data.{Data};
-ghost use Rattle.std.specs.Prelude.{◌≡◌, List, [], ◌++◌, Option};
-ghost use Rattle.lsp_message.specs.Message.{Message};
+ghost use Rattle.std.specs.Prelude.{◌≡◌, List, [], ◌++◌};
 ghost use Rattle.lsp_session.specs.Account.{Act, KeepsAccount, InOrder};
 ghost use Rattle.lsp_session.specs.Dialog.{Client, NeverBothWait, WaitsForReplies, WaitsForItsDue};
 ghost use Rattle.lsp_session.specs.HandlerSession.{of_handler};
@@ -37,15 +36,14 @@ pub fn session_acts_in_order<L: WakingInbox + Outbox, S: Service>()
 /// has acted in the same way.
 pub fn client_is_never_kept_waiting<S: Service, H: Handler>()
     ensures due { (goes_on : Client) (acts : List Act) (old new : S) (exchanges : List Exchange)
-        (stop : Stop) (shutdown_reply : Option Message) (answer : SessionAnswer)
+        (stop : Stop) (answer : SessionAnswer)
         → WaitsForItsDue S.behavior old goes_on
-        → Both (SessionOut S.behavior old new) (InOrder acts) exchanges stop shutdown_reply answer
+        → Both (SessionOut S.behavior old new) (InOrder acts) exchanges stop answer
         → NeverBothWait goes_on [] [] acts }
     ensures replies { (capabilities : Data) (goes_on : Client) (acts : List Act) (old new : H)
-        (exchanges : List Exchange) (stop : Stop) (shutdown_reply : Option Message)
-        (answer : SessionAnswer)
+        (exchanges : List Exchange) (stop : Stop) (answer : SessionAnswer)
         → WaitsForReplies goes_on
-        → Both (SessionOut (of_handler H.answers H.notes capabilities) old new) (InOrder acts)
-        exchanges stop shutdown_reply answer
+        → Both (SessionOut (of_handler H.answer_post H.note_post capabilities) old new) (InOrder acts)
+        exchanges stop answer
         → NeverBothWait goes_on [] [] acts }
 {}

@@ -1,11 +1,12 @@
 //! What a session does with the requests of its client.
 ghost use Rattle.serde_json.specs.Data.{Data};
-ghost use Rattle.std.specs.Prelude.{◌≡◌, Bool, true, false, List, ◌∷◌, ◌++◌, Option, None, Err};
+ghost use Rattle.std.specs.Prelude.{◌≡◌, Bool, true, false, List, [], ◌∷◌, ◌++◌, None, IsSome, Err};
 ghost use Rattle.lsp_message.specs.Message.{Message};
 ghost use Rattle.lsp_session.specs.Answered.{AllReplied, AnswersRequests};
 ghost use Rattle.lsp_session.specs.HandlerSession.{of_handler};
 ghost use Rattle.lsp_session.specs.ProtocolError.{ProtocolFault, is_disconnected};
 ghost use Rattle.lsp_session.specs.Session.{Exchange, SessionAnswer, Stop, sends_of, refused, SessionOut};
+ghost use Rattle.lsp_session.specs.SessionBytes.{lost_of};
 ghost use Rattle.lsp_session.specs.SessionLaws.{Both, KeepsOrder, is_reply, OpenedBy};
 ghost use Rattle.lsp_session.specs.declared.lifecycle.SendFault.{SendFault as RefusedSend};
 
@@ -19,39 +20,36 @@ use crate::loops::{Handler, Service};
 /// This applies to the exchanges of each session that was run, and so to a session in each form.
 pub fn session_answers_requests<H: Handler>()
     ensures { (capabilities : Data) (old new : H) (exchanges : List Exchange)
-        (stop : Stop) (shutdown_reply : Option Message) (answer : SessionAnswer)
-        → SessionOut (of_handler H.answers H.notes capabilities) old new exchanges stop
-        shutdown_reply answer
-        → Both AnswersRequests (KeepsOrder false false) exchanges stop shutdown_reply answer }
+        (stop : Stop) (answer : SessionAnswer)
+        → SessionOut (of_handler H.answer_post H.note_post capabilities) old new exchanges stop answer
+        → Both AnswersRequests (KeepsOrder false false) exchanges stop answer }
 {}
 
 /// If a session returns that the client is gone, each request that it read has its reply. So if a request is left
 /// without one, the fault shows it.
 #[tactic(auto, using(crate::proofs::Ordering::all_answered))]
 pub fn lost_client_was_answered()
-    ensures { (exchanges : List Exchange) (stop : Stop) (shutdown_reply : Option Message)
-        (fault : ProtocolFault)
-        → is_disconnected fault ≡ true → AnswersRequests exchanges stop shutdown_reply (Err fault)
+    ensures { (exchanges : List Exchange) (stop : Stop) (fault : ProtocolFault)
+        → is_disconnected fault ≡ true → AnswersRequests exchanges stop (Err fault)
         → AllReplied exchanges }
 {}
 
-/// After a message that the outbox refused, nothing more is sent, not even the reply to `shutdown`. This applies to
-/// each session.
-#[tactic(auto, using(crate::proofs::Ordering::no_shutdown_reply))]
+/// If a session stopped because the outbox refused a message, this message is the last one that the session offered, in
+/// its last exchange. The outbox took all messages before it. This applies to each session.
 pub fn nothing_follows_a_refusal<S: Service>()
-    ensures { (old new : S) (exchanges : List Exchange) (fault : RefusedSend)
-        (shutdown_reply : Option Message) (answer : SessionAnswer)
-        → SessionOut S.behavior old new exchanges (refused fault) shutdown_reply answer
-        → shutdown_reply ≡ None }
+    ensures { (old new : S) (exchanges : List Exchange) (fault : RefusedSend) (answer : SessionAnswer)
+        → SessionOut S.behavior old new exchanges (refused fault) answer
+        → (earlier : List Exchange) × (last : Exchange) × (exchanges ≡ earlier ++ last ∷ [])
+        × IsSome last.not_sent × (lost_of earlier ≡ None) }
 {}
 
 /// A message that is no reply is sent only after the client sent `initialize` and then `initialized`, and after the
 /// result of `initialize` (LSP 3.17, "Server lifecycle"). This applies to each session that keeps its order.
 pub fn only_replies_come_first()
     ensures { (passes_late speaks_last : Bool) (exchanges : List Exchange) (stop : Stop)
-        (shutdown_reply : Option Message) (answer : SessionAnswer) (before more : List Message)
+        (answer : SessionAnswer) (before more : List Message)
         (sent : Message)
-        → KeepsOrder passes_late speaks_last exchanges stop shutdown_reply answer
+        → KeepsOrder passes_late speaks_last exchanges stop answer
         → sends_of exchanges ≡ before ++ sent ∷ more → is_reply sent ≡ false
         → OpenedBy exchanges before }
 {}
@@ -70,7 +68,7 @@ pub fn only_replies_come_first()
 /// This applies to the exchanges of each session that was run, and so to a session in each form.
 pub fn session_keeps_order<S: Service>()
     ensures { (old new : S) (exchanges : List Exchange) (stop : Stop)
-        (shutdown_reply : Option Message) (answer : SessionAnswer)
-        → SessionOut S.behavior old new exchanges stop shutdown_reply answer
-        → KeepsOrder S.behavior.passes_late true exchanges stop shutdown_reply answer }
+        (answer : SessionAnswer)
+        → SessionOut S.behavior old new exchanges stop answer
+        → KeepsOrder S.behavior.passes_late true exchanges stop answer }
 {}

@@ -11,10 +11,10 @@ ghost use Rattle.lsp_session.specs.PassingBytes.{GivesAndTells};
 ghost use Rattle.lsp_session.specs.Prompt.{Talks};
 ghost use Rattle.lsp_session.specs.Replies.{ok_reply};
 ghost use Rattle.lsp_session.specs.SessionOutcome.{StopsFor};
-ghost use Rattle.lsp_session.specs.Session.{starting, serving, SessionAnswer, SessionOut};
+ghost use Rattle.lsp_session.specs.Session.{starting, SessionAnswer, SessionOut};
 ghost use Rattle.lsp_session.specs.SessionFault.{session_answer as session_answer_spec};
 ghost use Rattle.lsp_session.specs.SessionLaws.{Both};
-ghost use Rattle.lsp_session.specs.StreamTransports.{IsUnused, KeepsEnds, GivesInOrder, StreamTransportGives, StreamTransportListens, StreamTransportSends, PassesBetween, Serves};
+ghost use Rattle.lsp_session.specs.StreamTransports.{IsUnused, KeepsEnds, GivesInOrder, StreamTransportGives, StreamTransportListens, StreamTransportSends, StopsServing, PassesBetween, Serves};
 ghost use Rattle.lsp_session.specs.Transcripts.{notes_of};
 ghost use Rattle.lsp_session.specs.Streams.{StreamGives};
 ghost use Rattle.lsp_session.specs.declared.loops.ReadEnd.{ReadEnd as ReadEndType};
@@ -99,7 +99,7 @@ pub fn unknown_bytes_say_nothing<L: BadContentPolicy, S: Service>()
         first last before after answer) }
 {}
 
-/// A session on an unused transport whose policy never ends it, such as `Ignore`, reads on after bad content. While it
+/// A session on an unused transport whose policy never ends it, such as `SkipSilently`, reads on after bad content. While it
 /// serves its client, before a `shutdown`, it does not stop at a content part that was read whole and is no message
 /// (LSP 3.17, "Base Protocol"). This applies to each session that `serve_transport` ran on a `StreamTransport`. In the
 /// other waits, such as those for `initialize` and for `exit`, the policy is not asked, and such a content part ends
@@ -111,6 +111,6 @@ pub fn transport_reads_on<R: BufRead, W: Write, L: BadContentPolicy, S: Service>
         → (talks : Talks (StreamTransportGives R.remaining L.passes) (StreamTransportListens L.ends)
         (StreamTransportSends W.contents)
         starting (Both (SessionOut S.behavior old new) (StopsFor reason)) before answer after)
-        → talks.reached ≡ serving → talks.shutdown_reply ≡ None
+        → StopsServing talks.history.reached
         → ended_at_content after.end ≡ false }
 {}

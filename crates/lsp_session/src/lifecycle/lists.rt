@@ -4,7 +4,7 @@ ghost use Rattle.serde_json.specs.View.{view};
 ghost use Rattle.lsp_message.specs.Message.{response};
 ghost use Rattle.lsp_message.specs.View.{message_view};
 
-use crate::lifecycle::{Event, Gate, Inbox, Outbox, SendFault, TextOutbox, without_result};
+use crate::lifecycle::{Event, Gate, Inbox, Outbox, SendFault, TextOutbox, null_response};
 use lsp_message::{Message, RequestId, ResultText};
 use std::alloc::{AllocError, Global};
 use std::collections::VecDeque;
@@ -105,11 +105,11 @@ impl TextOutbox for ListOutbox {
     fn send_text(&mut self, id: RequestId, text: ResultText) -> Result<(), SendFault> {
         if self.sent.len() >= self.room {
             drop(text);
-            return Err(SendFault::Closed(without_result(id)));
+            return Err(SendFault::Closed(null_response(id)));
         }
         match push_text(&mut self.sent, &id, text) {
             Ok(()) => Ok(()),
-            Err(_) => Err(SendFault::Memory(without_result(id))),
+            Err(_) => Err(SendFault::Memory(null_response(id))),
         }
     }
 }

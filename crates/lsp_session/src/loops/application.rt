@@ -13,7 +13,7 @@ use std::alloc::Global;
 /// A server that is ready to run. An application serves one client at a time, and says what is promised about such a
 /// session.
 ///
-/// There are three kinds. Take a `HandlerApplication` for a server that only answers (`Handler`). Take a `QueuedServer`
+/// There are three kinds. Take a `HandlerApplication` for a server that only answers (`Handler`). Take a `ServerApplication`
 /// of `lsp_acts` for one that also sends first (`Server`). Take a `ServiceApplication` for a `Service`, which decides
 /// about each message itself.
 ///
@@ -43,7 +43,7 @@ pub trait Application {
 /// A service as an application. What is promised about its session is what the service states about itself.
 #[derive(Drop)]
 pub struct ServiceApplication<S> {
-    /// The service, which decides what is sent for each message.
+    /// The service, which decides which messages are sent for each message.
     pub service: S,
 }
 

@@ -1,7 +1,7 @@
 // A session of a server between bytes and bytes.
 ghost use Rattle.std.specs.Prelude.{◌≡◌, ◌≤◌, ◌<◌, ◌⊎◌, [], length, drop as drop_front, take, IsTrue, None, Some};
 ghost use Rattle.lsp_session.specs.ByteSession.{Comes, Goes};
-ghost use Rattle.lsp_session.specs.ByteSessions.{standing, unread, KeepsBounds};
+ghost use Rattle.lsp_session.specs.ByteSessions.{standing, unread, HasServed, KeepsBounds};
 ghost use Rattle.lsp_session.specs.Event.{closed, timeout, woken};
 ghost use Rattle.lsp_session.specs.Machine.{awaited_in, came_view, outcome_of};
 ghost use Rattle.lsp_session.specs.SessionFault.{session_answer as session_answer_spec};
@@ -28,7 +28,7 @@ use std::alloc::Global;
 /// its `Limits`. While more than `most_pending` bytes are to be sent, it takes no input. So it holds at most these
 /// bytes, and the output of one more event.
 ///
-/// At bytes that are no message the session ends, as one with the policy `EndSession` does. `into_parts` then returns
+/// At bytes that are no message the session ends, as one with the policy `EndOnBadContent` does. `into_parts` then returns
 /// `SessionFault::Read`, and the bytes stay unread. If memory runs out, the session ends, and `into_parts` returns
 /// `SessionFault::Memory`.
 ///
@@ -69,6 +69,7 @@ impl<S: Service> ByteSession<S> {
         ensures limits { result.input.limits ≡ limits }
         ensures most { result.most_pending ≡ most_pending }
         ensures unended { result.end ≡ None }
+        ensures served { HasServed result }
     {
         ByteSession {
             core: SessionCore::new(alloc),
@@ -97,15 +98,16 @@ impl<S: Service> ByteSession<S> {
         self.core.awaits() != Awaits::Nothing && self.output.as_slice().len() <= self.most_pending
     }
 
-    /// Takes bytes that arrived, in pieces of any size, and serves each message that is whole. It returns how many
-    /// bytes it took: all of them, unless the session ends or more than `most_pending` bytes are to be sent. Pass in
-    /// the others again when enough of the output was sent.
+    /// Takes bytes that arrived, in pieces of any size, and serves each message as soon as it is whole. It returns how
+    /// many bytes it took: all of them, unless the session ends or more than `most_pending` bytes are to be sent. Pass
+    /// in the others again when enough of the output was sent.
     pub fn receive(&mut self, bytes: &[u8]) -> usize
         ensures within { result ≤ length bytes.now }
         ensures goes { Goes self.old.input.limits self.old.most_pending S.behavior (standing self.old) (unread self.old)
             (take result bytes.now) (standing self.new) (unread self.new) }
         ensures all { (result ≡ length bytes.now) ⊎ IsOver (standing self.new).stage
             ⊎ (self.new.most_pending < length (standing self.new).pending) }
+        ensures served { HasServed self.old → HasServed self.new }
         ensures kept { KeepsBounds self.old self.new }
     {
         let mut taken = 0;
@@ -123,47 +125,16 @@ impl<S: Service> ByteSession<S> {
         ensures some { (0 < length bytes.now → 0 < result) ⊎ IsOver (standing self.new).stage }
         ensures goes { Goes self.old.input.limits self.old.most_pending S.behavior (standing self.old) (unread self.old)
             (take result bytes.now) (standing self.new) (unread self.new) }
+        ensures served { HasServed self.new }
         ensures kept { KeepsBounds self.old self.new }
     {
-        match self.input.gather(bytes) {
-            Ok(count) => {
-                self.advance();
-                count
-            }
-            Err(_) => {
-                self.fail(ReadFault::Memory);
-                0
-            }
-        }
-    }
-
-    /// Serves the message that is whole after bytes were gathered, or ends at their fault.
-    fn advance(&mut self)
-        requires room { length (standing self.old).pending ≤ self.old.most_pending }
-        requires waits { IsOver (standing self.old).stage → ⊥ }
-        ensures goes { Goes self.old.input.limits self.old.most_pending S.behavior (standing self.old) (unread self.old) []
-            (standing self.new) (unread self.new) }
-        ensures kept { KeepsBounds self.old self.new }
-    {
-        if !self.input.is_ready() {
-            return;
-        }
-        self.take_message();
-    }
-
-    /// Serves the message that the unread bytes begin with, or ends at their fault.
-    fn take_message(&mut self)
-        requires room { length (standing self.old).pending ≤ self.old.most_pending }
-        requires waits { IsOver (standing self.old).stage → ⊥ }
-        ensures goes { Goes self.old.input.limits self.old.most_pending S.behavior (standing self.old) (unread self.old) []
-            (standing self.new) (unread self.new) }
-        ensures kept { KeepsBounds self.old self.new }
-    {
-        match self.input.read() {
+        let (count, read) = self.input.receive(bytes);
+        match read {
             Ok(Some(message)) => self.come(Came::Message(message)),
             Ok(None) => {}
             Err(fault) => self.fail(fault),
         }
+        count
     }
 
     /// Ends the messages with this fault.
@@ -221,6 +192,7 @@ impl<S: Service> ByteSession<S> {
     pub fn woken(&mut self)
         ensures comes { Comes S.behavior (standing self.old) woken (standing self.new) }
         ensures unread { unread self.new ≡ unread self.old }
+        ensures served { HasServed self.old → HasServed self.new }
         ensures kept { KeepsBounds self.old self.new }
     {
         self.come(Came::Woken);
@@ -231,6 +203,7 @@ impl<S: Service> ByteSession<S> {
     pub fn timeout(&mut self)
         ensures comes { Comes S.behavior (standing self.old) timeout (standing self.new) }
         ensures unread { unread self.new ≡ unread self.old }
+        ensures served { HasServed self.old → HasServed self.new }
         ensures kept { KeepsBounds self.old self.new }
     {
         self.come(Came::Timeout);
@@ -249,6 +222,7 @@ impl<S: Service> ByteSession<S> {
         requires { count ≤ length (standing self.old).pending }
         ensures sent { standing self.new ≡ record (standing self.old) { pending = drop_front count (standing self.old).pending } }
         ensures unread { unread self.new ≡ unread self.old }
+        ensures served { HasServed self.old → HasServed self.new }
         ensures kept { KeepsBounds self.old self.new }
     {
         self.output.sent(count);

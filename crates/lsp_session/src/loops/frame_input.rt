@@ -1,11 +1,15 @@
 // The frame of one message, gathered from bytes that come in pieces.
-ghost use Rattle.std.specs.Prelude.{◌≡◌, ◌<◌, ◌≤◌, ◌++◌, [], length, drop as drop_front, take, IfErr, IfOk, IfSome, OnErr};
+ghost use Rattle.std.specs.Prelude.{◌≡◌, ◌⊎◌, ◌<◌, ◌≤◌, ◌+◌, ◌++◌, [], ℕ, Option, length, drop as drop_front, take, Ok, Some, None, IfOk, IfErr, IsTrue, MatchOption};
+ghost use Rattle.lsp_message.specs.Frame.{reading_within};
 ghost use Rattle.lsp_message.specs.View.{message_view};
-ghost use Rattle.lsp_session.specs.ByteSession.{BeginsWithFault, ReadsFirst, ReadsOne};
+ghost use Rattle.lsp_session.specs.ByteSession.{AwaitsMore, BeginsWithFault, ReadsOne};
+ghost use Rattle.lsp_session.specs.FramePlace.{AreFields, HasNoFeed, InContent, InHeader, IsFaultOf, IsLine, IsPlaceOf};
+ghost use Rattle.lsp_message.specs.declared.frame.ReadFault.{ReadFault};
+ghost use Rattle.lsp_session.specs.declared.loops.frame_input.Place.TheVariants.{Content, Fault, Header};
 
-use lsp_message::{Front, Limits, Message, Passed, ReadFault, front};
-use memchr::{memchr, memmem};
-use std::alloc::{AllocError, Global};
+use lsp_message::{HeaderLine, Limits, Message, ReadFault, header_line};
+use memchr::memchr;
+use std::alloc::Global;
 
 /// How much of the frame has arrived.
 #[derive(Clone, Copy)]
@@ -13,8 +17,10 @@ pub(crate) enum Place {
     /// In the header part. The line that is not whole begins at the first number, and the lines before it give this
     /// length.
     Header(usize, Option<u64>),
-    /// In the content part, which ends here.
-    Content(usize),
+    /// In the content part. It begins at the first number, and the second is its length.
+    Content(usize, usize),
+    /// The bytes begin with this fault, or memory ran out.
+    Fault(ReadFault),
 }
 
 /// Gathers the frame of one message (LSP 3.17, "Base Protocol"), and no byte after it. It looks at each line of a
@@ -25,6 +31,9 @@ pub(crate) struct FrameInput {
     limits: Limits,
     bytes: Vec<u8>,
     place: Place,
+    ghost header: { (line : ℕ) → (given : Option ℕ) → place ≡ Header line given → InHeader limits bytes.items line given },
+    ghost content: { (start size : ℕ) → place ≡ Content start size → InContent limits bytes.items start size },
+    ghost fault: { (kind : ReadFault) → place ≡ Fault kind → IsFaultOf limits bytes.items kind },
 }
 
 impl FrameInput {
@@ -32,6 +41,7 @@ impl FrameInput {
     pub(crate) fn new(alloc: Global, limits: Limits) -> FrameInput
         ensures empty { result.bytes.items ≡ [] }
         ensures limits { result.limits ≡ limits }
+        ensures awaits { AwaitsMore result.limits result.bytes.items }
     {
         FrameInput {
             alloc,
@@ -42,29 +52,51 @@ impl FrameInput {
     }
 
     /// Adds the first bytes of a piece, up to the end of a line of the header part or of the content part. Returns how
-    /// many these are. The error means that an allocation failed. Then nothing was added.
-    pub(crate) fn gather(&mut self, piece: &[u8]) -> Result<usize, AllocError>
-        ensures within { IfOk result (λ count. count ≤ length piece.now) }
-        ensures some { IfOk result (λ count. 0 < length piece.now → 0 < count) }
-        ensures added { IfOk result (λ count. self.new.bytes.items ≡ self.old.bytes.items ++ take count piece.now) }
-        ensures err { OnErr result (self.new.bytes.items ≡ self.old.bytes.items) }
+    /// many these are, and the message if it is whole with them. The bytes of a message are dropped.
+    ///
+    /// After a fault of the bytes they stay, and each further call returns the fault again and adds none. If memory runs
+    /// out, the fault is `Memory`, and nothing was added.
+    pub(crate) fn receive(&mut self, piece: &[u8]) -> (usize, Result<Option<Message>, ReadFault>)
+        ensures within { result.0 ≤ length piece.now }
+        ensures some { IfOk result.1 (λ _. 0 < length piece.now → 0 < result.0) }
+        ensures read { ReadsOne self.old.limits (self.old.bytes.items ++ take result.0 piece.now) result.1 self.new.bytes.items }
+        ensures awaits { IfOk result.1 (λ _. AwaitsMore self.new.limits self.new.bytes.items) }
         ensures limits { self.new.limits ≡ self.old.limits }
     {
-        let count = self.reach(piece);
-        match self.bytes.extend_from_slice(&piece[..count]) {
-            Ok(()) => Ok(count),
-            Err(fault) => Err(fault),
+        match self.place {
+            Place::Header(line, given) => self.receive_header(line, given, piece),
+            Place::Content(start, size) => self.receive_content(start, size, piece),
+            Place::Fault(fault) => (0, Err(fault)),
         }
     }
 
-    /// Returns how many bytes of the piece belong to the line or to the content part.
-    fn reach(&self, piece: &[u8]) -> usize
-        ensures within { result ≤ length piece.now }
-        ensures some { 0 < length piece.now → 0 < result }
+    /// Adds bytes up to the end of the line. The line begins at `line`, and the lines before it give this length.
+    fn receive_header(
+        &mut self,
+        line: usize,
+        given: Option<u64>,
+        piece: &[u8],
+    ) -> (usize, Result<Option<Message>, ReadFault>)
+        requires here { self.old.place ≡ Header line given }
+        ensures within { result.0 ≤ length piece.now }
+        ensures some { IfOk result.1 (λ _. 0 < length piece.now → 0 < result.0) }
+        ensures read { ReadsOne self.old.limits (self.old.bytes.items ++ take result.0 piece.now) result.1 self.new.bytes.items }
+        ensures awaits { IfOk result.1 (λ _. AwaitsMore self.new.limits self.new.bytes.items) }
+        ensures limits { self.new.limits ≡ self.old.limits }
     {
-        match self.place {
-            Place::Header(_, _) => self.header_reach(piece),
-            Place::Content(end) => piece.len().min(end.saturating_sub(self.bytes.len()).max(1)),
+        let count = self.header_reach(piece);
+        if self.bytes.extend_from_slice(&piece[..count]).is_err() {
+            return (0, Err(ReadFault::Memory));
+        }
+        match place_in_header(self.limits, self.bytes.as_slice(), line, given) {
+            Ok(place) => {
+                self.place = place;
+                (count, Ok(None))
+            }
+            Err(fault) => {
+                self.place = Place::Fault(fault);
+                (count, Err(fault))
+            }
         }
     }
 
@@ -72,11 +104,9 @@ impl FrameInput {
     fn header_reach(&self, piece: &[u8]) -> usize
         ensures within { result ≤ length piece.now }
         ensures some { 0 < length piece.now → 0 < result }
+        ensures line { HasNoFeed (take result piece.now) ⊎ IsLine (take result piece.now) }
     {
-        let shown = match memchr(b'\n', piece) {
-            Some(at) => at + 1,
-            None => piece.len(),
-        };
+        let shown = line_reach(piece);
         match self.limits.header {
             Some(most) => {
                 let room = most
@@ -88,120 +118,116 @@ impl FrameInput {
         }
     }
 
-    /// Looks at the bytes that were added last. Returns whether the frame is whole or has a fault; `read` says which.
-    pub(crate) fn is_ready(&mut self) -> bool
-        ensures kept { (self.new.limits ≡ self.old.limits) × (self.new.bytes.items ≡ self.old.bytes.items) }
-    {
-        if let Place::Header(line, length) = self.place {
-            if self.has_long_header() {
-                return true;
-            }
-            if !self.bytes.as_slice().ends_with(b"\n") || line > self.bytes.len() {
-                return false;
-            }
-            match self.place_after(line, length) {
-                Some(place) => self.place = place,
-                None => return true,
-            }
-        }
-        match self.place {
-            Place::Header(_, _) => false,
-            Place::Content(end) => self.bytes.len() >= end,
-        }
-    }
-
-    /// Returns whether the header part is above its bound.
-    fn has_long_header(&self) -> bool {
-        match self.limits.header {
-            Some(most) => self.bytes.len() as u64 > most,
-            None => false,
-        }
-    }
-
-    /// Returns the place after a whole line that begins here, with this length of the lines before. Returns `None` if
-    /// the line is bad, if the header part ends without a length, or if its length is above the limit.
-    fn place_after(&self, line: usize, given: Option<u64>) -> Option<Place>
-        requires { line ≤ length self.now.bytes.items }
-    {
-        let count = self.bytes.len();
-        let text = &self.bytes.as_slice()[line..];
-        if text == b"\r\n".as_slice() {
-            return match given {
-                Some(size) if size <= self.limits.content => Some(Place::Content(
-                    count.saturating_add(size as usize),
-                )),
-                _ => None,
-            };
-        }
-        // The front of a good field alone is that more has to come.
-        match front(text) {
-            Front::More => Some(Place::Header(count, length_in(text).or(given))),
-            Front::Whole(_) | Front::Fault(_) => None,
-        }
-    }
-
-    /// Takes the message at the front of the bytes, if it is whole. After a fault the bytes stay.
-    pub(crate) fn read(&mut self) -> Result<Option<Message>, ReadFault>
-        ensures read { ReadsOne self.old.limits self.old.bytes.items result self.new.bytes.items }
+    /// Adds bytes of the content part, which begins at `start` and has `size` bytes, and reads the message if that is
+    /// whole.
+    fn receive_content(
+        &mut self,
+        start: usize,
+        size: usize,
+        piece: &[u8],
+    ) -> (usize, Result<Option<Message>, ReadFault>)
+        requires here { self.old.place ≡ Content start size }
+        ensures within { result.0 ≤ length piece.now }
+        ensures some { IfOk result.1 (λ _. 0 < length piece.now → 0 < result.0) }
+        ensures read { ReadsOne self.old.limits (self.old.bytes.items ++ take result.0 piece.now) result.1 self.new.bytes.items }
+        ensures awaits { IfOk result.1 (λ _. AwaitsMore self.new.limits self.new.bytes.items) }
         ensures limits { self.new.limits ≡ self.old.limits }
     {
-        match self.first() {
-            Ok(Some((message, count))) => {
-                self.skip(count);
-                Ok(Some(message))
-            }
-            Ok(None) => Ok(None),
-            Err(fault) => Err(fault),
+        let held = self.bytes.as_slice();
+        let missing = size - (held.len() - start);
+        let count = piece.len().min(missing);
+        if self.bytes.extend_from_slice(&piece[..count]).is_err() {
+            return (0, Err(ReadFault::Memory));
         }
-    }
-
-    /// Drops `count` bytes, after which the next frame begins.
-    fn skip(&mut self, count: usize)
-        requires { count ≤ length self.old.bytes.items }
-        ensures items { self.new.bytes.items ≡ drop_front count self.old.bytes.items }
-        ensures limits { self.new.limits ≡ self.old.limits }
-    {
-        drop(self.bytes.drain(..count));
-        self.place = Place::Header(0, None);
-    }
-
-    /// Returns the message at the front of the bytes, and how many bytes its frame has.
-    pub(crate) fn first(&self) -> Result<Option<(Message, usize)>, ReadFault>
-        ensures read { ReadsFirst self.now.limits self.now.bytes.items result }
-        ensures within { IfOk result (λ found. IfSome found (λ x. x.1 ≤ length self.now.bytes.items)) }
-    {
-        let mut rest = self.bytes.as_slice();
-        match Message::read_telling(self.alloc, &mut rest, self.limits, &mut Passed::new()) {
-            Ok(Some(message)) => Ok(Some((message, self.bytes.len().saturating_sub(rest.len())))),
-            Ok(None) => Ok(None),
-            Err(fault) => Err(fault),
+        if count < missing {
+            return (count, Ok(None));
+        }
+        let bytes = self.bytes.as_slice();
+        match Message::from_content(self.alloc, &bytes[start..]) {
+            Ok(message) => {
+                self.bytes.clear();
+                self.place = Place::Header(0, None);
+                (count, Ok(Some(message)))
+            }
+            Err(fault) => {
+                self.place = Place::Fault(fault);
+                (count, Err(fault))
+            }
         }
     }
 
     /// Returns the fault with which the messages end if no more bytes arrive. There is none at the start of a line of a
     /// header part.
     pub(crate) fn fault_at_end(&self) -> Option<ReadFault>
-        ensures { IfSome result (BeginsWithFault self.now.limits self.now.bytes.items) }
+        ensures { MatchOption result ((reading_within self.now.limits self.now.bytes.items).outcome ≡ Ok None)
+            (BeginsWithFault self.now.limits self.now.bytes.items) }
     {
-        match self.first() {
-            Ok(found) => {
-                drop(found);
-                None
+        match self.place {
+            Place::Header(line, _) => {
+                let bytes = self.bytes.as_slice();
+                if line == bytes.len() {
+                    return None;
+                }
+                header_line(&bytes[line..]).err()
             }
-            Err(fault) => Some(fault),
+            Place::Content(_, _) => Some(ReadFault::ShortBody),
+            Place::Fault(fault) => Some(fault),
         }
     }
 }
 
-/// Returns the length in a field, if the field is a `Content-Length`.
-fn length_in(line: &[u8]) -> Option<u64> {
-    let text = line.strip_suffix(b"\r\n")?;
-    let at = memmem::find(text, b": ")?;
-    if !text[..at].eq_ignore_ascii_case(b"Content-Length") {
-        return None;
+/// Returns how many bytes of the piece belong to its first line.
+fn line_reach(piece: &[u8]) -> usize
+    ensures within { result ≤ length piece.now }
+    ensures some { 0 < length piece.now → 0 < result }
+    ensures line { (count : ℕ) → count ≤ result → HasNoFeed (take count piece.now) ⊎ IsLine (take count piece.now) }
+{
+    match memchr(b'\n', piece) {
+        Some(at) => at + 1,
+        None => piece.len(),
     }
-    match std::str::from_utf8(&text[at + 2..]) {
-        Ok(number) => number.parse().ok(),
-        Err(_) => None,
+}
+
+/// Returns the place after bytes of the line that begins at `line` were added, with this length of the lines before.
+fn place_in_header(
+    limits: Limits,
+    bytes: &[u8],
+    line: usize,
+    given: Option<u64>,
+) -> Result<Place, ReadFault>
+    requires begun { line ≤ length bytes.now }
+    requires fields { AreFields given (take line bytes.now) }
+    requires line { HasNoFeed (drop_front line bytes.now) ⊎ IsLine (drop_front line bytes.now) }
+    ensures place { IfOk result (IsPlaceOf limits bytes.now) }
+    ensures fault { IfErr result (BeginsWithFault limits bytes.now) }
+{
+    if is_above(limits.header, bytes.len()) {
+        return Err(ReadFault::HeaderTooLong);
+    }
+    let text = &bytes[line..];
+    if !text.ends_with(b"\n") {
+        return Ok(Place::Header(line, given));
+    }
+    match header_line(text) {
+        Ok(HeaderLine::Length(size)) => Ok(Place::Header(bytes.len(), Some(size))),
+        Ok(HeaderLine::Other) => Ok(Place::Header(bytes.len(), given)),
+        Ok(HeaderLine::Blank) => match given {
+            None => Err(ReadFault::NoLength),
+            Some(size) if size > limits.content => Err(ReadFault::TooLong),
+            Some(0) => Err(ReadFault::NoJson),
+            Some(size) => Ok(Place::Content(bytes.len(), size as usize)),
+        },
+        Err(fault) => Err(fault),
+    }
+}
+
+/// Returns whether the count is above the bound, if there is one.
+fn is_above(bound: Option<u64>, count: usize) -> bool
+    ensures above { IsTrue result → (most : ℕ) × (bound ≡ Some most) × (most < count) }
+    ensures fits { (IsTrue result → ⊥) → (most : ℕ) → bound ≡ Some most → count ≤ most }
+{
+    match bound {
+        Some(most) => count as u64 > most,
+        None => false,
     }
 }

@@ -1,5 +1,5 @@
 // An outbox that writes frames.
-use crate::lifecycle::{Outbox, SendFault, TextOutbox, without_result};
+use crate::lifecycle::{Outbox, SendFault, TextOutbox, null_response};
 use lsp_message::{Message, Passed, RequestId, ResultText, WriteFault};
 use std::alloc::Global;
 use std::io::Write;
@@ -56,7 +56,7 @@ impl<'a, W: Write> FrameOutbox<'a, W> {
     }
 
     /// Sends a message, as `send` does, and adds the bytes that the writer takes to the account.
-    pub(crate) fn send_telling(
+    pub(crate) fn send_traced(
         &mut self,
         message: Message,
         given: &mut Passed,
@@ -69,7 +69,7 @@ impl<'a, W: Write> FrameOutbox<'a, W> {
         if self.fault.is_some() {
             return Err(SendFault::Closed(message));
         }
-        match message.write_telling(self.alloc, self.writer, given) {
+        match message.write_traced(self.alloc, self.writer, given) {
             Ok(()) => {
                 drop(message);
                 Ok(())
@@ -99,7 +99,7 @@ impl<'a, W: Write> FrameOutbox<'a, W> {
 
     /// Sends a response whose result is text already, as `send_text` does, and adds the bytes that the writer takes to
     /// the account.
-    pub(crate) fn send_text_telling(
+    pub(crate) fn send_text_traced(
         &mut self,
         id: RequestId,
         text: ResultText,
@@ -112,9 +112,9 @@ impl<'a, W: Write> FrameOutbox<'a, W> {
     {
         if self.fault.is_some() {
             drop(text);
-            return Err(SendFault::Closed(without_result(id)));
+            return Err(SendFault::Closed(null_response(id)));
         }
-        match text.write_telling(self.alloc, self.writer, &id, given) {
+        match text.write_traced(self.alloc, self.writer, &id, given) {
             Ok(()) => {
                 drop(id);
                 Ok(())
@@ -122,8 +122,8 @@ impl<'a, W: Write> FrameOutbox<'a, W> {
             Err(fault) => {
                 self.fault = Some(fault);
                 match fault {
-                    WriteFault::Output(_) => Err(SendFault::Closed(without_result(id))),
-                    WriteFault::Memory => Err(SendFault::Memory(without_result(id))),
+                    WriteFault::Output(_) => Err(SendFault::Closed(null_response(id))),
+                    WriteFault::Memory => Err(SendFault::Memory(null_response(id))),
                 }
             }
         }
@@ -136,12 +136,12 @@ impl<'a, W: Write> Outbox for FrameOutbox<'a, W> {
     ghost sends = { FrameOutboxSends W.contents };
 
     fn send(&mut self, message: Message) -> Result<(), SendFault> {
-        self.send_telling(message, &mut Passed::new())
+        self.send_traced(message, &mut Passed::new())
     }
 }
 
 impl<'a, W: Write> TextOutbox for FrameOutbox<'a, W> {
     fn send_text(&mut self, id: RequestId, text: ResultText) -> Result<(), SendFault> {
-        self.send_text_telling(id, text, &mut Passed::new())
+        self.send_text_traced(id, text, &mut Passed::new())
     }
 }

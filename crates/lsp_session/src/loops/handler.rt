@@ -35,23 +35,23 @@ pub trait Handler {
     ghost use Rattle.lsp_message.specs.Message.{ErrorObject};
 
     /// A request with this id, method and params may have this outcome, and change the handler in this manner.
-    ghost answers: { Self → Id → List ℕ → Data → Result Data ErrorObject → Self → Type 0 } = { λ _ _ _ _ _ _. ⊤ };
+    ghost answer_post: { Self → Id → List ℕ → Data → Result Data ErrorObject → Self → Type 0 } = { λ _ _ _ _ _ _. ⊤ };
 
     /// A notification with this method and these params may change the handler in this manner.
-    ghost notes: { Self → List ℕ → Data → Self → Type 0 } = { λ _ _ _ _. ⊤ };
+    ghost note_post: { Self → List ℕ → Data → Self → Type 0 } = { λ _ _ _ _. ⊤ };
 
     /// Answers a request with its result or an error (JSON-RPC 2.0, section 5). The session sends the reply under the
     /// request's id. An outer `Err` means that an allocation failed, and ends the session.
     fn answer(&mut self, request: &Request) -> Result<Result<Value, ResponseError>, AllocError>
         ensures { IfOk result (λ outcome.
-            answers self.old request.now.id (string_bytes request.now.method)
+            answer_post self.old request.now.id (string_bytes request.now.method)
             (view request.now.params) (outcome_view outcome) self.new) };
 
     /// Handles a notification (JSON-RPC 2.0, section 4.1). An `Err` means that an allocation failed, and ends the
     /// session.
     fn note(&mut self, notification: &Notification) -> Result<(), AllocError>
         ensures { IfOk result (λ _.
-            notes self.old (string_bytes notification.now.method) (view notification.now.params)
+            note_post self.old (string_bytes notification.now.method) (view notification.now.params)
             self.new) };
 
     /// Answers a request that is passed by value: it returns the reply under the request's id, with an outcome that
@@ -60,7 +60,7 @@ pub trait Handler {
     fn respond(&mut self, request: Request) -> Result<Response, AllocError>
         ensures id { IfOk result (λ response. response.id ≡ request.id) }
         ensures outcome { IfOk result (λ response.
-            answers self.old request.id (string_bytes request.method) (view request.params)
+            answer_post self.old request.id (string_bytes request.method) (view request.params)
             (outcome_view response.response_result) self.new) }
     {
         let response_result = self.answer(&request)?;
@@ -89,7 +89,7 @@ pub fn serve<I: Inbox, O: Outbox, H: Handler>(
     handler: &mut H,
 ) -> Result<SessionEnd, ProtocolError>
     ensures { Runs I.receives O.sends
-        (SessionOut (of_handler H.answers H.notes (view capabilities)) handler.old handler.new)
+        (SessionOut (of_handler H.answer_post H.note_post (view capabilities)) handler.old handler.new)
         (inbox.old, outbox.old) result (inbox.new, outbox.new) }
 {
     let mut capabilities = capabilities;

@@ -45,7 +45,7 @@ impl<H: Handler> HandlerApplication<H> {
 impl<H: Handler> Service for HandlerApplication<H> {
     type Output = Option<Message>;
 
-    ghost behavior = { own_handler H.answers H.notes };
+    ghost behavior = { own_handler H.answer_post H.note_post };
 
     fn initialize(&mut self, _params: Value) -> Result<Result<Value, ResponseError>, AllocError> {
         let capabilities = mem::replace(&mut self.capabilities, Value::Null);
@@ -84,7 +84,7 @@ impl<H: Handler> Service for HandlerApplication<H> {
 
 impl<H: Handler> Application for HandlerApplication<H> {
     ghost session = { λ old new.
-        SessionOut (of_handler H.answers H.notes (view old.capabilities)) old.handler new.handler };
+        SessionOut (of_handler H.answer_post H.note_post (view old.capabilities)) old.handler new.handler };
 
     fn run<T: WakingInbox + TextOutbox>(
         &mut self,

@@ -36,7 +36,7 @@ impl<'a, H: Handler> HandlerService<'a, H> {
 impl<'a, H: Handler> Service for HandlerService<'a, H> {
     type Output = Option<Message>;
 
-    ghost behavior = { lent_handler H.answers H.notes };
+    ghost behavior = { lent_handler H.answer_post H.note_post };
 
     fn initialize(&mut self, _params: Value) -> Result<Result<Value, ResponseError>, AllocError> {
         let capabilities = mem::replace(self.capabilities, Value::Null);

@@ -219,8 +219,7 @@ impl SessionCore {
         self.stage = Stage::Ended(SessionOutcome::failed(error));
     }
 
-    /// Returns how the session ended. A session that has not ended yet ends as if the messages had ended. If it waits
-    /// for `exit`, it ends as if memory ran out.
+    /// Returns how the session ended. A session that has not ended yet ends as if the messages had ended.
     pub fn into_outcome(self) -> SessionOutcome
         ensures { result ≡ outcome_of self.stage }
     {
@@ -229,7 +228,7 @@ impl SessionCore {
                 ProtocolError::disconnected(),
             ),
             Stage::Serving => SessionOutcome::closed(StopReason::NoMore),
-            Stage::Asked(_) => SessionOutcome::failed(ProtocolError::out_of_memory()),
+            Stage::Asked(_) => SessionOutcome::failed(ProtocolError::shutdown_disconnected()),
             Stage::Ended(outcome) => outcome,
         }
     }

@@ -5,7 +5,7 @@ ghost use Rattle.lsp_message.specs.Message.{response};
 ghost use Rattle.lsp_message.specs.View.{message_view};
 
 use crate::error::ProtocolError;
-use crate::lifecycle::{Outbox, SendFault, TextOutbox, without_result};
+use crate::lifecycle::{Outbox, SendFault, TextOutbox, null_response};
 use crate::loops::machine::{Turn, TurnOutput};
 use crate::loops::service::{Sendable, send_message};
 use lsp_message::{Message, RequestId, ResultText};
@@ -93,7 +93,7 @@ impl PendingOutput {
         let Turn { output, reply } = turn;
         self.add_output(output)?;
         match reply {
-            Some(id) => self.add_reply(without_result(id)),
+            Some(id) => self.add_reply(null_response(id)),
             None => Ok(()),
         }
     }
@@ -140,7 +140,7 @@ impl TextOutbox for PendingOutput {
                 drop(id);
                 Ok(())
             }
-            Err(_) => Err(SendFault::Memory(without_result(id))),
+            Err(_) => Err(SendFault::Memory(null_response(id))),
         }
     }
 }

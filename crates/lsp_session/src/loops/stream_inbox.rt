@@ -5,7 +5,7 @@ ghost use Rattle.lsp_session.specs.Event.{event_view};
 ghost use Rattle.lsp_session.specs.StreamBoxes.{StreamInboxGives};
 
 use crate::lifecycle::{Event, Inbox};
-use crate::loops::{EndSession, ReadEnd, TolerantInbox};
+use crate::loops::{EndOnBadContent, ReadEnd, TolerantInbox};
 use lsp_message::{Limits, Passed};
 use std::alloc::Global;
 use std::io::BufRead;
@@ -62,7 +62,7 @@ impl<'a, R: BufRead> StreamInbox<'a, R> {
     fn next_event(&mut self) -> Event
         ensures { StreamInboxGives R.remaining self.old (event_view result) self.new }
     {
-        let mut policy = EndSession;
+        let mut policy = EndOnBadContent;
         let mut inbox = TolerantInbox::resumed(
             self.alloc,
             &mut *self.reader,

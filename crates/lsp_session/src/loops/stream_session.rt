@@ -10,7 +10,7 @@ ghost use Rattle.lsp_session.specs.SessionFault.{session_answer as session_answe
 use crate::error::ProtocolError;
 use crate::loops::handler_service::HandlerService;
 use crate::loops::{
-    EndSession, Handler, ReadEnd, ServiceApplication, SessionEnd, SessionOutcome, StopReason,
+    EndOnBadContent, Handler, ReadEnd, ServiceApplication, SessionEnd, SessionOutcome, StopReason,
     StreamTransport, Transcript,
 };
 use lsp_message::{Limits, ReadFault, WriteFault};
@@ -75,7 +75,7 @@ pub fn session<R: BufRead, W: Write, H: Handler>(
 ) -> Result<SessionEnd, SessionFault>
     ensures { IfSome (R.remaining reader.old) (λ text.
         Gives no_limit
-        (SessionOut (of_handler H.answers H.notes (view capabilities)) handler.old handler.new)
+        (SessionOut (of_handler H.answer_post H.note_post (view capabilities)) handler.old handler.new)
         text (R.remaining reader.new) (W.contents writer.old) (W.contents writer.new) result) }
 {
     session_within(alloc, reader, writer, capabilities, handler, u64::MAX)
@@ -93,7 +93,7 @@ pub fn session_within<R: BufRead, W: Write, H: Handler>(
     limit: u64,
 ) -> Result<SessionEnd, SessionFault>
     ensures { IfSome (R.remaining reader.old) (λ text.
-        Gives (of_content limit) (SessionOut (of_handler H.answers H.notes (view capabilities)) handler.old
+        Gives (of_content limit) (SessionOut (of_handler H.answer_post H.note_post (view capabilities)) handler.old
         handler.new)
         text (R.remaining reader.new) (W.contents writer.old) (W.contents writer.new) result) }
 {
@@ -104,7 +104,7 @@ pub fn session_within<R: BufRead, W: Write, H: Handler>(
         header: None,
         content: limit,
     };
-    let mut policy = EndSession;
+    let mut policy = EndOnBadContent;
     let mut transcript = Transcript::new();
     let mut transport = StreamTransport::within(
         alloc,

@@ -38,7 +38,7 @@ pub struct StreamTransport<'a, R, W, L> {
 impl<'a, R: BufRead, W: Write, L: BadContentPolicy> StreamTransport<'a, R, W, L> {
     /// Makes a transport on a reader and a writer, for messages within `limits`. A longer header part or content part
     /// ends the messages with `ReadFault::HeaderTooLong` or `TooLong`. The policy is asked as by a `TolerantInbox`;
-    /// with `EndSession` no content part is skipped. It does not allocate.
+    /// with `EndOnBadContent` no content part is skipped. It does not allocate.
     pub fn within(
         alloc: Global,
         reader: &'a mut R,
@@ -105,7 +105,7 @@ impl<'a, R: BufRead, W: Write, L: BadContentPolicy> StreamTransport<'a, R, W, L>
     /// `serves` and `passed` hold for every reader and writer, also for those that do not say which bytes they have,
     /// such as standard input and output. The transcript says which bytes were taken for each message, which were given
     /// for each, and in which order. It also says which content parts were skipped, and that the policy allowed each.
-    /// With `EndSession` none is skipped (`laws::policies::nothing_is_skipped`). `known` says more if the reader's
+    /// With `EndOnBadContent` none is skipped (`laws::policies::nothing_is_skipped`). `known` says more if the reader's
     /// bytes are known, as those of a slice are.
     pub fn serve<A: Application>(&mut self, application: &mut A) -> Result<SessionEnd, SessionFault>
         requires { IsUnused self.old }
@@ -195,7 +195,7 @@ impl<'a, R: BufRead, W: Write, L: BadContentPolicy> Outbox for StreamTransport<'
         let sent = Snapshot::of(&message);
         let mut given = Passed::new();
         let mut outbox = FrameOutbox::resumed(self.alloc, &mut *self.writer, self.fault);
-        let outcome = outbox.send_telling(message, &mut given);
+        let outcome = outbox.send_traced(message, &mut given);
         self.fault = outbox.fault();
         self.transcript.add(Noted::of_send(sent, &outcome, given));
         outcome
@@ -208,7 +208,7 @@ impl<'a, R: BufRead, W: Write, L: BadContentPolicy> TextOutbox for StreamTranspo
         let sent = Snapshot::of(&text);
         let mut given = Passed::new();
         let mut outbox = FrameOutbox::resumed(self.alloc, &mut *self.writer, self.fault);
-        let outcome = outbox.send_text_telling(id, text, &mut given);
+        let outcome = outbox.send_text_traced(id, text, &mut given);
         self.fault = outbox.fault();
         self.transcript
             .add(Noted::of_text(reply, sent, &outcome, given));

@@ -3,7 +3,7 @@ ghost use Rattle.std.specs.Prelude.{◌≡◌, None};
 ghost use Rattle.lsp_message.specs.Told.{Told};
 ghost use Rattle.lsp_session.specs.ActBytes.{ReadParts, TakenFor};
 ghost use Rattle.lsp_session.specs.Event.{arrival_view, event_view};
-ghost use Rattle.lsp_session.specs.Passing.{is_of_content as is_of_content_spec};
+ghost use Rattle.lsp_session.specs.Passing.{is_bad_content as is_of_content_spec};
 ghost use Rattle.lsp_session.specs.PassingBoxes.{EndsAtContent, NeverEndsAtContent, ReadsNext, TolerantInboxGives};
 
 use crate::lifecycle::{Arrival, Event, Inbox, WakingInbox, is_exit};
@@ -14,7 +14,7 @@ use std::io::BufRead;
 
 /// Returns whether the fault belongs to a content part that was read to its end: it is not UTF-8, no JSON, no message,
 /// or a batch. The next frame follows it (LSP 3.17, "Base Protocol").
-pub fn is_of_content(fault: ReadFault) -> bool
+pub fn is_bad_content(fault: ReadFault) -> bool
     ensures { result ≡ is_of_content_spec fault }
 {
     matches!(
@@ -24,7 +24,7 @@ pub fn is_of_content(fault: ReadFault) -> bool
 }
 
 /// Reads a reader's messages (LSP 3.17, "Base Protocol"), as `StreamInbox` does, but may skip a content part that is no
-/// message (`is_of_content`). It asks a policy in `receive_or_woken`, where a wake-up can report the skip. That call
+/// message (`is_bad_content`). It asks a policy in `receive_or_woken`, where a wake-up can report the skip. That call
 /// then skips the part and returns `Arrival::Woken`, or ends the messages. In the other calls there is no wake-up, and
 /// such a part ends the messages. Any other fault ends the messages in each call.
 #[derive(Debug, Drop)]
@@ -96,7 +96,7 @@ impl<'a, R: BufRead, L: BadContentPolicy> TolerantInbox<'a, R, L> {
         if self.end.is_some() {
             return Ok(None);
         }
-        match Message::read_telling(self.alloc, self.reader, self.limits, taken)? {
+        match Message::read_traced(self.alloc, self.reader, self.limits, taken)? {
             Some(message) => {
                 if is_exit(&message) {
                     self.end = Some(ReadEnd::Exit);
@@ -124,7 +124,7 @@ impl<'a, R: BufRead, L: BadContentPolicy> TolerantInbox<'a, R, L> {
             Ok(Some(message)) => Arrival::Message(message),
             Ok(None) => Arrival::Closed,
             Err(fault) => {
-                if is_of_content(fault) && self.policy.passes_over(fault) {
+                if is_bad_content(fault) && self.policy.skips(fault) {
                     return Arrival::Woken;
                 }
                 self.end = Some(ReadEnd::Fault(fault));

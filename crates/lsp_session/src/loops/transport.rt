@@ -1,12 +1,11 @@
 // A session of a server (LSP 3.17, "Server lifecycle"), over one value that gives messages and takes them.
-ghost use Rattle.std.specs.Prelude.{◌≡◌};
-ghost use Rattle.lsp_session.specs.Machine.{came_view, sends_of, IsAwaited};
+ghost use Rattle.lsp_session.specs.Machine.{came_view, phase_of, sends_of, IsAwaited};
 ghost use Rattle.lsp_session.specs.Outputs.{SendsAll};
-ghost use Rattle.lsp_session.specs.Prompt.{Talks};
+ghost use Rattle.lsp_session.specs.Prompt.{Talks, WaitsIn};
 ghost use Rattle.lsp_session.specs.Session.{starting, SessionOut};
 ghost use Rattle.lsp_session.specs.SessionLaws.{Both};
 ghost use Rattle.lsp_session.specs.SessionOutcome.{StopsFor};
-ghost use Rattle.lsp_session.specs.TransportTurn.{AwaitsIn, IsOver, TurnsOn, spent_at};
+ghost use Rattle.lsp_session.specs.TransportTurn.{IsOver, TurnsOn};
 
 use crate::error::ProtocolError;
 use crate::lifecycle::{EXIT_SECONDS, Outbox, TextOutbox, WakingInbox, offer, ok_reply};
@@ -75,22 +74,7 @@ pub(crate) fn serve_by<L: WakingInbox + Outbox, S: Service, W: Sending<L, S::Out
         }
         take_turn::<L, S, W>(transport, &mut session, service);
     }
-    if session.awaits() == Awaits::Exit {
-        return spent(wait(transport, &session));
-    }
     session.into_outcome()
-}
-
-/// Returns how a session ends that took 2^64 - 1 events and waits for `exit`, by the event that arrives then. A message
-/// ends it as if memory ran out.
-fn spent(came: Came) -> SessionOutcome
-    ensures { result ≡ spent_at (came_view came) }
-{
-    SessionOutcome::failed(match came {
-        Came::Message(_) | Came::Woken => ProtocolError::out_of_memory(),
-        Came::Timeout => ProtocolError::shutdown_timeout(),
-        Came::Closed => ProtocolError::shutdown_disconnected(),
-    })
 }
 
 /// Waits once, passes the event to the session, and sends the messages that the session returns for it.
@@ -118,7 +102,7 @@ fn take_turn<L: WakingInbox + Outbox, S: Service, W: Sending<L, S::Output>>(
 /// Waits for the event that the session needs next.
 fn wait<L: WakingInbox>(transport: &mut L, session: &SessionCore) -> Came
     requires { IsOver session.now.stage → ⊥ }
-    ensures awaits { AwaitsIn L.receives L.listens session.now.stage transport.old (came_view result) transport.new }
+    ensures awaits { WaitsIn L.receives L.listens (phase_of session.now.stage) transport.old (came_view result) transport.new }
     ensures awaited { IsAwaited session.now.stage (came_view result) }
 {
     match session.awaits() {

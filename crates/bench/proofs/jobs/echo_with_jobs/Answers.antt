@@ -7,11 +7,11 @@ use Rattle.bench.proofs.jobs.echo_with_jobs.Goals as goal
 
 pub returns : goal.returns
 returns g c =
-    started_as _ _ (λ exchanges stop shutdown_reply answer session.
+    started_as _ _ (λ exchanges stop answer session.
     echo_at_wakes _ _ (λ old name it acts new h. h.0) (λ old name end acts new h. h.0)
     (λ job method params reply found for comes. comes ∙ ap (λ d. Some (Ok d)) for) _ exchanges
     (c.requests_are_answered_by_their_jobs.ensures _ stop exchanges
-    (c.session_with_jobs_keeps_laws.ensures.exchanges _ _ exchanges stop shutdown_reply answer session).jobs))
+    (c.session_with_jobs_keeps_laws.ensures.exchanges _ _ exchanges stop answer session).jobs))
     true no_limit (λ (done : Threaded _). g.W.Write.contents done.writer) (λ (done : Threaded _).
     done.answer) _ _ _
     (started_untold true _ no_limit _ _ (λ old fault new heard. heard) _

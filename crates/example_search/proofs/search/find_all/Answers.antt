@@ -6,7 +6,7 @@ use Rattle.std.specs.Arc.{arc_value}
 use Rattle.serde_json.specs.View.{view}
 use Rattle.lsp_text.specs.Lines.{LinedText}
 use Rattle.lsp_documents.specs.Known.{copied}
-use Rattle.lsp_documents.specs.declared.known.OpenText.{OpenText}
+use Rattle.lsp_documents.specs.declared.known.DocumentSnapshot.{DocumentSnapshot}
 use Rattle.example_search.proofs.Symbols.{found_more}
 use Rattle.example_search.specs.Sources.{AreFound}
 use Rattle.example_search.proofs.search.find_all.Goals as goal
@@ -22,8 +22,9 @@ loop-number-preserved g c =
     let headings = c.in_ok-headings.headings.items in
     let below : i < length sources = omega arith in
     let taken : copied (take (i + 1) sources) ≡ copied (take i sources) ++ t ∷ [] =
-    ap copied ((take_at_read sources i x below).1 ∙ ap (λ (y : OpenText). take i sources ++ y ∷ [])
-    (sym c.index-sources-number.is)) ∙ map-append (λ (copy : OpenText). (string_bytes copy.uri, arc_value copy.text))
+    ap copied ((take_at_read sources i x below).1 ∙ ap (λ (y : DocumentSnapshot). take i sources ++ y ∷ [])
+    (sym c.index-sources-number.is)) ∙ map-append (λ (copy : DocumentSnapshot).
+    (string_bytes copy.uri, arc_value copy.text))
     (take i sources) (x ∷ []) in
     let pushed : map view (found ++ headings) ≡ map view found ++ map view headings = map-append view found headings in
     rw c.in_ok-append.ensures.items

@@ -3,7 +3,7 @@ use Rattle.example_search.proofs.Searches.{searches}
 use Rattle.example_search.proofs.sessions.symbols_are_of_open_texts.Goals as goal
 
 pub returns : goal.returns
-returns g c = λ first last exchanges stop shutdown_reply answer none lawful. searches _ _ (record {
+returns g c = λ first last exchanges stop answer none lawful. searches _ _ (record {
   initialized = λ old params outcome new h. h;
   began = λ old acts new h. h;
   requested = λ old id method params acts new h. h.0;

@@ -9,7 +9,7 @@ use Rattle.lsp_jobs.proofs.laws.session_with_jobs_that_asks_keeps_laws.Goals as 
 
 pub returns : goal.returns
 returns g c =
-    let may = stated_jobs g.S.JobServer g.S.Slots.Slots g.J.Job in record {
+    let may = stated_jobs g.S.JobServer g.S.KeyedJobs.KeyedJobs g.J.Job in record {
       bytes = λ limit first last text policy policy_last before after answer tells.
           over_as (JobSession g.row.T.Denot g.S.Server may first last)
           (LawfulJobSession g.row.T.Denot g.S.Server may first last)

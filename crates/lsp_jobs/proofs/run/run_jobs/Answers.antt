@@ -1,12 +1,12 @@
 use Rattle.std.proofs.Common.{ap, ◌∙◌, true}
-use Rattle.lsp_acts.specs.QueuedServer.{ServerSession}
+use Rattle.lsp_acts.specs.ServerApplication.{ServerSession}
 use Rattle.lsp_jobs.specs.Seen.{seen}
 use Rattle.lsp_threads.proofs.Sessions.{started_told_as, taken_told_as}
 use Rattle.lsp_threads.specs.Passing.{noted}
 use Rattle.lsp_threads.specs.declared.run.Threaded.{Threaded}
 use Rattle.lsp_jobs.proofs.JobSessions.{job_session}
 use Rattle.lsp_jobs.proofs.PendingLemmas.{on_err_then}
-use Rattle.lsp_acts.specs.declared.queued_server.QueuedServer.{QueuedServer}
+use Rattle.lsp_acts.specs.declared.server_application.ServerApplication.{ServerApplication}
 use Rattle.lsp_jobs.specs.JobSession.{JobSession, seen_with_jobs}
 use Rattle.lsp_jobs.specs.declared.pooled_server.PooledServer.{PooledServer}
 use Rattle.lsp_jobs.specs.Stated.{stated_jobs}
@@ -14,7 +14,7 @@ use Rattle.lsp_jobs.proofs.run.run_jobs.Goals as goal
 
 pub returns-clause-session : goal.returns-clause-session
 returns-clause-session g c =
-    let jobs = stated_jobs g.S.JobServer g.S.Slots.Slots g.J.Job in
+    let jobs = stated_jobs g.S.JobServer g.S.KeyedJobs.KeyedJobs g.J.Job in
     let may = seen_with_jobs g.row.T.Denot g.S.Server jobs in
     let old = c.new-queued.result.server in
     let new = c.run_in_threads_over-done.new.application.server in
@@ -30,7 +30,7 @@ returns-clause-session g c =
 
 pub returns-clause-told : goal.returns-clause-told
 returns-clause-told g c =
-    let jobs = stated_jobs g.S.JobServer g.S.Slots.Slots g.J.Job in
+    let jobs = stated_jobs g.S.JobServer g.S.KeyedJobs.KeyedJobs g.J.Job in
     let may = seen_with_jobs g.row.T.Denot g.S.Server jobs in
     let old = c.new-queued.result.server in
     let new = c.run_in_threads_over-done.new.application.server in
@@ -50,7 +50,7 @@ returns-clause-unstarted g c =
     on_err_then c.run_in_threads_over-done.result c.run_in_threads_over-done.ensures.unstarted
     (λ same. (
       c.into_parts-server.ensures ∙ ap (λ (p : PooledServer _ _ _ _). p.server) c.into_server.ensures
-          ∙ ap (λ (q : QueuedServer _ _). q.server.server) same.0
+          ∙ ap (λ (q : ServerApplication _ _). q.server.server) same.0
           ∙ ap (λ (p : PooledServer _ _ _ _). p.server) c.new-queued.ensures.server
           ∙ ap (λ x. x.0) c.new-pooled.ensures,
       same.1,

@@ -11,35 +11,35 @@ use Rattle.lsp_threads.proofs.content_reader.read_contents.Goals.{then-goes_on, 
 
 pub returns-in-Ok-None-clause-read : goal.returns-in-Ok-None-clause-read
 returns-in-Ok-None-clause-read g c =
-    λ still. told_end c.args.limits c.loop.outbox.contents c.loop.taken.parts c.read_content_telling.new.taken.parts _ _
-    c.loop.invariant.are (rw (c.in-Ok-None.is, c.in-Ok-None.field-0-is) at c.read_content_telling.ensures.told)
+    λ still. told_end c.args.limits c.loop.outbox.contents c.loop.taken.parts c.read_content_traced.new.taken.parts _ _
+    c.loop.invariant.are (rw (c.in-Ok-None.is, c.in-Ok-None.field-0-is) at c.read_content_traced.ensures.told)
 
 pub returns-in-Err-clause-read : goal.returns-in-Err-clause-read
 returns-in-Err-clause-read g c =
-    λ still. told_fault c.args.limits c.loop.outbox.contents c.loop.taken.parts c.read_content_telling.new.taken.parts _
-    _ c.loop.invariant.are c.in-Err.fault (rw c.in-Err.is at c.read_content_telling.ensures.told)
+    λ still. told_fault c.args.limits c.loop.outbox.contents c.loop.taken.parts c.read_content_traced.new.taken.parts _
+    _ c.loop.invariant.are c.in-Err.fault (rw c.in-Err.is at c.read_content_traced.ensures.told)
 
 pub returns-in-Err-add-clause-read : goal.returns-in-Err-add-clause-read
 returns-in-Err-add-clause-read g c =
-    let told = rw (c.in-Ok-Some.is, c.in-Ok-Some.field-0-is) at c.read_content_telling.ensures.told in
+    let told = rw (c.in-Ok-Some.is, c.in-Ok-Some.field-0-is) at c.read_content_traced.ensures.told in
     λ still. rw (c.in-Err-add.ensures.err.2 still).1 (told_stop c.args.limits c.loop.outbox.contents c.loop.taken.parts
-    c.read_content_telling.new.taken.parts _ _ c.loop.invariant.are c.in-Ok-Some.content told (Fault NoMemory)
+    c.read_content_traced.new.taken.parts _ _ c.loop.invariant.are c.in-Ok-Some.content told (Fault NoMemory)
     (λ at. tt))
 
 pub returns-then-not-waits_to_go_on-clause-read : goal.returns-then-not-waits_to_go_on-clause-read
 returns-then-not-waits_to_go_on-clause-read g c =
-    let told = rw (c.in-Ok-Some.is, c.in-Ok-Some.field-0-is) at c.read_content_telling.ensures.told in
-    let more = told_more c.args.limits c.loop.outbox.contents c.loop.taken.parts c.read_content_telling.new.taken.parts
+    let told = rw (c.in-Ok-Some.is, c.in-Ok-Some.field-0-is) at c.read_content_traced.ensures.told in
+    let more = told_more c.args.limits c.loop.outbox.contents c.loop.taken.parts c.read_content_traced.new.taken.parts
     _ _ c.loop.invariant.are c.in-Ok-Some.content told in
     λ still. let last = c.waits_to_go_on.ensures.2 still in rw (last.1 ∙ (c.in-Ok.ensures.ok.2 last.0).1) (reads_stopped
-    c.args.limits _ c.read_content_telling.new.taken.parts more (Fault (Input Other)) (λ at. tt))
+    c.args.limits _ c.read_content_traced.new.taken.parts more (Fault (Input Other)) (λ at. tt))
 
 pub loop-preserved : goal.loop-preserved
 loop-preserved g c =
-    let told = rw (c.in-Ok-Some.is, c.in-Ok-Some.field-0-is) at c.read_content_telling.ensures.told in
-    let more = told_more c.args.limits c.loop.outbox.contents c.loop.taken.parts c.read_content_telling.new.taken.parts
+    let told = rw (c.in-Ok-Some.is, c.in-Ok-Some.field-0-is) at c.read_content_traced.ensures.told in
+    let more = told_more c.args.limits c.loop.outbox.contents c.loop.taken.parts c.read_content_traced.new.taken.parts
     _ _ c.loop.invariant.are c.in-Ok-Some.content told in
-    let taken = takes_more _ _ _ _ _ c.loop.invariant.taken c.read_content_telling.ensures.told in
+    let taken = takes_more _ _ _ _ _ c.loop.invariant.taken c.read_content_traced.ensures.told in
     elim c.if-goes_on.branch [
       | then-goes_on w ↦
           let last = w.go_on.ensures.2 (ap (λ (f : Gathering). f.closed) (sym w.outbox-is)
@@ -67,33 +67,33 @@ returns-clause-read g c = λ still. reads_stopped c.args.limits c.loop.outbox.co
 
 pub add-requires : goal.add-requires
 add-requires g c =
-    let told = rw (c.in-Ok-Some.is, c.in-Ok-Some.field-0-is) at c.read_content_telling.ensures.told in
-    let more = told_more c.args.limits c.loop.outbox.contents c.loop.taken.parts c.read_content_telling.new.taken.parts
+    let told = rw (c.in-Ok-Some.is, c.in-Ok-Some.field-0-is) at c.read_content_traced.ensures.told in
+    let more = told_more c.args.limits c.loop.outbox.contents c.loop.taken.parts c.read_content_traced.new.taken.parts
     _ _ c.loop.invariant.are c.in-Ok-Some.content told in
-    λ still. begins_any c.args.limits _ _ _ c.read_content_telling.new.taken.parts (ap (λ (r : _ × Option Source). r.1)
+    λ still. begins_any c.args.limits _ _ _ c.read_content_traced.new.taken.parts (ap (λ (r : _ × Option Source). r.1)
     c.loop.invariant.relay ∙ c.requires.source) more
-    (taken_more _ _ _ _ _ c.loop.invariant.taken c.read_content_telling.ensures.told)
+    (taken_more _ _ _ _ _ c.loop.invariant.taken c.read_content_traced.ensures.told)
 
 pub returns-in-Ok-None-clause-taken : goal.returns-in-Ok-None-clause-taken
-returns-in-Ok-None-clause-taken g c = taken_more _ _ _ _ _ c.loop.invariant.taken c.read_content_telling.ensures.told
+returns-in-Ok-None-clause-taken g c = taken_more _ _ _ _ _ c.loop.invariant.taken c.read_content_traced.ensures.told
 
 pub returns-in-Err-clause-taken : goal.returns-in-Err-clause-taken
-returns-in-Err-clause-taken g c = taken_more _ _ _ _ _ c.loop.invariant.taken c.read_content_telling.ensures.told
+returns-in-Err-clause-taken g c = taken_more _ _ _ _ _ c.loop.invariant.taken c.read_content_traced.ensures.told
 
 pub returns-in-Err-add-clause-taken : goal.returns-in-Err-add-clause-taken
-returns-in-Err-add-clause-taken g c = taken_more _ _ _ _ _ c.loop.invariant.taken c.read_content_telling.ensures.told
+returns-in-Err-add-clause-taken g c = taken_more _ _ _ _ _ c.loop.invariant.taken c.read_content_traced.ensures.told
 
 pub returns-then-not-waits_to_go_on-clause-taken : goal.returns-then-not-waits_to_go_on-clause-taken
 returns-then-not-waits_to_go_on-clause-taken g c = taken_more _ _ _ _ _ c.loop.invariant.taken
-    c.read_content_telling.ensures.told
+    c.read_content_traced.ensures.told
 
 pub returns-then-is_closed-clause-taken : goal.returns-then-is_closed-clause-taken
 returns-then-is_closed-clause-taken g c = taken_more _ _ _ _ _ c.loop.invariant.taken
-    c.read_content_telling.ensures.told
+    c.read_content_traced.ensures.told
 
 pub returns-then-is_closed-2-clause-taken : goal.returns-then-is_closed-2-clause-taken
 returns-then-is_closed-2-clause-taken g c = taken_more _ _ _ _ _ c.loop.invariant.taken
-    c.read_content_telling.ensures.told
+    c.read_content_traced.ensures.told
 
 pub returns-clause-taken : goal.returns-clause-taken
 returns-clause-taken g c = (_, c.loop.invariant.taken)

@@ -4,6 +4,6 @@ use Rattle.lsp_threads.proofs.frame_batch.write_after.Goals as goal
 
 pub returns-clause-none : goal.returns-clause-none
 returns-clause-none g c = λ none.
-    rw c.err.ensures.value (text_noted c.args.text.now c.args.given.now c.write_frames_telling.new.given _ _
+    rw c.err.ensures.value (text_noted c.args.text.now c.args.given.now c.write_frames_traced.new.given _ _
     (some_bytes c.args.text.now (sym c.is_empty.ensures ∙ c.if-is_empty.false))
-    c.write_frames_telling.result c.write_frames_telling.ensures.fault c.write_frames_telling.ensures.told)
+    c.write_frames_traced.result c.write_frames_traced.ensures.fault c.write_frames_traced.ensures.told)

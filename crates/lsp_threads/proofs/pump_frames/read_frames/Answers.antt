@@ -9,37 +9,37 @@ use Rattle.lsp_threads.proofs.pump_frames.read_frames.Goals as goal
 
 pub returns-in-Ok-None-clause-handed : goal.returns-in-Ok-None-clause-handed
 returns-in-Ok-None-clause-handed g c =
-    told_frames_end c.args.limits c.loop.taken.parts c.read_telling.new.taken.parts _ _ _ c.loop.outbox
-    c.loop.invariant.handed (rw (c.in-Ok-None.is, c.in-Ok-None.field-0-is) at c.read_telling.ensures.told)
+    told_frames_end c.args.limits c.loop.taken.parts c.read_traced.new.taken.parts _ _ _ c.loop.outbox
+    c.loop.invariant.handed (rw (c.in-Ok-None.is, c.in-Ok-None.field-0-is) at c.read_traced.ensures.told)
 
 pub returns-in-Err-clause-handed : goal.returns-in-Err-clause-handed
 returns-in-Err-clause-handed g c =
-    told_frames_fault c.args.limits c.loop.taken.parts c.read_telling.new.taken.parts _ _ _ c.loop.outbox
-    c.loop.invariant.handed c.in-Err.fault (rw c.in-Err.is at c.read_telling.ensures.told)
+    told_frames_fault c.args.limits c.loop.taken.parts c.read_traced.new.taken.parts _ _ _ c.loop.outbox
+    c.loop.invariant.handed c.in-Err.fault (rw c.in-Err.is at c.read_traced.ensures.told)
 
 pub returns-in-Err-added-clause-handed : goal.returns-in-Err-added-clause-handed
 returns-in-Err-added-clause-handed g c =
-    let told = rw (c.in-Ok-Some.is, c.in-Ok-Some.field-0-is) at c.read_telling.ensures.told in
-    told_frames_full c.args.limits c.loop.taken.parts c.read_telling.new.taken.parts _ _ _ c.loop.outbox
+    let told = rw (c.in-Ok-Some.is, c.in-Ok-Some.field-0-is) at c.read_traced.ensures.told in
+    told_frames_full c.args.limits c.loop.taken.parts c.read_traced.new.taken.parts _ _ _ c.loop.outbox
     c.loop.invariant.handed c.in-Ok-Some.message told _ c.in-Err-added.ensures.err
 
 pub returns-then-is_last-clause-handed : goal.returns-then-is_last-clause-handed
 returns-then-is_last-clause-handed g c =
-    let told = rw (c.in-Ok-Some.is, c.in-Ok-Some.field-0-is) at c.read_telling.ensures.told in
+    let told = rw (c.in-Ok-Some.is, c.in-Ok-Some.field-0-is) at c.read_traced.ensures.told in
     let last : is_exit (message_view c.in-Ok-Some.message) ≡ true = sym c.is_exit-is_last.ensures ∙ c.if-is_last.true in
-    told_frames_exit c.args.limits c.loop.taken.parts c.read_telling.new.taken.parts _ _ _ c.loop.outbox
+    told_frames_exit c.args.limits c.loop.taken.parts c.read_traced.new.taken.parts _ _ _ c.loop.outbox
     c.loop.invariant.handed c.in-Ok-Some.message told _ c.in-Ok.ensures.ok last
 
 pub loop-preserved : goal.loop-preserved
 loop-preserved g c =
-    let told = rw (c.in-Ok-Some.is, c.in-Ok-Some.field-0-is) at c.read_telling.ensures.told in
+    let told = rw (c.in-Ok-Some.is, c.in-Ok-Some.field-0-is) at c.read_traced.ensures.told in
     let goes : is_exit (message_view c.in-Ok-Some.message) ≡ false = sym c.is_exit-is_last.ensures
     ∙ c.if-is_last.false in
-    let more = told_frames_more c.args.limits c.loop.taken.parts c.read_telling.new.taken.parts _ _ _ c.loop.outbox
+    let more = told_frames_more c.args.limits c.loop.taken.parts c.read_traced.new.taken.parts _ _ _ c.loop.outbox
     c.loop.invariant.handed c.in-Ok-Some.message told _ c.in-Ok.ensures.ok goes in
     record {
       handed = rw c.go_on.ensures more;
-      taken = takes_kept _ _ _ _ (takes_more _ _ _ _ _ c.loop.invariant.taken c.read_telling.ensures.told)
+      taken = takes_kept _ _ _ _ (takes_more _ _ _ _ _ c.loop.invariant.taken c.read_traced.ensures.told)
           c.shows_frame.ensures;
       relay = ap (λ (f : Framing). f.relay) c.go_on.ensures ∙ c.in-Ok.ensures.ok.0 ∙ c.loop.invariant.relay;
     }
@@ -51,13 +51,13 @@ pub returns-clause-taken : goal.returns-clause-taken
 returns-clause-taken g c = (_, c.loop.invariant.taken)
 
 pub returns-in-Ok-None-clause-taken : goal.returns-in-Ok-None-clause-taken
-returns-in-Ok-None-clause-taken g c = taken_more _ _ _ _ _ c.loop.invariant.taken c.read_telling.ensures.told
+returns-in-Ok-None-clause-taken g c = taken_more _ _ _ _ _ c.loop.invariant.taken c.read_traced.ensures.told
 
 pub returns-in-Err-clause-taken : goal.returns-in-Err-clause-taken
-returns-in-Err-clause-taken g c = taken_more _ _ _ _ _ c.loop.invariant.taken c.read_telling.ensures.told
+returns-in-Err-clause-taken g c = taken_more _ _ _ _ _ c.loop.invariant.taken c.read_traced.ensures.told
 
 pub returns-in-Err-added-clause-taken : goal.returns-in-Err-added-clause-taken
-returns-in-Err-added-clause-taken g c = taken_more _ _ _ _ _ c.loop.invariant.taken c.read_telling.ensures.told
+returns-in-Err-added-clause-taken g c = taken_more _ _ _ _ _ c.loop.invariant.taken c.read_traced.ensures.told
 
 pub returns-then-is_last-clause-taken : goal.returns-then-is_last-clause-taken
-returns-then-is_last-clause-taken g c = taken_more _ _ _ _ _ c.loop.invariant.taken c.read_telling.ensures.told
+returns-then-is_last-clause-taken g c = taken_more _ _ _ _ _ c.loop.invariant.taken c.read_traced.ensures.told

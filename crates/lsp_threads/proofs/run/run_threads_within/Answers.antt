@@ -19,8 +19,8 @@ returns-clause-unstarted g c = unstarted_handler
 
 pub returns-clause-session : goal.returns-clause-session
 returns-clause-session g c =
-    let answers = g.H.Handler.answers in
-    let notes = g.H.Handler.notes in
+    let answers = g.H.Handler.answer_post in
+    let notes = g.H.Handler.note_post in
     let old = c.new-service.result in
     let new = c.run_in_threads.new.application.service in
     started_as (SessionOut (lent_handler answers notes) old new) (SessionOut (of_handler answers notes
@@ -36,8 +36,8 @@ returns-clause-session g c =
 
 pub returns-clause-told : goal.returns-clause-told
 returns-clause-told g c =
-    let answers = g.H.Handler.answers in
-    let notes = g.H.Handler.notes in
+    let answers = g.H.Handler.answer_post in
+    let notes = g.H.Handler.note_post in
     let old = c.new-service.result in
     let new = c.run_in_threads.new.application.service in
     started_told false _ (of_content c.args.limit) _ _ (λ first fault last told. told) (SessionOut (lent_handler answers

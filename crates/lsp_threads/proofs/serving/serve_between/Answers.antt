@@ -4,8 +4,11 @@ use Rattle.lsp_session.specs.SessionOutcome.{StopsBy}
 use Rattle.lsp_session.specs.SessionLaws.{Both}
 use Rattle.lsp_session.specs.SessionFault.{session_answer}
 use Rattle.lsp_relay.specs.Relay.{has_end}
-use Rattle.lsp_threads.specs.Contents.{Lent, Taking}
-use Rattle.lsp_threads.specs.Replies.{Gathered, reply_fault}
+use Rattle.lsp_session.proofs.Brought.{brought_by}
+use Rattle.lsp_session.proofs.Got.{got_by}
+use Rattle.lsp_session.specs.Session.{starting}
+use Rattle.lsp_threads.specs.Contents.{ContentsGive, Lent, Taking}
+use Rattle.lsp_threads.specs.Replies.{Gathered, RepliesSend, reply_fault}
 use Rattle.lsp_threads.specs.ThreadEnds.{seen_of}
 use Rattle.lsp_threads.specs.Threads.{session_end}
 use Rattle.lsp_threads.proofs.ContentStream.{gives_relay}
@@ -16,9 +19,11 @@ use Rattle.lsp_threads.proofs.serving.serve_between.Goals as goal
 pub leave_reading-read-requires : goal.leave_reading-read-requires
 leave_reading-read-requires g c =
     let run = c.serve_ends-served.ensures in
+    let heard = brought_by (ContentsGive g.L.BadContentPolicy.passes) starting run.runs.exchanges run.runs.stop _ _ _
+    run.runs.came in
     let kept = c.parts-2-1.given.1 (sym c.new-ends.ensures.same_parts ∙ sym run.lent.0) in
-    let same = ap (λ (t : Taking). t.relay) kept ∙ gives_relay g.L.BadContentPolicy.passes run.runs.events _ _
-    run.runs.received
+    let same = ap (λ (t : Taking). t.relay) kept ∙ gives_relay g.L.BadContentPolicy.passes heard.events _ _
+    heard.received
     ∙ ap (λ (t : Taking). t.relay) (c.new-ends.ensures.untaken ∙ c.new-parts.ensures) in
     record {
       known = (
@@ -34,7 +39,8 @@ settle_all-requires g c =
     let run = c.serve_ends-served.ensures in
     let runs = run.runs in
     let sent = c.outbox-2-1.given.1 (sym c.new-ends.ensures.same_outbox ∙ sym run.lent.2) in
-    let replied = all_replied _ _ runs.output runs.shutdown_reply runs.stop runs.got in
+    let replied = all_replied _ _ runs.exchanges runs.stop (got_by RepliesSend runs.exchanges runs.stop _ _ _
+    runs.went) in
     c.join-replies_rx.ensures.0 ∙ c.requires.writing.1
     ∙ sym (c.finish-replies.ensures.relay ∙ ap (λ (b : Gathered). b.replies.relay) sent ∙ replied.same_relay
     ∙ ap (λ (b : Gathered). b.replies.relay) (c.new-ends.ensures.unsent ∙ c.new-outbox.ensures))
@@ -67,7 +73,7 @@ returns-clause-told g c = λ rest ends.
     rw (answer, told, sym c.new-ends.ensures.untold) (threads_tell passes c.args.workers.reading.promise.limits
     (Both (g.A.Application.session old new) (StopsBy served.stop))
     (g.A.Application.session old new) served.stop
-    (λ xs stop shutdown_reply answer both. (both.0, both.1.0, both.1.1))
+    (λ xs stop answer both. (both.0, both.1.0, both.1.1))
     _ _ (seen_of c.new-ends.result) (seen_of c.serve_ends-served.new.ends) c.new-ends.result.outbox.now.replies
     c.serve_ends-served.new.ends.outbox.now.replies served.answer run.runs
     (ap (λ (t : Taking). t.taken) first ∙ c.requires.reading.0) (ap (λ (t : Taking). t.waiting) first)

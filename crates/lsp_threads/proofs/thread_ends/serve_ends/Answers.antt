@@ -1,12 +1,11 @@
-use Rattle.lsp_session.specs.Session.{starting}
 use Rattle.lsp_threads.proofs.ThreadEnds.{ends_run}
 use Rattle.lsp_threads.specs.ThreadEnds.{EndsListen}
 use Rattle.lsp_threads.proofs.thread_ends.serve_ends.Goals as goal
 
 pub returns-clause-runs : goal.returns-clause-runs
-returns-clause-runs g c = (ends_run g.L.BadContentPolicy.passes (EndsListen g.L.BadContentPolicy.ends) starting _ _ _ _
+returns-clause-runs g c = (ends_run g.L.BadContentPolicy.passes (EndsListen g.L.BadContentPolicy.ends) _ _ _ _
     c.run.ensures).0
 
 pub returns-clause-lent : goal.returns-clause-lent
-returns-clause-lent g c = (ends_run g.L.BadContentPolicy.passes (EndsListen g.L.BadContentPolicy.ends) starting _ _ _ _
+returns-clause-lent g c = (ends_run g.L.BadContentPolicy.passes (EndsListen g.L.BadContentPolicy.ends) _ _ _ _
     c.run.ensures).1

@@ -4,7 +4,7 @@ use Rattle.lsp_jobs.proofs.channel.Reports.ask.Goals as goal
 
 pub send_as-requires-clause-rule : goal.send_as-requires-clause-rule
 send_as-requires-clause-rule g c = (
-  furthers g.J.AnyJob.comes_to g.J.AnyJob.reports g.J.AnyJob.asks _ _ _ _ c.self.inside.job.value _ c.self.invariant.1
+  furthers g.J.AnyJob.run_post g.J.AnyJob.reports g.J.AnyJob.asks _ _ _ _ c.self.inside.job.value _ c.self.invariant.1
       refl (c.self.invariant.3 _ _ c.requires),
   λ sent known h seen. tt,
 )

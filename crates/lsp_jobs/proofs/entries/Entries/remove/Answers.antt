@@ -8,7 +8,7 @@ pub returns-in-Request-clause-removed : goal.returns-in-Request-clause-removed
 returns-in-Request-clause-removed g c =
     rw c.in-Request.is (request_removed c.args.self.now _ _ c.complete.ensures.removed refl)
 
-pub returns-in-Slot-clause-removed : goal.returns-in-Slot-clause-removed
-returns-in-Slot-clause-removed g c =
-    rw c.in-Slot.is (slot_removed c.args.self.now _ _ (c.complete-in-Slot.ensures.removed
+pub returns-in-Keyed-clause-removed : goal.returns-in-Keyed-clause-removed
+returns-in-Keyed-clause-removed g c =
+    rw c.in-Keyed.is (slot_removed c.args.self.now _ _ (c.complete-in-Keyed.ensures.removed
     ∙ ap (λ (s : Id). map.remove c.args.self.now.slots s) c.key.ensures) refl)

@@ -7,11 +7,11 @@ use Rattle.lsp_jobs.proofs.pool.JobPool.submit.Goals as goal
 pub returns-in-Ok-clause-ok : goal.returns-in-Ok-clause-ok
 returns-in-Ok-clause-ok g c =
     let before = pending_jobs c.args.self.now in
-    c.in-Ok.ensures.ok ∙ ap (λ (p : PendingJobs _). with_job c.args.name c.args.job p) c.forget.ensures.pending
+    c.in-Ok.ensures.ok ∙ ap (λ (p : PendingJobs _). with_job c.args.name c.args.job p) c.cancel.ensures.pending
     ∙ with_again before c.args.name c.args.job
 
 pub returns-clause-err : goal.returns-clause-err
 returns-clause-err g c =
     c.in-Err.ensures.err
-    ∙ ap (λ (p : PendingJobs _). without c.args.name p) c.forget.ensures.pending
+    ∙ ap (λ (p : PendingJobs _). without c.args.name p) c.cancel.ensures.pending
     ∙ without_again (pending_jobs c.args.self.now) c.args.name

@@ -6,5 +6,5 @@ use Rattle.lsp_jobs.proofs.pooled_server.PooledServer.acts_with_changes.Goals as
 pub returns : goal.returns
 returns g c =
     IfOk-weaker c.acts_by_server.result _ _
-    (λ all is. (map (act_view g.S.Payload.PartialEq.eq) c.in_ok-all.all.items, is, c.in_ok-all.ensures))
+    (λ all is. (map (act_view g.S.PendingData.PartialEq.eq) c.in_ok-all.all.items, is, c.in_ok-all.ensures))
     c.acts_by_server.ensures

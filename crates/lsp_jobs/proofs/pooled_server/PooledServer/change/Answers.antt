@@ -11,7 +11,7 @@ returns-in_ok-free-in-Start g c =
       (
         c.free.new.self.server,
         pending_jobs c.free.new.self.pool,
-        map (act_view g.S.Payload.PartialEq.eq) c.free.new.acts.items,
+        map (act_view g.S.PendingData.PartialEq.eq) c.free.new.acts.items,
       ),
       c.in_ok-free-in-Start.ensures,
       started,

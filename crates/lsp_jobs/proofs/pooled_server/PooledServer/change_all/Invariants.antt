@@ -14,9 +14,9 @@ invariant-loop-change g l =
     (goal.iterator-loop-change g).can_next l.change-iterator
     × (goal.iterator-loop-change g).is_finite l.change-iterator
     × (l.yielded ++ into_iter_items l.change-iterator ≡ l.fn.changes.items)
-    × FoldsTo (Changes (stated_jobs g.S.JobServer g.S.Slots.Slots g.J.Job)) (
+    × FoldsTo (Changes (stated_jobs g.S.JobServer g.S.KeyedJobs.KeyedJobs g.J.Job)) (
       l.initial.self.server,
       pending_jobs l.initial.self.pool,
-      map (act_view g.S.Payload.PartialEq.eq) l.initial.acts.items,
+      map (act_view g.S.PendingData.PartialEq.eq) l.initial.acts.items,
     )
-    l.yielded (l.self.server, pending_jobs l.self.pool, map (act_view g.S.Payload.PartialEq.eq) l.acts.items)
+    l.yielded (l.self.server, pending_jobs l.self.pool, map (act_view g.S.PendingData.PartialEq.eq) l.acts.items)

@@ -10,16 +10,16 @@ use Rattle.lsp_jobs.proofs.pooled_server.PooledServer.change_slots.Goals as goal
 
 pub returns : goal.returns
 returns g c =
-    let may = stated_jobs g.S.JobServer g.S.Slots.Slots g.J.Job in
+    let may = stated_jobs g.S.JobServer g.S.KeyedJobs.KeyedJobs g.J.Job in
     let changes = c.in_ok-changes.changes.items in
     let forgot = c.in_ok-forget_answered.ensures in
     let server = ap (λ (x : _ × PendingJobs _). x.0) forgot in
-    let mid = c.take_changes.new.server in
-    let view = act_view g.S.Payload.PartialEq.eq in
+    let mid = c.take_commands.new.server in
+    let view = act_view g.S.PendingData.PartialEq.eq in
     IfOk-weaker c.change_all.result _ _ (λ all done. record {
       changes = changes;
       mid = mid;
-      gives = subst (λ s. may.changes s changes mid) server c.in_ok-changes.ensures;
+      gives = subst (λ s. may.take_commands_post s changes mid) server c.in_ok-changes.ensures;
       made = subst (λ t. FoldsTo (Changes may) (mid, t, map view c.args.acts.items) changes
           (c.change_all.new.self.server, pending_jobs c.change_all.new.self.pool, map view all.items))
           (ap (λ (x : _ × PendingJobs _). x.1) forgot ∙ ap (λ l. unanswered (map view l)

@@ -8,7 +8,7 @@ use Rattle.lsp_jobs.proofs.pooled_server.PooledServer.free.Goals as goal
 
 pub returns : goal.returns
 returns g c =
-    was_free (stated_jobs g.S.JobServer g.S.Slots.Slots g.J.Job) c.args.name.now (ended c.args.end)
+    was_free (stated_jobs g.S.JobServer g.S.KeyedJobs.KeyedJobs g.J.Job) c.args.name.now (ended c.args.end)
     c.args.self.now.server (pending_jobs c.args.self.now.pool) _
-    (map (act_view g.S.Payload.PartialEq.eq) c.args.acts.now.items)
-    (sym c.forget.ensures.was ∙ c.if-forget.false) c.forget.ensures.pending
+    (map (act_view g.S.PendingData.PartialEq.eq) c.args.acts.now.items)
+    (sym c.cancel.ensures.was ∙ c.if-cancel.false) c.cancel.ensures.pending

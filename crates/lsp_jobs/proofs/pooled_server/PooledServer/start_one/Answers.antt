@@ -15,12 +15,12 @@ returns-in-Err-Full g c =
     let pending = c.in-Err-Full.ensures.err ∙ ap (λ n. without n before) c.in_ok-clone.ensures in
     IfOk-weaker c.end_then.result _ _ (λ done ends. inr
     (subst (λ (p : PendingJobs g.row.J.Denot).
-    EndsThen (stated_jobs g.S.JobServer g.S.Slots.Slots g.J.Job) c.args.name (ended Refused) (
+    EndsThen (stated_jobs g.S.JobServer g.S.KeyedJobs.KeyedJobs g.J.Job) c.args.name (ended Refused) (
       c.args.self.now.server,
       p,
-      map (act_view g.S.Payload.PartialEq.eq) c.args.acts.now.items,
+      map (act_view g.S.PendingData.PartialEq.eq) c.args.acts.now.items,
     ) (
       c.end_then.new.self.server,
       pending_jobs c.end_then.new.self.pool,
-      map (act_view g.S.Payload.PartialEq.eq) c.end_then.new.acts.items,
+      map (act_view g.S.PendingData.PartialEq.eq) c.end_then.new.acts.items,
     )) pending ends)) c.end_then.ensures

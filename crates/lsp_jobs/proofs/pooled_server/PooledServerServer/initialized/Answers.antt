@@ -9,7 +9,7 @@ returns g c =
       others.0,
       others.1,
       (
-        map (act_view g.S.Payload.PartialEq.eq) c.in_ok-acts.acts.items,
+        map (act_view g.S.PendingData.PartialEq.eq) c.in_ok-acts.acts.items,
         c.initialized.new.self,
         c.in_ok-acts.ensures,
         others.2,

@@ -10,16 +10,16 @@ use Rattle.lsp_jobs.proofs.pooled_server.PooledServerServer.notification.Goals a
 
 pub returns : goal.returns
 returns g c =
-    let jobs = stated_jobs g.S.JobServer g.S.Slots.Slots g.J.Job in
+    let jobs = stated_jobs g.S.JobServer g.S.KeyedJobs.KeyedJobs g.J.Job in
     let method = string_bytes c.args.notification.method in
     let params = view c.args.notification.params in
     IfOk-weaker c.acts_with_changes.result _ _ (λ all others. (
       others.0,
       others.1,
       subst (λ (x : g.row.S.Denot × PendingJobs g.row.J.Denot).
-          Does jobs (g.S.Server.notified x.0 method params) x.1 others.0 (seen c.acts_with_changes.new.self))
+          Does jobs (g.S.Server.notification_post x.0 method params) x.1 others.0 (seen c.acts_with_changes.new.self))
           c.in_ok-forget_cancelled.ensures (
-            map (act_view g.S.Payload.PartialEq.eq) c.in_ok-acts.acts.items,
+            map (act_view g.S.PendingData.PartialEq.eq) c.in_ok-acts.acts.items,
             c.notification.new.self,
             c.in_ok-acts.ensures,
             others.2,

@@ -16,21 +16,21 @@ use Rattle.lsp_jobs.proofs.pooled_server.PooledServerServer.request.Goals as goa
 pub take_long-requires : goal.take_long-requires
 take_long-requires g c =
     let before = pending_jobs c.args.self.now.pool in
-    let left = c.forget.ensures.pending
+    let left = c.cancel.ensures.pending
     ∙ ap (λ (id : Id). without (Request id) before) c.in_ok-clone.ensures in
     ap (λ (p : PendingJobs _). p (Request c.args.request.id)) left ∙ given_up before (Request c.args.request.id)
 
 pub returns-then-is_long : goal.returns-then-is_long
 returns-then-is_long g c =
-    let jobs = stated_jobs g.S.JobServer g.S.Slots.Slots g.J.Job in
+    let jobs = stated_jobs g.S.JobServer g.S.KeyedJobs.KeyedJobs g.J.Job in
     let before = pending_jobs c.args.self.now.pool in
     let server = c.args.self.now.server in
     let id = c.args.request.id in
     let method = string_bytes c.args.request.method in
     let params = view c.args.request.params in
     let did = seen c.take_long.new.self in
-    let view_all = act_view (same_origin g.S.Payload.PartialEq.eq) in
-    let left = c.forget.ensures.pending
+    let view_all = act_view (same_origin g.S.PendingData.PartialEq.eq) in
+    let left = c.cancel.ensures.pending
     ∙ ap (λ (id : Id). without (Request id) before) c.in_ok-clone.ensures in
     IfOk-weaker c.take_long.result _ _ (λ all long. inl (
       c.if-is_long.ensures,
@@ -41,11 +41,11 @@ returns-then-is_long g c =
 
 pub returns : goal.returns
 returns g c =
-    let jobs = stated_jobs g.S.JobServer g.S.Slots.Slots g.J.Job in
-    let acts = map (act_view g.S.Payload.PartialEq.eq) c.in_ok-acts.acts.items in
+    let jobs = stated_jobs g.S.JobServer g.S.KeyedJobs.KeyedJobs g.J.Job in
+    let acts = map (act_view g.S.PendingData.PartialEq.eq) c.in_ok-acts.acts.items in
     let did = c.request-2.new.self in
     let before = pending_jobs c.args.self.now.pool in
-    let left = c.forget.ensures.pending
+    let left = c.cancel.ensures.pending
     ∙ ap (λ (id : Id). without (Request id) before) c.in_ok-clone.ensures in
     IfOk-weaker c.acts_with_changes.result _ _ (λ all others. inr (
       c.if-is_long.ensures,

@@ -10,7 +10,7 @@ returns-in_ok-acts-in-ByServer g c =
       others.0,
       others.1,
       (
-        map (act_view g.S.Payload.PartialEq.eq) c.in_ok-acts-in-ByServer.acts.items,
+        map (act_view g.S.PendingData.PartialEq.eq) c.in_ok-acts-in-ByServer.acts.items,
         c.response.new.self,
         c.in_ok-acts-in-ByServer.ensures,
         others.2,

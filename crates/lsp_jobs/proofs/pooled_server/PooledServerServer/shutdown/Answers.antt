@@ -6,6 +6,6 @@ use Rattle.lsp_jobs.proofs.pooled_server.PooledServerServer.shutdown.Goals as go
 pub returns : goal.returns
 returns g c =
     IfOk-weaker c.acts_by_server.result _ _ (λ all made. (
-      (map (act_view g.S.Payload.PartialEq.eq) c.in_ok-acts.acts.items, made, c.in_ok-acts.ensures),
-      c.forget_all.ensures,
+      (map (act_view g.S.PendingData.PartialEq.eq) c.in_ok-acts.acts.items, made, c.in_ok-acts.ensures),
+      c.cancel_all.ensures,
     )) c.acts_by_server.ensures

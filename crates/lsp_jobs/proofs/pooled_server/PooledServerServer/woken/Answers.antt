@@ -10,10 +10,10 @@ use Rattle.lsp_jobs.proofs.pooled_server.PooledServerServer.woken.Goals as goal
 
 pub returns-in_ok-acts-in-Ran : goal.returns-in_ok-acts-in-Ran
 returns-in_ok-acts-in-Ran g c =
-    let may = stated_jobs g.S.JobServer g.S.Slots.Slots g.J.Job in
+    let may = stated_jobs g.S.JobServer g.S.KeyedJobs.KeyedJobs g.J.Job in
     let tells = (rw c.in-Ran.is at c.in-Some-take_message.ensures.some) in
     let name = c.in-Some-take_message.said.0 in
-    let acts = map (act_view g.S.Payload.PartialEq.eq) c.in_ok-acts-in-Ran.acts.items in
+    let acts = map (act_view g.S.PendingData.PartialEq.eq) c.in_ok-acts-in-Ran.acts.items in
     let came = came_view c.in-Ran.ran in
     let ended = subst (λ t. Ends may name (end_of came) (reply_at name came) (c.args.self.now.server, t) acts
     (seen c.end_run.new.self)) tells.3 c.in_ok-acts-in-Ran.ensures in

@@ -11,7 +11,7 @@ returns-then-is_awaited-clause-said g c =
     let table = c.take_item.new.self in
     let awaited = c.is_awaited.ensures c.if-is_awaited.true in
     let works = any.ghosts g.row.J g.row.J-Found g.J.Job any.no_dict any.no_dict any.no_dict in
-    said_by works.comes_to g.J.Job.reports g.J.Job.asks
+    said_by works.run_post g.J.Job.reports g.J.Job.asks
     (all_jobs (knows table.pass)) (entry_of table.jobs) (entry_of c.args.self.now.jobs) c.in_ok-item.item awaited.0
     (ap entry_of (c.in_ok-item.ensures.same ∙ c.loop.invariant)) table.known.4 c.in_ok-item.ensures.said awaited.1
     awaited.2

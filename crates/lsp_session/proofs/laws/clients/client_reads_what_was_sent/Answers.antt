@@ -12,6 +12,6 @@ returns g c = record {
   policy = λ limit old new text left first last before written answer small gives.
       client_reads before written small (ReadsFrame g.L.BadContentPolicy.passes limit) (SessionOut
       g.S.Service.behavior old new) (text, first)
-      (λ by stop shutdown_reply at. Ends limit left answer by stop shutdown_reply at.0 × HearsLast
+      (λ by stop at. Ends limit left answer by stop at.0 × HearsLast
       g.L.BadContentPolicy.passes limit stop at last) answer gives;
 }

@@ -12,8 +12,8 @@ use Rattle.lsp_session.proofs.loops.handler.serve.Goals as goal
 
 pub returns : goal.returns
 returns g c =
-    let answers = g.H.Handler.answers in
-    let notes = g.H.Handler.notes in
+    let answers = g.H.Handler.answer_post in
+    let notes = g.H.Handler.note_post in
     let old = c.new-service.result in
     let new = c.serve_replies.new.service in
     unwoken_run g.I.Inbox.receives g.O.Outbox.sends _ c.new-unwoken.result c.serve_replies.new.inbox _ _ _ _ _
@@ -21,8 +21,8 @@ returns g c =
     (λ names. c.inbox-1.given.1 (sym c.new-unwoken.ensures.same_inbox ∙ sym names))
     (runs_as (Both (SessionOut (lent_handler answers notes) old new) (StopsFor c.serve_replies.result.stop))
     (SessionOut (of_handler answers notes (view c.args.capabilities)) c.args.handler.now _)
-    (λ xs stop shutdown_reply answer both. session_as answers notes (view c.args.capabilities) old new _
+    (λ xs stop answer both. session_as answers notes (view c.args.capabilities) old new _
     (λ names. c.handler-1.given.1 (sym c.new-service.ensures.same_handler ∙ sym names))
     c.args.handler.now c.new-service.ensures.unchanged (ap view c.new-service.ensures.capabilities) xs stop
-    shutdown_reply answer both.0) (UnwokenReceives g.I.Inbox.receives) g.O.Outbox.sends _ _ _
+    answer both.0) (UnwokenReceives g.I.Inbox.receives) g.O.Outbox.sends _ _ _
     c.serve_replies.ensures)

@@ -5,7 +5,7 @@ use Rattle.lsp_session.specs.HandlerSession.{of_handler}
 use Rattle.lsp_session.specs.Session.{SessionOut}
 use Rattle.lsp_session.specs.Transcripts.{notes_of}
 use Rattle.lsp_message.specs.declared.frame.ReadFault.{ReadFault}
-use Rattle.lsp_session.specs.declared.loops.bad_content_policy.EndSession.{EndSession}
+use Rattle.lsp_session.specs.declared.loops.bad_content_policy.EndOnBadContent.{EndOnBadContent}
 use Rattle.lsp_session.specs.declared.loops.transcript.Transcript.{Transcript}
 use Rattle.lsp_session.proofs.Lending.{known_as, session_as}
 use Rattle.lsp_session.proofs.Passing.{untold}
@@ -22,12 +22,12 @@ serve-requires g c = (
 
 pub returns : goal.returns
 returns g c =
-    let answers = g.H.Handler.answers in
-    let notes = g.H.Handler.notes in
+    let answers = g.H.Handler.answer_post in
+    let notes = g.H.Handler.note_post in
     let old = c.new-service.result in
     let new = c.serve.new.application.service in
     let names = c.serve.ensures.serves.same_ends in
-    let never : EndSession → ReadFault → EndSession → Type 0 = λ first fault last. ⊥ in
+    let never : EndOnBadContent → ReadFault → EndOnBadContent → Type 0 = λ first fault last. ⊥ in
     known_as (SessionOut (lent_handler answers notes) old new) (SessionOut (of_handler answers notes
     (view c.args.capabilities)) c.args.handler.now _)
     (session_as answers notes (view c.args.capabilities) old new _ (λ names. c.handler-1.given.1

@@ -20,5 +20,6 @@ loop-taken-preserved g c =
           (unread start) (unread old) (unread new) bytes n r before.goes (goes_same start.input.limits old.input.limits
           start.most_pending old.most_pending may (standing old) (standing new) (unread old)
           (take r (take (length bytes - n) (drop n bytes))) (unread new) before.kept.0 before.kept.1 part.goes);
+      served = λ _. part.served;
       kept = (part.kept.0 ∙ before.kept.0, part.kept.1 ∙ before.kept.1);
     }

@@ -1,26 +1,89 @@
-use Rattle.std.proofs.Common.{refl, [], take}
-use Rattle.lsp_session.proofs.ByteHistory.{goes_on, goes_kept, goes_same}
+use Rattle.std.proofs.Common.{refl, ap, subst, ◌∙◌, inl, inr, ◌++◌, ◌<◌, [], take, length, Option, Result, Ok, Err}
+use Rattle.std.proofs.Common.{IfOk}
+use Rattle.lsp_message.specs.View.{message_view}
+use Rattle.lsp_message.specs.declared.frame.ReadFault.{ReadFault}
+use Rattle.lsp_message.specs.declared.msg.Message as msg
+use Rattle.lsp_session.proofs.ByteHistory.{goes_on, goes_kept, goes_message, goes_same, goes_still}
+use Rattle.lsp_session.proofs.Served.{served_after}
+use Rattle.lsp_session.specs.ByteSession.{AwaitsMore, ReadsOne}
 use Rattle.lsp_session.specs.ByteSessions.{standing, unread}
+use Rattle.lsp_session.specs.declared.loops.frame_input.FrameInput.{FrameInput}
 use Rattle.lsp_session.proofs.loops.byte_session.ByteSession.receive_part.Goals as goal
 
-pub returns-in-Ok-clause-goes : goal.returns-in-Ok-clause-goes
-returns-in-Ok-clause-goes g c =
+pub returns-in-Ok-Some-clause-some : goal.returns-in-Ok-Some-clause-some
+returns-in-Ok-Some-clause-some g c =
+    let bytes = c.args.bytes.now in
+    inl (subst (λ (r : Result (Option msg.Message) ReadFault). IfOk r (λ _. 0 < length bytes
+    → 0 < c.receive-count.result.0))
+    c.in-Ok-Some.is c.receive-count.ensures.some)
+
+pub returns-in-Ok-Some-clause-goes : goal.returns-in-Ok-Some-clause-goes
+returns-in-Ok-Some-clause-goes g c =
     let start = c.args.self.now in
-    let new = c.advance.new.self in
+    let new = c.come.new.self in
     let may = g.S.Service.behavior in
-    let v = c.gather.new.self.bytes.items in
-    goes_on start.input.limits start.most_pending may (standing start) (standing new) (unread start) v (unread new)
-    (take c.in-Ok.count c.args.bytes.now) c.in-Ok.ensures.added (goes_same start.input.limits c.gather.new.self.limits
-    start.most_pending start.most_pending may (standing start) (standing new) v [] (unread new) c.gather.ensures.limits
-    refl c.advance.ensures.goes)
+    let limits = start.input.limits in
+    let part = take c.receive-count.result.0 c.args.bytes.now in
+    let text = unread start ++ part in
+    let left = c.receive-count.new.self.bytes.items in
+    let read = subst (λ (r : Result (Option msg.Message) ReadFault). ReadsOne limits text r left)
+    (c.in-Ok-Some.is ∙ ap Ok c.in-Ok-Some.field-0-is) c.receive-count.ensures.read in
+    goes_on limits start.most_pending may (standing start) (standing new) (unread start) text (unread new) part refl
+    (goes_message limits start.most_pending may (standing start) (standing new) (message_view c.in-Ok-Some.message)
+    read.0 text left (unread new) read.1 read.2 (ap (λ (i : FrameInput). i.bytes.items) c.come.ensures.input)
+    c.requires.room c.requires.waits c.come.ensures.comes)
+
+pub returns-in-Ok-Some-clause-served : goal.returns-in-Ok-Some-clause-served
+returns-in-Ok-Some-clause-served g c =
+    let input = c.receive-count.new.self in
+    served_after c.come.new.self input c.come.ensures.input (subst (λ (r : Result (Option msg.Message) ReadFault).
+    IfOk r (λ _. AwaitsMore input.limits input.bytes.items)) c.in-Ok-Some.is c.receive-count.ensures.awaits)
+
+pub returns-in-Ok-None-clause-some : goal.returns-in-Ok-None-clause-some
+returns-in-Ok-None-clause-some g c =
+    let bytes = c.args.bytes.now in
+    inl (subst (λ (r : Result (Option msg.Message) ReadFault). IfOk r (λ _. 0 < length bytes
+    → 0 < c.receive-count.result.0))
+    c.in-Ok-None.is c.receive-count.ensures.some)
+
+pub returns-in-Ok-None-clause-goes : goal.returns-in-Ok-None-clause-goes
+returns-in-Ok-None-clause-goes g c =
+    let start = c.args.self.now in
+    let may = g.S.Service.behavior in
+    let limits = start.input.limits in
+    let part = take c.receive-count.result.0 c.args.bytes.now in
+    let text = unread start ++ part in
+    let left = c.receive-count.new.self.bytes.items in
+    let read = subst (λ (r : Result (Option msg.Message) ReadFault). ReadsOne limits text r left)
+    (c.in-Ok-None.is ∙ ap Ok c.in-Ok-None.field-0-is) c.receive-count.ensures.read in
+    goes_on limits start.most_pending may (standing start) (standing start) (unread start) text left part refl
+    (goes_still limits start.most_pending may (standing start) text left read)
+
+pub returns-in-Ok-None-clause-served : goal.returns-in-Ok-None-clause-served
+returns-in-Ok-None-clause-served g c =
+    let input = c.receive-count.new.self in
+    inr (subst (λ (r : Result (Option msg.Message) ReadFault). IfOk r (λ _. AwaitsMore input.limits input.bytes.items))
+    c.in-Ok-None.is c.receive-count.ensures.awaits)
+
+pub returns-in-Err-clause-some : goal.returns-in-Err-clause-some
+returns-in-Err-clause-some g c = inr c.fail.ensures.over
 
 pub returns-in-Err-clause-goes : goal.returns-in-Err-clause-goes
 returns-in-Err-clause-goes g c =
     let start = c.args.self.now in
     let new = c.fail.new.self in
     let may = g.S.Service.behavior in
-    let v = c.gather.new.self.bytes.items in
-    goes_kept start.input.limits start.most_pending may (standing start) (standing new) (unread start) v [] (unread new)
-    c.in-Err.ensures.err (goes_same start.input.limits c.gather.new.self.limits start.most_pending start.most_pending
-    may
-    (standing start) (standing new) v [] (unread new) c.gather.ensures.limits refl c.fail.ensures.goes)
+    let limits = start.input.limits in
+    let part = take c.receive-count.result.0 c.args.bytes.now in
+    let text = unread start ++ part in
+    let input = c.receive-count.new.self in
+    let left = input.bytes.items in
+    let read = subst (λ (r : Result (Option msg.Message) ReadFault). ReadsOne limits text r left) c.in-Err.is
+    c.receive-count.ensures.read in
+    goes_on limits start.most_pending may (standing start) (standing new) (unread start) text (unread new) part refl
+    (goes_kept limits start.most_pending may (standing start) (standing new) text left [] (unread new) read.0
+    (goes_same limits input.limits start.most_pending start.most_pending may (standing start) (standing new) left []
+    (unread new) c.receive-count.ensures.limits refl c.fail.ensures.goes))
+
+pub returns-in-Err-clause-served : goal.returns-in-Err-clause-served
+returns-in-Err-clause-served g c = inl c.fail.ensures.over

@@ -21,6 +21,6 @@ returns-in-Some g c =
     let first = subst (λ r. AddsFrames {E = ProtocolFault} (waiting c.args.self.now) sent r
     (waiting c.add_output.new.self)) c.in_ok-add_output.was c.add_output.ensures in
     let last = subst (λ m. AddsFrames {E = ProtocolFault} (waiting c.add_output.new.self) (m ∷ []) c.add_reply.result
-    (waiting c.add_reply.new.self)) c.without_result.ensures c.add_reply.ensures in
+    (waiting c.add_reply.new.self)) c.null_response.ensures c.add_reply.ensures in
     rw c.in-Some.is (adds_then (waiting c.args.self.now) (waiting c.add_output.new.self) (waiting c.add_reply.new.self)
     sent (null_reply c.in-Some.id ∷ []) c.add_reply.result first last)

@@ -5,8 +5,8 @@ use Rattle.lsp_session.proofs.loops.stream_transport.StreamTransportOutbox.send.
 pub returns-clause-sends : goal.returns-clause-sends
 returns-clause-sends g c =
     let sends = rw (c.resumed-outbox.ensures.resumed.0, c.resumed-outbox.ensures.unwritten) at
-    c.send_telling-outcome.ensures.sends in
-    let told = c.send_telling-outcome.ensures.told in
+    c.send_traced-outcome.ensures.sends in
+    let told = c.send_traced-outcome.ensures.told in
     let noted = rw (c.of-sent.ensures) at c.of_send.ensures in
     let added = rw (c.new-given.ensures) at told.1.added in
     let appended = rw (c.resumed-outbox.ensures.unwritten) at told.1.appended in

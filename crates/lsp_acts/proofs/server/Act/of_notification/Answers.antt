@@ -1,9 +1,0 @@
-use Rattle.std.proofs.Common.{rules, Err, Ok}
-use Rattle.lsp_acts.proofs.Reading.{made_of}
-use Rattle.lsp_acts.proofs.server.Act.of_notification.Goals as goal
-
-pub returns-in-Ok : goal.returns-in-Ok
-returns-in-Ok g c = made_of _ _ _ (Ok c.in-Ok.params) (search rules) (search rules)
-
-pub returns-in_ok-log_error-in-Err : goal.returns-in_ok-log_error-in-Err
-returns-in_ok-log_error-in-Err g c = made_of _ _ _ (Err c.in-Err.error) (search rules) (search rules)

@@ -1,0 +1,15 @@
+use Rattle.std.proofs.Common.{ap}
+use Rattle.lsp_acts.specs.Acts.{Queues}
+use Rattle.lsp_acts.specs.View.{seen}
+use Rattle.lsp_acts.proofs.server_application.ServerApplicationPendingDataService.initialized.Goals as goal
+
+pub returns : goal.returns
+returns g c = record {
+  output = (
+    seen c.begin.new.self,
+    c.in_ok-begin.ensures,
+    c.take_sent.ensures.sent,
+    ap (λ (d : Queues _). (c.begin.new.self.server, d)) c.take_sent.ensures.rest,
+  );
+  err = tt;
+}

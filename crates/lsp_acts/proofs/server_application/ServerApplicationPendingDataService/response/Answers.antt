@@ -1,0 +1,12 @@
+use Rattle.std.proofs.Common.{ap}
+use Rattle.lsp_acts.specs.Acts.{Queues}
+use Rattle.lsp_acts.specs.View.{seen}
+use Rattle.lsp_acts.proofs.server_application.ServerApplicationPendingDataService.response.Goals as goal
+
+pub returns : goal.returns
+returns g c = (
+  seen c.on_response.new.self,
+  c.in_ok-on_response.ensures,
+  c.take_sent.ensures.sent,
+  ap (λ (d : Queues _). (c.on_response.new.self.server, d)) c.take_sent.ensures.rest,
+)

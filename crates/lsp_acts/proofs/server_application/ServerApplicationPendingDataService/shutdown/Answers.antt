@@ -1,0 +1,12 @@
+use Rattle.std.proofs.Common.{ap}
+use Rattle.lsp_acts.specs.Acts.{Queues}
+use Rattle.lsp_acts.specs.View.{seen}
+use Rattle.lsp_acts.proofs.server_application.ServerApplicationPendingDataService.shutdown.Goals as goal
+
+pub returns : goal.returns
+returns g c = (
+  seen c.on_shutdown.new.self,
+  c.in_ok-on_shutdown.ensures,
+  c.take_sent.ensures.sent,
+  ap (λ (d : Queues _). (c.on_shutdown.new.self.server, d)) c.take_sent.ensures.rest,
+)

@@ -1,0 +1,457 @@
+// A server beside its queues: what it does at a message, and the queues of requests that have no reply yet.
+ghost use Rattle.serde_json.specs.Find.{get};
+ghost use Rattle.serde_json.specs.View.{view};
+ghost use Rattle.std.specs.Prelude.{◌≡◌, map, List, [], string_bytes, true, codes, IfOk, IsOk, IsSome, Ok, Err, Some, None};
+ghost use Rattle.lsp_message.specs.ErrorCode.{number_of};
+ghost use Rattle.lsp_message.specs.Message.{notification};
+ghost use Rattle.lsp_message.specs.Tree.{id_tree};
+ghost use Rattle.lsp_message.specs.View.{message_view, request_view, notification_view, response_view, outcome_view};
+ghost use Rattle.lsp_message.specs.declared.msg.code.ErrorCode.TheVariants.{RequestCanceled};
+ghost use Rattle.lsp_queue.specs.Queue.{count_of};
+ghost use Rattle.lsp_session.specs.OutputView.{sent_view, to_send_view};
+ghost use Rattle.lsp_acts.specs.Acts.{tells, asks, replies, cancels, does, does_all, empty_queues, is_spent, unsent, unsent_by, TakesBack, holds, given, with_message, answers_cancelled, cancel_method, cleared, cancelled_by, cancel_params as cancel_params_spec, Acts, AnswersHeld};
+ghost use Rattle.lsp_acts.specs.ServerApplication.{with_queues, Works, Parts};
+ghost use Rattle.lsp_acts.specs.View.{act_view, queues_of, listed, seen};
+
+use crate::server::{Act, Server};
+use lsp_message::{
+    ErrorCode, Message, Notification, Request, RequestId, Response, ResponseError, ResultText,
+};
+use lsp_queue::{RegisterFault, ReqQueue, id_to_cancel};
+use lsp_session::{
+    Application, Output, Service, SessionOutcome, TextOutbox, ToSend, WakingInbox, serve_transport,
+};
+use serde_json::{Map, Value, put};
+use std::alloc::{AllocError, Global};
+use std::mem;
+
+/// The queues of a server: the requests that it holds, those that it sent, and the messages to send. The session sends
+/// these in order when the server's method returns.
+#[derive(Drop)]
+pub(crate) struct Queues<P> {
+    alloc: Global,
+    requests: ReqQueue<(), P>,
+    sent: Vec<ToSend>,
+}
+
+impl<P: Drop + PartialEq> Queues<P> {
+    /// Makes empty queues. It does not allocate.
+    pub(crate) fn new(alloc: Global) -> Queues<P>
+        ensures { queues_of result ≡ empty_queues }
+    {
+        Queues {
+            alloc,
+            requests: ReqQueue::default(alloc),
+            sent: Vec::new(alloc),
+        }
+    }
+
+    /// Sends a notification.
+    fn notify(&mut self, method: String, params: Value) -> Result<(), AllocError>
+        ensures { IfOk result (λ _.
+            queues_of self.new
+            ≡ does (queues_of self.old) (tells (string_bytes method) (view params))) }
+    {
+        self.send(Message::Notification(Notification { method, params }))
+    }
+
+    /// Sends a request of the server. Its reply returns the payload. If no id is left, the payload is returned at once.
+    fn ask(&mut self, method: String, params: Value, payload: P) -> Result<Option<P>, AllocError>
+        ensures queues { IfOk result (λ _.
+            queues_of self.new
+            ≡ does (queues_of self.old) (asks (string_bytes method) (view params) «payload»)) }
+        ensures back { IfOk result (λ back.
+            listed back ≡ unsent_by (count_of (queues_of self.old).asked)
+            (asks (string_bytes method) (view params) «payload»)) }
+        ensures spent { is_spent (count_of (queues_of self.old).asked) ≡ true → IsOk result }
+    {
+        match self
+            .requests
+            .outgoing
+            .register_value(method, params, payload)
+        {
+            Ok(request) => {
+                self.send(Message::Request(request))?;
+                Ok(None)
+            }
+            Err(RegisterFault::Spent(payload)) => Ok(Some(payload)),
+            Err(_) => Err(AllocError),
+        }
+    }
+
+    /// Answers a request that is held. If none is held under the id, nothing is sent.
+    fn reply(
+        &mut self,
+        id: RequestId,
+        outcome: Result<Value, ResponseError>,
+    ) -> Result<(), AllocError>
+        ensures { IfOk result (λ _.
+            queues_of self.new ≡ does (queues_of self.old) (replies id (outcome_view outcome))) }
+    {
+        if self.requests.incoming.is_completed(&id) {
+            return Ok(());
+        }
+        self.requests.incoming.complete(&id);
+        self.send(Message::Response(Response {
+            id,
+            response_result: outcome,
+        }))
+    }
+
+    /// Answers a request that is held, with a result that is text already.
+    fn reply_text(&mut self, id: RequestId, text: ResultText) -> Result<(), AllocError>
+        ensures { IfOk result (λ _.
+            queues_of self.new ≡ does (queues_of self.old) (replies id (Ok (view text)))) }
+    {
+        if self.requests.incoming.is_completed(&id) {
+            return Ok(());
+        }
+        self.requests.incoming.complete(&id);
+        self.push(ToSend::Text(id, text))
+    }
+
+    /// Cancels each request of the server that keeps a payload equal to this one.
+    fn cancel(&mut self, payload: P) -> Result<(), AllocError>
+        ensures { IfOk result (λ _. queues_of self.new
+            ≡ does (queues_of self.old) (cancels (λ kept. P.eq kept «payload»))) }
+    {
+        let ids = self.requests.outgoing.ids_of(&payload)?;
+        drop(payload);
+        for id in ids {
+            let notification = cancellation(self.alloc, id)?;
+            self.send(Message::Notification(notification))?;
+        }
+        Ok(())
+    }
+
+    /// Answers a request that its client cancelled, if it is still held.
+    fn answer_cancelled(&mut self, cancelled: Option<RequestId>) -> Result<(), AllocError>
+        ensures { IfOk result (λ _.
+            queues_of self.new ≡ answers_cancelled (queues_of self.old) cancelled) }
+    {
+        let Some(id) = cancelled else {
+            return Ok(());
+        };
+        let outcome = canceled_outcome(self.alloc, "canceled by client")?;
+        self.reply(id, outcome)
+    }
+
+    /// Answers each request that is held: `shutdown` ended it.
+    fn answer_held(&mut self) -> Result<(), AllocError>
+        ensures { IfOk result (λ _. AnswersHeld (queues_of self.old) (queues_of self.new)) }
+    {
+        let ids = self.requests.incoming.ids()?;
+        for id in ids {
+            let outcome = canceled_outcome(self.alloc, "canceled by shutdown")?;
+            self.reply(id, outcome)?;
+        }
+        Ok(())
+    }
+
+    fn send(&mut self, message: Message) -> Result<(), AllocError>
+        ensures { IfOk result (λ _.
+            queues_of self.new ≡ with_message (queues_of self.old) (message_view message)) }
+    {
+        self.push(ToSend::Message(message))
+    }
+
+    fn push(&mut self, message: ToSend) -> Result<(), AllocError>
+        ensures { IfOk result (λ _.
+            queues_of self.new ≡ with_message (queues_of self.old) (to_send_view message)) }
+    {
+        match self.sent.push(message) {
+            Ok(()) => Ok(()),
+            Err(_) => Err(AllocError),
+        }
+    }
+
+    fn hold(&mut self, id: &RequestId) -> Result<(), AllocError>
+        ensures { IfOk result (λ _. queues_of self.new ≡ holds (queues_of self.old) id.now) }
+    {
+        let id = id.clone()?;
+        match self.requests.incoming.register(id, ()) {
+            Ok(()) => Ok(()),
+            Err(_) => Err(AllocError),
+        }
+    }
+
+    /// Performs an act. It returns the payload of a request for which no id was left.
+    fn perform(&mut self, act: Act<P>) -> Result<Option<P>, AllocError>
+        ensures queues { IfOk result (λ _.
+            queues_of self.new ≡ does (queues_of self.old) (act_view P.eq act)) }
+        ensures back { IfOk result (λ back.
+            listed back ≡ unsent_by (count_of (queues_of self.old).asked) (act_view P.eq act)) }
+    {
+        match act {
+            Act::SendNotification(notification) => self.notify(
+                notification.method,
+                notification.params,
+            )?,
+            Act::SendRequest(method, params, payload) => return self.ask(method, params, payload),
+            Act::Reply(id, outcome) => self.reply(id, outcome)?,
+            Act::ReplyText(id, text) => self.reply_text(id, text)?,
+            Act::Cancel(payload) => self.cancel(payload)?,
+        }
+        Ok(None)
+    }
+
+    fn take_sent(&mut self) -> Vec<ToSend>
+        ensures sent { sent_view result.items ≡ (queues_of self.old).sent }
+        ensures rest { queues_of self.new ≡ cleared (queues_of self.old) }
+    {
+        mem::replace(&mut self.sent, Vec::new(self.alloc))
+    }
+}
+
+/// Makes the notification that cancels a request (LSP 3.17, "Cancellation Support").
+fn cancellation(alloc: Global, id: RequestId) -> Result<Notification, AllocError>
+    ensures { IfOk result (λ n.
+        notification_view n ≡ notification cancel_method (cancel_params_spec id)) }
+{
+    let method = String::from_str(alloc, "$/cancelRequest")?;
+    let params = cancel_params(alloc, id)?;
+    Ok(Notification { method, params })
+}
+
+/// Makes the outcome of a request that was cancelled, with this text.
+fn canceled_outcome(
+    alloc: Global,
+    message: &str,
+) -> Result<Result<Value, ResponseError>, AllocError>
+    ensures { IfOk result (λ outcome. outcome_view outcome
+        ≡ Err (record { code = number_of RequestCanceled; message = message.now; details = None })) }
+{
+    let error = ResponseError::new(alloc, ErrorCode::RequestCanceled, message)?;
+    Ok(Err(error))
+}
+
+fn cancel_params(alloc: Global, id: RequestId) -> Result<Value, AllocError>
+    ensures { IfOk result (λ params. view params ≡ cancel_params_spec id) }
+{
+    let id = id_value(alloc, id)?;
+    let mut members = Map::new(alloc);
+    put(&mut members, alloc, "id", id)?;
+    Ok(Value::Object(members))
+}
+
+/// Returns the id as a value.
+fn id_value(alloc: Global, id: RequestId) -> Result<Value, AllocError>
+    ensures { IfOk result (λ value. view value ≡ id_tree id) }
+{
+    let reply = Message::Response(Response {
+        id,
+        response_result: Ok(Value::Null),
+    });
+    let tree = reply.to_value(alloc)?;
+    drop(reply);
+    copy_of_id(&tree)
+}
+
+/// Copies the member `id`.
+fn copy_of_id(tree: &Value) -> Result<Value, AllocError>
+    requires { IsSome (get (codes "id") (view tree.now)) }
+    ensures { IfOk result (λ id. get (codes "id") (view tree.now) ≡ Some (view id)) }
+{
+    match tree.get("id") {
+        Some(id) => Ok(id.clone()?),
+        None => Ok(Value::Null),
+    }
+}
+
+/// Returns the id of the request that a notification cancels (LSP 3.17, "Cancellation Support"). It is `None` if the
+/// notification cancels none. The error means that an allocation failed.
+pub fn cancelled_id(notification: &Notification) -> Result<Option<RequestId>, AllocError>
+    ensures { IfOk result (λ id.
+        id ≡ cancelled_by (string_bytes notification.now.method) (view notification.now.params)) }
+{
+    if notification.method.as_str() != "$/cancelRequest" {
+        return Ok(None);
+    }
+    id_to_cancel(&notification.params)
+}
+
+/// A server with its queues, as a service that a session runs.
+#[derive(Drop)]
+pub struct ServerApplication<S, P> {
+    /// Your server. It stays in the state in which the session ended.
+    pub server: S,
+    queues: Queues<P>,
+}
+
+impl<S: Server> ServerApplication<S, S::PendingData> {
+    /// Makes a service of a server, with empty queues. It does not allocate.
+    pub fn new(alloc: Global, server: S) -> Self
+        ensures server { result.server ≡ server }
+        ensures queues { seen result ≡ (server, empty_queues) }
+    {
+        ServerApplication {
+            server,
+            queues: Queues::new(alloc),
+        }
+    }
+
+    /// Returns the server without its queues. If no `shutdown` arrived, the requests that are still held get no reply.
+    pub fn into_server(self) -> S
+        ensures { result ≡ self.server }
+    {
+        let ServerApplication { server, .. } = self;
+        server
+    }
+
+    fn begin(&mut self) -> Result<(), AllocError>
+        ensures { IfOk result (λ _.
+            Acts S.ids_exhausted_post (S.initialized_post self.old.server) (queues_of self.old.queues)
+            (seen self.new)) }
+    {
+        let acts = self.server.initialized()?;
+        self.perform_all(acts)
+    }
+
+    /// Performs acts, in order.
+    fn perform_all(&mut self, acts: Vec<Act<S::PendingData>>) -> Result<(), AllocError>
+        ensures queues { IfOk result (λ _.
+            queues_of self.new.queues
+            ≡ does_all (queues_of self.old.queues) (map (act_view S.PendingData.eq) acts.items)) }
+        ensures back { IfOk result (λ _. TakesBack S.ids_exhausted_post
+            self.old.server
+            (unsent (count_of (queues_of self.old.queues).asked)
+            (map (act_view S.PendingData.eq) acts.items))
+            self.new.server) }
+    {
+        for act in acts {
+            self.perform(act)?;
+        }
+        Ok(())
+    }
+
+    /// Performs an act. The payload of a request for which no id was left goes back to the server.
+    fn perform(&mut self, act: Act<S::PendingData>) -> Result<(), AllocError>
+        ensures queues { IfOk result (λ _.
+            queues_of self.new.queues
+            ≡ does (queues_of self.old.queues) (act_view S.PendingData.eq act)) }
+        ensures back { IfOk result (λ _. TakesBack S.ids_exhausted_post
+            self.old.server
+            (unsent_by (count_of (queues_of self.old.queues).asked) (act_view S.PendingData.eq act))
+            self.new.server) }
+    {
+        match self.queues.perform(act)? {
+            Some(payload) => self.server.ids_exhausted(payload),
+            None => Ok(()),
+        }
+    }
+
+    /// Performs the last acts of the server, and answers the requests that it leaves. `shutdown` has this id.
+    fn on_shutdown(&mut self, id: &RequestId) -> Result<(), AllocError>
+        ensures { IfOk result (λ _.
+            Parts S.Server (seen self.old) id.now (seen self.new)) }
+    {
+        self.queues.requests.incoming.complete(id);
+        let acts = self.server.shutdown(self.queues.alloc)?;
+        self.perform_all(acts)?;
+        self.queues.answer_held()
+    }
+
+    fn on_request(&mut self, request: Request) -> Result<(), AllocError>
+        ensures { IfOk result (λ _.
+            Works S.Server (seen self.old) (Some (request_view request))
+            (seen self.new)) }
+    {
+        self.queues.hold(&request.id)?;
+        let acts = self.server.request(request)?;
+        self.perform_all(acts)
+    }
+
+    fn on_notification(&mut self, notification: Notification) -> Result<(), AllocError>
+        ensures { IfOk result (λ _.
+            Works S.Server (seen self.old) (Some (notification_view notification))
+            (seen self.new)) }
+    {
+        let cancelled = cancelled_id(&notification)?;
+        let acts = self.server.notification(notification)?;
+        self.perform_all(acts)?;
+        self.queues.answer_cancelled(cancelled)
+    }
+
+    fn on_response(&mut self, response: Response) -> Result<(), AllocError>
+        ensures { IfOk result (λ _.
+            Works S.Server (seen self.old) (Some (response_view response))
+            (seen self.new)) }
+    {
+        match self.queues.requests.outgoing.complete(response.id) {
+            Some(payload) => {
+                let acts = self.server.response(payload, response.response_result)?;
+                self.perform_all(acts)
+            }
+            None => Ok(()),
+        }
+    }
+
+    fn on_wake(&mut self) -> Result<(), AllocError>
+        ensures { IfOk result (λ _. Works S.Server (seen self.old) None (seen self.new)) }
+    {
+        let acts = self.server.woken(self.queues.alloc)?;
+        self.perform_all(acts)
+    }
+}
+
+impl<S: Server> Service for ServerApplication<S, S::PendingData> {
+    type Output = Output;
+
+    ghost behavior = { with_queues S.Server };
+
+    fn initialize(&mut self, params: Value) -> Result<Result<Value, ResponseError>, AllocError> {
+        self.server.initialize(params)
+    }
+
+    fn initialized(&mut self) -> Result<Output, AllocError> {
+        self.begin()?;
+        Ok(Output::Several(self.queues.take_sent()))
+    }
+
+    fn request(&mut self, request: Request) -> Result<Output, AllocError> {
+        self.on_request(request)?;
+        Ok(Output::Several(self.queues.take_sent()))
+    }
+
+    fn notification(&mut self, notification: Notification) -> Result<Output, AllocError> {
+        self.on_notification(notification)?;
+        Ok(Output::Several(self.queues.take_sent()))
+    }
+
+    fn response(&mut self, response: Response) -> Result<Output, AllocError> {
+        self.on_response(response)?;
+        Ok(Output::Several(self.queues.take_sent()))
+    }
+
+    fn woken(&mut self) -> Result<Output, AllocError> {
+        self.on_wake()?;
+        Ok(Output::Several(self.queues.take_sent()))
+    }
+
+    fn shutdown(&mut self, id: &RequestId) -> Result<Output, AllocError> {
+        self.on_shutdown(id)?;
+        Ok(Output::Several(self.queues.take_sent()))
+    }
+
+    /// Returns true: a reply to a request of the server may cross the `shutdown` of its client.
+    fn passes_late(&self) -> bool {
+        true
+    }
+}
+
+impl<S: Server> Application for ServerApplication<S, S::PendingData> {
+    ghost use Rattle.lsp_acts.specs.ServerApplication.{ServerSession};
+
+    ghost session = { λ old new. ServerSession S.Server old.server new.server };
+
+    /// Starts a session with empty queues. No request of an earlier client belongs to this one.
+    fn run<T: WakingInbox + TextOutbox>(
+        &mut self,
+        alloc: Global,
+        transport: &mut T,
+    ) -> SessionOutcome {
+        let queues = Queues::new(self.queues.alloc);
+        self.queues = queues;
+        serve_transport(alloc, transport, self)
+    }
+}

@@ -1,0 +1,3 @@
+pub mod Announced
+pub mod Knows
+pub mod Methods

@@ -1,0 +1,3 @@
+mod CleanRecording
+mod EachLine
+mod Unread

@@ -1,0 +1,68 @@
+-- Which breaches make the status 1.
+use Rattle.std.specs.Prelude.{Bool, true, false, ◌&&◌, not}
+use Rattle.lsp_watch.specs.Log.{from_client, other}
+use Rattle.lsp_watch.specs.RuleData.{level_of, side_of}
+use Rattle.lsp_watch.specs.declared.breach.Breach.{Breach}
+use Rattle.lsp_watch.specs.declared.breach.Unanswered.{Unanswered}
+use Rattle.lsp_watch.specs.declared.breach.Verdict.TheVariants.{CannotTell}
+use Rattle.lsp_watch.specs.declared.breach.Verdict.{Verdict}
+use Rattle.lsp_watch.specs.declared.rule.Level.TheVariants.{Must, Should, Implied}
+use Rattle.lsp_watch.specs.declared.rule.Level.{Level}
+use Rattle.lsp_watch.specs.declared.rule.Rule.TheVariants.{NobodyAsked, IdStillOpen, BeforeResult, SentAgain}
+use Rattle.lsp_watch.specs.declared.rule.Rule.TheVariants.{NoSuchToken, TokenEnded, NoReply}
+use Rattle.lsp_watch.specs.declared.rule.Rule.{Rule}
+use Rattle.lsp_watch.specs.declared.rule.Side.TheVariants.{Sender, Receiver, Client}
+use Rattle.lsp_watch.specs.declared.rule.Side.{Side}
+use Rattle.lsp_watch.specs.declared.direction.Direction.TheVariants.{ToServer}
+use Rattle.lsp_watch.specs.declared.direction.Direction.{Direction}
+use Rattle.lsp_judge.specs.declared.choice.Choice.{Choice}
+use Rattle.lsp_judge.specs.declared.choice.FailOn.TheVariants.{Servers, Clients, Both}
+use Rattle.lsp_judge.specs.declared.choice.FailOn.{FailOn}
+use Rattle.lsp_judge.specs.declared.passed.Order.TheVariants.{Known, BehindAll, Unknown}
+use Rattle.lsp_judge.specs.declared.passed.Order.{Order}
+
+-- the way in which that side sends which breaks a rule by a message of this way
+abbrev pub culprit : Side → Direction → Direction
+culprit Sender way = way
+culprit Receiver way = other way
+culprit Client way = ToServer
+
+abbrev pub is_of : FailOn → Direction → Bool
+is_of Servers way = not (from_client way)
+is_of Clients way = from_client way
+is_of Both way = true
+
+abbrev pub is_at_least : Level → Level → Bool
+is_at_least Must wanted = true
+is_at_least Should Must = false
+is_at_least Should wanted = true
+is_at_least Implied Implied = true
+is_at_least Implied wanted = false
+
+-- breaches of a rule by messages of a way are of the chosen side and level
+abbrev pub counts : Choice → Rule → Direction → Bool
+counts choice rule way =
+    is_of choice.fail_on (culprit (side_of rule) way) && is_at_least (level_of rule) choice.level
+
+-- A breach of this rule is one in each order that there may have been.
+abbrev pub decides : Order → Rule → Bool
+decides Known rule = true
+decides order NoSuchToken = false
+decides order TokenEnded = false
+decides Unknown NobodyAsked = false
+decides Unknown IdStillOpen = false
+decides Unknown BeforeResult = false
+decides Unknown SentAgain = false
+decides order rule = true
+
+abbrev pub is_sure : Verdict → Bool
+is_sure CannotTell = false
+is_sure verdict = true
+
+-- a breach that makes the status 1
+abbrev pub fails : Choice → Order → Direction → Breach → Bool
+fails choice order way b = (is_sure b.verdict && decides order b.rule) && counts choice b.rule way
+
+-- a request without a reply that does so
+abbrev pub leaves : Choice → Unanswered → Bool
+leaves choice u = is_sure u.verdict && counts choice NoReply u.way

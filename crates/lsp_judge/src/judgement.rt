@@ -1,0 +1,500 @@
+// The judgement of what passed between two ends.
+ghost use Rattle.std.specs.List.{list_any};
+ghost use Rattle.std.specs.Prelude.{◌≡◌, ◌==◌, [], length, OnOk, IfOk, option_map};
+ghost use Rattle.lsp_watch.specs.Entries.{entry_view};
+ghost use Rattle.lsp_watch.specs.Log.{asks as has_request};
+ghost use Rattle.lsp_watch.specs.Verdicts.{breaches_of};
+ghost use Rattle.lsp_judge.specs.Choice.{fails as fails_for, leaves as leaves_for};
+ghost use Rattle.lsp_judge.specs.Judged.{Judged, Judges, nothing, begun, seen, passed_on, left, is_initialize as opens};
+
+use crate::choice::Choice;
+use crate::passed::{Order, Passing};
+use crate::report::Report;
+use crate::told::{About, Counts, Kind, Slowest, Told};
+use anyhow::Result;
+use lsp_watch::{
+    Asked, Breach, Direction, Entry, Kind as MessageKind, LoggedId, LoggedMessage, Rule,
+    Unanswered, Verdict, Watch,
+};
+use serde_json::Value;
+use std::alloc::{AllocError, Global};
+use std::collections::BTreeMap;
+use std::io::Write;
+
+/// Which sides have ended.
+#[derive(Clone, Copy, Debug)]
+pub struct Ends {
+    pub server: bool,
+    pub client: bool,
+}
+
+/// What was seen so far. Its memory follows what is open.
+#[derive(Drop)]
+pub struct Judgement {
+    alloc: Global,
+    watch: Watch,
+    /// Whether there was a message.
+    is_begun: bool,
+    /// Whether a rule is broken so that the status is 1.
+    is_broken: bool,
+    tally: Tally,
+}
+
+/// What is counted.
+#[derive(Drop)]
+struct Tally {
+    counts: Counts,
+    /// When the requests passed that wait, by their places.
+    times: BTreeMap<u64, u64>,
+}
+
+impl Judgement {
+    /// Of a session that is seen from its first message on.
+    pub fn new(alloc: Global) -> Judgement
+        ensures { Judges result nothing }
+    {
+        Judgement {
+            alloc,
+            watch: Watch::new(alloc),
+            is_begun: false,
+            is_broken: false,
+            tally: Tally {
+                counts: Counts::new(),
+                times: BTreeMap::new(alloc),
+            },
+        }
+    }
+
+    /// Whether a message would break no rule if it passed now.
+    pub fn fits(&self, way: Direction, message: &LoggedMessage) -> Result<bool, AllocError>
+        ensures { (j : Judged) → Judges self.now j → IfOk result (λ fits. fits ≡ (length
+            (breaches_of j.is_whole j.log way message.now.faults.items (option_map entry_view message.now.entry)) == 0)) }
+    {
+        let breaches = self.watch.breaches(way, message)?;
+        Ok(breaches.is_empty())
+    }
+
+    /// Sees one more message, and reports the rules that it breaks. If a log does not begin with `initialize`, and the report says that it may
+    /// begin late, the start of its session is unknown. An `initialize` after `exit` begins a new session.
+    pub fn see<W: Write>(
+        &mut self,
+        place: u64,
+        passing: &Passing,
+        report: &Report<'_>,
+        out: &mut W,
+    ) -> Result<()>
+        ensures { (j : Judged) → Judges self.old j → report.now.choice.now.ignored.items ≡ [] → OnOk result (Judges self.new
+            (seen report.now.choice.now report.now.may_begin_late passing.now.order j place passing.now.way
+            passing.now.message.faults.items (option_map entry_view passing.now.message.entry))) }
+    {
+        self.begin(passing, report, out)?;
+        self.tally.count(&self.watch, passing);
+        self.pass(place, passing, report, out)?;
+        self.tally.time_request(place, passing)
+    }
+
+    /// Begins the judgement of a session, if the message does.
+    fn begin<W: Write>(&mut self, passing: &Passing, report: &Report<'_>, out: &mut W) -> Result<()>
+        ensures { (j : Judged) → Judges self.old j → report.now.choice.now.ignored.items ≡ [] → OnOk result (Judges self.new
+            (begun report.now.choice.now report.now.may_begin_late j passing.now.way (option_map entry_view passing.now.message.entry))) }
+    {
+        if !self.is_begun && report.may_begin_late && !is_initialize(passing) {
+            self.watch = Watch::from_the_middle(self.alloc);
+            self.is_begun = true;
+            return Ok(());
+        }
+        if self.watch.begins_session(passing.way, &passing.message) {
+            let ends = Ends {
+                server: true,
+                client: true,
+            };
+            self.leave(ends, report, out)?;
+            self.watch = Watch::new(self.alloc);
+            self.is_begun = true;
+            return Ok(());
+        }
+        self.is_begun = true;
+        Ok(())
+    }
+
+    fn pass<W: Write>(
+        &mut self,
+        place: u64,
+        passing: &Passing,
+        report: &Report<'_>,
+        out: &mut W,
+    ) -> Result<()>
+        ensures { (j : Judged) → Judges self.old j → report.now.choice.now.ignored.items ≡ [] → OnOk result (Judges self.new
+            (passed_on report.now.choice.now passing.now.order j place passing.now.way
+            passing.now.message.faults.items (option_map entry_view passing.now.message.entry))) }
+    {
+        let mut breaches = self.watch.observe(place, passing.way, &passing.message)?;
+        remove_ignored(report.choice, passing, &mut breaches);
+        let fails = any_fails(
+            report.choice,
+            passing.order,
+            passing.way,
+            breaches.as_slice(),
+        );
+        self.is_broken = self.is_broken || fails;
+        self.is_begun = true;
+        let told = self
+            .tally
+            .tell_breaches(place, passing, breaches.as_slice(), report, out);
+        drop(breaches);
+        told
+    }
+
+    /// Tells the requests that have no reply, and how much there was.
+    pub fn end<W: Write>(&mut self, ends: Ends, report: &Report<'_>, out: &mut W) -> Result<()>
+        ensures { (j : Judged) → Judges self.old j → report.now.choice.now.ignored.items ≡ []
+            → OnOk result (self.new.is_broken ≡ left report.now.choice.now ends.server ends.client j) }
+    {
+        self.leave(ends, report, out)?;
+        report.counts(&self.tally.counts, out)
+    }
+
+    /// Tells the requests that have no reply: that is a breach where the session is over.
+    fn leave<W: Write>(&mut self, ends: Ends, report: &Report<'_>, out: &mut W) -> Result<()>
+        ensures broken { (j : Judged) → Judges self.old j → report.now.choice.now.ignored.items ≡ []
+            → OnOk result (self.new.is_broken ≡ left report.now.choice.now ends.server ends.client j) }
+        ensures watch { self.new.watch ≡ self.old.watch }
+        ensures begun { self.new.is_begun ≡ self.old.is_begun }
+    {
+        let unanswered = self.watch.finish(ends.server, ends.client)?;
+        let fails = any_left(report.choice, self.watch.asked(), unanswered.as_slice());
+        self.is_broken = self.is_broken || fails;
+        let told = self
+            .tally
+            .tell_open(self.watch.asked(), unanswered.as_slice(), report, out);
+        drop(unanswered);
+        told
+    }
+
+    /// Reports a breach that was found beside the rules of the watch.
+    pub fn tell<W: Write>(
+        &mut self,
+        place: u64,
+        passing: &Passing,
+        breach: &Breach,
+        report: &Report<'_>,
+        out: &mut W,
+    ) -> Result<()> {
+        self.tally.tell_breach(place, passing, breach, report, out)
+    }
+
+    /// What was seen of the session that goes on.
+    pub fn watch(&self) -> &Watch
+        ensures { result.now ≡ self.now.watch }
+    {
+        &self.watch
+    }
+
+    /// Whether a rule is broken so that the status is 1.
+    pub fn is_broken(&self) -> bool
+        ensures { result ≡ self.now.is_broken }
+    {
+        self.is_broken
+    }
+
+    /// Whether there was a message.
+    pub fn is_judged(&self) -> bool
+        ensures { result ≡ self.now.is_begun }
+    {
+        self.is_begun
+    }
+}
+
+/// Removes the breaches that are ignored.
+fn remove_ignored(choice: &Choice, passing: &Passing, breaches: &mut Vec<Breach>)
+    ensures { choice.now.ignored.items ≡ [] → breaches.new.items ≡ breaches.old.items }
+{
+    if !choice.ignored.is_empty() {
+        breaches.retain(|it| !choice.ignores(it.rule, passing.method()));
+    }
+}
+
+/// Whether one of the breaches makes the status 1 that a message of this way has.
+fn any_fails(choice: &Choice, order: Order, way: Direction, breaches: &[Breach]) -> bool
+    ensures { result ≡ list_any (fails_for choice.now order way) breaches.now }
+{
+    breaches.iter().any(|it| choice.fails(order, way, it))
+}
+
+/// Whether one of the requests without a reply makes the status 1, and is not ignored.
+fn any_left(choice: &Choice, asked: &[Asked], unanswered: &[Unanswered]) -> bool
+    ensures { choice.now.ignored.items ≡ [] → result ≡ list_any (leaves_for choice.now) unanswered.now }
+{
+    if choice.ignored.is_empty() {
+        any_leaves(choice, unanswered)
+    } else {
+        any_told(asked, unanswered, choice)
+    }
+}
+
+/// Whether one of the requests without a reply makes the status 1.
+fn any_leaves(choice: &Choice, unanswered: &[Unanswered]) -> bool
+    ensures { result ≡ list_any (leaves_for choice.now) unanswered.now }
+{
+    unanswered.iter().any(|it| choice.leaves(it))
+}
+
+/// The same, if some are ignored.
+fn any_told(asked: &[Asked], unanswered: &[Unanswered], choice: &Choice) -> bool {
+    let mut rest = unanswered;
+    for asked in asked.iter() {
+        if let Some(over) = over_of(asked, &mut rest)
+            && choice.leaves(&over)
+            && !choice.ignores(Rule::NoReply, asked.method.as_str())
+        {
+            return true;
+        }
+    }
+    false
+}
+
+/// What is said of a request where the session is over, if it is over for it: both lists are in the same order.
+fn over_of(asked: &Asked, rest: &mut &[Unanswered]) -> Option<Unanswered> {
+    match *rest {
+        [first, others @ ..] if first.place == asked.place && first.way == asked.way => {
+            *rest = others;
+            Some(*first)
+        }
+        _ => None,
+    }
+}
+
+impl Tally {
+    fn count(&mut self, watch: &Watch, passing: &Passing) {
+        self.counts.messages = self.counts.messages.saturating_add(1);
+        let Some(entry) = &passing.message.entry else {
+            return;
+        };
+        match entry.kind() {
+            MessageKind::Request(_) => {
+                self.counts.requests = self.counts.requests.saturating_add(1);
+            }
+            MessageKind::Reply(id, _) => {
+                self.counts.replies = self.counts.replies.saturating_add(1);
+                self.time_reply(watch, id, passing);
+            }
+            MessageKind::Notification => {}
+        }
+    }
+
+    /// Keeps when a request passed.
+    fn time_request(&mut self, place: u64, passing: &Passing) -> Result<()> {
+        let (Some(entry), Some(time)) = (&passing.message.entry, passing.time) else {
+            return Ok(());
+        };
+        if let MessageKind::Request(_) = entry.kind() {
+            self.times.insert(place, time)?;
+        }
+        Ok(())
+    }
+
+    /// Takes the time of a reply, before the watch sees it.
+    fn time_reply(&mut self, watch: &Watch, id: &LoggedId, passing: &Passing) {
+        let Some(asked) = watch.waiting(passing.way.other(), id) else {
+            return;
+        };
+        let request = asked.place;
+        let begun = self.times.remove(&request);
+        let milliseconds = match (passing.took, begun, passing.time) {
+            (Some(took), _, _) => took,
+            (None, Some(begun), Some(ended)) => ended.saturating_sub(begun),
+            _ => return,
+        };
+        if self
+            .counts
+            .slowest
+            .is_none_or(|it| it.milliseconds < milliseconds)
+        {
+            self.counts.slowest = Some(Slowest {
+                milliseconds,
+                request,
+            });
+        }
+    }
+
+    /// Tells the requests that have no reply: that is a breach where the session is over.
+    fn tell_open<W: Write>(
+        &mut self,
+        asked: &[Asked],
+        unanswered: &[Unanswered],
+        report: &Report<'_>,
+        out: &mut W,
+    ) -> Result<()> {
+        let mut rest = unanswered;
+        for asked in asked.iter() {
+            let over = over_of(asked, &mut rest);
+            self.counts.open = self.counts.open.saturating_add(1);
+            if tell_asked(asked, over, report, out)? {
+                self.counts.breaches = self.counts.breaches.saturating_add(1);
+                if report.choice.counts(Rule::NoReply, asked.way) {
+                    self.counts.failing = self.counts.failing.saturating_add(1);
+                }
+            }
+        }
+        Ok(())
+    }
+
+    fn tell_breaches<W: Write>(
+        &mut self,
+        place: u64,
+        passing: &Passing,
+        breaches: &[Breach],
+        report: &Report<'_>,
+        out: &mut W,
+    ) -> Result<()> {
+        for breach in breaches.iter() {
+            self.tell_breach(place, passing, breach, report, out)?;
+        }
+        Ok(())
+    }
+
+    fn tell_breach<W: Write>(
+        &mut self,
+        place: u64,
+        passing: &Passing,
+        breach: &Breach,
+        report: &Report<'_>,
+        out: &mut W,
+    ) -> Result<()> {
+        let is_sure = breach.verdict == Verdict::Breach && passing.order.decides(breach.rule);
+        let fails = report.choice.fails(passing.order, passing.way, breach);
+        if is_sure {
+            self.counts.breaches = self.counts.breaches.saturating_add(1);
+        }
+        if fails {
+            self.counts.failing = self.counts.failing.saturating_add(1);
+        }
+        let subject = subject_of(report.alloc, breach.rule, passing)?;
+        let text = format!(in report.alloc; "{}", breach.rule)?;
+        let told = Told {
+            kind: if is_sure {
+                Kind::Breach
+            } else {
+                Kind::CannotTell
+            },
+            place,
+            way: Some(passing.way),
+            rule: Some(breach.rule),
+            fails,
+            method: Some(passing.method()),
+            about: subject.about(),
+            text: text.as_str(),
+            against: breach.against,
+        };
+        report.tell(&told, out)
+    }
+}
+
+fn is_initialize(passing: &Passing) -> bool
+    ensures { result ≡ opens passing.now.way (option_map entry_view passing.now.message.entry) }
+{
+    match &passing.message.entry {
+        Some(entry) => passing.way.is_from_client() && asks(entry, "initialize"),
+        None => false,
+    }
+}
+
+/// Whether it is a request of this method.
+fn asks(entry: &Entry, method: &str) -> bool
+    ensures { result ≡ has_request method.now (entry_view entry.now) }
+{
+    match entry.kind() {
+        MessageKind::Request(_) => entry.method() == method,
+        MessageKind::Notification | MessageKind::Reply(_, _) => false,
+    }
+}
+
+/// Reports a request that has no reply, and returns whether that is a breach which is reported.
+fn tell_asked<W: Write>(
+    asked: &Asked,
+    over: Option<Unanswered>,
+    report: &Report<'_>,
+    out: &mut W,
+) -> Result<bool> {
+    let id = format!(in report.alloc; "{}", asked.id)?;
+    let (kind, rule) = match over {
+        Some(over) if !report.choice.ignores(Rule::NoReply, asked.method.as_str()) => {
+            match over.verdict {
+                Verdict::Breach => (Kind::Breach, Some(Rule::NoReply)),
+                Verdict::CannotTell => (Kind::CannotTell, Some(Rule::NoReply)),
+            }
+        }
+        _ => (Kind::Open, None),
+    };
+    let text = format!(in report.alloc; "{}", Rule::NoReply)?;
+    let told = Told {
+        kind,
+        place: asked.place,
+        way: Some(asked.way),
+        rule,
+        fails: kind == Kind::Breach && report.choice.counts(Rule::NoReply, asked.way),
+        method: Some(asked.method.as_str()),
+        about: About::Id(id.as_str()),
+        text: if rule.is_some() {
+            text.as_str()
+        } else {
+            "has no reply"
+        },
+        against: None,
+    };
+    report.tell(&told, out)?;
+    Ok(kind == Kind::Breach)
+}
+
+/// The subject of a breach, with its own copy of the text.
+#[derive(Drop)]
+enum Subject {
+    Nothing,
+    Id(String),
+    Uri(String),
+    Token(String),
+}
+
+impl Subject {
+    fn about(&self) -> About<'_> {
+        match self {
+            Subject::Nothing => About::Nothing,
+            Subject::Id(id) => About::Id(id.as_str()),
+            Subject::Uri(uri) => About::Uri(uri.as_str()),
+            Subject::Token(token) => About::Token(token.as_str()),
+        }
+    }
+}
+
+/// What a breach is about: the document, the token, or the id of the message.
+fn subject_of(alloc: Global, rule: Rule, passing: &Passing) -> Result<Subject> {
+    let Some(entry) = &passing.message.entry else {
+        return Ok(Subject::Nothing);
+    };
+    let params = entry.params();
+    match rule {
+        Rule::AlreadyOpen | Rule::NotOpen | Rule::VersionNotHigher => {
+            let document = params.and_then(|it| it.get("textDocument"));
+            match document
+                .and_then(|it| it.get("uri"))
+                .and_then(Value::as_str)
+            {
+                Some(uri) => Ok(Subject::Uri(String::from_str(alloc, uri)?)),
+                None => Ok(Subject::Nothing),
+            }
+        }
+        Rule::NeverOpened => match params.and_then(|it| it.get("uri")).and_then(Value::as_str) {
+            Some(uri) => Ok(Subject::Uri(String::from_str(alloc, uri)?)),
+            None => Ok(Subject::Nothing),
+        },
+        Rule::NoSuchToken | Rule::TokenEnded => match params.and_then(|it| it.get("token")) {
+            Some(token) => Ok(Subject::Token(token.to_string(alloc)?)),
+            None => Ok(Subject::Nothing),
+        },
+        _ => match (entry.tree().get("id"), entry.id()) {
+            (Some(id @ Value::String(_)), _) => Ok(Subject::Id(id.to_string(alloc)?)),
+            (_, None) => Ok(Subject::Nothing),
+            (_, Some(id)) => Ok(Subject::Id(format!(in alloc; "{id}")?)),
+        },
+    }
+}

@@ -1,0 +1,76 @@
+// A message that passed.
+ghost use Rattle.std.specs.Prelude.{◌≡◌};
+ghost use Rattle.lsp_judge.specs.Choice.{decides as decides_for};
+
+use lsp_watch::{Direction, LoggedMessage, Rule};
+
+/// What is known of the order in which two ways passed.
+#[derive(Clone, Copy, Debug, PartialEq, Eq)]
+pub enum Order {
+    /// All of it.
+    Known,
+    /// Nothing, but all of the other way has passed.
+    BehindAll,
+    /// Nothing.
+    Unknown,
+}
+
+impl Order {
+    /// Whether a breach of this rule is one in each order that there may have been.
+    ///
+    /// It is so if the rule looks at what one side sends alone. A reply that nobody asked for, an id in use and what needs the result of
+    /// `initialize` are decided once all of the other way has passed: there is no more request, reply or result that could have come
+    /// before. The rules of tokens look at both ways.
+    pub fn decides(self, rule: Rule) -> bool
+        ensures { result ≡ decides_for self rule }
+    {
+        match (self, rule) {
+            (Order::Known, _) => true,
+            (_, Rule::NoSuchToken | Rule::TokenEnded) => false,
+            (
+                Order::Unknown,
+                Rule::NobodyAsked | Rule::IdStillOpen | Rule::BeforeResult | Rule::SentAgain,
+            ) => false,
+            _ => true,
+        }
+    }
+}
+
+/// A message with its way, and when it passed, in milliseconds from some time on.
+#[derive(Debug, Drop)]
+pub struct Passing {
+    pub way: Direction,
+    pub message: LoggedMessage,
+    pub time: Option<u64>,
+    /// How many milliseconds a reply took, if that is known.
+    pub took: Option<u64>,
+    pub order: Order,
+}
+
+impl Passing {
+    /// A message of which no time is known, in its place.
+    pub fn new(way: Direction, message: LoggedMessage) -> Passing
+        ensures way { result.way ≡ way }
+        ensures message { result.message ≡ message }
+        ensures order { result.order ≡ Order.Known }
+    {
+        Passing {
+            way,
+            message,
+            time: None,
+            took: None,
+            order: Order::Known,
+        }
+    }
+
+    /// The method; of a reply, that it is one.
+    pub fn method(&self) -> &str {
+        match &self.message.entry {
+            Some(entry) => match entry.method() {
+                "" => "reply",
+                method => method,
+            },
+            None => "message",
+        }
+    }
+}

@@ -1,0 +1,123 @@
+// The judgements of the servers of a log: each has one of its own.
+use crate::capabilities::Capabilities;
+use crate::judgement::{Ends, Judgement};
+use crate::passed::Passing;
+use crate::report::Report;
+use anyhow::{Result, ensure};
+use std::alloc::{AllocError, Global};
+use std::io::Write;
+
+/// How many servers a log may have.
+const MOST: usize = 64;
+
+/// A server of a log. In a log of one it has no name.
+#[derive(Drop)]
+struct Session {
+    name: Vec<u8>,
+    judged: Judgement,
+    capabilities: Capabilities,
+    /// Whether something goes against what was announced, so that the status is 1.
+    is_against: bool,
+}
+
+impl Session {
+    fn see<W: Write>(
+        &mut self,
+        place: u64,
+        passing: &Passing,
+        report: &Report<'_>,
+        out: &mut W,
+    ) -> Result<()> {
+        if !report.choice.capabilities {
+            return self.judged.see(place, passing, report, out);
+        }
+        let breach = self.capabilities.see(&self.judged, passing)?;
+        self.judged.see(place, passing, report, out)?;
+        match breach {
+            Some(breach) if !report.choice.ignores(breach.rule, passing.method()) => {
+                let fails = report.choice.fails(passing.order, passing.way, &breach);
+                self.is_against = self.is_against || fails;
+                self.judged.tell(place, passing, &breach, report, out)
+            }
+            _ => Ok(()),
+        }
+    }
+
+    fn is_broken(&self) -> bool {
+        self.judged.is_broken() || self.is_against
+    }
+}
+
+/// The servers of a log.
+#[derive(Drop)]
+pub struct Sessions {
+    alloc: Global,
+    all: Vec<Session>,
+}
+
+impl Sessions {
+    pub fn new(alloc: Global) -> Sessions {
+        Sessions {
+            alloc,
+            all: Vec::new(alloc),
+        }
+    }
+
+    pub fn is_empty(&self) -> bool {
+        self.all.is_empty()
+    }
+
+    /// Judges one more message of a server.
+    pub fn see<W: Write>(
+        &mut self,
+        name: &[u8],
+        place: u64,
+        passing: &Passing,
+        report: &Report<'_>,
+        out: &mut W,
+    ) -> Result<()> {
+        let at = self.place_of(name)?;
+        match self.all.get_mut(at) {
+            Some(session) => session.see(place, passing, report, out),
+            None => Ok(()),
+        }
+    }
+
+    /// The place of a server in the list. A new one is added.
+    fn place_of(&mut self, name: &[u8]) -> Result<usize> {
+        match self.all.iter().position(|it| it.name.as_slice() == name) {
+            Some(at) => Ok(at),
+            None => {
+                let at = self.all.len();
+                ensure!(at < MOST, "more than {MOST} servers in one log");
+                self.add(name)?;
+                Ok(at)
+            }
+        }
+    }
+
+    fn add(&mut self, name: &[u8]) -> Result<(), AllocError> {
+        let session = Session {
+            name: Vec::from_slice(self.alloc, name)?,
+            judged: Judgement::new(self.alloc),
+            capabilities: Capabilities::new(self.alloc),
+            is_against: false,
+        };
+        Ok(self.all.push(session)?)
+    }
+
+    /// Tells what is open, and how much there was, and says whether a rule is broken.
+    pub fn end<W: Write>(&mut self, report: &Report<'_>, out: &mut W) -> Result<bool> {
+        let mut is_broken = false;
+        for session in self.all.iter_mut() {
+            let name = std::str::from_utf8(session.name.as_slice()).unwrap_or("");
+            let ends = Ends {
+                server: false,
+                client: false,
+            };
+            session.judged.end(ends, &report.of_server(name), out)?;
+            is_broken = is_broken || session.is_broken();
+        }
+        Ok(is_broken)
+    }
+}

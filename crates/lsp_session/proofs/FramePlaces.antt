@@ -1,0 +1,465 @@
+-- What the place of a frame says of its bytes.
+use Rattle.std.proofs.Common.{◌≡◌, ◌≢◌, refl, sym, ap, subst, ◌∙◌, ℕ, ◌+◌, ◌-◌, ◌<◌, ◌≤◌, Bool, true, false, nat_lt}
+use Rattle.std.proofs.Common.{eqb, get_or, MatchOption, List, [], ◌∷◌, ◌++◌, length, append_assoc, append-nil}
+use Rattle.std.proofs.Common.{length-append, length-drop}
+use Rattle.std.proofs.Common.{take, drop, take_all, drop_of_length-le, le_refl, Option, Some, None, Result, Ok, Err}
+use Rattle.std.proofs.Common.{arith, inl, inr, ◌⊎◌, take-append-drop, true≢false, if◌then◌else◌}
+use Rattle.std.proofs.Math.Seq.{get_or-append_seam, take-append_seam, drop-append_seam}
+use Rattle.std.proofs.lemmas.Bool.{lt-ltb, le-ltb}
+use Rattle.std.proofs.lemmas.Bool.Decides.{Decides-eqb}
+use Rattle.std.proofs.lemmas.List.{take-append-le, drop-append-le}
+use Rattle.std.proofs.lemmas.Slice.Eq.{ends_is}
+use Rattle.std.specs.List.{ends_with}
+use Rattle.std.specs.Result.{result_err, is_err, is_ok}
+use Rattle.std.specs.Str.{chars, is_utf8}
+use Rattle.json.specs.Json.{value}
+use Rattle.json.specs.Lex.{lex, punctuate}
+use Rattle.lsp_message.specs.Frame.{body_means, content_of, header_under, reading_within}
+use Rattle.lsp_message.specs.Front.{front_of, at_header_end}
+use Rattle.lsp_message.specs.HeaderPart.{header_line, header_of, is_field, length_in, or_else, at_last_line}
+use Rattle.lsp_message.specs.Message.{Message}
+use Rattle.lsp_message.specs.Reading.{Reading, found}
+use Rattle.lsp_message.specs.ReadingSteps.{Decodes}
+use Rattle.lsp_message.specs.View.{message_view}
+use Rattle.lsp_message.specs.declared.frame.Front.TheVariants.{More}
+use Rattle.lsp_message.specs.declared.frame.ReadFault.{ReadFault}
+use Rattle.lsp_message.specs.declared.frame.ReadFault.TheVariants.{Input, Memory, HeaderTooLong, TooLong, NoLength}
+use Rattle.lsp_message.specs.declared.frame.ReadFault.TheVariants.{LineNotText, LineEnd, NoJson, ShortBody}
+use Rattle.lsp_message.specs.declared.frame.header.HeaderLine.{HeaderLine}
+use Rattle.lsp_message.specs.declared.frame.header.HeaderLine.TheVariants.{Blank}
+use Rattle.lsp_message.specs.declared.frame.limits.Limits.{Limits}
+use Rattle.lsp_message.proofs.HeaderSteps.{header_after}
+use Rattle.lsp_session.specs.ByteSession.{AwaitsMore, BeginsWithFault, IsFrameRead}
+use Rattle.lsp_session.specs.FramePlace.{HasNoFeed, IsLine, AreFields, InHeader, IsHeader, InContent, IsFaultOf}
+use Rattle.lsp_session.specs.FramePlace.{IsPlaceOf}
+use Rattle.lsp_session.specs.declared.loops.frame_input.Place.{Place}
+use Rattle.lsp_session.specs.declared.loops.frame_input.Place.TheVariants.{Header, Content, Fault}
+use Rattle.lsp_session.proofs.HeaderLines.{IsOpen, open_header, open_line, open_front, unended, header_at, front_at}
+use Rattle.lsp_session.proofs.HeaderLines.{fields_more, last_header}
+use Rattle.lsp_session.proofs.HeaderLines.{last_front, no_feed_joined, fields_none}
+
+-- a bound that the header part keeps
+abbrev pub Fits : Limits → List ℕ → Type 0
+Fits limits text = (most : ℕ) → limits.header ≡ Some most → length text ≤ most
+
+-- bytes that were added
+pub added : {E : Type 0} (r : Result Unit E) (failed : Bool) (old x new : List ℕ) → failed ≡ is_err r → failed ≡ false
+    → new ≡ (if is_ok r then old ++ x else old) → new ≡ old ++ x
+added (Ok done) failed old x new fails is items = items
+added (Err fault) failed old x new fails is items = absurd (true≢false (sym fails ∙ is))
+
+-- ---- the end of the line
+
+-- the rest of a slice
+pub tail_of : (n : ℕ) (xs : List ℕ) → take (length xs - n) (drop n xs) ≡ drop n xs
+tail_of n xs = take_all _ _ (omega (arith, length-drop n xs))
+
+-- bytes of a line, after bytes without a line feed
+pub line_joined : (a b : List ℕ) → HasNoFeed a → HasNoFeed b ⊎ IsLine b → HasNoFeed (a ++ b) ⊎ IsLine (a ++ b)
+line_joined a b plain (inl more) = inl (no_feed_joined a b plain more)
+line_joined a b plain (inr line) = inr (record {
+  stem = a ++ line.stem;
+  plain = no_feed_joined a line.stem plain line.plain;
+  whole = ap (λ l. a ++ l) line.whole ∙ sym (append_assoc a line.stem (10 ∷ []));
+})
+
+ends : (tail : List ℕ) → ends_with eqb tail (10 ∷ []) ≡ true → HasNoFeed tail → ⊥
+ends tail is plain =
+    let front = take (length tail - 1) tail in
+    let same : tail ≡ front ++ 10 ∷ [] = (ends_is Decides-eqb tail (10 ∷ []) _ refl).0 is in
+    let size : length tail ≡ length front + 1 = ap length same ∙ length-append front (10 ∷ []) in
+    plain (length front) (omega (arith, size)) (ap (λ l. get_or l (length front) 0) same
+    ∙ get_or-append_seam front 10 [] 0)
+
+-- a line that ends with a line feed is whole
+pub line_ended : (tail : List ℕ) → ends_with eqb tail (10 ∷ []) ≡ true → HasNoFeed tail ⊎ IsLine tail → IsLine tail
+line_ended tail is (inl plain) = absurd (ends tail is plain)
+line_ended tail is (inr line) = line
+
+-- one that does not is not
+pub line_goes_on : (tail : List ℕ) → ends_with eqb tail (10 ∷ []) ≡ false → HasNoFeed tail ⊎ IsLine tail
+    → HasNoFeed tail
+line_goes_on tail is (inl plain) = plain
+line_goes_on tail is (inr line) = absurd (never (sym is ∙ (ends_is Decides-eqb tail (10 ∷ []) _ refl).1 line.stem
+    line.whole))
+  where
+    never : false ≡ true → ⊥
+    never e = cc (e)
+
+-- ---- faults
+
+-- no bytes are no JSON
+nothing : body_means [] ≡ Err NoJson
+unfolding value is_utf8 chars lex punctuate
+nothing = refl
+
+pub begins_with : (limits : Limits) (text : List ℕ) (fault : ReadFault) → (reading_within limits text).outcome
+    ≡ Err fault → BeginsWithFault limits text fault
+begins_with limits text (Input kind) is = tt
+begins_with limits text Memory is = tt
+begins_with limits text fault is = is
+
+pub fault_kept : (limits : Limits) (text : List ℕ) (fault : ReadFault) → BeginsWithFault limits text fault
+    → IsFaultOf limits text fault
+fault_kept limits text (Input kind) is = λ _ never. absurd (never kind refl)
+fault_kept limits text Memory is = λ never _. absurd (never refl)
+fault_kept limits text fault is = λ _ _. ap result_err is
+
+pub fault_known : (limits : Limits) (text : List ℕ) (fault : ReadFault) → IsFaultOf limits text fault
+    → BeginsWithFault limits text fault
+fault_known limits text (Input kind) is = tt
+fault_known limits text Memory is = tt
+fault_known limits text fault is = known (reading_within limits text).outcome (is (λ e. cc (e)) (λ kind e. cc (e)))
+  where
+    known : (r : Result (Option Message) ReadFault) → result_err r ≡ Some fault → r ≡ Err fault
+    known (Ok found) e = cc (e)
+    known (Err other) e = cc (e)
+
+-- an answer is no fault
+none_fault : (a : Result (Option Message) ReadFault) (fault : ReadFault) → a ≡ Ok None → a ≡ Err fault → ⊥
+none_fault (Ok found) fault is other = cc (other)
+none_fault (Err kind) fault is other = cc (is)
+
+-- an answer has one fault
+same_fault : (a : Result (Option Message) ReadFault) (one other : ReadFault) → a ≡ Err one → a ≡ Err other → one ≡ other
+same_fault (Ok found) one other is again = absurd (cc (is))
+same_fault (Err kind) one other is again = cc (is, again)
+
+-- ---- header parts
+
+module _ (limits : Limits) where
+  under : (bound : Option ℕ) (text : List ℕ) (r : Reading ℕ) → header_of text ≡ r
+      → ((most : ℕ) → bound ≡ Some most → length text - length r.rest ≤ most) → header_under bound text ≡ r
+  under None text r is fits = is
+  under (Some most) text r is fits =
+      let below = le-ltb most (length text - length (header_of text).rest) (subst (λ (h : Reading ℕ). length text
+      - length h.rest ≤ most) (sym is) (fits most refl)) in
+      rw below is
+
+  over : (bound : Option ℕ) (text : List ℕ) (most : ℕ) → bound ≡ Some most → (header_of text).rest ≡ []
+      → most < length text → (header_under bound text).outcome ≡ Err HeaderTooLong
+  over None text most is rest above = absurd (cc (is))
+  over (Some n) text most is rest above =
+      let same : n ≡ most = some is in
+      let left : length (header_of text).rest ≡ 0 = ap length rest in
+      let long = lt-ltb n (length text - length (header_of text).rest) (omega (arith, same, left, above)) in
+      rw long refl
+    where
+      some : {A : Type 0} {a b : A} → Some a ≡ Some b → a ≡ b
+      some e = cc (e)
+
+  reads : (text : List ℕ) (r : Reading ℕ) → header_under limits.header text ≡ r
+      → (reading_within limits text).outcome ≡ (content_of body_means limits.content r.outcome r.rest).outcome
+  reads text r is = ap (λ (h : Reading ℕ). (content_of body_means limits.content h.outcome h.rest).outcome) is
+
+  too_long : (text : List ℕ) → (header_under limits.header text).outcome ≡ Err HeaderTooLong
+      → (reading_within limits text).outcome ≡ Err HeaderTooLong
+  too_long text is = ap (λ o. (content_of body_means limits.content o (header_under limits.header text).rest).outcome)
+      is
+
+  open_rest : (r : Reading ℕ) → IsOpen r → r.rest ≡ []
+  open_rest r (inl is) = ap (λ (h : Reading ℕ). h.rest) is
+  open_rest r (inr (inl is)) = ap (λ (h : Reading ℕ). h.rest) is
+  open_rest r (inr (inr is)) = ap (λ (h : Reading ℕ). h.rest) is
+
+  -- the reading of bytes whose header part is open is no limit's fault
+  open_fits : (text : List ℕ) (fault : ReadFault) → IsOpen (header_under limits.header text)
+      → fault ≢ LineNotText → fault ≢ LineEnd → (reading_within limits text).outcome ≢ Err fault
+  open_fits text fault (inl is) not_text not_end = λ e. none_fault _ fault (reads text _ is) e
+  open_fits text fault (inr (inl is)) not_text not_end = λ e. not_text (same_fault _ fault LineNotText e
+      (reads text _ is))
+  open_fits text fault (inr (inr is)) not_text not_end = λ e. not_end (same_fault _ fault LineEnd e (reads text _ is))
+
+  module _ (text : List ℕ) (line : ℕ) (given : Option ℕ) (are : AreFields given (take line text)) where
+    parts : take line text ++ drop line text ≡ text
+    parts = take-append-drop line text
+
+    header_here : header_of text ≡ header_after given (drop line text)
+    header_here = ap header_of (sym parts) ∙ header_at given (take line text) are (drop line text)
+
+    open_here : HasNoFeed (drop line text) → IsOpen (header_of text)
+    open_here plain = subst IsOpen (sym header_here) (open_header given (drop line text) plain)
+
+    open_under : HasNoFeed (drop line text) → Fits limits text → IsOpen (header_under limits.header text)
+    open_under plain fits =
+        let left : length (header_of text).rest ≡ 0 = ap length (open_rest _ (open_here plain)) in
+        subst IsOpen (sym (under limits.header text (header_of text) refl (λ most is.
+        let below = fits most is in omega (arith, left, below)))) (open_here plain)
+
+    -- a line without its end: more has to come
+    pub awaits_line : HasNoFeed (drop line text) → Fits limits text → AwaitsMore limits text
+    awaits_line plain fits = record {
+      more = ap front_of (sym parts) ∙ front_at given (take line text) are (drop line text)
+          ∙ open_front _ given (drop line text) plain;
+      header_fits = open_fits text HeaderTooLong (open_under plain fits) (λ e. cc (e)) (λ e. cc (e));
+      content_fits = open_fits text TooLong (open_under plain fits) (λ e. cc (e)) (λ e. cc (e));
+    }
+
+    module _ (whole : IsLine (drop line text)) (answer : Result HeaderLine ReadFault)
+        (is : header_line (drop line text) ≡ answer) where
+      here : take line text ++ (whole.stem ++ 10 ∷ []) ≡ text
+      here = ap (λ l. take line text ++ l) (sym whole.whole) ∙ parts
+
+      known : header_line (whole.stem ++ 10 ∷ []) ≡ answer
+      known = ap header_line (sym whole.whole) ∙ is
+
+      -- the line is one more field
+      pub more_fields : is_field answer ≡ true → AreFields (or_else (length_in answer) given) text
+      more_fields goes = subst (AreFields (or_else (length_in answer) given)) here
+          (fields_more given (take line text) are whole.stem whole.plain answer known goes)
+
+      -- the header part ends with the line
+      ended : is_field answer ≡ false → (more : List ℕ) → header_of (text ++ more)
+          ≡ record { outcome = at_last_line given answer; rest = more }
+      ended stops more = ap (λ l. header_of (l ++ more)) (sym here)
+          ∙ last_header given (take line text) are whole.stem whole.plain answer known stops more
+
+      ended_within : is_field answer ≡ false → Fits limits text → (more : List ℕ)
+          → header_under limits.header (text ++ more) ≡ record { outcome = at_last_line given answer; rest = more }
+      ended_within stops fits more = under limits.header (text ++ more) _ (ended stops more) (λ most bound.
+          let below = fits most bound in omega (arith, below, length-append text more))
+
+      ended_front : is_field answer ≡ false → (more : List ℕ) → front_of (text ++ more)
+          ≡ at_header_end (length (text ++ more)) (at_last_line given answer) (length more)
+      ended_front stops more = ap (λ l. front_of (l ++ more)) (sym here)
+          ∙ last_front given (take line text) are whole.stem whole.plain answer known stops more
+          ∙ ap (λ l. at_header_end (length (l ++ more)) (at_last_line given answer) (length more)) here
+
+      -- what is read of the text if the header part gives no length
+      pub ended_fault : (fault : ReadFault) → is_field answer ≡ false → Fits limits text
+          → at_last_line given answer ≡ Err fault → (reading_within limits text).outcome ≡ Err fault
+      ended_fault fault stops fits last =
+          reads text _ (ap (header_under limits.header) (sym (append-nil text)) ∙ ended_within stops fits [])
+          ∙ ap (λ o. (content_of body_means limits.content o []).outcome) last
+
+      rest_none : (t : Bool) → is_field answer ≡ t → (header_of text).rest ≡ []
+      rest_none true goes = ap (λ l. (header_of l).rest) (sym (append-nil text))
+          ∙ ap (λ (h : Reading ℕ). h.rest) (header_at (or_else (length_in answer) given) text (more_fields goes) [])
+      rest_none false stops = ap (λ l. (header_of l).rest) (sym (append-nil text))
+          ∙ ap (λ (h : Reading ℕ). h.rest) (ended stops [])
+
+    -- a header part above its bound
+    pub above_bound : HasNoFeed (drop line text) ⊎ IsLine (drop line text) → (most : ℕ) → limits.header ≡ Some most
+        → most < length text → (reading_within limits text).outcome ≡ Err HeaderTooLong
+    above_bound (inl plain) most is above = too_long text (over limits.header text most is
+        (open_rest _ (open_here plain)) above)
+    above_bound (inr whole) most is above = too_long text (over limits.header text most is (rest_none whole
+        (header_line (drop line text)) refl (is_field (header_line (drop line text))) refl) above)
+
+    -- the line is the blank one
+    module _ (whole : IsLine (drop line text)) (is : header_line (drop line text) ≡ Ok Blank)
+        (fits : Fits limits text) where
+      blank_within : (size : ℕ) → given ≡ Some size → (more : List ℕ) → header_under limits.header (text ++ more)
+          ≡ record { outcome = Ok (Some size); rest = more }
+      blank_within size counts more = ended_within whole (Ok Blank) is refl fits more
+          ∙ ap (λ g. record { outcome = at_last_line g (Ok Blank); rest = more }) counts
+
+      blank_reads : (size : ℕ) → given ≡ Some size → (reading_within limits text).outcome
+          ≡ (content_of body_means limits.content (Ok (Some size)) []).outcome
+      blank_reads size counts = reads text (record { outcome = Ok (Some size); rest = [] })
+          (ap (header_under limits.header) (sym (append-nil text)) ∙ blank_within size counts [])
+
+      pub blank_unsized : given ≡ None → (reading_within limits text).outcome ≡ Err NoLength
+      blank_unsized none = ended_fault whole (Ok Blank) is NoLength refl fits (ap (λ g. at_last_line g (Ok Blank)) none)
+
+      pub blank_long : (size : ℕ) → given ≡ Some size → limits.content < size
+          → (reading_within limits text).outcome ≡ Err TooLong
+      blank_long size counts long = let above = lt-ltb limits.content size long in blank_reads size counts ∙ (rw above
+          refl)
+
+      pub blank_empty : given ≡ Some 0 → (reading_within limits text).outcome ≡ Err NoJson
+      blank_empty counts = let within = le-ltb limits.content 0 (omega arith) in blank_reads 0 counts ∙ (rw within
+          (ap found nothing))
+
+      pub blank_place : (size : ℕ) → given ≡ Some size → size ≢ 0 → size ≤ limits.content
+          → InContent limits text (length text) size
+      blank_place size counts some allowed = record {
+        begun = le_refl _;
+        short = omega (arith, some);
+        header = subst (IsHeader limits size) (sym (take_all _ text (le_refl _))) (record {
+          allowed = allowed;
+          header = blank_within size counts;
+          front = λ more. ended_front whole (Ok Blank) is refl more ∙ ap (λ g. at_header_end (length (text ++ more))
+              (at_last_line g (Ok Blank)) (length more)) counts;
+        });
+      }
+
+  nothing_left : (text : List ℕ) → HasNoFeed (drop (length text) text)
+  nothing_left text = subst HasNoFeed (sym (drop_of_length-le text (le_refl _))) (λ k below. absurd (omega (
+    arith,
+    below,
+  )))
+
+  -- the next line begins at the end
+  pub next_line : (text : List ℕ) (given : Option ℕ) → AreFields given text → Fits limits text
+      → InHeader limits text (length text) given
+  next_line text given are fits = record {
+    begun = le_refl _;
+    fields = subst (AreFields given) (sym (take_all _ text (le_refl _))) are;
+    unended = nothing_left text;
+    fits = fits;
+  }
+
+  -- ---- content parts
+
+  module _ (size : ℕ) (head content : List ℕ) (is : IsHeader limits size head) where
+    not_above : nat_lt limits.content size ≡ false
+    not_above = le-ltb limits.content size is.allowed
+
+    -- some of the content part is missing
+    pub awaits_part : length content < size → AwaitsMore limits (head ++ content)
+    awaits_part short =
+        let some = lt-ltb (length content) size short in
+        let read : (reading_within limits (head ++ content)).outcome ≡ Err ShortBody =
+        reads (head ++ content) _ (is.header content) ∙ (rw (not_above, some) refl) in
+        record {
+          more = is.front content ∙ (rw some refl);
+          header_fits = λ e. no_header (same_fault _ ShortBody HeaderTooLong read e);
+          content_fits = λ e. no_content (same_fault _ ShortBody TooLong read e);
+        }
+      where
+        no_header : ShortBody ≡ HeaderTooLong → ⊥
+        no_header e = cc (e)
+
+        no_content : ShortBody ≡ TooLong → ⊥
+        no_content e = cc (e)
+
+    pub short_part : length content < size → (reading_within limits (head ++ content)).outcome ≡ Err ShortBody
+    short_part short =
+        let some = lt-ltb (length content) size short in
+        reads (head ++ content) _ (is.header content) ∙ (rw (not_above, some) refl)
+
+    module _ (all : length content ≡ size) where
+      whole_content : (rest : List ℕ) → reading_within limits (head ++ (content ++ rest))
+          ≡ record { outcome = found (body_means content); rest = rest }
+      whole_content rest =
+          let enough = le-ltb (length (content ++ rest)) size (omega (arith, length-append content rest, all)) in
+          let front : take size (content ++ rest) ≡ content = ap (λ n. take n (content ++ rest)) (sym all)
+          ∙ take-append_seam content rest in
+          let left : drop size (content ++ rest) ≡ rest = ap (λ n. drop n (content ++ rest)) (sym all)
+          ∙ drop-append_seam content rest in
+          ap (λ (h : Reading ℕ). content_of body_means limits.content h.outcome h.rest) (is.header (content ++ rest))
+          ∙ (rw (not_above, enough, front, left) refl)
+
+      -- the content part is a message
+      pub whole_message : (m : Message) → body_means content ≡ Ok m → IsFrameRead limits m (head ++ content)
+      whole_message m means = λ rest. ap (reading_within limits) (append_assoc head content rest) ∙ whole_content rest
+          ∙ ap (λ b. record { outcome = found b; rest = rest }) means
+
+      -- it is none
+      pub whole_fault : (fault : ReadFault) → body_means content ≡ Err fault
+          → (reading_within limits (head ++ content)).outcome ≡ Err fault
+      whole_fault fault means = ap (λ l. (reading_within limits (head ++ l)).outcome) (sym (append-nil content))
+          ∙ ap (λ (r : Reading Message). r.outcome) (whole_content []) ∙ ap found means
+
+  -- ---- content parts that go on
+
+  module _ (old x new : List ℕ) (start size : ℕ) (here : InContent limits old start size) (added : new ≡ old ++ x) where
+    head : IsHeader limits size (take start new)
+    head = subst (IsHeader limits size) (sym (take-append-le start old x here.begun) ∙ ap (take start) (sym added))
+        here.header
+
+    pub longer : length new < start + size → InContent limits new start size
+    longer short = record {
+      begun = omega (arith, here.begun, ap length added, length-append old x);
+      short = short;
+      header = head;
+    }
+
+    module _ (all : length new ≡ start + size) where
+      size_of : length (drop start new) ≡ size
+      size_of = omega (arith, length-drop start new, all)
+
+      pub read_message : (m : Message) → body_means (drop start new) ≡ Ok m → IsFrameRead limits m new
+      read_message m means = subst (λ (l : List ℕ). IsFrameRead limits m l) (take-append-drop start new)
+          (whole_message size (take start new) (drop start new) head size_of m means)
+
+      pub read_fault : (fault : ReadFault) → Decodes message_view (Err fault) (body_means (drop start new))
+          → BeginsWithFault limits new fault
+      read_fault (Input kind) means = tt
+      read_fault Memory means = tt
+      read_fault fault means = subst (λ (l : List ℕ). (reading_within limits l).outcome ≡ Err fault)
+          (take-append-drop start new) (whole_fault size (take start new) (drop start new) head size_of fault means)
+
+  -- ---- places
+
+  -- no byte has come
+  pub at_start : (text : List ℕ) → text ≡ [] → IsPlaceOf limits text (Header 0 None)
+  at_start text none = subst (λ (l : List ℕ). InHeader limits l 0 None) (sym none) (next_line [] None fields_none
+      (λ most is. omega arith))
+
+  pub fault_header : (text : List ℕ) (fault : ReadFault) (line : ℕ) (given : Option ℕ) → Fault fault
+      ≡ Header line given → InHeader limits text line given
+  fault_header text fault line given is = absurd (cc (is))
+
+  pub fault_content : (text : List ℕ) (fault : ReadFault) (start size : ℕ) → Fault fault ≡ Content start size
+      → InContent limits text start size
+  fault_content text fault start size is = absurd (cc (is))
+
+  pub fault_fault : (text : List ℕ) (fault : ReadFault) → BeginsWithFault limits text fault → (kind : ReadFault)
+      → Fault fault ≡ Fault kind → IsFaultOf limits text kind
+  fault_fault text fault begins kind is = subst (IsFaultOf limits text) (one is) (fault_kept limits text fault begins)
+    where
+      one : {a b : ReadFault} → Fault a ≡ Fault b → a ≡ b
+      one e = cc (e)
+
+  missing_part : (text : List ℕ) (start size : ℕ) → InContent limits text start size
+      → length (drop start text) < size
+  missing_part text start size here = omega (arith, length-drop start text, here.begun, here.short)
+
+  pub awaits_at : (text : List ℕ) (place : Place) → IsPlaceOf limits text place → AwaitsMore limits text
+  awaits_at text (Header line given) here = awaits_line text line given here.fields here.unended here.fits
+  awaits_at text (Content start size) here = subst (AwaitsMore limits) (take-append-drop start text)
+      (awaits_part size (take start text) (drop start text) here.header (missing_part text start size here))
+  awaits_at text (Fault kind) here = absurd here
+
+  pub in_header : (text : List ℕ) (place : Place) → IsPlaceOf limits text place → (line : ℕ) (given : Option ℕ)
+      → place ≡ Header line given → InHeader limits text line given
+  in_header text place here line given is = subst (IsPlaceOf limits text) is here
+
+  pub in_content : (text : List ℕ) (place : Place) → IsPlaceOf limits text place → (start size : ℕ)
+      → place ≡ Content start size → InContent limits text start size
+  in_content text place here start size is = subst (IsPlaceOf limits text) is here
+
+  pub at_no_fault : (text : List ℕ) (place : Place) → IsPlaceOf limits text place → (kind : ReadFault)
+      → place ≡ Fault kind → IsFaultOf limits text kind
+  at_no_fault text place here kind is = absurd (subst (IsPlaceOf limits text) is here)
+
+  -- ---- the end of the input
+
+  module _ (text : List ℕ) (line : ℕ) (given : Option ℕ) (here : InHeader limits text line given) where
+    end_under : (r : Reading ℕ) → header_after given (drop line text) ≡ r → r.rest ≡ []
+        → (reading_within limits text).outcome ≡ (content_of body_means limits.content r.outcome r.rest).outcome
+    end_under r is none =
+        let left : length r.rest ≡ 0 = ap length none in
+        reads text r (under limits.header text r (header_here text line given here.fields ∙ is) (λ most bound.
+        let below = here.fits most bound in omega (arith, left, below)))
+
+    pub end_of_line : line ≡ length text → (reading_within limits text).outcome ≡ Ok None
+    end_of_line is = end_under (record { outcome = Ok None; rest = [] }) (ap (header_after given)
+        (drop_of_length-le text (omega (arith, is)))) refl
+
+    end_at_fault : (tail : List ℕ) → drop line text ≡ tail → 0 < length tail → (fault : ReadFault)
+        → header_line tail ≡ Err fault → (reading_within limits text).outcome ≡ Err fault
+    end_at_fault [] same some fault is = absurd (omega (arith, some))
+    end_at_fault (b ∷ bs) same some fault is = end_under (record { outcome = Err fault; rest = [] })
+        (ap (header_after given) same ∙ open_line given b bs (subst HasNoFeed same here.unended) fault is) refl
+
+    pub end_in_line : line ≢ length text → MatchOption (result_err (header_line (drop line text)))
+        ((reading_within limits text).outcome ≡ Ok None) (BeginsWithFault limits text)
+    end_in_line other = at (unended (drop line text) here.unended)
+      where
+        some : 0 < length (drop line text)
+        some = omega (arith, length-drop line text, here.begun, other)
+
+        at : (header_line (drop line text) ≡ Err LineNotText) ⊎ (header_line (drop line text) ≡ Err LineEnd)
+            → MatchOption (result_err (header_line (drop line text)))
+            ((reading_within limits text).outcome ≡ Ok None) (BeginsWithFault limits text)
+        at (inl is) = rw is (end_at_fault (drop line text) refl some LineNotText is)
+        at (inr is) = rw is (end_at_fault (drop line text) refl some LineEnd is)
+
+  pub end_in_content : (text : List ℕ) (start size : ℕ) → InContent limits text start size
+      → (reading_within limits text).outcome ≡ Err ShortBody
+  end_in_content text start size here = subst (λ (l : List ℕ). (reading_within limits l).outcome ≡ Err ShortBody)
+      (take-append-drop start text) (short_part size (take start text) (drop start text) here.header
+      (missing_part text start size here))

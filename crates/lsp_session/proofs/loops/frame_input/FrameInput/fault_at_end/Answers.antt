@@ -1,0 +1,35 @@
+use Rattle.std.proofs.Common.{◌≡◌, sym, ap, subst, ◌∙◌, ◌-◌, List, ℕ, drop, take, length}
+use Rattle.std.proofs.Common.{MatchOption, Option, Ok, None}
+use Rattle.std.specs.Result.{result_err}
+use Rattle.lsp_message.specs.Frame.{reading_within}
+use Rattle.lsp_message.specs.HeaderPart.{header_line}
+use Rattle.lsp_message.specs.declared.frame.ReadFault.{ReadFault}
+use Rattle.lsp_session.specs.ByteSession.{BeginsWithFault}
+use Rattle.lsp_session.proofs.FramePlaces.{end_in_content, end_in_line, end_of_line, tail_of}
+use Rattle.lsp_session.proofs.loops.frame_input.FrameInput.fault_at_end.Goals as goal
+
+pub returns-then-line-bytes : goal.returns-then-line-bytes
+returns-then-line-bytes c =
+    let self = c.args.self.now in
+    end_of_line self.limits self.bytes.items c.in-Header.line c.in-Header.field-1 (self.header c.in-Header.line
+    c.in-Header.field-1 c.in-Header.is) (c.if-line-bytes.true
+    ∙ ap (λ (l : List ℕ). length l) c.as_slice-bytes.ensures.value)
+
+pub returns-else-line-bytes : goal.returns-else-line-bytes
+returns-else-line-bytes c =
+    let self = c.args.self.now in
+    let text = self.bytes.items in
+    let line = c.in-Header.line in
+    let same = c.err.ensures.value ∙ ap result_err (c.header_line.ensures
+    ∙ ap (λ (l : List ℕ). header_line (take (length l - line) (drop line l))) c.as_slice-bytes.ensures.value
+    ∙ ap header_line (tail_of line text)) in
+    subst (λ (o : Option ReadFault). MatchOption o ((reading_within self.limits text).outcome ≡ Ok None)
+    (BeginsWithFault self.limits text)) (sym same) (end_in_line self.limits text line c.in-Header.field-1
+    (self.header line c.in-Header.field-1 c.in-Header.is) (λ e. c.if-line-bytes.false (e
+    ∙ sym (ap (λ (l : List ℕ). length l) c.as_slice-bytes.ensures.value))))
+
+pub returns-in-Content : goal.returns-in-Content
+returns-in-Content c =
+    let self = c.args.self.now in
+    end_in_content self.limits self.bytes.items c.in-Content.field-0 c.in-Content.field-1 (self.content
+    c.in-Content.field-0 c.in-Content.field-1 c.in-Content.is)

@@ -1,0 +1,21 @@
+use Rattle.std.proofs.Common.{sym, ap, subst, ◌∙◌, ◌⊎◌, List, ℕ, drop, take}
+use Rattle.std.proofs.lemmas.List.{drop-append-le}
+use Rattle.lsp_session.specs.ByteSession.{AwaitsMore}
+use Rattle.lsp_session.specs.FramePlace.{HasNoFeed, IsLine}
+use Rattle.lsp_session.proofs.FramePlaces.{added, awaits_at, line_joined}
+use Rattle.lsp_session.proofs.loops.frame_input.FrameInput.receive_header.Goals as goal
+
+pub place_in_header-requires-clause-line : goal.place_in_header-requires-clause-line
+place_in_header-requires-clause-line c =
+    let old = c.args.self.now.bytes.items in
+    let more = take c.header_reach-count.result c.args.piece.now in
+    let here = c.args.self.now.header c.args.line c.args.given c.requires.here in
+    let now = c.as_slice.ensures.value ∙ added c.extend_from_slice.result c.is_err.result old more
+    c.extend_from_slice.new.self.items c.is_err.ensures.value c.if-is_err.false c.extend_from_slice.ensures.items in
+    subst (λ (l : List ℕ). HasNoFeed l ⊎ IsLine l) (sym (drop-append-le c.args.line old more here.begun)
+    ∙ ap (drop c.args.line) (sym now)) (line_joined (drop c.args.line old) more here.unended
+    c.header_reach-count.ensures.line)
+
+pub returns-in-Ok-clause-awaits : goal.returns-in-Ok-clause-awaits
+returns-in-Ok-clause-awaits c = subst (AwaitsMore c.args.self.now.limits) c.as_slice.ensures.value
+    (awaits_at c.args.self.now.limits c.as_slice.result.now c.in-Ok.place c.in-Ok.ensures.place)

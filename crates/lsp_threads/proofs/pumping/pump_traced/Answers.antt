@@ -1,0 +1,45 @@
+use Rattle.std.proofs.Common.{[], ◌++◌, Some, subst}
+use Rattle.std.specs.List.{concat}
+use Rattle.lsp_threads.specs.Framing.{TellsFrames}
+use Rattle.lsp_threads.proofs.Frames.{pumped_over}
+use Rattle.lsp_threads.proofs.Taken.{given_whole, nothing_taken}
+use Rattle.lsp_threads.proofs.pumping.pump_traced.Goals as goal
+
+pub returns-clause-told : goal.returns-clause-told
+returns-clause-told g c = λ rest ends.
+    let started = c.in-Ok-start_reader.ensures in
+    let promise = c.in-Ok-start_reader.reading.promise in
+    let back = c.join-tx.result in
+    let tells = subst (λ l. TellsFrames l (g.R.Read.remaining promise.reader.value) promise.tx.value back.1 back.2.parts
+    back.0) started.1 c.join-tx.ensures.1 in
+    rw c.answer_of.ensures
+    (pumped_over c.args.limits (Some (concat back.2.parts ++ rest)) (Some []) _ promise.tx.value back.0
+    c.write_texts-rx.result.0.taken back.1 c.write_texts-rx.result.1 (tells.0 rest ends)
+    (rw c.new-given.ensures at c.write_texts-rx.ensures.written) c.settle_all.ensures.settled)
+
+pub returns-clause-taken : goal.returns-clause-taken
+returns-clause-taken g c = rw c.in-Ok-start_reader.ensures.0 at c.join-tx.ensures.1.1
+
+pub returns-clause-given : goal.returns-clause-given
+returns-clause-given g c = given_whole _ _ _ _ c.new-given.ensures c.write_texts-rx.ensures.given
+
+pub returns-in_default-clause-taken : goal.returns-in_default-clause-taken
+returns-in_default-clause-taken g c = (
+  g.R.Read.remaining c.args.reader,
+  rw c.not_started.ensures.nothing.0
+      (nothing_taken (g.R.Read.remaining c.args.reader)),
+)
+
+pub returns-in-Err-clause-taken : goal.returns-in-Err-clause-taken
+returns-in-Err-clause-taken g c = (
+  g.R.Read.remaining c.args.reader,
+  rw c.not_started-in-Err.ensures.nothing.0
+      (nothing_taken (g.R.Read.remaining c.args.reader)),
+)
+
+pub returns-in_default-bounded_backlog-clause-taken : goal.returns-in_default-bounded_backlog-clause-taken
+returns-in_default-bounded_backlog-clause-taken g c = (
+  g.R.Read.remaining c.args.reader,
+  rw c.not_started-in_default-bounded_backlog.ensures.nothing.0 (nothing_taken
+      (g.R.Read.remaining c.args.reader)),
+)
