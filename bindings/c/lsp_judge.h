@@ -1,0 +1,98 @@
+/* lsp_judge: judges what passed between an LSP client and a server, by JSON-RPC 2.0 and LSP 3.17. C99 and C++. It needs the C library alone. */
+#ifndef LSP_JUDGE_H
+#define LSP_JUDGE_H
+#include <stddef.h>
+#include <stdint.h>
+#ifdef __cplusplus
+extern "C" {
+#endif
+
+/* Major * 1,000,000 + minor * 1,000 + patch. */
+#define LSP_JUDGE_VERSION 24000
+
+/* Statuses. The first four are those of the program lsp_check. */
+#define LSP_JUDGE_CLEAN 0   /* there is a message, every line was read, and no rule that counts is broken */
+#define LSP_JUDGE_BROKEN 1  /* a rule that counts is broken */
+#define LSP_JUDGE_NOTHING 2 /* there is no message */
+#define LSP_JUDGE_UNREAD 3  /* a line was not read. What was read breaks no rule that counts */
+#define LSP_JUDGE_FAILED 4  /* nothing is said. An allocation failed; or another log is frames of one direction, or has more than 64 servers */
+#define LSP_JUDGE_REFUSED 5 /* nothing is said. An option or a `size` has a value that this header does not name */
+
+/* The format of a log. */
+#define LSP_JUDGE_RECORDING 0 /* each line is `-> ` (to the server) or `<- ` (to the client) and a content part in one line, or it is blank */
+#define LSP_JUDGE_ANY_LOG 1   /* a recording or the log of an editor. The first lines show which it is, and lsp_check reads the same logs */
+
+/* Whose breaches count. */
+#define LSP_JUDGE_SERVER 0
+#define LSP_JUDGE_CLIENT 1
+#define LSP_JUDGE_BOTH 2
+
+/* The weakest level that counts. */
+#define LSP_JUDGE_MUST 0
+#define LSP_JUDGE_SHOULD 1
+#define LSP_JUDGE_IMPLIED 2
+
+/* A group of rules beside those of a session. */
+#define LSP_JUDGE_CAPABILITIES 1
+
+/* Of the two formats, only LSP_JUDGE_RECORDING has `from_line`, and only LSP_JUDGE_ANY_LOG has groups of rules. */
+struct lsp_judge_options {
+    uint64_t size;       /* sizeof(struct lsp_judge_options) */
+    uint64_t from_line;  /* the messages before this line are judged, and not reported. 0 and 1: all is reported */
+    uint8_t format;
+    uint8_t side;
+    uint8_t level;
+    uint8_t begins_late; /* 1: the first messages of a log that does not begin with `initialize` may be missing. 0: none is missing */
+    uint32_t groups;     /* 0 or LSP_JUDGE_CAPABILITIES */
+};
+
+struct lsp_judge_verdict {
+    uint64_t size;    /* sizeof(struct lsp_judge_verdict), which the caller writes */
+    uint64_t unread;  /* of a recording: the first line that was not read, from 1 on; 0: every line was read. Of another log: 0 */
+    uint64_t needed;  /* the bytes of the whole report */
+    uint64_t written; /* the bytes of it that were written. If the room is too small, these are its first lines that fit whole */
+};
+
+/* Judges a log, and returns the status. The report is lines of JSON, as `lsp_check --json` prints them, with "file":"log". The bytes of the
+ * room after `written` are undefined. If `needed` is more than `report_len`, call again with that room. After the statuses 4 and 5 the
+ * verdict is unchanged.
+ *
+ * A rule counts if it is of the chosen side, and of the chosen level or a stronger one. A breach that is not certain ("perhaps") is
+ * reported, and never counts. In another log than a recording, lines between the messages are skipped, and a last line that was cut is
+ * reported and is no reason for status 3.
+ *
+ * The caller has to keep this, and nothing checks it:
+ * - No pointer is null, also where the length is 0. `options`, `log`, `report` and `verdict` do not overlap.
+ * - Nobody else writes to them during the call.
+ * - The call is not made in a signal handler, nor in a forked child of a process with threads.
+ * - The thread has 128 KB of stack left.
+ * - malloc, realloc and free belong to one allocator, and align as those of the C library do.
+ * Any number of threads may call at the same time.
+ *
+ * Proved about recordings, for each log and each value of the options:
+ * - Status 0: there is a message, every line was read, and no rule that counts is broken.
+ * - Status 0, where both sides and the level IMPLIED are chosen and begins_late is 0: in each session, after each line, each reply answers
+ *   one request that passed before it, each request has at most one reply, and both sides keep the order of the lifecycle.
+ * - Status 1, and `unread` is 0: a rule that counts is broken.
+ * - Status 2, and `unread` is 0: there is no message.
+ * - Status 3: `unread` is not 0.
+ * - `unread` is as above.
+ * Proved about each log:
+ * - The status is 5 exactly if an option or a `size` has another value than this header names.
+ * - `written` is at most `report_len`. If `needed` is at most `report_len`, then `written` is `needed`.
+ * - No byte outside the room and the verdict is written, and no byte outside the given lengths is read.
+ * Tested, and not proved: the text of the report, the readers of other logs, that status 4 comes only as this header says, and what
+ * statuses 1 to 3 say where `unread` is not 0. */
+uint8_t lsp_judge_log(const struct lsp_judge_options *options, const uint8_t *log, size_t log_len, uint8_t *report, size_t report_len,
+                      struct lsp_judge_verdict *verdict);
+
+/* Writes the rules, a line of JSON for each, as `lsp_check rules --json` prints them. The status is 0, or 4 if an allocation failed, or 5
+ * for another `size`. */
+uint8_t lsp_judge_rules(uint8_t *report, size_t report_len, struct lsp_judge_verdict *verdict);
+
+/* Returns the version of the library, as LSP_JUDGE_VERSION. */
+uint32_t lsp_judge_version(void);
+#ifdef __cplusplus
+}
+#endif
+#endif

@@ -1,0 +1,3 @@
+module lspjudge
+
+go 1.19
