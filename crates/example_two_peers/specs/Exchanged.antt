@@ -3,6 +3,7 @@ use Rattle.std.specs.Prelude.{◌≡◌, ℕ, List, ◌++◌, [], Bool, true, ma
 use Rattle.lsp_message.specs.View.{message_view}
 use Rattle.lsp_peers.specs.Exchange.{WorldAfter, seen_at}
 use Rattle.lsp_peers.specs.History.{Entry, entries_of, frames_written}
+use Rattle.lsp_peers.specs.InOnePlace.{InOnePlace}
 use Rattle.lsp_peers.specs.SentFrame.{messages}
 use Rattle.lsp_peers.specs.Sides.{other}
 use Rattle.lsp_peers.specs.declared.step.Outcome.{Outcome}
@@ -31,5 +32,7 @@ pub record Exchanged (steps : List Step) (outcomes : List Outcome) (world : Worl
   pub after : WorldAfter world (λ side. []) history
   pub took : all ≡ true → TookAll world history
   pub left : TookAll world history → all ≡ true
+  -- each request is on the way, with the other side, on the way back, done or given up
+  pub placed : (side : Side) → InOnePlace (entries_of side history) (entries_of (other side) history)
   -- whichever of them is the client, a watch finds no broken rule of ids in what they write
   pub watched : (client : Side) (log : Log) → IsLogOf client history log → KeepsIds log

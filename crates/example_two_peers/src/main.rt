@@ -12,6 +12,7 @@ ghost use Rattle.lsp_peers.specs.HistoryLaw.{FactsOf};
 mod script;
 
 use anyhow::Result;
+use lsp_peers::laws::each_request_is_in_one_place;
 use lsp_peers::{Outcome, Side, Step, World, WorldFault};
 use lsp_watched::laws::peers_keep_ids;
 use script::step_of;
@@ -21,11 +22,13 @@ use std::io;
 /// Runs the steps of both sides, in the order in which they are given. It returns whether each side took everything
 /// that the other one wrote. If so, and only then, nothing is left in the links.
 fn run_through(alloc: Global, steps: Vec<Step>) -> Result<(World, Vec<Outcome>, bool), WorldFault>
-    // Each side took a prefix of the messages that the other wrote, and all of them if the result says so. A watch finds no broken rule of ids.
+    // Each side took a prefix of the messages that the other wrote, and all of them if the result says so. Each request is in one place. A watch
+    // finds no broken rule of ids.
     ensures took { IfOk result (λ r. Exchanged steps.items r.1.items r.0 r.2) }
     // Each reply returns the payload of its own request, once.
     ensures facts { IfOk result (λ r. FactsOf steps.items r.1.items) }
 {
+    each_request_is_in_one_place();
     peers_keep_ids();
     let (world, outcomes) = World::run(alloc, steps)?;
     let all = is_idle(&world, Side::A) && is_idle(&world, Side::B);

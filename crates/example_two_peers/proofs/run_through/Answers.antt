@@ -23,5 +23,6 @@ returns-clause-took c =
             | then-is_idle w ↦ w.all-is ∙ some_bytes _ _ w.is_idle-all.ensures (none B)
             | else-is_idle w ↦ let idle = some_bytes _ _ c.is_idle.ensures (none A) in cc
           ]);
+      placed = λ side. c.each_request_is_in_one_place.ensures told.0 told.3.lawful side;
       watched = λ client log passes. c.peers_keep_ids.ensures client told.0 log told.3.lawful passes;
     }
