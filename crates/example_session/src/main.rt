@@ -2,13 +2,17 @@
 #![tactic(auto)]
 
 ghost use Rattle.serde_json.specs.View.{view};
+ghost use Rattle.std.specs.Prelude.{false};
+ghost use Rattle.lsp_session.specs.ActBytes.{SkipsNothing};
 ghost use Rattle.lsp_session.specs.Answered.{AnswersRequests};
 ghost use Rattle.lsp_session.specs.HandlerSession.{of_handler};
 ghost use Rattle.lsp_session.specs.Session.{SessionOut};
-ghost use Rattle.lsp_session.specs.SessionLaws.{Both};
+ghost use Rattle.lsp_session.specs.SessionLaws.{Both, KeepsOrder};
 ghost use Rattle.lsp_session.specs.StreamTransports.{IsUnused, Serves};
+ghost use Rattle.lsp_session.specs.Transcripts.{notes_of};
 
 use anyhow::{Result, bail};
+use lsp_server::laws::policies::nothing_is_skipped;
 use lsp_server::laws::sessions::session_answers_requests;
 use lsp_server::policies::{BadContentPolicy, EndOnBadContent};
 use lsp_server::transports::ClientStreams;
@@ -63,18 +67,21 @@ impl Handler for Documents {
 
 /// Serves the client of a transport. This holds for every reader and writer, also for standard input and output: the
 /// bytes that were taken are frames of messages, and those that were given are frames of what a session of `Documents`
-/// sends for them, each before the next byte is taken. Each request gets one reply.
+/// sends for them, each before the next byte is taken. Each request gets one reply. The messages keep the order of the
+/// lifecycle (LSP 3.17, "Server lifecycle"), and no content part is skipped.
 fn serve<R: BufRead, W: Write>(
     transport: &mut StreamTransport<'_, R, W, EndOnBadContent>,
     documents: &mut HandlerApplication<Documents>,
 ) -> Result<SessionEnd, SessionFault>
     requires { IsUnused transport.old }
-    ensures { Serves ⟦<EndOnBadContent as BadContentPolicy>⟧.passes
+    ensures session { Serves ⟦<EndOnBadContent as BadContentPolicy>⟧.passes
         (Both (SessionOut (of_handler ⟦<Documents as Handler>⟧.answer_post ⟦<Documents as Handler>⟧.note_post
-        (view documents.old.capabilities)) documents.old.handler documents.new.handler) AnswersRequests)
-        transport.old result transport.new }
+        (view documents.old.capabilities)) documents.old.handler documents.new.handler)
+        (Both AnswersRequests (KeepsOrder false false))) transport.old result transport.new }
+    ensures complete { SkipsNothing (notes_of transport.new.transcript.now) }
 {
     session_answers_requests::<Documents>();
+    nothing_is_skipped::<R, W, EndOnBadContent, HandlerApplication<Documents>>();
     transport.serve(documents)
 }
 
