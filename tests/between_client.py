@@ -128,7 +128,7 @@ def check_clients():
     print("a server that goes is told by a close, and the next client is served")
     listener, port = listening()
     with listener, between(port) as check:
-        for _ in range(2):
+        for _ in range(20):
             with check.connect() as client:
                 with Client(check, accepted(listener)) as theirs:
                     client.send_bytes(frame(INITIALIZE))

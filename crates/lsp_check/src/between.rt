@@ -82,12 +82,13 @@ where
         drop(from.set_read_timeout(Some(Duration::from_secs(LAST_SECONDS))));
         pass_on(&mut tell, &mut from, &mut io::sink());
     }
+    // The judgement depends on which side ended first. So this end is reported before the other side can answer it by its own.
+    tell.end();
     let how = match tell.way() {
         Direction::ToServer => Shutdown::Write,
         Direction::ToClient => Shutdown::Both,
     };
     drop(to.shutdown(how));
-    tell.end();
 }
 
 /// What is judged of the two ways.
