@@ -11,6 +11,7 @@ ghost use Rattle.lsp_session.specs.StreamTransports.{IsUnused, Serves};
 ghost use Rattle.lsp_acts.specs.ServerApplication.{ServerSession};
 
 use anyhow::{Result as Answer, bail};
+use lsp_acts::cancelled_id;
 use lsp_documents::{DocumentUpdate, SyncOptions, TextDocuments, UpdateFault};
 use lsp_methods::{Configuration, answer, from_value, publish, reply};
 use lsp_server::clients::{ClientOptions, serve_clients};
@@ -104,6 +105,10 @@ impl Server for Checker {
     }
 
     fn notification(&mut self, notification: Notification) -> Result<Acts, AllocError> {
+        // The session answers a request that its client cancels. A later reply of the server would answer a new request with this id.
+        if let Some(id) = cancelled_id(&notification)? {
+            self.waiting.retain(|it| it.id != id);
+        }
         let mut acts = Vec::new(self.alloc);
         self.note(&notification, &mut acts)?;
         Ok(acts)
