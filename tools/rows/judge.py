@@ -90,10 +90,18 @@ def culprit(rule, way):
 
 
 def key(value):
-    """An id or a token, so that 1 and "1" are two; None: it is none. A number goes by its value: an integer of 64 bits, or a float of such a one."""
-    if isinstance(value, float) and value.is_integer() and abs(value) < 1 << 63:
+    """An id or a token, so that 1 and "1" are two; None: it is none. A number goes by its value: 1.0 is 1, and 1.5 is one too."""
+    if type(value) is int and not -(1 << 63) <= value < 1 << 64:
+        value = float(value)
+    if isinstance(value, float) and value.is_integer() and -(1 << 63) <= value < 1 << 63:
         value = int(value)
-    return (type(value), value) if isinstance(value, str) or type(value) is int and -(1 << 63) <= value < 1 << 64 else None
+    return (type(value), value) if isinstance(value, str) or type(value) in (int, float) else None
+
+
+def is_whole(value):
+    """Whether an id or a token is a text or an integer of 64 bits, as LSP has them."""
+    name = key(value)
+    return name is not None and name[0] is not float
 
 
 def dig(tree, *names):
@@ -122,7 +130,7 @@ def shape(message):
 def call_shape(message):
     has_id, method = "id" in message, message["method"]
     return [rule for rule, is_broken in [
-        ("BadId", has_id and key(message["id"]) is None),
+        ("BadId", has_id and not is_whole(message["id"])),
         ("WideId", has_id and is_wide(message["id"])),
         ("BadParams", "params" in message and not isinstance(message["params"], (dict, list))),
         ("BadMethod", not isinstance(method, str)),
@@ -136,7 +144,7 @@ def reply_shape(message):
     is_null = message["id"] is None and failure is not None and not has_result
     is_error = isinstance(failure, dict) and type(failure.get("code")) is int and isinstance(failure.get("message"), str)
     return [rule for rule, is_broken in [
-        ("BadId", not is_null and key(message["id"]) is None),
+        ("BadId", not is_null and not is_whole(message["id"])),
         ("WideId", is_wide(message["id"])),
         ("BothOutcomes", has_result and "error" in message),
         ("NoOutcome", not has_result and failure is None),

@@ -99,6 +99,14 @@ LOGS = {
 }
 
 
+def fraction_ids():
+    """Requests whose ids have a fraction or an exponent, and replies to them: the last reply has the id of no request."""
+    ids = [("1.5", "15e-1"), ("1e3", "1000"), ("2", "2.0"), ("2.5", "2.25")]
+    asked = [line("->", f'{{"jsonrpc":"2.0","id":{it},"method":"textDocument/hover","params":{json.dumps(PLACE)}}}') for it, _ in ids]
+    replied = [line("<-", f'{{"jsonrpc":"2.0","id":{it},"result":null}}') for _, it in ids]
+    return "".join(within(*asked, *replied)).encode()
+
+
 def files():
     """The logs, by their names."""
     made = {}

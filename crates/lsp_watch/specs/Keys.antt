@@ -1,9 +1,9 @@
--- Ids and tokens by their values (JSON-RPC 2.0, section 4): a text, or a number that is whole.
+-- Ids and tokens by their values (JSON-RPC 2.0, section 4): a text, or a number.
 use Rattle.std.specs.Float.{Float, binary64, float_to_signed}
 use Rattle.std.specs.Float.Ieee.{of_int, le}
 use Rattle.std.specs.Int.{w64}
-use Rattle.std.specs.Prelude.{ℕ, ℤ, pos, List, Bool, ◌&&◌, Option, Some, None, option_map, option_and_then}
-use Rattle.std.specs.Prelude.{if◌then◌else◌, int_lt}
+use Rattle.std.specs.Prelude.{ℕ, ℤ, pos, ◌+◌, List, Bool, ◌&&◌, Option, Some, None, unwrap_or, option_and_then}
+use Rattle.std.specs.Prelude.{if◌then◌else◌, int_lt, to_bits}
 use Rattle.serde_json.specs.Data.{Num, unsigned, negative, float, Data, number, string}
 use Rattle.serde_json.specs.Find.{get}
 use Rattle.lsp_message.specs.Id as id
@@ -19,8 +19,18 @@ whole_number (unsigned n) = Some (pos n)
 whole_number (negative z) = Some z
 whole_number (float x) = if is_float_of (float_to_signed w64 x) x then Some (float_to_signed w64 x) else None
 
+-- A number that is not whole has the number of its 64 bits, counted from 2^64 on: no integer of 64 bits lies there.
+-- JSON-RPC 2.0 allows such an id ("SHOULD NOT").
+abbrev pub bits_number : Num → ℤ
+bits_number (unsigned n) = pos n
+bits_number (negative z) = z
+bits_number (float x) = pos (18446744073709551616 + to_bits binary64 x)
+
+abbrev pub number_key : Num → ℤ
+number_key n = unwrap_or (whole_number n) (bits_number n)
+
 abbrev pub key_of : Data → Option Id
-key_of (number n) = option_map id.number (whole_number n)
+key_of (number n) = Some (id.number (number_key n))
 key_of (string s) = Some (id.text s)
 key_of d = None
 

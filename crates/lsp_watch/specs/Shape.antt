@@ -2,11 +2,12 @@
 use Rattle.std.specs.Prelude.{◌≡◌, ◌⊎◌, ℕ, ℤ, List, [], ◌∷◌, ◌++◌, Bool, true, false, not, ◌&&◌, Option, Some, None}
 use Rattle.std.specs.Prelude.{option_map, option_and_then, is_some, codes}
 use Rattle.std.specs.Str.{bytes_eq, IsUtf8}
-use Rattle.serde_json.specs.Data.{Data, array, object}
+use Rattle.serde_json.specs.Data.{Data, number, string, array, object}
 use Rattle.serde_json.specs.Find.{get, as_str, as_number, as_integer, as_null}
+use Rattle.serde_json.specs.View.{view}
 use Rattle.lsp_message.specs.Meaning.{is_i32, unless_null}
 use Rattle.lsp_watch.specs.Entries.{entry_view, entry_in}
-use Rattle.lsp_watch.specs.Keys.{key_of, whole_number}
+use Rattle.lsp_watch.specs.Keys.{whole_number}
 use Rattle.lsp_watch.specs.Methods.{is_request, is_notification}
 use Rattle.lsp_watch.specs.declared.logged.LoggedMessage.{LoggedMessage}
 use Rattle.lsp_watch.specs.declared.rule.Rule.{Rule}
@@ -32,7 +33,9 @@ is_version d = is_text (codes "2.0") (option_and_then as_str (get (codes "jsonrp
 
 -- an integer or a text
 abbrev pub is_id : Data → Bool
-is_id d = is_some (key_of d)
+is_id (string s) = true
+is_id (number n) = is_some (whole_number n)
+is_id d = false
 
 -- an integer, and none of 32 bits
 abbrev pub is_beyond : Option ℤ → Bool
@@ -102,6 +105,7 @@ faults_of d = NoObject ∷ []
 -- the message was read from this tree
 pub record IsReadAs (m : LoggedMessage) (d : Data) : Type 0 where
   pub entry_is : option_map entry_view m.entry ≡ entry_in d
+  pub tree_is : option_map (λ e. view e.tree) m.entry ≡ option_map (λ x. d) (entry_in d)
   pub faults_are : m.faults.items ≡ faults_of d
 
 -- What is said of a content that is no JSON to the reader: it is none, or it could not be read.

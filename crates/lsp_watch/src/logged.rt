@@ -10,7 +10,7 @@ ghost use Rattle.lsp_message.specs.Tree.{tree_of};
 ghost use Rattle.lsp_message.specs.View.{message_view};
 ghost use Rattle.lsp_watch.specs.Documents.{params_in};
 ghost use Rattle.lsp_watch.specs.Entries.{entry_view, method_in, kind_in as kind_of_tree, call_kind as kind_of_call, has_success as succeeds};
-ghost use Rattle.lsp_watch.specs.Keys.{whole_number as whole, key_of};
+ghost use Rattle.lsp_watch.specs.Keys.{whole_number as whole, bits_number as number_by_bits, number_key as key_of_number, key_of};
 ghost use Rattle.lsp_watch.specs.Shape.{IsReadAs, ReadsAs, NoUtf8, IsNoText};
 
 use crate::rule::Rule;
@@ -22,7 +22,12 @@ use std::alloc::{AllocError, Global};
 use std::cmp::Ordering;
 use std::fmt;
 use std::marker::Model;
-use std::num::{nearest_i64_to_f64, saturating_f64_to_i64};
+use std::num::{
+    f64_from_bits_with_nan, f64_to_bits_with_nan, nearest_i64_to_f64, saturating_f64_to_i64,
+};
+
+/// 2^64. No integer of 64 bits is as high: from here on, a number that is not whole has its bits.
+const AFTER_INTEGERS: i128 = 18_446_744_073_709_551_616;
 
 #[derive(Debug, Drop)]
 enum KeptId {
@@ -30,8 +35,8 @@ enum KeptId {
     Text(String),
 }
 
-/// The id of a message in a log: a text, or a number that is whole (JSON-RPC 2.0, section 4). Numbers are compared by value: `-0` is 0,
-/// and `1.0` is 1. LSP itself has integers of 32 bits.
+/// The id of a message in a log: a text or a number (JSON-RPC 2.0, section 4). Numbers are compared by value: `-0` is 0, `1.0` is 1, and
+/// `1.5` is no other number. LSP itself has integers of 32 bits.
 ///
 /// It prints a number in decimal and a text in quotes.
 #[derive(Debug, Drop)]
@@ -53,9 +58,7 @@ impl LoggedId {
     {
         match value {
             Value::String(text) => Ok(Some(LoggedId(KeptId::Text(text.clone()?)))),
-            Value::Number(number) => Ok(whole_number(number).map(|number| LoggedId(KeptId::Number(
-                number,
-            )))),
+            Value::Number(number) => Ok(Some(LoggedId(KeptId::Number(number_key(number))))),
             _ => Ok(None),
         }
     }
@@ -138,7 +141,10 @@ impl Ord for LoggedId {
 impl fmt::Display for LoggedId {
     fn fmt<W: fmt::Write>(&self, f: &mut fmt::Formatter<W>) -> fmt::Result {
         match &self.0 {
-            KeptId::Number(number) => write!(f, "{number}"),
+            KeptId::Number(number) => match u64::try_from(number.saturating_sub(AFTER_INTEGERS)) {
+                Ok(bits) => write!(f, "{}", f64_from_bits_with_nan(bits)),
+                Err(_) => write!(f, "{number}"),
+            },
             KeptId::Text(text) => write!(f, "{text:?}"),
         }
     }
@@ -159,6 +165,26 @@ pub fn whole_number(number: &Number) -> Option<i128>
     } else {
         None
     }
+}
+
+/// The number of a key: the value of an integer of 64 bits, and otherwise the bits of the number.
+fn number_key(number: &Number) -> i128
+    ensures { result ≡ key_of_number (number_view number.now) }
+{
+    match whole_number(number) {
+        Some(whole) => whole,
+        None => bits_number(number),
+    }
+}
+
+fn bits_number(number: &Number) -> i128
+    ensures { result ≡ number_by_bits (number_view number.now) }
+{
+    if let Some(whole) = number.as_i128() {
+        return whole;
+    }
+    let float = number.as_f64().unwrap_or(0.0);
+    AFTER_INTEGERS + i128::from(f64_to_bits_with_nan(float))
 }
 
 /// Which of the three a message of a log is.
@@ -182,8 +208,8 @@ pub struct Entry {
 /// A message as a log has it, right or wrong in its shape.
 #[derive(Debug, Drop)]
 pub struct LoggedMessage {
-    /// The message, if it can be placed in a session: not so if it has no method and no id, or an id that is no id, or if it could not be
-    /// read, or if it is an error that names no request.
+    /// The message, if it can be placed in a session: not so if it has no method and no id, or an id that is neither a number nor a text,
+    /// or if it could not be read, or if it is an error that names no request.
     pub entry: Option<Entry>,
     /// The rules of its shape that it breaks.
     pub faults: Vec<Rule>,
