@@ -76,7 +76,7 @@ module _ (such : Open → Bool) where
       by true more e = refl
       by false more e = more e
 
-  find_any : (xs : List Open) → is_some (option_map (λ (o : Open). o.place) (find such xs)) ≡ true
+  pub find_any : (xs : List Open) → is_some (option_map (λ (o : Open). o.place) (find such xs)) ≡ true
       → list_any such xs ≡ true
   find_any [] e = cc
   find_any (x ∷ xs) e = by (such x) (find_any xs) e
@@ -119,7 +119,7 @@ both : (a b : Bool) → (a && b) ≡ true → (a ≡ true) × (b ≡ true)
 both true b e = (refl, e)
 both false b e = cc
 
-has_result : (log : Log) → is_some (initialize_result log) ≡ true → HasResult log
+pub has_result : (log : Log) → is_some (initialize_result log) ≡ true → HasResult log
 has_result [] e = cc
 has_result (p ∷ before) e = by (has_result before) (answers_initialize before p && is_success p.message) refl e
   where
@@ -151,7 +151,7 @@ or_some : (b : Bool) (place : ℕ) (o : Option ℕ) → is_some o ≡ true → i
 or_some true place o e = refl
 or_some false place o e = e
 
-result_kept : (since earlier : Log) (reply : Passed) → answers_initialize earlier reply ≡ true
+pub result_kept : (since earlier : Log) (reply : Passed) → answers_initialize earlier reply ≡ true
     → is_success reply.message ≡ true → is_some (initialize_result (since ++ reply ∷ earlier)) ≡ true
 result_kept [] earlier reply a s = ap (λ b. is_some (cond b (Some reply.place) (initialize_result earlier)))
     (and_of (answers_initialize earlier reply) (is_success reply.message) a s)
@@ -178,7 +178,7 @@ unless false x None more e = inr refl
 unless false None (Some p) more e = cc
 unless false (Some q) (Some p) more e = cc
 
-otherwise : (b : Bool) (a first more : Option Finding) → b ≡ false → cond b a (option_or first more) ≡ None
+pub otherwise : (b : Bool) (a first more : Option Finding) → b ≡ false → cond b a (option_or first more) ≡ None
     → more ≡ None
 otherwise true a first more is e = cc
 otherwise false a first more is e = second_none first more e

@@ -80,7 +80,7 @@ module _ (before : Log) (way : Direction) (id : Id) where
   replied_some (Some asked) e = (asked, refl)
 
   -- a reply that fits comes where one waits
-  one_waits : (w : Direction) (place : ℕ) (m : Message) → is_reply way id (passed w place m) ≡ true
+  pub one_waits : (w : Direction) (place : ℕ) (m : Message) → is_reply way id (passed w place m) ≡ true
       → id_finding before w m ≡ None → (asked : Open) × (waiting way id before ≡ Some asked)
   one_waits w place (request i method params) is fits = and_false (same_way (other way) w) is
   one_waits w place (notification method params) is fits = and_false (same_way (other way) w) is
@@ -100,7 +100,7 @@ push_one : {A : Type 0} (xs : List A) (x : A) → first xs ≡ None → xs ++ x 
 push_one [] x e = refl
 push_one (y ∷ ys) x e = cc
 
-never : (b : Bool) → (b && false) ≡ false
+pub never : (b : Bool) → (b && false) ≡ false
 never true = refl
 never false = refl
 

@@ -46,7 +46,7 @@ tells_step : (method : List ℕ) (way : Direction) (place : ℕ) (m : Message) (
 tells_step method ToServer place m before is = ap (cond (tells method m) (Some place)) is
 tells_step method ToClient place m before is = is
 
-tells_same : (method : List ℕ) (log : Log)
+pub tells_same : (method : List ℕ) (log : Log)
     → place_of (client_tells method) log ≡ place_of (client_tells method) (sent ToServer log)
 tells_same method [] = refl
 tells_same method (p ∷ before) = tells_step method p.way p.place p.message before (tells_same method before)

@@ -1,6 +1,8 @@
 mod CleanOrder
 mod CleanReplies
 mod EachOrder
+mod LateBreach
+mod Matched
 mod NoFalseAlarm
 pub mod Queues
 mod Refused

@@ -1,10 +1,13 @@
 -- Breaches that are there in one order, and not in another.
-use Rattle.std.proofs.Common.{◌≡◌, true, false, [], ◌∷◌, Ok, codes, pos, refl}
+use Rattle.std.proofs.Common.{◌≡◌, true, false, [], ◌∷◌, Ok, Err, codes, pos, refl}
+use Rattle.std.specs.List.{list_any}
 use Rattle.serde_json.specs.Data.{null}
 use Rattle.lsp_message.specs.Id.{number}
 use Rattle.lsp_message.specs.Message.{request, notification, response}
+use Rattle.lsp_watch.specs.Entries.{no_error}
 use Rattle.lsp_watch.specs.Log.{Log, Passed, passed}
-use Rattle.lsp_watch.specs.Orders.{AreOrders, is_sure, any_finding, breaks}
+use Rattle.lsp_watch.specs.Orders.{AreOrders, is_sure, is_late, is_unasked, any_finding, breaks}
+use Rattle.lsp_watch.specs.Verdicts.{findings_of}
 use Rattle.lsp_watch.specs.declared.direction.Direction.TheVariants.{ToServer, ToClient}
 
 abbrev asks : Passed
@@ -38,3 +41,20 @@ not_sure = refl
 -- what is sent after `exit` is sure
 exit_twice : breaks is_sure (exits ∷ (exits ∷ [])) ≡ true
 exit_twice = refl
+
+abbrev refuses : Passed
+refuses = passed ToClient 2 (response (number (pos 1)) (Err no_error))
+
+abbrev asks_again : Passed
+asks_again = passed ToServer 3 (request (number (pos 1)) (codes "initialize") null)
+
+-- After a reply that found no request, a late breach is not certain. Here the second `initialize` comes too early, and
+-- in the other order it does not.
+again_is_late : list_any is_late (findings_of (asks ∷ (refuses ∷ [])) ToServer asks_again.message) ≡ true
+again_is_late = refl
+
+refused_nobody : breaks is_unasked (asks ∷ (refuses ∷ [])) ≡ true
+refused_nobody = refl
+
+fine_after_refusal : breaks any_finding (asks_again ∷ (refuses ∷ (asks ∷ []))) ≡ false
+fine_after_refusal = refl

@@ -2,9 +2,12 @@
 ghost use Rattle.lsp_message.specs.Id.{Id};
 ghost use Rattle.lsp_watch.specs.CleanLog.{IsClean, RepliesOnce, KeepsOrder};
 ghost use Rattle.lsp_watch.specs.Lawful.{IsLawful, BreaksNone};
-ghost use Rattle.lsp_watch.specs.Log.{Log, Open};
-ghost use Rattle.lsp_watch.specs.Orders.{AreOrders, breaks, is_sure, any_finding};
-ghost use Rattle.std.specs.Prelude.{◌≡◌, List, true};
+ghost use Rattle.lsp_watch.specs.Log.{Log, Open, Passed};
+ghost use Rattle.lsp_watch.specs.Orders.{AreOrders, IsBehindAll, open_under, breaks, is_sure, is_late, is_unasked, any_finding};
+ghost use Rattle.lsp_watch.specs.Verdicts.{findings_of};
+ghost use Rattle.lsp_watch.specs.declared.direction.Direction.{Direction};
+ghost use Rattle.std.specs.List.{list_any};
+ghost use Rattle.std.specs.Prelude.{◌≡◌, ◌++◌, ◌∷◌, List, true, false};
 
 /// In a log in which no message breaks a rule:
 ///
@@ -28,4 +31,15 @@ pub fn a_lawful_log_breaks_none()
 /// order, the log has a breach in each other order, in which each side sends the same. `is_in_each_order` names these rules.
 pub fn a_sure_breach_is_in_each_order()
     ensures { (log order : Log) → AreOrders log order → breaks is_sure log ≡ true → breaks any_finding order ≡ true }
+{}
+
+/// A breach that looks at both sides is there in each order of the messages, if the message passed after all messages of the other side,
+/// and each reply before it had its request. `needs_all` names these rules.
+///
+/// At the end of such a log, each order without a breach leaves the same requests without a reply.
+pub fn a_late_breach_is_in_each_order()
+    ensures breach { (after before order : Log) (p : Passed) → IsBehindAll after p before → AreOrders (after ++ p ∷ before) order
+        → list_any is_late (findings_of before p.way p.message) ≡ true → breaks any_finding order ≡ true }
+    ensures left { (log order : Log) → AreOrders log order → breaks is_unasked log ≡ false → breaks any_finding order ≡ false
+        → (way : Direction) (id : Id) → open_under way id log ≡ open_under way id order }
 {}
