@@ -2,6 +2,7 @@
 -- "Register Capability" and "PublishDiagnostics Notification").
 use Rattle.std.specs.Prelude.{ℕ, ℤ, negsuc, Bool, true, false, not, ◌&&◌, ◌||◌, List, [], ◌∷◌, Option, Some, None, Ok}
 use Rattle.std.specs.Prelude.{option_and_then, unwrap_or, if◌then◌else◌, codes}
+use Rattle.std.specs.List.{list_any}
 use Rattle.std.specs.Ordering.{int_eq}
 use Rattle.serde_json.specs.Data.{Data, Items, no_items, item, null, boolean}
 use Rattle.serde_json.specs.Find.{get, as_number, as_i64, as_array, pointer}
@@ -130,3 +131,7 @@ capability_finding before ToClient (notification method params) d =
     diagnostics_finding before (notification method params)
 capability_finding before ToClient (response i outcome) d =
     option_and_then (reply_finding before (is_success (response i outcome)) d) (waiting ToServer i before)
+
+-- Before the first `initialize` it is not known what was announced, so nothing goes against it.
+abbrev pub known_finding : Log → Direction → Message → Data → Option Finding
+known_finding before way m d = if list_any is_initialize before then capability_finding before way m d else None

@@ -9,7 +9,7 @@ ghost use Rattle.lsp_watch.specs.Entries.{entry_view};
 ghost use Rattle.lsp_watch.specs.Log.{Log, Open, passed, answers_initialize as replies_to_it, is_success as has_result, asks as is_request, tells as is_notification, is_initialize as begins};
 ghost use Rattle.lsp_watch.specs.Saw.{Saw};
 ghost use Rattle.lsp_watch.specs.Verdicts.{as_breach};
-ghost use Rattle.lsp_capabilities.specs.Announced.{registers as registers_it, is_registered as was_registered, was_opened as opened_before, is_announced as announced_before, is_registration, opens, capabilities_in as capabilities_of, result_in, capability_finding, reply_finding, request_finding, diagnostics_finding, answer_finding as finding_of};
+ghost use Rattle.lsp_capabilities.specs.Announced.{registers as registers_it, is_registered as was_registered, was_opened as opened_before, is_announced as announced_before, is_registration, opens, capabilities_in as capabilities_of, result_in, capability_finding, known_finding, reply_finding, request_finding, diagnostics_finding, answer_finding as finding_of};
 ghost use Rattle.lsp_capabilities.specs.Knows.{Knows};
 
 use crate::methods::{needed, provider};
@@ -30,6 +30,8 @@ pub struct Announced {
     client: Value,
     registered: Vec<Value>,
     opened: BTreeSet<String>,
+    /// Whether an `initialize` passed.
+    is_known: bool,
 }
 
 impl Announced {
@@ -43,11 +45,29 @@ impl Announced {
             client: Value::Null,
             registered: Vec::new(alloc),
             opened: BTreeSet::new(alloc),
+            is_known: false,
         }
     }
 
-    /// Returns what a message would go against if it passed now. The watch saw the messages before it.
+    /// Returns what a message would go against if it passed now. The watch saw the messages before it. Before the first `initialize`
+    /// nothing is known, and nothing is returned.
     pub fn breaks(
+        &self,
+        watch: &Watch,
+        way: Direction,
+        message: &Entry,
+    ) -> Option<(Rule, Option<u64>)>
+        ensures { (log : Log) → Saw watch.now log → Knows self.now log
+            → result ≡ known_finding log way (entry_view message.now) (view message.now.tree) }
+    {
+        if self.is_known {
+            self.known_breaks(watch, way, message)
+        } else {
+            None
+        }
+    }
+
+    fn known_breaks(
         &self,
         watch: &Watch,
         way: Direction,
@@ -142,7 +162,7 @@ impl Announced {
             ≡ (if replies_to_it log (passed way place (entry_view message.now)) && has_result (entry_view message.now)
             then capabilities_of (result_in (entry_view message.now)) else view self.old.server)) }
         ensures same { (self.new.client ≡ self.old.client) × (self.new.registered ≡ self.old.registered)
-            × (self.new.opened ≡ self.old.opened) }
+            × (self.new.opened ≡ self.old.opened) × (self.new.is_known ≡ self.old.is_known) }
     {
         if answers_initialize(watch, way, message) {
             self.server = capabilities_in(message.tree().get("result"))?;
@@ -154,11 +174,14 @@ impl Announced {
         ensures client { (place : ℕ) → OnOk result (view self.new.client
             ≡ (if begins (passed way place (entry_view message.now))
             then capabilities_of (params_in (entry_view message.now)) else view self.old.client)) }
+        ensures known { (place : ℕ) → OnOk result (self.new.is_known
+            ≡ (begins (passed way place (entry_view message.now)) || self.old.is_known)) }
         ensures same { (self.new.server ≡ self.old.server) × (self.new.registered ≡ self.old.registered)
             × (self.new.opened ≡ self.old.opened) }
     {
         if way.is_from_client() && asks(message, "initialize") {
             self.client = capabilities_in(message.params())?;
+            self.is_known = true;
         }
         Ok(())
     }
@@ -168,7 +191,7 @@ impl Announced {
             ≡ (list_any (λ params. registers_it method (view params)) self.old.registered.items
             || (is_registration way (entry_view message.now) && registers_it method (params_in (entry_view message.now))))) }
         ensures same { (self.new.server ≡ self.old.server) × (self.new.client ≡ self.old.client)
-            × (self.new.opened ≡ self.old.opened) }
+            × (self.new.opened ≡ self.old.opened) × (self.new.is_known ≡ self.old.is_known) }
     {
         if way.is_from_client() || !asks(message, "client/registerCapability") {
             return Ok(());
@@ -185,7 +208,7 @@ impl Announced {
             ≡ (if opens way (entry_view message.now) && is_text uri (uri_in (params_in (entry_view message.now)))
             then true else contains_text self.old.opened uri)) }
         ensures same { (self.new.server ≡ self.old.server) × (self.new.client ≡ self.old.client)
-            × (self.new.registered ≡ self.old.registered) }
+            × (self.new.registered ≡ self.old.registered) × (self.new.is_known ≡ self.old.is_known) }
     {
         if !way.is_from_client() || !tells(message, "textDocument/didOpen") {
             return Ok(());
@@ -200,7 +223,7 @@ impl Announced {
         ensures opened { OnOk result ((other : List ℕ) → contains_text self.new.opened other
             ≡ (if bytes_eq uri.now other then true else contains_text self.old.opened other)) }
         ensures same { (self.new.server ≡ self.old.server) × (self.new.client ≡ self.old.client)
-            × (self.new.registered ≡ self.old.registered) }
+            × (self.new.registered ≡ self.old.registered) × (self.new.is_known ≡ self.old.is_known) }
     {
         let uri = String::from_str(self.alloc, uri)?;
         self.opened.insert(uri)?;

@@ -20,8 +20,8 @@ use Rattle.lsp_watch.specs.declared.direction.Direction.{Direction}
 use Rattle.lsp_watch.specs.declared.rule.Level.TheVariants.{Must, Should, Implied}
 use Rattle.lsp_watch.specs.declared.rule.Level.{Level}
 use Rattle.lsp_watch.specs.declared.rule.Rule.{Rule}
-use Rattle.lsp_judge.specs.Choice.{fails, counts, is_of, is_at_least, culprit}
-use Rattle.lsp_judge.specs.Judged.{Judged, nothing, begun, left, is_initialize as opens}
+use Rattle.lsp_judge.specs.Choice.{fails, counts, is_of, is_at_least, is_known, culprit}
+use Rattle.lsp_judge.specs.Judged.{Judged, nothing, begins, goes_on, begun, left, is_initialize as opens}
 use Rattle.lsp_judge.specs.Recording.{line_tree, with_line, after_lines, judged_of, with_message, session_from}
 use Rattle.lsp_judge.specs.Recording.{session_after, IsStrict}
 use Rattle.lsp_judge.specs.declared.choice.Choice.{Choice}
@@ -41,6 +41,15 @@ or-right true b e = cc
 never : (a b : Bool) → (a && (false && b)) ≡ false
 never true b = refl
 never false b = refl
+
+any-front : {A : Type 0} (p : A → Bool) (xs ys : List A) → list_any p (xs ++ ys) ≡ false → list_any p xs ≡ false
+any-front p [] ys e = refl
+any-front p (x ∷ xs) ys e = at (p x) (any-front p xs ys) e
+  where
+    at : (b : Bool) → (list_any p (xs ++ ys) ≡ false → list_any p xs ≡ false) → (b || list_any p (xs ++ ys)) ≡ false
+        → (b || list_any p xs) ≡ false
+    at true more e = cc
+    at false more e = more e
 
 any-behind : {A : Type 0} (p : A → Bool) (xs ys : List A) → list_any p (xs ++ ys) ≡ false → list_any p ys ≡ false
 any-behind p [] ys e = e
@@ -122,20 +131,17 @@ module _ (choice : Choice) (strict : IsStrict choice) where
   is_part j way m = not j.is_begun && (false && not (opens way m))
 
   abbrev part : Judged → Judged
-  part j = record { log = []; is_whole = false; is_begun = true; is_broken = j.is_broken }
+  part j = begins false j.is_broken j.is_matched j
 
   abbrev fresh : Judged → Judged
-  fresh j = record { log = []; is_whole = true; is_begun = true; is_broken = left choice true true j }
-
-  abbrev same : Judged → Judged
-  same j = record { log = j.log; is_whole = j.is_whole; is_begun = true; is_broken = j.is_broken }
+  fresh j = begins true (left choice true true j) (j.is_matched && is_known Known) j
 
   was_unbroken : (n : ℕ) (j : Judged) (m : Option (Direction × Data)) → (with_line choice false n j m).is_broken ≡ false
       → j.is_broken ≡ false
   was_unbroken n j None e = e
   was_unbroken n j (Some m) e = begun_broken (is_part j m.0 (entry_in m.1))
       (begins_in j.is_whole j.log m.0 (entry_in m.1)) (part j)
-      (fresh j) (same j) j refl refl refl (or-left (begun choice false j m.0 (entry_in m.1)).is_broken _ e)
+      (fresh j) (goes_on j) j refl refl refl (or-left (begun choice false Known j m.0 (entry_in m.1)).is_broken _ e)
 
   unbroken : (n : ℕ) (j : Judged) (more : List (List ℕ)) → (after_lines choice false n j more).is_broken ≡ false →
       j.is_broken ≡ false
@@ -158,16 +164,16 @@ module _ (choice : Choice) (strict : IsStrict choice) where
   begun_whole false y z ey ez = ez
 
   begun_stands : (j : Judged) (way : Direction) (m : Option Message) (log : Log) → Stands j log
-      → Stands (begun choice false j way m) (cond (begins_in true log way m) [] log)
+      → Stands (begun choice false Known j way m) (cond (begins_in true log way m) [] log)
   begun_stands j way m log s =
       let b : Bool = begins_in j.is_whole j.log way m in
-      let is : begun choice false j way m ≡ cond b (fresh j) (same j) =
-      ap (λ t. cond t (part j) (cond b (fresh j) (same j))) (never (not j.is_begun) (not (opens way m))) in
+      let is : begun choice false Known j way m ≡ cond b (fresh j) (goes_on j) =
+      ap (λ t. cond t (part j) (cond b (fresh j) (goes_on j))) (never (not j.is_begun) (not (opens way m))) in
       let begins : b ≡ begins_in true log way m = ap (λ w. begins_in w j.log way m) s.whole ∙ ap
       (λ l. begins_in true l way m) s.log_is in
       record {
-        log_is = ap (λ r. r.log) is ∙ begun_log b (fresh j) (same j) log refl s.log_is ∙ ap (λ t. cond t [] log) begins;
-        whole = ap (λ r. r.is_whole) is ∙ begun_whole b (fresh j) (same j) refl s.whole;
+        log_is = ap (λ r. r.log) is ∙ begun_log b (fresh j) (goes_on j) log refl s.log_is ∙ ap (λ t. cond t [] log) begins;
+        whole = ap (λ r. r.is_whole) is ∙ begun_whole b (fresh j) (goes_on j) refl s.whole;
         clean = clean_if (begins_in true log way m) log s.clean;
       }
 
@@ -177,14 +183,15 @@ module _ (choice : Choice) (strict : IsStrict choice) where
   line_stands n j log (Some m) s e =
       let way : Direction = m.0 in
       let before : Log = cond (begins_in true log way (entry_in m.1)) [] log in
-      let at : Judged = begun choice false j way (entry_in m.1) in
+      let at : Judged = begun choice false Known j way (entry_in m.1) in
       let b : Stands at before = begun_stands j way (entry_in m.1) log s in
       let quiet : list_any (fails choice Known way) (breaches_of true before way (faults_of m.1) (entry_in m.1)) ≡
       false =
       ap (λ l. list_any (fails choice Known way) (breaches_of true l way (faults_of m.1) (entry_in m.1))) (sym b.log_is)
       ∙ ap (λ w. list_any (fails choice Known way) (breaches_of w at.log way (faults_of m.1) (entry_in m.1)))
       (sym b.whole)
-      ∙ or-right at.is_broken _ e in
+      ∙ any-front (fails choice Known way) (breaches_of at.is_whole at.log way (faults_of m.1) (entry_in m.1)) _
+      (or-right at.is_broken _ e) in
       record {
         log_is = ap (λ l. entered way n (entry_in m.1) l) b.log_is;
         whole = b.whole;
@@ -204,5 +211,5 @@ module _ (choice : Choice) (strict : IsStrict choice) where
 
   pub clean_session : (text : List ℕ) → (judged_of choice false text).is_broken ≡ false → (count : ℕ)
       → IsClean (session_after count text)
-  clean_session text e count = clean_after count 1 nothing [] (lines text)
+  clean_session text e count = clean_after count 1 (nothing choice.capabilities) [] (lines text)
       (record { log_is = refl; whole = refl; clean = empty_is_clean }) e

@@ -65,9 +65,10 @@ pub record IsAt (choice : Choice) (late : Bool) (text : List ℕ) (number : ℕ)
     pub judges : Judges j judged
     pub leads : after_lines choice late (number + 1) judged (lines rest) ≡ judged_of choice late text
 
-pub at_start : (choice : Choice) (late : Bool) (text : List ℕ) (j : Judgement) → Judges j nothing → IsAt choice late
+pub at_start : (choice : Choice) (late : Bool) (text : List ℕ) (j : Judgement) → Judges j (nothing choice.capabilities)
+    → IsAt choice late
     text 0 text j
-at_start choice late text j judges = record { judged = nothing; judges = judges; leads = refl }
+at_start choice late text j judges = record { judged = nothing choice.capabilities; judges = judges; leads = refl }
 
 -- a line that was found is the first
 pub is_found : (n later : ℕ) → found_or (n + 1) later ≡ n + 1

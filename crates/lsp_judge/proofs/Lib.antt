@@ -1,3 +1,4 @@
 mod CleanRecording
+mod Decided
 mod EachLine
 mod Unread

@@ -9,6 +9,7 @@ use Rattle.std.specs.Str.{IsUtf8, is_utf8}
 use Rattle.serde_json.specs.Data.{Data, null, boolean, number, string, array, object}
 use Rattle.serde_json.specs.Find.{get, as_str, as_null}
 use Rattle.serde_json.specs.Read.{read}
+use Rattle.serde_json.specs.View.{view}
 use Rattle.lsp_message.specs.Meaning.{unless_null}
 use Rattle.lsp_watch.specs.Methods.{is_request, is_notification}
 use Rattle.lsp_watch.specs.Entries.{entry_view, entry_in}
@@ -27,6 +28,7 @@ use Rattle.lsp_judge.specs.Recording.{says_unread, way_of, tree_in, line_tree, i
 use Rattle.lsp_judge.specs.declared.choice.Choice.{Choice}
 use Rattle.lsp_judge.specs.declared.judgement.Judgement.{Judgement}
 use Rattle.lsp_judge.specs.declared.passed.Order.TheVariants.{Known}
+use Rattle.lsp_judge.specs.declared.passed.Order.{Order}
 use Rattle.lsp_judge.specs.declared.passed.Passing.{Passing}
 
 none_more : (xs ys : List Rule) → list_any says_unread xs ≡ false → list_any says_unread ys ≡ false
@@ -123,6 +125,11 @@ module _ (m : LoggedMessage) (u : Bool) (is : u ≡ list_any says_unread m.fault
 
 -- ---- a line
 
+-- the judgement after a message
+abbrev told : Choice → Bool → ℕ → Judged → Order → Direction → LoggedMessage → Judged
+told choice late n j o w x = seen choice late o j n w x.faults.items (option_map entry_view x.entry)
+    (option_map (λ e. view e.tree) x.entry)
+
 module _ (line content : List ℕ) (way : Direction) (m : LoggedMessage) (t : Bool) (marked : way_of line ≡ Some way)
     (content_is : content ≡ drop 3 line) (reads : Reads m t (tree_in content)) where
   abbrev of_tree : Option Data → Option (Direction × Data)
@@ -143,21 +150,22 @@ module _ (line content : List ℕ) (way : Direction) (m : LoggedMessage) (t : Bo
   pub line_sees : (choice : Choice) (late : Bool) (n : ℕ) (j : Judged) (k : Judgement) (p : Passing) → p.way ≡ way →
       p.message ≡ m
       → p.order ≡ Known → t ≡ true
-      → Judges k (seen choice late p.order j n p.way p.message.faults.items (option_map entry_view p.message.entry))
+      → Judges k (seen choice late p.order j n p.way p.message.faults.items (option_map entry_view p.message.entry)
+      (option_map (λ e. view e.tree) p.message.entry))
       → Judges k (with_line choice late n j (line_tree line))
   line_sees choice late n j k p way_is message_is order_is is_true sees =
       subst (λ o. Judges k (with_line choice late n j o)) (sym tree_is) (at (tree_in content) reads)
     where
-      plain : Judges k (seen choice late Known j n way m.faults.items (option_map entry_view m.entry))
-      plain = subst (λ x. Judges k (seen choice late Known j n way x.faults.items (option_map entry_view x.entry)))
-          message_is
-          (subst (λ w. Judges k (seen choice late Known j n w p.message.faults.items
-          (option_map entry_view p.message.entry))) way_is
-          (subst (λ o. Judges k (seen choice late o j n p.way p.message.faults.items
-          (option_map entry_view p.message.entry))) order_is
-          sees))
+      plain : Judges k (told choice late n j Known way m)
+      plain = subst (λ x. Judges k (told choice late n j Known way x)) message_is
+          (subst (λ w. Judges k (told choice late n j Known w p.message)) way_is
+          (subst (λ o. Judges k (told choice late n j o p.way p.message)) order_is sees))
 
       at : (o : Option Data) → Reads m t o → Judges k (with_line choice late n j (of_tree o))
       at None r = absurd (true≢false (sym is_true ∙ r))
-      at (Some d) r = subst (λ fs. Judges k (seen choice late Known j n way fs (entry_in d))) r.1.faults_are
-          (subst (λ e. Judges k (seen choice late Known j n way m.faults.items e)) r.1.entry_is plain)
+      at (Some d) r =
+          subst (λ it. Judges k (seen choice late Known j n way (faults_of d) (entry_in d) it)) r.1.tree_is
+          (subst (λ fs. Judges k (seen choice late Known j n way fs (entry_in d)
+          (option_map (λ e. view e.tree) m.entry))) r.1.faults_are
+          (subst (λ e. Judges k (seen choice late Known j n way m.faults.items e
+          (option_map (λ e. view e.tree) m.entry))) r.1.entry_is plain))

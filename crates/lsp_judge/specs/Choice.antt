@@ -1,6 +1,7 @@
 -- Which breaches make the status 1.
-use Rattle.std.specs.Prelude.{Bool, true, false, ◌&&◌, not}
+use Rattle.std.specs.Prelude.{Bool, true, false, ◌&&◌, ◌||◌, not}
 use Rattle.lsp_watch.specs.Log.{from_client, other}
+use Rattle.lsp_watch.specs.Orders.{is_in_each_order, needs_all}
 use Rattle.lsp_watch.specs.RuleData.{level_of, side_of}
 use Rattle.lsp_watch.specs.declared.breach.Breach.{Breach}
 use Rattle.lsp_watch.specs.declared.breach.Unanswered.{Unanswered}
@@ -8,8 +9,9 @@ use Rattle.lsp_watch.specs.declared.breach.Verdict.TheVariants.{CannotTell}
 use Rattle.lsp_watch.specs.declared.breach.Verdict.{Verdict}
 use Rattle.lsp_watch.specs.declared.rule.Level.TheVariants.{Must, Should, Implied}
 use Rattle.lsp_watch.specs.declared.rule.Level.{Level}
-use Rattle.lsp_watch.specs.declared.rule.Rule.TheVariants.{NobodyAsked, IdStillOpen, BeforeResult, SentAgain}
-use Rattle.lsp_watch.specs.declared.rule.Rule.TheVariants.{NoSuchToken, TokenEnded, NoReply}
+use Rattle.lsp_watch.specs.declared.rule.Rule.TheVariants.{NotUtf8, NotJson, Unreadable, Batch, NoObject, BadVersion}
+use Rattle.lsp_watch.specs.declared.rule.Rule.TheVariants.{NoMessage, BadMethod, BadId, WideId, BadParams, BothOutcomes}
+use Rattle.lsp_watch.specs.declared.rule.Rule.TheVariants.{NoOutcome, BadError, NeedsId, TakesNoId, NoReply}
 use Rattle.lsp_watch.specs.declared.rule.Rule.{Rule}
 use Rattle.lsp_watch.specs.declared.rule.Side.TheVariants.{Sender, Receiver, Client}
 use Rattle.lsp_watch.specs.declared.rule.Side.{Side}
@@ -44,16 +46,40 @@ abbrev pub counts : Choice → Rule → Direction → Bool
 counts choice rule way =
     is_of choice.fail_on (culprit (side_of rule) way) && is_at_least (level_of rule) choice.level
 
--- A breach of this rule is one in each order that there may have been.
+-- the rules of the shape of one message: the order does not matter
+abbrev pub is_of_shape : Rule → Bool
+is_of_shape NotUtf8 = true
+is_of_shape NotJson = true
+is_of_shape Unreadable = true
+is_of_shape Batch = true
+is_of_shape NoObject = true
+is_of_shape BadVersion = true
+is_of_shape NoMessage = true
+is_of_shape BadMethod = true
+is_of_shape BadId = true
+is_of_shape WideId = true
+is_of_shape BadParams = true
+is_of_shape BothOutcomes = true
+is_of_shape NoOutcome = true
+is_of_shape BadError = true
+is_of_shape NeedsId = true
+is_of_shape TakesNoId = true
+is_of_shape rule = false
+
+-- A breach of this rule by a message is one in each order that there may have been.
 abbrev pub decides : Order → Rule → Bool
 decides Known rule = true
-decides order NoSuchToken = false
-decides order TokenEnded = false
-decides Unknown NobodyAsked = false
-decides Unknown IdStillOpen = false
-decides Unknown BeforeResult = false
-decides Unknown SentAgain = false
-decides order rule = true
+decides Unknown rule = is_in_each_order rule || is_of_shape rule
+decides BehindAll rule = (is_in_each_order rule || needs_all rule) || is_of_shape rule
+
+abbrev pub is_known : Order → Bool
+is_known Known = true
+is_known order = false
+
+-- what is known of the order, where some reply may have found no request
+abbrev pub narrowed : Order → Bool → Order
+narrowed BehindAll false = Unknown
+narrowed order is_matched = order
 
 abbrev pub is_sure : Verdict → Bool
 is_sure CannotTell = false

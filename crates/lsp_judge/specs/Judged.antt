@@ -1,61 +1,111 @@
 -- What a judgement says of the messages that it saw.
 use Rattle.std.specs.List.{list_any}
-use Rattle.std.specs.Prelude.{◌≡◌, ℕ, Bool, true, false, ◌&&◌, ◌||◌, not, if◌then◌else◌, List, [], Option, Some, None}
-use Rattle.std.specs.Prelude.{codes}
+use Rattle.std.specs.Prelude.{◌≡◌, ℕ, Bool, true, false, ◌&&◌, ◌||◌, not, if◌then◌else◌, List, [], ◌++◌, Option, Some}
+use Rattle.std.specs.Prelude.{None, codes, map, option_to_list}
+use Rattle.serde_json.specs.Data.{Data}
+use Rattle.lsp_capabilities.specs.Announced.{known_finding}
+use Rattle.lsp_capabilities.specs.Knows.{Knows}
 use Rattle.lsp_message.specs.Message.{Message}
-use Rattle.lsp_watch.specs.Log.{Log, asks, from_client}
+use Rattle.lsp_watch.specs.Log.{Log, Finding, asks, from_client}
 use Rattle.lsp_watch.specs.Saw.{Saw}
-use Rattle.lsp_watch.specs.Verdicts.{breaches_of, entered, begins_in, unanswered_of}
+use Rattle.lsp_watch.specs.Orders.{says_unasked}
+use Rattle.lsp_watch.specs.Verdicts.{breaches_of, as_breach, entered, begins_in, unanswered_of}
+use Rattle.lsp_watch.specs.declared.breach.Breach.{Breach}
 use Rattle.lsp_watch.specs.declared.rule.Rule.{Rule}
 use Rattle.lsp_watch.specs.declared.direction.Direction.{Direction}
-use Rattle.lsp_judge.specs.Choice.{fails, leaves}
+use Rattle.lsp_judge.specs.Choice.{fails, leaves, is_known, narrowed}
 use Rattle.lsp_judge.specs.declared.choice.Choice.{Choice}
 use Rattle.lsp_judge.specs.declared.judgement.Judgement.{Judgement}
 use Rattle.lsp_judge.specs.declared.passed.Order.{Order}
 
--- the messages of the session that goes on, whether it was seen from its first one on, whether there was a message, and
--- whether the status is 1
+-- the messages of the session that goes on, whether it was seen from its first one on, whether there was a message,
+-- whether the status is 1, whether each reply had its request wherever the order is not known, and whether what both
+-- sides announced is judged
 pub record Judged : Type 0 where
   pub log : Log
   pub is_whole : Bool
   pub is_begun : Bool
   pub is_broken : Bool
+  pub is_matched : Bool
+  pub announces : Bool
 
-abbrev pub nothing : Judged
-nothing = record { log = []; is_whole = true; is_begun = false; is_broken = false }
+abbrev pub nothing : Bool → Judged
+nothing announces = record {
+  log = [];
+  is_whole = true;
+  is_begun = false;
+  is_broken = false;
+  is_matched = true;
+  announces = announces;
+}
 
 abbrev pub is_initialize : Direction → Option Message → Bool
 is_initialize way None = false
 is_initialize way (Some m) = from_client way && asks (codes "initialize") m
 
+-- what a message goes against, of what both sides announced; with the whole message
+abbrev pub against_known : Log → Direction → Option Message → Option Data → List Finding
+against_known log way None d = []
+against_known log way (Some m) None = []
+against_known log way (Some m) (Some d) = option_to_list (known_finding log way m d)
+
+abbrev pub against : Bool → Log → Direction → Option Message → Option Data → List Breach
+against announces log way m d = map (as_breach true) (if announces then against_known log way m d else [])
+
+-- all that a message breaks
+abbrev pub broken_of : Judged → Direction → List Rule → Option Message → Option Data → List Breach
+broken_of j way faults m d = breaches_of j.is_whole j.log way faults m ++ against j.announces j.log way m d
+
+-- the session after the message
+abbrev pub goes_in : Judged → ℕ → Direction → Option Message → Judged
+goes_in j place way m = record j { log = entered way place m j.log }
+
+abbrev pub is_unasked : Breach → Bool
+is_unasked b = says_unasked b.rule
+
 module _ (choice : Choice) where
   -- the requests that are left without a reply break a rule
   abbrev pub left : Bool → Bool → Judged → Bool
-  left server_ended client_ended j =
-      j.is_broken || list_any (leaves choice) (unanswered_of server_ended client_ended j.log)
+  left server_ended client_ended j = j.is_broken
+      || (j.is_matched && list_any (leaves choice) (unanswered_of server_ended client_ended j.log))
+
+  -- the judgement of a session of which nothing passed
+  abbrev pub begins : Bool → Bool → Bool → Judged → Judged
+  begins is_whole is_broken is_matched j = record {
+    log = [];
+    is_whole = is_whole;
+    is_begun = true;
+    is_broken = is_broken;
+    is_matched = is_matched;
+    announces = j.announces;
+  }
+
+  abbrev pub goes_on : Judged → Judged
+  goes_on j = record j { is_begun = true }
 
   -- A message begins the judgement of a session that is seen from its middle on, or that of a new one, or it goes on.
-  abbrev pub begun : Bool → Judged → Direction → Option Message → Judged
-  begun may_begin_late j way m =
-      if not j.is_begun && (may_begin_late && not (is_initialize way m))
-      then record { log = []; is_whole = false; is_begun = true; is_broken = j.is_broken }
+  abbrev pub begun : Bool → Order → Judged → Direction → Option Message → Judged
+  begun may_begin_late order j way m =
+      if not j.is_begun && (may_begin_late && not (is_initialize way m)) then begins false j.is_broken j.is_matched j
       else if begins_in j.is_whole j.log way m
-      then record { log = []; is_whole = true; is_begun = true; is_broken = left true true j }
-      else record { log = j.log; is_whole = j.is_whole; is_begun = true; is_broken = j.is_broken }
+      then begins true (left true true j) (j.is_matched && is_known order) j
+      else goes_on j
 
-  abbrev pub passed_on : Order → Judged → ℕ → Direction → List Rule → Option Message → Judged
-  passed_on order j place way faults m = record {
+  abbrev pub passed_on : Order → Judged → ℕ → Direction → List Rule → Option Message → Option Data → Judged
+  passed_on order j place way faults m d = record {
     log = entered way place m j.log;
     is_whole = j.is_whole;
     is_begun = true;
     is_broken =
-        j.is_broken || list_any (fails choice order way) (breaches_of j.is_whole j.log way faults m);
+        j.is_broken || list_any (fails choice (narrowed order j.is_matched) way) (broken_of j way faults m d);
+    is_matched = j.is_matched && (is_known order || not (list_any is_unasked (broken_of j way faults m d)));
+    announces = j.announces;
   }
 
   -- one more message
-  abbrev pub seen : Bool → Order → Judged → ℕ → Direction → List Rule → Option Message → Judged
-  seen may_begin_late order j place way faults m =
-      passed_on order (begun may_begin_late j way m) place way faults m
+  abbrev pub seen : Bool → Order → Judged → ℕ → Direction → List Rule → Option Message → Option Data → Judged
+  seen may_begin_late order j place way faults m d =
+      passed_on order (begun may_begin_late order j way m) place way faults m d
 
 -- a judgement that saw this
 pub record Judges (judgement : Judgement) (j : Judged) : Type 0 where
@@ -63,3 +113,6 @@ pub record Judges (judgement : Judgement) (j : Judged) : Type 0 where
   pub whole : judgement.watch.is_whole ≡ j.is_whole
   pub begun_is : judgement.is_begun ≡ j.is_begun
   pub broken : judgement.is_broken ≡ j.is_broken
+  pub matched : judgement.is_matched ≡ j.is_matched
+  pub announces_is : judgement.announces ≡ j.announces
+  pub knows : j.announces ≡ true → Knows judgement.announced j.log

@@ -61,7 +61,8 @@ module _ (choice : Choice) (may_begin_late : Bool) where
   -- the judgement after one more line
   abbrev pub with_line : ℕ → Judged → Option (Direction × Data) → Judged
   with_line n j None = j
-  with_line n j (Some m) = seen choice may_begin_late Known j n m.0 (faults_of m.1) (entry_in m.1)
+  with_line n j (Some m) =
+      seen choice may_begin_late Known j n m.0 (faults_of m.1) (entry_in m.1) (option_map (λ x. m.1) (entry_in m.1))
 
   -- the judgement after these lines, which are counted from n on
   abbrev pub after_lines : ℕ → Judged → List (List ℕ) → Judged
@@ -70,7 +71,7 @@ module _ (choice : Choice) (may_begin_late : Bool) where
 
   -- the judgement of a recording
   abbrev pub judged_of : List ℕ → Judged
-  judged_of text = after_lines 1 nothing (lines text)
+  judged_of text = after_lines 1 (nothing choice.capabilities) (lines text)
 
 -- ---- the session that goes on, whatever counts
 

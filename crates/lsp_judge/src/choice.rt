@@ -27,7 +27,7 @@ pub struct Choice {
     pub fail_on: FailOn,
     pub level: Level,
     pub ignored: Vec<Ignored>,
-    /// Whether the rules of capabilities are judged too, in recordings and logs.
+    /// Whether the rules of capabilities are judged too.
     pub capabilities: bool,
 }
 

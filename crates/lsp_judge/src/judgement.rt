@@ -1,17 +1,21 @@
 // The judgement of what passed between two ends.
 ghost use Rattle.std.specs.List.{list_any};
-ghost use Rattle.std.specs.Prelude.{◌≡◌, ◌==◌, [], length, OnOk, IfOk, option_map};
+ghost use Rattle.std.specs.Prelude.{◌≡◌, ◌==◌, ◌++◌, ℕ, [], true, length, map, OnOk, IfOk, option_map, option_to_list};
+ghost use Rattle.serde_json.specs.View.{view};
+ghost use Rattle.lsp_capabilities.specs.Knows.{Knows};
 ghost use Rattle.lsp_watch.specs.Entries.{entry_view};
 ghost use Rattle.lsp_watch.specs.Log.{asks as has_request};
-ghost use Rattle.lsp_watch.specs.Verdicts.{breaches_of};
+ghost use Rattle.lsp_watch.specs.Orders.{says_unasked as is_of_unasked};
+ghost use Rattle.lsp_watch.specs.Verdicts.{breaches_of, as_breach, entered};
 ghost use Rattle.lsp_judge.specs.Choice.{fails as fails_for, leaves as leaves_for};
-ghost use Rattle.lsp_judge.specs.Judged.{Judged, Judges, nothing, begun, seen, passed_on, left, is_initialize as opens};
+ghost use Rattle.lsp_judge.specs.Judged.{Judged, Judges, nothing, begun, seen, passed_on, goes_in, against, broken_of, is_unasked, left, is_initialize as opens};
 
 use crate::choice::Choice;
 use crate::passed::{Order, Passing};
 use crate::report::Report;
 use crate::told::{About, Counts, Kind, Slowest, Told};
 use anyhow::Result;
+use lsp_capabilities::Announced;
 use lsp_watch::{
     Asked, Breach, Direction, Entry, Kind as MessageKind, LoggedId, LoggedMessage, Rule,
     Unanswered, Verdict, Watch,
@@ -33,10 +37,15 @@ pub struct Ends {
 pub struct Judgement {
     alloc: Global,
     watch: Watch,
+    announced: Announced,
+    /// Whether it is judged what goes against what both sides announced.
+    announces: bool,
     /// Whether there was a message.
     is_begun: bool,
     /// Whether a rule is broken so that the status is 1.
     is_broken: bool,
+    /// Whether each reply had its request, wherever the order is not known.
+    is_matched: bool,
     tally: Tally,
 }
 
@@ -49,15 +58,19 @@ struct Tally {
 }
 
 impl Judgement {
-    /// Of a session that is seen from its first message on.
-    pub fn new(alloc: Global) -> Judgement
-        ensures { Judges result nothing }
+    /// Begins with a session that is seen from its first message on. `announces` says whether the rules of capabilities are judged too:
+    /// then the memory also follows the documents that were opened, and the registrations.
+    pub fn new(alloc: Global, announces: bool) -> Judgement
+        ensures { Judges result (nothing announces) }
     {
         Judgement {
             alloc,
             watch: Watch::new(alloc),
+            announced: Announced::new(alloc),
+            announces,
             is_begun: false,
             is_broken: false,
+            is_matched: true,
             tally: Tally {
                 counts: Counts::new(),
                 times: BTreeMap::new(alloc),
@@ -85,7 +98,8 @@ impl Judgement {
     ) -> Result<()>
         ensures { (j : Judged) → Judges self.old j → report.now.choice.now.ignored.items ≡ [] → OnOk result (Judges self.new
             (seen report.now.choice.now report.now.may_begin_late passing.now.order j place passing.now.way
-            passing.now.message.faults.items (option_map entry_view passing.now.message.entry))) }
+            passing.now.message.faults.items (option_map entry_view passing.now.message.entry)
+            (option_map (λ e. view e.tree) passing.now.message.entry))) }
     {
         self.begin(passing, report, out)?;
         self.tally.count(&self.watch, passing);
@@ -96,10 +110,12 @@ impl Judgement {
     /// Begins the judgement of a session, if the message does.
     fn begin<W: Write>(&mut self, passing: &Passing, report: &Report<'_>, out: &mut W) -> Result<()>
         ensures { (j : Judged) → Judges self.old j → report.now.choice.now.ignored.items ≡ [] → OnOk result (Judges self.new
-            (begun report.now.choice.now report.now.may_begin_late j passing.now.way (option_map entry_view passing.now.message.entry))) }
+            (begun report.now.choice.now report.now.may_begin_late passing.now.order j passing.now.way
+            (option_map entry_view passing.now.message.entry))) }
     {
         if !self.is_begun && report.may_begin_late && !is_initialize(passing) {
             self.watch = Watch::from_the_middle(self.alloc);
+            self.announced = Announced::new(self.alloc);
             self.is_begun = true;
             return Ok(());
         }
@@ -110,7 +126,9 @@ impl Judgement {
             };
             self.leave(ends, report, out)?;
             self.watch = Watch::new(self.alloc);
+            self.announced = Announced::new(self.alloc);
             self.is_begun = true;
+            self.is_matched = self.is_matched && passing.order.is_known();
             return Ok(());
         }
         self.is_begun = true;
@@ -126,23 +144,56 @@ impl Judgement {
     ) -> Result<()>
         ensures { (j : Judged) → Judges self.old j → report.now.choice.now.ignored.items ≡ [] → OnOk result (Judges self.new
             (passed_on report.now.choice.now passing.now.order j place passing.now.way
-            passing.now.message.faults.items (option_map entry_view passing.now.message.entry))) }
+            passing.now.message.faults.items (option_map entry_view passing.now.message.entry)
+            (option_map (λ e. view e.tree) passing.now.message.entry))) }
     {
-        let mut breaches = self.watch.observe(place, passing.way, &passing.message)?;
+        let order = passing.order.narrowed(self.is_matched);
+        let mut breaches = self.observe(place, passing)?;
+        let is_matched = passing.order.is_known() || !any_unasked(breaches.as_slice());
+        self.is_matched = self.is_matched && is_matched;
         remove_ignored(report.choice, passing, &mut breaches);
-        let fails = any_fails(
-            report.choice,
-            passing.order,
-            passing.way,
-            breaches.as_slice(),
-        );
+        let fails = any_fails(report.choice, order, passing.way, breaches.as_slice());
         self.is_broken = self.is_broken || fails;
         self.is_begun = true;
         let told = self
             .tally
-            .tell_breaches(place, passing, breaches.as_slice(), report, out);
+            .tell_breaches(place, order, passing, breaches.as_slice(), report, out);
         drop(breaches);
         told
+    }
+
+    /// Sees a message, and returns what it breaks: the rules of the watch, and then what it goes against of what was announced.
+    fn observe(&mut self, place: u64, passing: &Passing) -> Result<Vec<Breach>, AllocError>
+        ensures { (j : Judged) → Judges self.old j → IfOk result (λ found.
+            (found.items ≡ broken_of j passing.now.way passing.now.message.faults.items
+            (option_map entry_view passing.now.message.entry) (option_map (λ e. view e.tree) passing.now.message.entry))
+            × Judges self.new (goes_in j place passing.now.way (option_map entry_view passing.now.message.entry))) }
+    {
+        let against = self.announce(passing)?;
+        let breaches = self.watch.observe(place, passing.way, &passing.message)?;
+        with_breach(breaches, against)
+    }
+
+    /// Returns what a message goes against, of what was announced before it, and keeps what it announces.
+    fn announce(&mut self, passing: &Passing) -> Result<Option<(Rule, Option<u64>)>, AllocError>
+        ensures found { (j : Judged) → Judges self.old j → IfOk result (λ found. map (as_breach true) (option_to_list found)
+            ≡ against j.announces j.log passing.now.way (option_map entry_view passing.now.message.entry)
+            (option_map (λ e. view e.tree) passing.now.message.entry)) }
+        ensures knows { (j : Judged) (place : ℕ) → Judges self.old j → OnOk result (j.announces ≡ true → Knows self.new.announced
+            (entered passing.now.way place (option_map entry_view passing.now.message.entry) j.log)) }
+        ensures same { (self.new.watch ≡ self.old.watch) × (self.new.is_begun ≡ self.old.is_begun)
+            × (self.new.is_broken ≡ self.old.is_broken) × (self.new.is_matched ≡ self.old.is_matched)
+            × (self.new.announces ≡ self.old.announces) }
+    {
+        if !self.announces {
+            return Ok(None);
+        }
+        let Some(entry) = &passing.message.entry else {
+            return Ok(None);
+        };
+        let found = self.announced.breaks(&self.watch, passing.way, entry);
+        self.announced.keep(&self.watch, passing.way, entry)?;
+        Ok(found)
     }
 
     /// Tells the requests that have no reply, and how much there was.
@@ -158,29 +209,22 @@ impl Judgement {
     fn leave<W: Write>(&mut self, ends: Ends, report: &Report<'_>, out: &mut W) -> Result<()>
         ensures broken { (j : Judged) → Judges self.old j → report.now.choice.now.ignored.items ≡ []
             → OnOk result (self.new.is_broken ≡ left report.now.choice.now ends.server ends.client j) }
-        ensures watch { self.new.watch ≡ self.old.watch }
-        ensures begun { self.new.is_begun ≡ self.old.is_begun }
+        ensures same { (self.new.watch ≡ self.old.watch) × (self.new.is_begun ≡ self.old.is_begun)
+            × (self.new.is_matched ≡ self.old.is_matched) × (self.new.announces ≡ self.old.announces)
+            × (self.new.announced ≡ self.old.announced) }
     {
         let unanswered = self.watch.finish(ends.server, ends.client)?;
         let fails = any_left(report.choice, self.watch.asked(), unanswered.as_slice());
-        self.is_broken = self.is_broken || fails;
-        let told = self
-            .tally
-            .tell_open(self.watch.asked(), unanswered.as_slice(), report, out);
+        self.is_broken = self.is_broken || (self.is_matched && fails);
+        let told = self.tally.tell_open(
+            self.watch.asked(),
+            unanswered.as_slice(),
+            self.is_matched,
+            report,
+            out,
+        );
         drop(unanswered);
         told
-    }
-
-    /// Reports a breach that was found beside the rules of the watch.
-    pub fn tell<W: Write>(
-        &mut self,
-        place: u64,
-        passing: &Passing,
-        breach: &Breach,
-        report: &Report<'_>,
-        out: &mut W,
-    ) -> Result<()> {
-        self.tally.tell_breach(place, passing, breach, report, out)
     }
 
     /// What was seen of the session that goes on.
@@ -203,6 +247,44 @@ impl Judgement {
     {
         self.is_begun
     }
+}
+
+/// Adds a finding to breaches, if there is one.
+fn with_breach(
+    breaches: Vec<Breach>,
+    found: Option<(Rule, Option<u64>)>,
+) -> Result<Vec<Breach>, AllocError>
+    ensures { IfOk result (λ all. all.items ≡ breaches.items ++ map (as_breach true) (option_to_list found)) }
+{
+    let mut breaches = breaches;
+    let Some((rule, against)) = found else {
+        return Ok(breaches);
+    };
+    let pushed = breaches.push(Breach {
+        rule,
+        verdict: Verdict::Breach,
+        against,
+    });
+    match pushed {
+        Ok(()) => Ok(breaches),
+        Err(_) => {
+            drop(breaches);
+            Err(AllocError)
+        }
+    }
+}
+
+/// Whether one of the breaches is a reply that no request waits for.
+fn any_unasked(breaches: &[Breach]) -> bool
+    ensures { result ≡ list_any is_unasked breaches.now }
+{
+    breaches.iter().any(|it| says_unasked(it.rule))
+}
+
+fn says_unasked(rule: Rule) -> bool
+    ensures { result ≡ is_of_unasked rule }
+{
+    matches!(rule, Rule::NobodyAsked)
 }
 
 /// Removes the breaches that are ignored.
@@ -264,6 +346,17 @@ fn over_of(asked: &Asked, rest: &mut &[Unanswered]) -> Option<Unanswered> {
     }
 }
 
+/// What is said of a request where the session is over, by whether that is known.
+fn told_of(over: Option<Unanswered>, is_sure: bool) -> Option<Unanswered> {
+    match over {
+        Some(over) if !is_sure => Some(Unanswered {
+            verdict: Verdict::CannotTell,
+            ..over
+        }),
+        over => over,
+    }
+}
+
 impl Tally {
     fn count(&mut self, watch: &Watch, passing: &Passing) {
         self.counts.messages = self.counts.messages.saturating_add(1);
@@ -322,12 +415,13 @@ impl Tally {
         &mut self,
         asked: &[Asked],
         unanswered: &[Unanswered],
+        is_sure: bool,
         report: &Report<'_>,
         out: &mut W,
     ) -> Result<()> {
         let mut rest = unanswered;
         for asked in asked.iter() {
-            let over = over_of(asked, &mut rest);
+            let over = told_of(over_of(asked, &mut rest), is_sure);
             self.counts.open = self.counts.open.saturating_add(1);
             if tell_asked(asked, over, report, out)? {
                 self.counts.breaches = self.counts.breaches.saturating_add(1);
@@ -342,13 +436,14 @@ impl Tally {
     fn tell_breaches<W: Write>(
         &mut self,
         place: u64,
+        order: Order,
         passing: &Passing,
         breaches: &[Breach],
         report: &Report<'_>,
         out: &mut W,
     ) -> Result<()> {
         for breach in breaches.iter() {
-            self.tell_breach(place, passing, breach, report, out)?;
+            self.tell_breach(place, order, passing, breach, report, out)?;
         }
         Ok(())
     }
@@ -356,13 +451,14 @@ impl Tally {
     fn tell_breach<W: Write>(
         &mut self,
         place: u64,
+        order: Order,
         passing: &Passing,
         breach: &Breach,
         report: &Report<'_>,
         out: &mut W,
     ) -> Result<()> {
-        let is_sure = breach.verdict == Verdict::Breach && passing.order.decides(breach.rule);
-        let fails = report.choice.fails(passing.order, passing.way, breach);
+        let is_sure = breach.verdict == Verdict::Breach && order.decides(breach.rule);
+        let fails = report.choice.fails(order, passing.way, breach);
         if is_sure {
             self.counts.breaches = self.counts.breaches.saturating_add(1);
         }

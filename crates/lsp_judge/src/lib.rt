@@ -2,7 +2,6 @@
 #![tactic(auto)]
 
 mod bytes;
-mod capabilities;
 pub mod choice;
 mod emacs;
 pub mod format;

@@ -1,6 +1,6 @@
 // A message that passed.
 ghost use Rattle.std.specs.Prelude.{◌≡◌};
-ghost use Rattle.lsp_judge.specs.Choice.{decides as decides_for};
+ghost use Rattle.lsp_judge.specs.Choice.{decides as decides_for, is_known as is_all_known, narrowed as narrowed_by};
 
 use lsp_watch::{Direction, LoggedMessage, Rule};
 
@@ -20,7 +20,7 @@ impl Order {
     ///
     /// It is so if the rule looks at what one side sends alone. A reply that nobody asked for, an id in use and what needs the result of
     /// `initialize` are decided once all of the other way has passed: there is no more request, reply or result that could have come
-    /// before. The rules of tokens look at both ways.
+    /// before. The rules of tokens look at both ways, and so do those of what both sides announce.
     pub fn decides(self, rule: Rule) -> bool
         ensures { result ≡ decides_for self rule }
     {
@@ -28,10 +28,39 @@ impl Order {
             (Order::Known, _) => true,
             (_, Rule::NoSuchToken | Rule::TokenEnded) => false,
             (
+                _,
+                Rule::NoReply
+                | Rule::NotAnnounced
+                | Rule::AnnouncedUnknown
+                | Rule::ClientCannot
+                | Rule::NeverOpened,
+            ) => false,
+            (
                 Order::Unknown,
                 Rule::NobodyAsked | Rule::IdStillOpen | Rule::BeforeResult | Rule::SentAgain,
             ) => false,
             _ => true,
+        }
+    }
+
+    /// Whether all of it is known.
+    pub fn is_known(self) -> bool
+        ensures { result ≡ is_all_known self }
+    {
+        match self {
+            Order::Known => true,
+            Order::BehindAll | Order::Unknown => false,
+        }
+    }
+
+    /// What is known of it, by whether each reply before had its request. If one had none, it is not known which request another reply
+    /// answers: in another order the first reply may have had one.
+    pub fn narrowed(self, is_matched: bool) -> Order
+        ensures { result ≡ narrowed_by self is_matched }
+    {
+        match self {
+            Order::BehindAll if !is_matched => Order::Unknown,
+            order => order,
         }
     }
 }

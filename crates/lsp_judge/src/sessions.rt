@@ -1,5 +1,4 @@
 // The judgements of the servers of a log: each has one of its own.
-use crate::capabilities::Capabilities;
 use crate::judgement::{Ends, Judgement};
 use crate::passed::Passing;
 use crate::report::Report;
@@ -15,37 +14,6 @@ const MOST: usize = 64;
 struct Session {
     name: Vec<u8>,
     judged: Judgement,
-    capabilities: Capabilities,
-    /// Whether something goes against what was announced, so that the status is 1.
-    is_against: bool,
-}
-
-impl Session {
-    fn see<W: Write>(
-        &mut self,
-        place: u64,
-        passing: &Passing,
-        report: &Report<'_>,
-        out: &mut W,
-    ) -> Result<()> {
-        if !report.choice.capabilities {
-            return self.judged.see(place, passing, report, out);
-        }
-        let breach = self.capabilities.see(&self.judged, passing)?;
-        self.judged.see(place, passing, report, out)?;
-        match breach {
-            Some(breach) if !report.choice.ignores(breach.rule, passing.method()) => {
-                let fails = report.choice.fails(passing.order, passing.way, &breach);
-                self.is_against = self.is_against || fails;
-                self.judged.tell(place, passing, &breach, report, out)
-            }
-            _ => Ok(()),
-        }
-    }
-
-    fn is_broken(&self) -> bool {
-        self.judged.is_broken() || self.is_against
-    }
 }
 
 /// The servers of a log.
@@ -76,32 +44,30 @@ impl Sessions {
         report: &Report<'_>,
         out: &mut W,
     ) -> Result<()> {
-        let at = self.place_of(name)?;
+        let at = self.place_of(name, report.choice.capabilities)?;
         match self.all.get_mut(at) {
-            Some(session) => session.see(place, passing, report, out),
+            Some(session) => session.judged.see(place, passing, report, out),
             None => Ok(()),
         }
     }
 
     /// The place of a server in the list. A new one is added.
-    fn place_of(&mut self, name: &[u8]) -> Result<usize> {
+    fn place_of(&mut self, name: &[u8], announces: bool) -> Result<usize> {
         match self.all.iter().position(|it| it.name.as_slice() == name) {
             Some(at) => Ok(at),
             None => {
                 let at = self.all.len();
                 ensure!(at < MOST, "more than {MOST} servers in one log");
-                self.add(name)?;
+                self.add(name, announces)?;
                 Ok(at)
             }
         }
     }
 
-    fn add(&mut self, name: &[u8]) -> Result<(), AllocError> {
+    fn add(&mut self, name: &[u8], announces: bool) -> Result<(), AllocError> {
         let session = Session {
             name: Vec::from_slice(self.alloc, name)?,
-            judged: Judgement::new(self.alloc),
-            capabilities: Capabilities::new(self.alloc),
-            is_against: false,
+            judged: Judgement::new(self.alloc, announces),
         };
         Ok(self.all.push(session)?)
     }
@@ -116,7 +82,7 @@ impl Sessions {
                 client: false,
             };
             session.judged.end(ends, &report.of_server(name), out)?;
-            is_broken = is_broken || session.is_broken();
+            is_broken = is_broken || session.judged.is_broken();
         }
         Ok(is_broken)
     }

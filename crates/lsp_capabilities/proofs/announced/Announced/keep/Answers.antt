@@ -28,6 +28,8 @@ returns c = λ log place saw knows.
           ∙ ap (λ b. b || (is_registration c.args.way m && registers method (params_in m)))
           (ap (λ vs. list_any (λ params. registers method (view params)) vs.items) (client.1 ∙ server.1)
           ∙ knows.registered_is method);
+      known_is = opened.3 ∙ registration.3 ∙ c.in_ok-keep_client.ensures.known place
+          ∙ ap (λ b. is_initialize (passed c.args.way place m) || b) (server.3 ∙ knows.known_is);
       opened_are = λ uri.
           c.in_ok-keep_opened.ensures.opened uri
           ∙ ap (cond (opens c.args.way m && is_text uri (uri_in (params_in m))) true)
