@@ -107,6 +107,23 @@ def check_told_at_once():
             demo.end()
 
 
+def check_capabilities():
+    print("what both sides announced is judged, if that is chosen")
+    ask = b'{"jsonrpc":"2.0","id":1,"method":"workspace/configuration","params":{"items":[]}}'
+    place = len(frame(INITIALIZE_REPLY))
+    for words, status in [([], 0), (["--rules", "capabilities"], 0), (["--rules", "capabilities", "--level", "implied"], 1)]:
+        with both_ends("--once", "--json", *words) as (check, client, theirs):
+            for one, other, message in [(client, theirs, INITIALIZE), (theirs, client, INITIALIZE_REPLY), (client, theirs, INITIALIZED), (theirs, client, ask),
+                                        (client, theirs, b'{"jsonrpc":"2.0","id":1,"result":[]}')]:
+                one.send_bytes(frame(message))
+                other.receive(frame(message))
+            client.connection.close()
+            theirs.connection.close()
+            ended, out, errors = check.end()
+            found = [(it["rule"], it["file"], it["byte"]) for it in map(json.loads, out.splitlines()) if it["kind"] == "breach"]
+            expect(f"the status, and what is found by {words}", (ended, found), (status, [("ClientCannot", "server", place)] if words else []))
+
+
 def check_order():
     print("a reply is judged behind its request, though both pass at once")
     with both_ends("--once") as (check, client, theirs):
@@ -174,7 +191,8 @@ def in_a_minute(check):
 
 def check_all():
     for check in [
-        check_session, check_bytes, check_long_header, check_told_at_once, check_order, check_clients, check_no_server, check_null_id,
+        check_session, check_bytes, check_long_header, check_told_at_once, check_capabilities, check_order, check_clients, check_no_server,
+        check_null_id,
     ]:
         in_a_minute(check)
 

@@ -69,6 +69,7 @@ def check_statuses():
         ("no side", ["--fail-on", "nobody", "-"], clean, 2),
         ("no group", ["--rules", "texts", "-"], clean, 2),
         ("a first line that is no message", ["-"], b"# recorded on a Sunday\n" + clean, 3),
+        ("several such lines", ["-"], b"# recorded\n\n# on a Sunday\n" * 400 + clean, 3),
         ("frames of one direction", ["-"], b"Content-Length: 2\r\n\r\n{}", 3),
         ("a line that is no message", ["-"], clean + b"hello\n", 3),
         ("that, and a breach", ["-"], (DATA / "NoReply_broken.lsp").read_bytes() + b"hello\n", 1),
@@ -84,6 +85,12 @@ def check_statuses():
         expect(f"the status of {what}", ran.returncode, status)
         if what == "another text":
             expect("whether the formats are named", all(it in ran.stderr for it in (b"VS Code", b"Neovim", b"eglot", b"Helix", b"frames")), True)
+
+
+def check_frames():
+    print("what was announced before is not known in two files of frames")
+    ran = check(*ALL_RULES, "--to-server", "sent", "--to-client", "came")
+    expect("the refusal", (ran.returncode, ran.stdout, b"needs the order of the messages" in ran.stderr), (2, b"", True))
 
 
 def check_forms():
@@ -184,7 +191,7 @@ def check_page():
 
 
 def check_all():
-    for part in [check_chosen, check_statuses, check_forms, check_rules, check_stats, check_page]:
+    for part in [check_chosen, check_statuses, check_frames, check_forms, check_rules, check_stats, check_page]:
         part()
 
 

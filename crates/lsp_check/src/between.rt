@@ -114,7 +114,7 @@ fn judge_heard<R: Wait, W: Write>(
 ) -> Result<Outcome> {
     let alloc = report.alloc;
     let mut ways = Ways {
-        judged: Judgement::new(alloc),
+        judged: Judgement::new(alloc, report.choice.capabilities),
         client: Frames::new(alloc),
         server: Frames::new(alloc),
         is_server_first: false,

@@ -17,7 +17,7 @@ A FILE is a recording or a log. Its first lines show which one:
 - the events of eglot in Emacs
 - the log of Helix (hx -v); each of its servers is judged by itself
 `-` is standard input. Two files of frames (--to-server, --to-client) do not say what passed first. Only what is a breach
-in each order is reported as one.
+in each order is reported as one, and --rules capabilities is refused, since what was announced before is not known.
 
 Each message that breaks a rule has a line, with its place and that of the message that it goes against. `lsp_check rules`
 lists the rules. If a file is cut, its whole messages are judged. `perhaps` marks a breach that is not certain, such as one
@@ -130,7 +130,7 @@ fn group<'a>(alloc: Global) -> Arg<'a> {
         .long("rules")
         .value_name("GROUP")
         .help(
-            "Which rules are judged in recordings and logs: session, or capabilities, which adds what both sides announced [default: session]",
+            "Which rules are judged: session, or capabilities, which adds what both sides announced [default: session]",
         )
 }
 
@@ -149,6 +149,7 @@ fn between<'a>(alloc: Global) -> Result<Command<'a>, AllocError> {
         .arg(fail_on(alloc)?)?
         .arg(level(alloc)?)?
         .arg(ignore(alloc))?
+        .arg(group(alloc))?
         .arg(flag(alloc, "json", "Reports in lines of JSON"))?
         .arg(listen)?
         .arg(server)
@@ -213,6 +214,11 @@ pub fn choice_of(alloc: Global, matches: &ArgMatches<'_>) -> Result<Choice> {
         "capabilities" => true,
         _ => bail!("--rules is session or capabilities"),
     };
+    if capabilities && matches.get_str("to-server").is_some() {
+        bail!(
+            "--rules capabilities needs the order of the messages, which two files of frames do not have"
+        );
+    }
     let mut ignored = Vec::new(alloc);
     for word in matches.get_strs("ignore").unwrap_or(&[]) {
         ignored.push(ignored_of(alloc, word)?)?;
@@ -225,7 +231,7 @@ pub fn choice_of(alloc: Global, matches: &ArgMatches<'_>) -> Result<Choice> {
     })
 }
 
-/// Which group of rules is chosen. `between` has no such argument.
+/// Which group of rules is chosen.
 fn group_of<'a>(matches: &ArgMatches<'a>) -> &'a str {
     matches.get_str("rules").unwrap_or("session")
 }

@@ -19,14 +19,15 @@ pub struct Side<R> {
 /// Judges the messages in an order in which no rule is broken, if it finds one. A breach is reported as certain only if it is one in each
 /// order.
 ///
-/// It takes the next message of the server, unless that breaks a rule. Otherwise it takes the next one of the client.
+/// It takes the next message of the server, unless that breaks a rule. Otherwise it takes the next one of the client. What both sides
+/// announce is not judged: that needs the order.
 pub fn judge_frames<C: BufRead, S: BufRead, W: Write>(
     report: &Report<'_>,
     client: &mut Side<C>,
     server: &mut Side<S>,
     out: &mut W,
 ) -> Result<Outcome> {
-    let mut judged = Judgement::new(report.alloc);
+    let mut judged = Judgement::new(report.alloc, false);
     let outcome = judge_all(&mut judged, report, client, server, out);
     drop(judged);
     outcome

@@ -10,6 +10,9 @@ use crate::traced::traced;
 use lsp_watch::Direction;
 use std::alloc::{AllocError, Global};
 
+/// How many lines before the first message of a recording are reported.
+const MOST_UNKNOWN: usize = 1000;
+
 /// A message that stands in a log.
 #[derive(Clone, Copy, Debug)]
 pub struct Found {
@@ -42,8 +45,9 @@ pub struct LogReader {
     format: Option<Format>,
     /// Whether only blank lines came.
     is_first: bool,
-    /// The first line that is not blank, of those that came before the log was known.
-    unknown: Option<u64>,
+    /// The lines that are not blank, of those that came before the log was known: the first ones. So many were returned.
+    unknown: Vec<u64>,
+    returned: usize,
     body: Vec<u8>,
     /// The server of the message, in a log of several.
     name: Vec<u8>,
@@ -59,7 +63,8 @@ impl LogReader {
             alloc,
             format: None,
             is_first: true,
-            unknown: None,
+            unknown: Vec::new(alloc),
+            returned: 0,
             body: Vec::new(alloc),
             name: Vec::new(alloc),
             trace: Trace::new(alloc),
@@ -98,8 +103,8 @@ impl LogReader {
         if self.format.is_none() {
             self.format = Format::of_line(line, self.is_first);
             let is_empty = line.iter().all(|it| is_blank(*it));
-            if self.format.is_none() && self.is_first && !is_empty {
-                self.unknown = Some(number);
+            if self.format.is_none() && !is_empty && self.unknown.len() < MOST_UNKNOWN {
+                self.unknown.push(number)?;
             }
             self.is_first = self.is_first && is_empty;
         }
@@ -117,13 +122,15 @@ impl LogReader {
         }
     }
 
-    /// Takes out the first line of a recording, if that line is none of a recording. It is not known before a later line shows that the
-    /// file is one.
+    /// Takes out the next line that stands before the first message of a recording, and is none of a recording. It is not known before
+    /// a later line shows that the file is one.
     pub fn take_unknown(&mut self) -> Option<u64> {
-        match self.format {
-            Some(Format::Recorder) => self.unknown.take(),
-            _ => None,
-        }
+        let Some(Format::Recorder) = self.format else {
+            return None;
+        };
+        let line = self.unknown.get(self.returned).copied()?;
+        self.returned = self.returned.saturating_add(1);
+        Some(line)
     }
 
     /// The message that is read at the end of the log, if there is one.

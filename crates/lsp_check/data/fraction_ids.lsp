@@ -1,0 +1,14 @@
+-> {"jsonrpc":"2.0","id":0,"method":"initialize","params":{"processId":null,"rootUri":null,"capabilities":{"window":{"workDoneProgress":true},"workspace":{"inlayHint":{"refreshSupport":true}}}}}
+<- {"jsonrpc":"2.0","id":0,"result":{"capabilities":{"hoverProvider":true}}}
+-> {"jsonrpc":"2.0","method":"initialized","params":{}}
+-> {"jsonrpc":"2.0","id":1.5,"method":"textDocument/hover","params":{"textDocument": {"uri": "file:///a"}, "position": {"line": 0, "character": 0}}}
+-> {"jsonrpc":"2.0","id":1e3,"method":"textDocument/hover","params":{"textDocument": {"uri": "file:///a"}, "position": {"line": 0, "character": 0}}}
+-> {"jsonrpc":"2.0","id":2,"method":"textDocument/hover","params":{"textDocument": {"uri": "file:///a"}, "position": {"line": 0, "character": 0}}}
+-> {"jsonrpc":"2.0","id":2.5,"method":"textDocument/hover","params":{"textDocument": {"uri": "file:///a"}, "position": {"line": 0, "character": 0}}}
+<- {"jsonrpc":"2.0","id":15e-1,"result":null}
+<- {"jsonrpc":"2.0","id":1000,"result":null}
+<- {"jsonrpc":"2.0","id":2.0,"result":null}
+<- {"jsonrpc":"2.0","id":2.25,"result":null}
+-> {"jsonrpc":"2.0","id":9,"method":"shutdown"}
+<- {"jsonrpc":"2.0","id":9,"result":null}
+-> {"jsonrpc":"2.0","method":"exit"}
