@@ -1,0 +1,4 @@
+pub mod Findings
+pub mod Fits
+pub mod Methods
+pub mod Spans
