@@ -1,5 +1,5 @@
 -- How a value fits a type, level by level.
-use Rattle.std.proofs.Common.{◌≡◌, ℕ, zero, suc, ◌-◌, List, Option, Some, None, true, refl, ap, arith, slice_get, sym, ◌∙◌}
+use Rattle.std.proofs.Common.{◌≡◌, ◌∙◌, ℕ, zero, suc, ◌-◌, List, Some, None, true, refl, ap, sym, arith, slice_get}
 use Rattle.std.proofs.Common.{[], ◌∷◌, length}
 use Rattle.serde_json.specs.Data.{Data}
 use Rattle.serde_json.specs.View.{items_view}

@@ -1,5 +1,5 @@
 -- Whether the params or the result of a message fit the type of its method.
-use Rattle.std.specs.Prelude.{ℕ, Bool, true, false, not, ◌&&◌, List, Option, Some, None, unwrap_or, codes}
+use Rattle.std.specs.Prelude.{ℕ, Bool, false, not, ◌&&◌, List, Option, Some, None, unwrap_or, codes}
 use Rattle.serde_json.specs.Data.{Data, null, object, no_members}
 use Rattle.serde_json.specs.Find.{get}
 use Rattle.lsp_message.specs.Message.{Message, request, notification, response}
@@ -8,8 +8,7 @@ use Rattle.lsp_watch.specs.declared.direction.Direction.{Direction}
 use Rattle.lsp_model.specs.Fits.{fits}
 use Rattle.lsp_model.specs.Methods.{method_named}
 use Rattle.lsp_model.specs.declared.mode.Mode.{Mode}
-use Rattle.lsp_model.specs.declared.mode.Mode.TheVariants.{Loose, Strict, Edits, Tokens, Selection}
-use Rattle.lsp_model.specs.declared.model.Method.{Method}
+use Rattle.lsp_model.specs.declared.mode.Mode.TheVariants.{Loose}
 use Rattle.lsp_model.specs.declared.model.Model.{Model}
 
 -- no content nests so deep
@@ -28,7 +27,7 @@ abbrev pub any_if : {A : Type 0} → (A → Bool) → Option A → Bool
 any_if such None = false
 any_if such (Some found) = such found
 
--- The params that are judged. Params that are missing count as an object without members. A list of params has no names.
+-- The judged params. Params that are missing count as an object without members. A list of params has no keys.
 abbrev pub judged_params : Data → Option Data
 judged_params null = Some (object no_members)
 judged_params (object ms) = Some (object ms)

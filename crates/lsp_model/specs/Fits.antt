@@ -99,7 +99,8 @@ fits_plain form.Unsigned strict d = fits_whole strict (pos 0) greatest_integer d
 fits_plain form.Decimal strict d = is_some (as_number d)
 fits_plain (form.Listed least most) strict d = fits_listed strict least most d
 fits_plain (form.Word word) strict d = fits_word word.now d
-fits_plain (form.Words words) strict d = fits_words strict (λ text. list_any (λ word. bytes_eq word.now text) words.now) d
+fits_plain (form.Words words) strict d =
+    fits_words strict (λ text. list_any (λ word. bytes_eq word.now text) words.now) d
 fits_plain form strict d = true
 
 -- ---- a member of an object

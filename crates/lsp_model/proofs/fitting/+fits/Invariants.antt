@@ -40,6 +40,7 @@ invariant-fits_any-loop-case l =
 
 abbrev pub invariant-members_fit-loop-member : goal.invariant-members_fit-loop-member
 invariant-members_fit-loop-member l =
-    list_all (λ m. fits_member (fits l.types l.mode l.levels) m (member_in (is_strict l.mode) m (view l.value))) l.members
+    list_all (λ m. fits_member (fits l.types l.mode l.levels) m (member_in (is_strict l.mode) m (view l.value)))
+    l.members
     ≡ list_all (λ m. fits_member (fits l.types l.mode l.levels) m (member_in (is_strict l.mode) m (view l.value)))
     (drop l.member-index l.members)

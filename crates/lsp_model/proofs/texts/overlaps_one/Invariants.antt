@@ -5,4 +5,5 @@ use Rattle.lsp_model.proofs.texts.overlaps_one.Given as goal
 
 abbrev pub invariant-loop-other : goal.invariant-loop-other
 invariant-loop-other l =
-    overlaps_one (view l.edit) (items_view l.others) ≡ overlaps_one (view l.edit) (items_view (drop l.other-index l.others))
+    overlaps_one (view l.edit) (items_view l.others)
+    ≡ overlaps_one (view l.edit) (items_view (drop l.other-index l.others))
