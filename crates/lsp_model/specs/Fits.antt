@@ -8,11 +8,11 @@ use Rattle.serde_json.specs.Data.{Data, array, Items, no_items, item, Members, n
 use Rattle.serde_json.specs.Find.{get, as_null, as_bool, as_number, as_i64, is_float, as_str, as_array, as_object}
 use Rattle.lsp_model.specs.declared.form.Form.{Form}
 use Rattle.lsp_model.specs.declared.form.Form.TheVariants as form
-use Rattle.lsp_model.specs.Spans.{any_overlap, count, is_within, span_in}
+use Rattle.lsp_model.specs.Spans.{any_overlap, count, is_fold_reversed, is_reversed, is_within, span_in}
 use Rattle.lsp_model.specs.declared.form.Member.{Member}
 use Rattle.lsp_model.specs.declared.form.Member.TheVariants.{Required, Optional}
 use Rattle.lsp_model.specs.declared.mode.Mode.{Mode}
-use Rattle.lsp_model.specs.declared.mode.Mode.TheVariants.{Loose, Strict, Edits, Tokens, Selection}
+use Rattle.lsp_model.specs.declared.mode.Mode.TheVariants.{Loose, Strict, Edits, Tokens, Selection, Ranges}
 
 -- ---- how JSON is looked at
 
@@ -22,6 +22,7 @@ is_strict Strict = true
 is_strict Edits = false
 is_strict Tokens = false
 is_strict Selection = false
+is_strict Ranges = false
 
 -- no two edits of a list overlap
 abbrev pub has_no_overlap : Data → Bool
@@ -46,12 +47,18 @@ abbrev pub keeps_selection : Form → Data → Bool
 keeps_selection (form.Around members whole part) d = is_within (span_in whole.now d) (span_in part.now d)
 keeps_selection form d = true
 
+abbrev pub keeps_ranges : Form → Data → Bool
+keeps_ranges (form.Range members) d = not (is_reversed d)
+keeps_ranges (form.Folding members) d = not (is_fold_reversed d)
+keeps_ranges form d = true
+
 abbrev pub keeps : Form → Mode → Data → Bool
 keeps form Loose d = true
 keeps form Strict d = true
 keeps form Edits d = keeps_edits form d
 keeps form Tokens d = keeps_tokens form d
 keeps form Selection d = keeps_selection form d
+keeps form Ranges d = keeps_ranges form d
 
 -- ---- a type that has no others in it
 
@@ -161,6 +168,8 @@ fits_parts inner strict (form.Map at) d = all_if (each_member (inner at)) (as_ob
 fits_parts inner strict (form.OneOf cases) d = list_any (λ at. inner at d) cases.now
 fits_parts inner strict (form.Object members) d = fits_object inner strict members.now d
 fits_parts inner strict (form.Around members whole part) d = fits_object inner strict members.now d
+fits_parts inner strict (form.Range members) d = fits_object inner strict members.now d
+fits_parts inner strict (form.Folding members) d = fits_object inner strict members.now d
 fits_parts inner strict form d = fits_plain form strict d
 
 abbrev pub fits_form : (ℕ → Data → Bool) → Mode → Form → Data → Bool

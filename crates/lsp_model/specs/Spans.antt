@@ -40,6 +40,31 @@ is_within None part = true
 is_within (Some whole) None = true
 is_within (Some whole) (Some part) = not (is_before part.start whole.start) && not (is_before whole.end part.end)
 
+-- a range ends before it starts (LSP 3.17, "Range")
+abbrev pub ends_before_start : Option Span → Bool
+ends_before_start None = false
+ends_before_start (Some span) = is_before span.end span.start
+
+abbrev pub is_reversed : Data → Bool
+is_reversed d = ends_before_start (span_of d)
+
+-- one number is less than another; it is not known where one of them is missing
+abbrev pub comes_before : Option ℕ → Option ℕ → Bool
+comes_before None other = false
+comes_before (Some one) None = false
+comes_before (Some one) (Some other) = nat_lt one other
+
+abbrev pub is_same : Option ℕ → Option ℕ → Bool
+is_same None other = false
+is_same (Some one) None = false
+is_same (Some one) (Some other) = one == other
+
+-- A folding range ends before it starts (LSP 3.17, "FoldingRange"). A column that is missing is the end of its line.
+abbrev pub is_fold_reversed : Data → Bool
+is_fold_reversed d = comes_before (number_in (codes "endLine") d) (number_in (codes "startLine") d)
+    || (is_same (number_in (codes "endLine") d) (number_in (codes "startLine") d)
+    && comes_before (number_in (codes "endCharacter") d) (number_in (codes "startCharacter") d))
+
 -- an edit overlaps one of others
 abbrev pub overlaps_one : Data → Items → Bool
 overlaps_one d no_items = false

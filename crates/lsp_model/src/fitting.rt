@@ -41,7 +41,10 @@ fn parts_fit(types: &[Form], mode: Mode, levels: u32, form: Form, value: &Value)
             None => false,
         },
         Form::OneOf(cases) => fits_any(types, mode, levels, cases, value),
-        Form::Object(members) | Form::Around(members, _, _) => {
+        Form::Object(members)
+        | Form::Around(members, _, _)
+        | Form::Range(members)
+        | Form::Folding(members) => {
             value.is_object() && members_fit(types, mode, levels, members, value)
         }
         plain => is_plain(plain, mode.is_strict(), value),

@@ -41,6 +41,10 @@ pub enum Form {
     Object(&'static [Member]),
     /// An object with these members, and perhaps others. The range at the second key is within the one at the first.
     Around(&'static [Member], &'static str, &'static str),
+    /// A range of a text, with these members.
+    Range(&'static [Member]),
+    /// A folding range, with these members.
+    Folding(&'static [Member]),
 }
 
 /// A member of an object: its key and its type.

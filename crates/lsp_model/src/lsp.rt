@@ -598,7 +598,7 @@ const TYPES: &[Form] = &[
     // 12
     Form::Listed(1, 26),
     // 13: Range
-    Form::Object(&[Required("start", 14), Required("end", 14)]),
+    Form::Range(&[Required("start", 14), Required("end", 14)]),
     // 14: Position
     Form::Object(&[Required("line", 15), Required("character", 15)]),
     // 15
@@ -1858,7 +1858,7 @@ const TYPES: &[Form] = &[
         Optional("partialResultToken", 4),
     ]),
     // 349: FoldingRange
-    Form::Object(&[
+    Form::Folding(&[
         Required("startLine", 15),
         Required("endLine", 15),
         Optional("startCharacter", 15),

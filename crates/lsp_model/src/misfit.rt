@@ -146,9 +146,10 @@ impl Search<'_> {
         match form {
             Form::List(at) | Form::Edits(at) | Form::Tokens(at) => self.item_of(*at, step.value),
             Form::Map(at) => self.value_in(*at, step.value),
-            Form::Object(members) | Form::Around(members, _, _) => {
-                self.member_of(members, step.value)
-            }
+            Form::Object(members)
+            | Form::Around(members, _, _)
+            | Form::Range(members)
+            | Form::Folding(members) => self.member_of(members, step.value),
             Form::OneOf(cases) => Ok(self.case_of(cases, step.value)),
             Form::Word(word) => Ok(Part::Here(Wanted::Word(word))),
             plain => Ok(Part::Here(Wanted::Kind(kind_of(*plain, self.mode)))),
@@ -248,7 +249,13 @@ impl Search<'_> {
     fn is_of_kind(&self, at: usize, value: &Value) -> bool {
         match self.model.types.get(at) {
             Some(Form::List(_) | Form::Edits(_) | Form::Tokens(_)) => value.is_array(),
-            Some(Form::Map(_) | Form::Object(_) | Form::Around(_, _, _)) => value.is_object(),
+            Some(
+                Form::Map(_)
+                | Form::Object(_)
+                | Form::Around(_, _, _)
+                | Form::Range(_)
+                | Form::Folding(_),
+            ) => value.is_object(),
             _ => false,
         }
     }
@@ -266,7 +273,12 @@ impl Search<'_> {
 
     fn has_keys(&self, at: usize, value: &Value) -> bool {
         match self.model.types.get(at) {
-            Some(Form::Object(members) | Form::Around(members, _, _)) => members
+            Some(
+                Form::Object(members)
+                | Form::Around(members, _, _)
+                | Form::Range(members)
+                | Form::Folding(members),
+            ) => members
                 .iter()
                 .all(|it| !it.is_required() || value.get(it.key()).is_some()),
             _ => true,

@@ -16,6 +16,8 @@ pub enum Mode {
     Tokens,
     /// As `Loose`, and parts that are selected and not within the whole part.
     Selection,
+    /// As `Loose`, and ranges that end before they start.
+    Ranges,
 }
 
 impl Mode {

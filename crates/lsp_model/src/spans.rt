@@ -1,22 +1,22 @@
 // Ranges of a text, as JSON has them (LSP 3.17, "Position" and "Range").
 ghost use Rattle.std.specs.Prelude.{◌≡◌, option_map};
 ghost use Rattle.serde_json.specs.View.{view};
-ghost use Rattle.lsp_model.specs.Spans.{number_in, place_in, span_in, is_before as is_earlier, overlap as do_overlap, is_within as is_inside};
+ghost use Rattle.lsp_model.specs.Spans.{number_in, place_in, span_of, span_in, is_before as is_earlier, comes_before, overlap as do_overlap, is_within as is_inside, is_reversed as is_range_reversed, is_fold_reversed as is_folding_reversed};
 
 use serde_json::Value;
 
 /// A position.
 #[derive(Clone, Copy)]
 pub struct Place {
-    line: u64,
+    pub line: u64,
     character: u64,
 }
 
 /// A range.
 #[derive(Clone, Copy)]
 pub struct Span {
-    start: Place,
-    end: Place,
+    pub start: Place,
+    pub end: Place,
 }
 
 impl Place {
@@ -26,8 +26,8 @@ impl Place {
     {
         let value = object.get(key)?;
         Some(Place {
-            line: value.get("line")?.as_u64()?,
-            character: value.get("character")?.as_u64()?,
+            line: number(value, "line")?,
+            character: number(value, "character")?,
         })
     }
 
@@ -43,7 +43,13 @@ impl Span {
     pub fn of(object: &Value, key: &str) -> Option<Span>
         ensures { result ≡ span_in key.now (view object.now) }
     {
-        let range = object.get(key)?;
+        Span::read(object.get(key)?)
+    }
+
+    /// Returns a range.
+    pub fn read(range: &Value) -> Option<Span>
+        ensures { result ≡ span_of (view range.now) }
+    {
         Some(Span {
             start: Place::of(range, "start")?,
             end: Place::of(range, "end")?,
@@ -72,5 +78,44 @@ pub fn is_within(whole: Option<Span>, part: Option<Span>) -> bool
             !part.start.is_before(whole.start) && !whole.end.is_before(part.end)
         }
         _ => true,
+    }
+}
+
+/// Returns whether a range ends before it starts. Where it can't be read, this is not known, and the result is false.
+pub fn is_reversed(range: &Value) -> bool
+    ensures { result ≡ is_range_reversed (view range.now) }
+{
+    match Span::read(range) {
+        Some(range) => range.end.is_before(range.start),
+        None => false,
+    }
+}
+
+/// Returns whether a folding range ends before it starts. Its columns are compared if both are there: a missing one is the end of its line.
+pub fn is_fold_reversed(fold: &Value) -> bool
+    ensures { result ≡ is_folding_reversed (view fold.now) }
+{
+    match (number(fold, "startLine"), number(fold, "endLine")) {
+        (Some(start), Some(end)) if start == end => {
+            is_less(number(fold, "endCharacter"), number(fold, "startCharacter"))
+        }
+        (Some(start), Some(end)) => end < start,
+        _ => false,
+    }
+}
+
+/// Returns the number at a key of an object.
+pub fn number(object: &Value, key: &str) -> Option<u64>
+    ensures { result ≡ number_in key.now (view object.now) }
+{
+    object.get(key)?.as_u64()
+}
+
+fn is_less(one: Option<u64>, other: Option<u64>) -> bool
+    ensures { result ≡ comes_before one other }
+{
+    match (one, other) {
+        (Some(one), Some(other)) => one < other,
+        _ => false,
     }
 }

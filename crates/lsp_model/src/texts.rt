@@ -6,7 +6,7 @@ ghost use Rattle.lsp_model.specs.Spans.{any_overlap as any_overlaps, overlaps_on
 
 use crate::form::Form;
 use crate::mode::Mode;
-use crate::spans::{Span, is_within, overlap};
+use crate::spans::{Span, is_fold_reversed, is_reversed, is_within, overlap};
 use serde_json::Value;
 
 /// Returns whether a value keeps what its type demands of texts, as far as this mode looks at it.
@@ -19,6 +19,8 @@ pub fn keeps(form: Form, mode: Mode, value: &Value) -> bool
         (Mode::Selection, Form::Around(_, whole, part)) => {
             is_within(Span::of(value, whole), Span::of(value, part))
         }
+        (Mode::Ranges, Form::Range(_)) => !is_reversed(value),
+        (Mode::Ranges, Form::Folding(_)) => !is_fold_reversed(value),
         _ => true,
     }
 }
