@@ -4,6 +4,8 @@
 mod findings;
 mod fitting;
 mod form;
+mod line_counts;
+mod lines;
 mod lsp;
 mod misfit;
 mod mode;
@@ -14,6 +16,7 @@ mod texts;
 
 pub use fitting::fits;
 pub use form::{Form, Member};
+pub use line_counts::LineCounts;
 pub use lsp::LSP;
 pub use misfit::Misfit;
 pub use mode::Mode;

@@ -55,7 +55,7 @@ enum Part<'v> {
 enum Likeness {
     /// It fits the type loosely.
     Fits,
-    /// It is of the type's kind, and has the members that the type requires.
+    /// It is a list or an object, as the type is, and has the members that the type requires.
     Members,
     /// It is a list or an object, as the type is.
     Kind,
@@ -210,8 +210,8 @@ impl Search<'_> {
         Ok(Part::Here(Wanted::Else))
     }
 
-    /// Returns the type of several that a value is meant to have: the only one that it fits loosely, or has the members of, or is of the
-    /// kind of.
+    /// Returns the type of several that a value is meant to have. It is the only one that the value fits loosely, or whose members it has,
+    /// or which is a list or an object as the value is.
     fn case_of<'v>(&self, cases: &[usize], value: &'v Value) -> Part<'v> {
         let found = self
             .only(cases, value, Likeness::Fits)
@@ -311,6 +311,16 @@ fn kind_of(form: Form, mode: Mode) -> &'static str {
         Form::Unsigned => "uinteger",
         Form::Decimal => "number",
         _ => "such value",
+    }
+}
+
+impl Misfit {
+    /// Returns a place of which nothing else is said.
+    pub(crate) fn at(path: String) -> Misfit {
+        Misfit {
+            path,
+            wanted: Wanted::Else,
+        }
     }
 }
 

@@ -19,7 +19,7 @@ pub enum Receiver {
 }
 
 impl Receiver {
-    /// Returns whether it receives what goes this way.
+    /// Returns whether it receives messages that go this way.
     pub fn takes(self, way: Direction) -> bool
         ensures { result ≡ takes_way self way }
     {
