@@ -124,6 +124,23 @@ def check_capabilities():
             expect(f"the status, and what is found by {words}", (ended, found), (status, [("ClientCannot", "server", place)] if words else []))
 
 
+def check_types():
+    print("types are judged, if that is chosen")
+    ask = b'{"jsonrpc":"2.0","id":7,"method":"textDocument/hover","params":{"textDocument":{"uri":"file:///a"},"position":{"line":0,"character":0}}}'
+    reply = b'{"jsonrpc":"2.0","id":7,"result":{"range":null}}'
+    for words, status in [([], 0), (["--rules", "types"], 1), (["--rules", "types", "--fail-on", "client"], 0)]:
+        with both_ends("--once", "--json", *words) as (check, client, theirs):
+            for one, other, message in [(client, theirs, INITIALIZE), (theirs, client, INITIALIZE_REPLY), (client, theirs, INITIALIZED), (client, theirs, ask), (theirs, client, reply)]:
+                one.send_bytes(frame(message))
+                other.receive(frame(message))
+            client.connection.close()
+            theirs.connection.close()
+            ended, out, errors = check.end()
+            found = [(it["rule"], it["file"], it["byte"]) for it in map(json.loads, out.splitlines()) if it["kind"] == "breach" and it["way"] == "<-"]
+            wanted = [("WrongType", "server", len(frame(INITIALIZE_REPLY)))] if words else []
+            expect(f"the status, and what is found by {words}", (ended, found), (status, wanted))
+
+
 def check_order():
     print("a reply is judged behind its request, though both pass at once")
     with both_ends("--once") as (check, client, theirs):
@@ -191,7 +208,7 @@ def in_a_minute(check):
 
 def check_all():
     for check in [
-        check_session, check_bytes, check_long_header, check_told_at_once, check_capabilities, check_order, check_clients, check_no_server,
+        check_session, check_bytes, check_long_header, check_told_at_once, check_capabilities, check_types, check_order, check_clients, check_no_server,
         check_null_id,
     ]:
         in_a_minute(check)

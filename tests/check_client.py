@@ -22,7 +22,7 @@ import logs
 PROGRAM = os.environ.get("LSP_CHECK")
 EDITOR_LOGS = sorted(it.name for it in DATA.glob("*.log"))
 RECORDINGS = sorted(it.name for it in DATA.glob("*.lsp"))
-ALL_RULES = ["--rules", "capabilities"]
+ALL_RULES = ["--rules", "all"]
 BOTH = ["--fail-on", "both", "--level", "implied", *ALL_RULES]
 
 
@@ -46,8 +46,14 @@ def check_chosen():
                 is_wanted = rule != "Unreadable" and is_strong and (side == "both" or side in found)
                 expect(f"{rule}: {side} {level}", check("--fail-on", side, "--level", level, *ALL_RULES, name).returncode, int(is_wanted))
         expect(f"{rule}: ignored", check(*BOTH, "--ignore", rule, name).returncode, 0)
-    for rule in judge.OF_CAPABILITIES:
-        expect(f"{rule}: not chosen", check("--fail-on", "both", "--level", "implied", f"{rule}_broken.lsp").returncode, 0)
+    strict = ["--fail-on", "both", "--level", "implied"]
+    for group, rules in judge.GROUPS.items():
+        others = [it for it in judge.GROUPS if it != group]
+        for rule in rules:
+            name = f"{rule}_broken.lsp"
+            expect(f"{rule}: not chosen", check(*strict, name).returncode, 0)
+            expect(f"{rule}: chosen", check(*strict, "--rules", group, name).returncode, 1)
+            expect(f"{rule}: others chosen", check(*strict, *[it for other in others for it in ("--rules", other)], name).returncode, 0)
     log = "vscode_text.log"
     expect("a method", check(*BOTH, "--ignore", "AlreadyOpen@textDocument/didOpen", log).returncode, 0)
     expect("another method", check(*BOTH, "--ignore", "AlreadyOpen@textDocument/didClose", log).returncode, 1)
@@ -67,7 +73,8 @@ def check_statuses():
         ("no word", [], b"", 2),
         ("no rule", ["--ignore", "Nothing", "-"], clean, 2),
         ("no side", ["--fail-on", "nobody", "-"], clean, 2),
-        ("no group", ["--rules", "texts", "-"], clean, 2),
+        ("no group", ["--rules", "words", "-"], clean, 2),
+        ("several groups", ["--rules", "types", "--rules", "texts", "-"], clean, 0),
         ("a first line that is no message", ["-"], b"# recorded on a Sunday\n" + clean, 3),
         ("several such lines", ["-"], b"# recorded\n\n# on a Sunday\n" * 400 + clean, 3),
         ("frames of one direction", ["-"], b"Content-Length: 2\r\n\r\n{}", 3),
@@ -88,9 +95,10 @@ def check_statuses():
 
 
 def check_frames():
-    print("what was announced before is not known in two files of frames")
-    ran = check(*ALL_RULES, "--to-server", "sent", "--to-client", "came")
-    expect("the refusal", (ran.returncode, ran.stdout, b"needs the order of the messages" in ran.stderr), (2, b"", True))
+    print("what passed before a message is not known in two files of frames")
+    for group in [*judge.GROUPS, "all"]:
+        ran = check("--rules", group, "--to-server", "sent", "--to-client", "came")
+        expect(f"the refusal of {group}", (ran.returncode, ran.stdout, b"needs the order of the messages" in ran.stderr), (2, b"", True))
 
 
 def check_forms():
@@ -115,7 +123,8 @@ def check_rules():
     lines = [json.loads(it) for it in check("rules", "--json").stdout.decode().splitlines()]
     came = {it["rule"]: judge.Rule(it["side"], it["level"], it["sentence"], it["section"]) for it in lines}
     expect("the rules", came, judge.RULES)
-    expect("the group of capabilities", {it["rule"] for it in lines if it["group"] == "capabilities"}, judge.OF_CAPABILITIES)
+    for group, rules in judge.GROUPS.items():
+        expect(f"the group of {group}", {it["rule"] for it in lines if it["group"] == group}, rules)
     for line in lines:
         expect("whether both logs are there", [(DATA / line[it]).is_file() for it in ("keeps", "breaks")], [True, True])
     expect("the table", len(check("rules").stdout.decode().splitlines()), len(judge.RULES))

@@ -2,6 +2,7 @@
 import json
 from collections import namedtuple
 
+import types_judge
 from tables import CRATES
 
 MODEL = (CRATES.parent / "tools" / "metamodel.txt").read_text(encoding="utf-8").splitlines()
@@ -14,7 +15,7 @@ ASK = 'LSP 3.17, "Request Message"'
 CALLS = "JSON-RPC 2.0, section 4.1, and the method's section of LSP 3.17"
 INITIALIZE, INITIALIZED = 'LSP 3.17, "Initialize Request"', 'LSP 3.17, "Initialized Notification"'
 DOCUMENT = 'LSP 3.17, "DidOpenTextDocument Notification"'
-CAPABILITIES = 'LSP 3.17, "Capabilities"'
+CAPABILITIES, TYPES = 'LSP 3.17, "Capabilities"', "the method's section of LSP 3.17"
 
 # A rule: who breaks it, how strongly it is demanded, what it says, and where.
 Rule = namedtuple("Rule", "side level sentence section")
@@ -52,6 +53,13 @@ RULES = {
     "AnnouncedUnknown": Rule("sender", "implied", "the server announced or registered this method, and answers that it does not know it", CAPABILITIES),
     "ClientCannot": Rule("sender", "implied", "the client did not announce that it answers this request", CAPABILITIES),
     "NeverOpened": Rule("sender", "implied", "the client never opened the document of these diagnostics", 'LSP 3.17, "PublishDiagnostics Notification"'),
+    "WrongType": Rule("sender", "must", "a member is missing or has another type", TYPES),
+    "LooseType": Rule("sender", "implied", "a member is null that may only be missing, or its value is not listed", TYPES),
+    "EditsOverlap": Rule("sender", "must", "two edits of one text overlap", 'LSP 3.17, "TextEdit[]"'),
+    "TokensNotInFives": Rule("sender", "must", "semantic tokens have five numbers each", 'LSP 3.17, "Semantic Tokens"'),
+    "SelectionOutside": Rule("sender", "must", "the part that is selected is not within the whole part", 'LSP 3.17, "DocumentSymbol" and "LocationLink"'),
+    "RangeReversed": Rule("sender", "implied", "the end of a range is before its start", 'LSP 3.17, "Range" and "FoldingRange"'),
+    "LineOutside": Rule("sender", "must", "a line of a folding range is no line of the document", 'LSP 3.17, "FoldingRange"'),
 }
 # By which member of its capabilities a server announces a method, and by which path a client announces that it answers one.
 PROVIDERS = {f"textDocument/{it}": f"{it}Provider" for it in (
@@ -70,14 +78,18 @@ NEEDED = {
     "workspace/inlayHint/refresh": "workspace inlayHint refreshSupport", "workspace/inlineValue/refresh": "workspace inlineValue refreshSupport",
     "workspace/diagnostic/refresh": "workspace diagnostics refreshSupport",
 }
-OF_CAPABILITIES = {"NotAnnounced", "AnnouncedUnknown", "ClientCannot", "NeverOpened"}
+# The rules that are judged only if their group is chosen.
+GROUPS = {
+    "capabilities": {"NotAnnounced", "AnnouncedUnknown", "ClientCannot", "NeverOpened"}, "types": {"WrongType", "LooseType"},
+    "texts": {"EditsOverlap", "TokensNotInFives", "SelectionOutside", "RangeReversed", "LineOutside"},
+}
 # `lsp_check` reads no deeper content.
 MOST_DEPTH = 127
 DOCUMENTS, TOKENS = {"AlreadyOpen", "NotOpen", "VersionNotHigher"}, {"NoSuchToken", "TokenEnded"}
 
 
-def text(rule):
-    return f"{RULES[rule].sentence} ({RULES[rule].section})"
+def text(rule, detail=""):
+    return f"{RULES[rule].sentence}{': ' if detail else ''}{detail} ({RULES[rule].section})"
 
 
 def other(way):
@@ -212,8 +224,8 @@ def is_success(message):
 class Judge:
     """Judges one session, message by message."""
 
-    def __init__(self, is_whole=True, capabilities=None):
-        self.is_whole, self.capabilities = is_whole, capabilities
+    def __init__(self, is_whole=True, capabilities=None, shows_types=None):
+        self.is_whole, self.capabilities, self.shows_types = is_whole, capabilities, shows_types
         self.asked, self.live, self.ended, self.documents = [], set(), {}, {}
         self.result = self.initialized = self.shutdown = self.exit = None
 
@@ -222,16 +234,20 @@ class Judge:
         return opens(way, message) and (not self.is_whole or self.exit is not None)
 
     def see(self, place, way, message):
-        """The rules that a message breaks: each with the place of the message that it goes against, and whether that is sure."""
+        """The rules that a message breaks: each with the place of the message that it goes against, and whether that is sure. Behind a rule of
+        types stands what does not fit."""
         found = [(rule, None, True) for rule in shape(message)]
         if kind(message):
             parts = [self.order(way, message) or self.ids(way, message), self.document(place, way, message), self.progress(way, message)]
             found += [(rule, against, self.is_whole or against is not None) for rule, against in filter(None, parts)]
+            asked = self.waiting(other(way), key(message["id"])) if kind(message) == "reply" else None
             if self.capabilities:
-                asked = self.waiting(other(way), key(message["id"])) if kind(message) == "reply" else None
                 against = self.capabilities.see(way, message, asked)
                 found += [(*against, True)] if against else []
                 self.capabilities.keep(way, message, asked)
+            if self.shows_types is not None:
+                against = asked["place"] if asked else None
+                found += [(rule, against, self.shows_types, told) for rule, told in types_judge.faults(way, message, asked)]
             self.keep(place, way, message)
         return found
 

@@ -29,6 +29,7 @@ RESULT, NOTHING = replies("<-", 0, {"capabilities": {"hoverProvider": True}}), r
 INITIALIZED = tells("->", "initialized", {})
 SHUTDOWN, DONE, EXIT = asks("->", 9, "shutdown"), replies("<-", 9), tells("->", "exit")
 PLACE = {"textDocument": {"uri": "file:///a"}, "position": {"line": 0, "character": 0}}
+DOCUMENT = {"textDocument": {"uri": "file:///a"}}
 HOVER, HOVERED = asks("->", 1, "textDocument/hover", PLACE), replies("<-", 1)
 LOGGED = tells("<-", "window/logMessage", {"type": 3, "message": "ready"})
 OPEN = tells("->", "textDocument/didOpen", {"textDocument": {"uri": "file:///a", "languageId": "a", "version": 1, "text": ""}})
@@ -56,6 +57,42 @@ def told(value):
 
 def nested(depth):
     return told("[" * (depth - 1) + "]" * (depth - 1))
+
+
+def announced(member, *lines):
+    """A session whose server announced this member alone."""
+    offer = {"semanticTokensProvider": {"legend": {"tokenTypes": ["a"], "tokenModifiers": []}, "full": True}}.get(member, True)
+    return [INITIALIZE, replies("<-", 0, {"capabilities": {member: offer}}), *within(*lines)[2:]]
+
+
+def span(start, end):
+    return {at: {"line": place[0], "character": place[1]} for at, place in (("start", start), ("end", end))}
+
+
+def symbols(members, end=4):
+    """A session with a symbol of four columns, of which those up to `end` are selected."""
+    found = [{**members, "range": span((0, 0), (0, 4)), "selectionRange": span((0, 1), (0, end))}]
+    return announced("documentSymbolProvider", asks("->", 1, "textDocument/documentSymbol", DOCUMENT), replies("<-", 1, found))
+
+
+def edited(*spans):
+    """A session with edits of these spans."""
+    options = {"options": {"tabSize": 4, "insertSpaces": True}}
+    found = [{"range": span(*it), "newText": "a"} for it in spans]
+    return announced("documentFormattingProvider", asks("->", 1, "textDocument/formatting", DOCUMENT | options), replies("<-", 1, found))
+
+
+def tokens(*numbers):
+    found = {"data": numbers}
+    return announced("semanticTokensProvider", asks("->", 1, "textDocument/semanticTokens/full", DOCUMENT), replies("<-", 1, found))
+
+
+def folds(start, end, text="a\nb\nc"):
+    """A session with a folding range of these lines and columns, of a document of three lines."""
+    found = [{"startLine": start[0], "startCharacter": start[1], "endLine": end[0], "endCharacter": end[1]}]
+    opened = tells("->", "textDocument/didOpen", {"textDocument": {"uri": "file:///a", "languageId": "a", "version": 1, "text": text}})
+    asked = asks("->", 1, "textDocument/foldingRange", DOCUMENT)
+    return announced("foldingRangeProvider", opened, asked, replies("<-", 1, found), CLOSE)
 
 
 # The rule, the log that keeps it, and the one that breaks it.
@@ -96,6 +133,13 @@ LOGS = {
     "AnnouncedUnknown": (within(HOVER, refuses("<-", 1, ERROR)), within(HOVER, refuses("<-", 1, UNKNOWN))),
     "ClientCannot": (within(CREATE, CREATED), within(asks("<-", 1, "workspace/configuration", {"items": []}), replies("->", 1, []))),
     "NeverOpened": (within(OPEN, PUBLISH), within(PUBLISH)),
+    "WrongType": (symbols({"name": "a", "kind": 12}), symbols({"name": "a", "kind": "function"})),
+    "LooseType": (symbols({"name": "a", "kind": 26, "tags": [1]}), symbols({"name": "a", "kind": 27, "tags": [1]})),
+    "EditsOverlap": (edited(((0, 0), (0, 2)), ((0, 2), (0, 2)), ((0, 2), (1, 0))), edited(((0, 0), (0, 2)), ((0, 1), (0, 1)))),
+    "TokensNotInFives": (tokens(0, 0, 1, 0, 0), tokens(0, 0, 1, 0)),
+    "SelectionOutside": (symbols({"name": "a", "kind": 12}, 4), symbols({"name": "a", "kind": 12}, 5)),
+    "RangeReversed": (folds((1, 1), (1, 1)), folds((1, 1), (1, 0))),
+    # "LineOutside": (folds((0, 1), (2, 1)), folds((0, 1), (3, 0))),
 }
 
 

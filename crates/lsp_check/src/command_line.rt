@@ -3,7 +3,8 @@ use anyhow::{Result, bail};
 use clap::{Arg, ArgAction, ArgMatches, Command};
 use lsp_judge::choice::{Choice, FailOn, Ignored};
 use lsp_judge::report::Form;
-use lsp_watch::{Level, Rule, rules};
+use lsp_model::LSP;
+use lsp_watch::{Group, Level, Rule, rules};
 use std::alloc::{AllocError, Global};
 
 const ABOUT: &str =
@@ -17,7 +18,7 @@ A FILE is a recording or a log. Its first lines show which one:
 - the events of eglot in Emacs
 - the log of Helix (hx -v); each of its servers is judged by itself
 `-` is standard input. Two files of frames (--to-server, --to-client) do not say what passed first. Only what is a breach
-in each order is reported as one, and --rules capabilities is refused, since what was announced before is not known.
+in each order is reported as one, and --rules is refused, since it is not known what passed before a message.
 
 Each message that breaks a rule has a line, with its place and that of the message that it goes against. `lsp_check rules`
 lists the rules. If a file is cut, its whole messages are judged. `perhaps` marks a breach that is not certain, such as one
@@ -129,8 +130,9 @@ fn group<'a>(alloc: Global) -> Arg<'a> {
     Arg::new(alloc, "rules")
         .long("rules")
         .value_name("GROUP")
+        .action(ArgAction::Append)
         .help(
-            "Which rules are judged: session, or capabilities, which adds what both sides announced [default: session]",
+            "Adds rules to those of the session: capabilities, of what both sides announced; types, of params and results; texts, of edits, tokens and ranges; all. It may stand several times",
         )
 }
 
@@ -209,16 +211,12 @@ pub fn choice_of(alloc: Global, matches: &ArgMatches<'_>) -> Result<Choice> {
         "implied" => Level::Implied,
         _ => bail!("--level is must, should or implied"),
     };
-    let capabilities = match group_of(matches) {
-        "session" => false,
-        "capabilities" => true,
-        _ => bail!("--rules is session or capabilities"),
-    };
-    if capabilities && matches.get_str("to-server").is_some() {
-        bail!(
-            "--rules capabilities needs the order of the messages, which two files of frames do not have"
-        );
+    let groups = matches.get_strs("rules").unwrap_or(&[]);
+    if adds_rules(groups)? && matches.get_str("to-server").is_some() {
+        bail!("--rules needs the order of the messages, which two files of frames do not have");
     }
+    let capabilities = has_group(groups, Group::Capabilities)?;
+    let types = rules_of_types(alloc, groups)?;
     let mut ignored = Vec::new(alloc);
     for word in matches.get_strs("ignore").unwrap_or(&[]) {
         ignored.push(ignored_of(alloc, word)?)?;
@@ -228,12 +226,50 @@ pub fn choice_of(alloc: Global, matches: &ArgMatches<'_>) -> Result<Choice> {
         level,
         ignored,
         capabilities,
+        types,
+        model: LSP,
     })
 }
 
-/// Which group of rules is chosen.
-fn group_of<'a>(matches: &ArgMatches<'a>) -> &'a str {
-    matches.get_str("rules").unwrap_or("session")
+/// Whether there are more rules than those of the session. The error says that a word is no group.
+fn adds_rules(groups: &[&str]) -> Result<bool> {
+    Ok(
+        has_group(groups, Group::Capabilities)?
+            || has_group(groups, Group::Types)?
+            || has_group(groups, Group::Texts)?,
+    )
+}
+
+/// Whether a group of rules is chosen. The error says that another word is no group.
+fn has_group(groups: &[&str], group: Group) -> Result<bool> {
+    let mut has = group == Group::Session;
+    for name in groups {
+        let is_this = match *name {
+            "session" => false,
+            "capabilities" => group == Group::Capabilities,
+            "types" => group == Group::Types,
+            "texts" => group == Group::Texts,
+            "all" => true,
+            _ => bail!("--rules is session, capabilities, types, texts or all"),
+        };
+        has = has || is_this;
+    }
+    Ok(has)
+}
+
+/// The rules of types and texts that are chosen.
+fn rules_of_types(alloc: Global, groups: &[&str]) -> Result<Vec<Rule>> {
+    let (types, texts) = (
+        has_group(groups, Group::Types)?,
+        has_group(groups, Group::Texts)?,
+    );
+    let mut chosen = rules(alloc)?;
+    chosen.retain(|it| match it.group() {
+        Group::Types => types,
+        Group::Texts => texts,
+        Group::Session | Group::Capabilities => false,
+    });
+    Ok(chosen)
 }
 
 /// `RULE` or `RULE@METHOD`.

@@ -3,7 +3,7 @@ use Rattle.std.proofs.Common.{◌≡◌, ℕ, zero, suc, ◌+◌, Bool, true, fa
 use Rattle.std.proofs.Common.{Option, Some, None, refl, sym, ap, subst, ◌∙◌}
 use Rattle.serde_json.specs.Data.{Data}
 use Rattle.std.specs.List.{list_any}
-use Rattle.std.specs.Prelude.{take, map, option_to_list}
+use Rattle.std.specs.Prelude.{take, map, option_map, option_to_list}
 use Rattle.lsp_message.specs.HeaderPart.{lines}
 use Rattle.lsp_message.specs.Message.{Message}
 use Rattle.lsp_watch.specs.CleanLog.{IsClean}
@@ -15,13 +15,14 @@ use Rattle.lsp_watch.specs.RuleData.{level_of, side_of}
 use Rattle.lsp_watch.specs.Rules.{session_finding}
 use Rattle.lsp_watch.specs.Shape.{faults_of}
 use Rattle.lsp_watch.specs.Verdicts.{breaches_of, as_breach, shape_breach, begins_in, entered, findings_of}
-use Rattle.lsp_watch.specs.declared.breach.Breach.{Breach}
+use Rattle.lsp_watch.specs.declared.breach.Verdict.TheVariants.{Breach}
 use Rattle.lsp_watch.specs.declared.direction.Direction.{Direction}
 use Rattle.lsp_watch.specs.declared.rule.Level.TheVariants.{Must, Should, Implied}
 use Rattle.lsp_watch.specs.declared.rule.Level.{Level}
 use Rattle.lsp_watch.specs.declared.rule.Rule.{Rule}
-use Rattle.lsp_judge.specs.Choice.{fails, counts, is_of, is_at_least, is_known, culprit}
+use Rattle.lsp_judge.specs.Choice.{fails, fails_shown, counts, is_of, is_at_least, is_known, culprit}
 use Rattle.lsp_judge.specs.Judged.{Judged, nothing, begins, goes_on, begun, left, is_initialize as opens}
+use Rattle.lsp_judge.specs.Types.{unfit}
 use Rattle.lsp_judge.specs.Recording.{line_tree, with_line, after_lines, judged_of, with_message, session_from}
 use Rattle.lsp_judge.specs.Recording.{session_after, IsStrict}
 use Rattle.lsp_judge.specs.declared.choice.Choice.{Choice}
@@ -191,7 +192,9 @@ module _ (choice : Choice) (strict : IsStrict choice) where
       ∙ ap (λ w. list_any (fails choice Known way) (breaches_of w at.log way (faults_of m.1) (entry_in m.1)))
       (sym b.whole)
       ∙ any-front (fails choice Known way) (breaches_of at.is_whole at.log way (faults_of m.1) (entry_in m.1)) _
-      (or-right at.is_broken _ e) in
+      (or-left _ (list_any (fails_shown choice Known (Some Breach) way)
+      (unfit choice (Some Breach) at.log way (entry_in m.1) (option_map (λ x. m.1) (entry_in m.1))))
+      (or-right at.is_broken _ e)) in
       record {
         log_is = ap (λ l. entered way n (entry_in m.1) l) b.log_is;
         whole = b.whole;

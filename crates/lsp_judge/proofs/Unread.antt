@@ -17,6 +17,8 @@ use Rattle.lsp_watch.specs.Shape.{when, has, faults_of, named_faults, call_fault
 use Rattle.lsp_watch.specs.Shape.{outcome_faults}
 use Rattle.lsp_watch.specs.Shape.{is_id, is_wide, is_structure, is_error, is_version}
 use Rattle.lsp_watch.specs.Shape.{ReadsAs, IsReadAs, NoUtf8, IsNoText}
+use Rattle.lsp_watch.specs.declared.breach.Verdict.TheVariants.{Breach}
+use Rattle.lsp_watch.specs.declared.breach.Verdict.{Verdict}
 use Rattle.lsp_watch.specs.declared.direction.Direction.{Direction}
 use Rattle.lsp_watch.specs.declared.logged.LoggedMessage.{LoggedMessage}
 use Rattle.lsp_watch.specs.declared.rule.Rule.TheVariants.{BadVersion, BadId, WideId, BadParams, BothOutcomes}
@@ -126,8 +128,8 @@ module _ (m : LoggedMessage) (u : Bool) (is : u ≡ list_any says_unread m.fault
 -- ---- a line
 
 -- the judgement after a message
-abbrev told : Choice → Bool → ℕ → Judged → Order → Direction → LoggedMessage → Judged
-told choice late n j o w x = seen choice late o j n w x.faults.items (option_map entry_view x.entry)
+abbrev told : Choice → Bool → ℕ → Judged → Order → Option Verdict → Direction → LoggedMessage → Judged
+told choice late n j o v w x = seen choice late o v j n w x.faults.items (option_map entry_view x.entry)
     (option_map (λ e. view e.tree) x.entry)
 
 module _ (line content : List ℕ) (way : Direction) (m : LoggedMessage) (t : Bool) (marked : way_of line ≡ Some way)
@@ -149,23 +151,24 @@ module _ (line content : List ℕ) (way : Direction) (m : LoggedMessage) (t : Bo
 
   pub line_sees : (choice : Choice) (late : Bool) (n : ℕ) (j : Judged) (k : Judgement) (p : Passing) → p.way ≡ way →
       p.message ≡ m
-      → p.order ≡ Known → t ≡ true
-      → Judges k (seen choice late p.order j n p.way p.message.faults.items (option_map entry_view p.message.entry)
+      → p.order ≡ Known → p.types ≡ Some Breach → t ≡ true
+      → Judges k (seen choice late p.order p.types j n p.way p.message.faults.items (option_map entry_view p.message.entry)
       (option_map (λ e. view e.tree) p.message.entry))
       → Judges k (with_line choice late n j (line_tree line))
-  line_sees choice late n j k p way_is message_is order_is is_true sees =
+  line_sees choice late n j k p way_is message_is order_is types_are is_true sees =
       subst (λ o. Judges k (with_line choice late n j o)) (sym tree_is) (at (tree_in content) reads)
     where
-      plain : Judges k (told choice late n j Known way m)
-      plain = subst (λ x. Judges k (told choice late n j Known way x)) message_is
-          (subst (λ w. Judges k (told choice late n j Known w p.message)) way_is
-          (subst (λ o. Judges k (told choice late n j o p.way p.message)) order_is sees))
+      plain : Judges k (told choice late n j Known (Some Breach) way m)
+      plain = subst (λ x. Judges k (told choice late n j Known (Some Breach) way x)) message_is
+          (subst (λ w. Judges k (told choice late n j Known (Some Breach) w p.message)) way_is
+          (subst (λ v. Judges k (told choice late n j Known v p.way p.message)) types_are
+          (subst (λ o. Judges k (told choice late n j o p.types p.way p.message)) order_is sees)))
 
       at : (o : Option Data) → Reads m t o → Judges k (with_line choice late n j (of_tree o))
       at None r = absurd (true≢false (sym is_true ∙ r))
       at (Some d) r =
-          subst (λ it. Judges k (seen choice late Known j n way (faults_of d) (entry_in d) it)) r.1.tree_is
-          (subst (λ fs. Judges k (seen choice late Known j n way fs (entry_in d)
+          subst (λ it. Judges k (seen choice late Known (Some Breach) j n way (faults_of d) (entry_in d) it)) r.1.tree_is
+          (subst (λ fs. Judges k (seen choice late Known (Some Breach) j n way fs (entry_in d)
           (option_map (λ e. view e.tree) m.entry))) r.1.faults_are
-          (subst (λ e. Judges k (seen choice late Known j n way m.faults.items e
+          (subst (λ e. Judges k (seen choice late Known (Some Breach) j n way m.faults.items e
           (option_map (λ e. view e.tree) m.entry))) r.1.entry_is plain))

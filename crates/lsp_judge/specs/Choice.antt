@@ -1,5 +1,5 @@
 -- Which breaches make the status 1.
-use Rattle.std.specs.Prelude.{Bool, true, false, ◌&&◌, ◌||◌, not}
+use Rattle.std.specs.Prelude.{Bool, true, false, ◌&&◌, ◌||◌, not, Option, Some, None}
 use Rattle.lsp_watch.specs.Log.{from_client, other}
 use Rattle.lsp_watch.specs.Orders.{is_in_each_order, needs_all}
 use Rattle.lsp_watch.specs.RuleData.{level_of, side_of}
@@ -88,6 +88,11 @@ is_sure verdict = true
 -- a breach that makes the status 1
 abbrev pub fails : Choice → Order → Direction → Breach → Bool
 fails choice order way b = (is_sure b.verdict && decides order b.rule) && counts choice b.rule way
+
+-- a breach of a rule of types or texts that does so, by how sure that is
+abbrev pub fails_shown : Choice → Order → Option Verdict → Direction → Rule → Bool
+fails_shown choice order None way rule = false
+fails_shown choice order (Some verdict) way rule = (is_sure verdict && decides order rule) && counts choice rule way
 
 -- a request without a reply that does so
 abbrev pub leaves : Choice → Unanswered → Bool

@@ -11,9 +11,11 @@ use Rattle.lsp_watch.specs.Saw.{Saw}
 use Rattle.lsp_watch.specs.Orders.{says_unasked}
 use Rattle.lsp_watch.specs.Verdicts.{breaches_of, as_breach, entered, begins_in, unanswered_of}
 use Rattle.lsp_watch.specs.declared.breach.Breach.{Breach}
+use Rattle.lsp_watch.specs.declared.breach.Verdict.{Verdict}
 use Rattle.lsp_watch.specs.declared.rule.Rule.{Rule}
 use Rattle.lsp_watch.specs.declared.direction.Direction.{Direction}
-use Rattle.lsp_judge.specs.Choice.{fails, leaves, is_known, narrowed}
+use Rattle.lsp_judge.specs.Choice.{fails, fails_shown, leaves, is_known, narrowed}
+use Rattle.lsp_judge.specs.Types.{unfit}
 use Rattle.lsp_judge.specs.declared.choice.Choice.{Choice}
 use Rattle.lsp_judge.specs.declared.judgement.Judgement.{Judgement}
 use Rattle.lsp_judge.specs.declared.passed.Order.{Order}
@@ -63,49 +65,57 @@ goes_in j place way m = record j { log = entered way place m j.log }
 abbrev pub is_unasked : Breach → Bool
 is_unasked b = says_unasked b.rule
 
+-- the judgement of a session of which nothing passed
+abbrev pub begins : Bool → Bool → Bool → Judged → Judged
+begins is_whole is_broken is_matched j = record {
+  log = [];
+  is_whole = is_whole;
+  is_begun = true;
+  is_broken = is_broken;
+  is_matched = is_matched;
+  announces = j.announces;
+}
+
+abbrev pub goes_on : Judged → Judged
+goes_on j = record j { is_begun = true }
+
+-- a message is the first one of a session that is seen from its middle on
+abbrev pub begins_late : Bool → Judged → Direction → Option Message → Bool
+begins_late may_begin_late j way m = not j.is_begun && (may_begin_late && not (is_initialize way m))
+
 module _ (choice : Choice) where
   -- the requests that are left without a reply break a rule
   abbrev pub left : Bool → Bool → Judged → Bool
   left server_ended client_ended j = j.is_broken
       || (j.is_matched && list_any (leaves choice) (unanswered_of server_ended client_ended j.log))
 
-  -- the judgement of a session of which nothing passed
-  abbrev pub begins : Bool → Bool → Bool → Judged → Judged
-  begins is_whole is_broken is_matched j = record {
-    log = [];
-    is_whole = is_whole;
-    is_begun = true;
-    is_broken = is_broken;
-    is_matched = is_matched;
-    announces = j.announces;
-  }
-
-  abbrev pub goes_on : Judged → Judged
-  goes_on j = record j { is_begun = true }
-
   -- A message begins the judgement of a session that is seen from its middle on, or that of a new one, or it goes on.
   abbrev pub begun : Bool → Order → Judged → Direction → Option Message → Judged
   begun may_begin_late order j way m =
-      if not j.is_begun && (may_begin_late && not (is_initialize way m)) then begins false j.is_broken j.is_matched j
+      if begins_late may_begin_late j way m then begins false j.is_broken j.is_matched j
       else if begins_in j.is_whole j.log way m
       then begins true (left true true j) (j.is_matched && is_known order) j
       else goes_on j
 
-  abbrev pub passed_on : Order → Judged → ℕ → Direction → List Rule → Option Message → Option Data → Judged
-  passed_on order j place way faults m d = record {
+  -- the session after a message, by how sure its breaches of the rules of types are
+  abbrev pub passed_on : Order → Option Verdict → Judged → ℕ → Direction → List Rule → Option Message → Option Data
+      → Judged
+  passed_on order types j place way faults m d = record {
     log = entered way place m j.log;
     is_whole = j.is_whole;
     is_begun = true;
     is_broken =
-        j.is_broken || list_any (fails choice (narrowed order j.is_matched) way) (broken_of j way faults m d);
+        j.is_broken || (list_any (fails choice (narrowed order j.is_matched) way) (broken_of j way faults m d)
+        || list_any (fails_shown choice (narrowed order j.is_matched) types way) (unfit choice types j.log way m d));
     is_matched = j.is_matched && (is_known order || not (list_any is_unasked (broken_of j way faults m d)));
     announces = j.announces;
   }
 
   -- one more message
-  abbrev pub seen : Bool → Order → Judged → ℕ → Direction → List Rule → Option Message → Option Data → Judged
-  seen may_begin_late order j place way faults m d =
-      passed_on order (begun may_begin_late order j way m) place way faults m d
+  abbrev pub seen : Bool → Order → Option Verdict → Judged → ℕ → Direction → List Rule → Option Message → Option Data
+      → Judged
+  seen may_begin_late order types j place way faults m d =
+      passed_on order types (begun may_begin_late order j way m) place way faults m d
 
 -- a judgement that saw this
 pub record Judges (judgement : Judgement) (j : Judged) : Type 0 where

@@ -10,6 +10,7 @@ use Rattle.lsp_watch.specs.Entries.{entry_in}
 use Rattle.lsp_watch.specs.Log.{Log}
 use Rattle.lsp_watch.specs.Shape.{faults_of}
 use Rattle.lsp_watch.specs.Verdicts.{begins_in, entered}
+use Rattle.lsp_watch.specs.declared.breach.Verdict.TheVariants.{Breach}
 use Rattle.lsp_watch.specs.declared.direction.Direction.TheVariants.{ToServer, ToClient}
 use Rattle.lsp_watch.specs.declared.direction.Direction.{Direction}
 use Rattle.lsp_watch.specs.declared.rule.Level.TheVariants.{Implied}
@@ -62,7 +63,7 @@ module _ (choice : Choice) (may_begin_late : Bool) where
   abbrev pub with_line : ℕ → Judged → Option (Direction × Data) → Judged
   with_line n j None = j
   with_line n j (Some m) =
-      seen choice may_begin_late Known j n m.0 (faults_of m.1) (entry_in m.1) (option_map (λ x. m.1) (entry_in m.1))
+      seen choice may_begin_late Known (Some Breach) j n m.0 (faults_of m.1) (entry_in m.1) (option_map (λ x. m.1) (entry_in m.1))
 
   -- the judgement after these lines, which are counted from n on
   abbrev pub after_lines : ℕ → Judged → List (List ℕ) → Judged

@@ -1,9 +1,10 @@
 // Which breaches make the status 1.
 ghost use Rattle.std.specs.Prelude.{◌≡◌};
 ghost use Rattle.lsp_watch.specs.RuleData.{side_of};
-ghost use Rattle.lsp_judge.specs.Choice.{counts as counts_for, culprit as culprit_of, is_at_least as is_as_strong, fails as fails_for, leaves as leaves_for};
+ghost use Rattle.lsp_judge.specs.Choice.{counts as counts_for, culprit as culprit_of, is_at_least as is_as_strong, fails as fails_for, fails_shown as fails_if_shown, leaves as leaves_for};
 
 use crate::passed::Order;
+use lsp_model::Model;
 use lsp_watch::{Breach, Direction, Level, Rule, Side, Unanswered, Verdict};
 
 /// Whose breaches count.
@@ -29,6 +30,10 @@ pub struct Choice {
     pub ignored: Vec<Ignored>,
     /// Whether the rules of capabilities are judged too.
     pub capabilities: bool,
+    /// The rules of types and texts that are judged too. Those of other groups are not looked at here.
+    pub types: Vec<Rule>,
+    /// The methods and types of LSP, for these rules.
+    pub model: Model,
 }
 
 impl Choice {
@@ -56,6 +61,22 @@ impl Choice {
         match breach.verdict {
             Verdict::Breach => order.decides(breach.rule) && self.counts(breach.rule, way),
             Verdict::CannotTell => false,
+        }
+    }
+
+    /// Whether a breach of a rule of types or texts does so, by how sure that is.
+    pub fn fails_shown(
+        &self,
+        order: Order,
+        verdict: Option<Verdict>,
+        way: Direction,
+        rule: Rule,
+    ) -> bool
+        ensures { result ≡ fails_if_shown self.now order verdict way rule }
+    {
+        match verdict {
+            Some(Verdict::Breach) => order.decides(rule) && self.counts(rule, way),
+            Some(Verdict::CannotTell) | None => false,
         }
     }
 

@@ -2,6 +2,7 @@
 use crate::bytes::{cut, trim_end};
 use crate::reader::is_of_helix;
 use crate::{emacs, trace};
+use lsp_watch::Verdict;
 use memchr::memmem;
 use std::fmt;
 
@@ -64,6 +65,18 @@ impl Format {
         match self {
             Format::Recorder | Format::TraceJson | Format::Helix | Format::Frames => true,
             Format::Trace | Format::Neovim | Format::Emacs => false,
+        }
+    }
+
+    /// How sure it is that a member in the log has another type than LSP lists. `None` means that the log does not show the types: Neovim
+    /// and Emacs print an empty list as an empty object. Some clients write their text after they have read the message.
+    pub fn shows_types(self) -> Option<Verdict> {
+        match self {
+            Format::Recorder | Format::TraceJson | Format::Helix | Format::Frames => {
+                Some(Verdict::Breach)
+            }
+            Format::Trace => Some(Verdict::CannotTell),
+            Format::Neovim | Format::Emacs => None,
         }
     }
 }

@@ -1,19 +1,21 @@
 // The judgement of what passed between two ends.
 ghost use Rattle.std.specs.List.{list_any};
-ghost use Rattle.std.specs.Prelude.{◌≡◌, ◌==◌, ◌++◌, ℕ, [], true, length, map, OnOk, IfOk, option_map, option_to_list};
+ghost use Rattle.std.specs.Prelude.{◌≡◌, ◌==◌, ◌++◌, ℕ, [], true, false, ◌&&◌, length, map, OnOk, IfOk, option_map, option_to_list};
 ghost use Rattle.serde_json.specs.View.{view};
 ghost use Rattle.lsp_capabilities.specs.Knows.{Knows};
 ghost use Rattle.lsp_watch.specs.Entries.{entry_view};
 ghost use Rattle.lsp_watch.specs.Log.{asks as has_request};
 ghost use Rattle.lsp_watch.specs.Orders.{says_unasked as is_of_unasked};
 ghost use Rattle.lsp_watch.specs.Verdicts.{breaches_of, as_breach, entered};
-ghost use Rattle.lsp_judge.specs.Choice.{fails as fails_for, leaves as leaves_for};
-ghost use Rattle.lsp_judge.specs.Judged.{Judged, Judges, nothing, begun, seen, passed_on, goes_in, against, broken_of, is_unasked, left, is_initialize as opens};
+ghost use Rattle.lsp_judge.specs.Choice.{is_known as is_all_known, fails as fails_for, leaves as leaves_for};
+ghost use Rattle.lsp_judge.specs.Judged.{Judged, Judges, nothing, begins, begins_late as begins_late_in, begun, seen, passed_on, goes_in, against, broken_of, is_unasked, left, is_initialize as opens};
+ghost use Rattle.lsp_judge.specs.Types.{unfit as unfit_of};
 
 use crate::choice::Choice;
 use crate::passed::{Order, Passing};
 use crate::report::Report;
 use crate::told::{About, Counts, Kind, Slowest, Told};
+use crate::types::Unfit;
 use anyhow::Result;
 use lsp_capabilities::Announced;
 use lsp_watch::{
@@ -97,7 +99,7 @@ impl Judgement {
         out: &mut W,
     ) -> Result<()>
         ensures { (j : Judged) → Judges self.old j → report.now.choice.now.ignored.items ≡ [] → OnOk result (Judges self.new
-            (seen report.now.choice.now report.now.may_begin_late passing.now.order j place passing.now.way
+            (seen report.now.choice.now report.now.may_begin_late passing.now.order passing.now.types j place passing.now.way
             passing.now.message.faults.items (option_map entry_view passing.now.message.entry)
             (option_map (λ e. view e.tree) passing.now.message.entry))) }
     {
@@ -113,25 +115,48 @@ impl Judgement {
             (begun report.now.choice.now report.now.may_begin_late passing.now.order j passing.now.way
             (option_map entry_view passing.now.message.entry))) }
     {
-        if !self.is_begun && report.may_begin_late && !is_initialize(passing) {
-            self.watch = Watch::from_the_middle(self.alloc);
-            self.announced = Announced::new(self.alloc);
-            self.is_begun = true;
+        if self.begins_late(passing, report) {
+            self.begin_late();
             return Ok(());
         }
         if self.watch.begins_session(passing.way, &passing.message) {
-            let ends = Ends {
-                server: true,
-                client: true,
-            };
-            self.leave(ends, report, out)?;
-            self.watch = Watch::new(self.alloc);
-            self.announced = Announced::new(self.alloc);
-            self.is_begun = true;
-            self.is_matched = self.is_matched && passing.order.is_known();
-            return Ok(());
+            return self.begin_next(passing.order, report, out);
         }
         self.is_begun = true;
+        Ok(())
+    }
+
+    /// Whether a message is the first one of a session that is seen from its middle on.
+    fn begins_late(&self, passing: &Passing, report: &Report<'_>) -> bool
+        ensures { (j : Judged) → Judges self.now j → result ≡ begins_late_in report.now.may_begin_late j passing.now.way
+            (option_map entry_view passing.now.message.entry) }
+    {
+        !self.is_begun && report.may_begin_late && !is_initialize(passing)
+    }
+
+    /// Begins the judgement of a session that is seen from its middle on.
+    fn begin_late(&mut self)
+        ensures { (j : Judged) → Judges self.old j → Judges self.new (begins false j.is_broken j.is_matched j) }
+    {
+        self.watch = Watch::from_the_middle(self.alloc);
+        self.announced = Announced::new(self.alloc);
+        self.is_begun = true;
+    }
+
+    /// Ends the judgement of a session, and begins that of the next one.
+    fn begin_next<W: Write>(&mut self, order: Order, report: &Report<'_>, out: &mut W) -> Result<()>
+        ensures { (j : Judged) → Judges self.old j → report.now.choice.now.ignored.items ≡ [] → OnOk result (Judges self.new
+            (begins true (left report.now.choice.now true true j) (j.is_matched && is_all_known order) j)) }
+    {
+        let ends = Ends {
+            server: true,
+            client: true,
+        };
+        self.leave(ends, report, out)?;
+        self.watch = Watch::new(self.alloc);
+        self.announced = Announced::new(self.alloc);
+        self.is_begun = true;
+        self.is_matched = self.is_matched && order.is_known();
         Ok(())
     }
 
@@ -143,7 +168,30 @@ impl Judgement {
         out: &mut W,
     ) -> Result<()>
         ensures { (j : Judged) → Judges self.old j → report.now.choice.now.ignored.items ≡ [] → OnOk result (Judges self.new
-            (passed_on report.now.choice.now passing.now.order j place passing.now.way
+            (passed_on report.now.choice.now passing.now.order passing.now.types j place passing.now.way
+            passing.now.message.faults.items (option_map entry_view passing.now.message.entry)
+            (option_map (λ e. view e.tree) passing.now.message.entry))) }
+    {
+        let unfit = Unfit::find(&self.watch, passing, report)?;
+        let passed = self.pass_with(place, passing, &unfit, report, out);
+        drop(unfit);
+        passed
+    }
+
+    /// Passes a message that breaks these rules of types and texts.
+    fn pass_with<W: Write>(
+        &mut self,
+        place: u64,
+        passing: &Passing,
+        unfit: &Unfit,
+        report: &Report<'_>,
+        out: &mut W,
+    ) -> Result<()>
+        ensures { (j : Judged) → Judges self.old j → report.now.choice.now.ignored.items ≡ []
+            → unfit.now.rules.items ≡ unfit_of report.now.choice.now passing.now.types j.log passing.now.way
+            (option_map entry_view passing.now.message.entry) (option_map (λ e. view e.tree) passing.now.message.entry)
+            → OnOk result (Judges self.new
+            (passed_on report.now.choice.now passing.now.order passing.now.types j place passing.now.way
             passing.now.message.faults.items (option_map entry_view passing.now.message.entry)
             (option_map (λ e. view e.tree) passing.now.message.entry))) }
     {
@@ -153,13 +201,15 @@ impl Judgement {
         self.is_matched = self.is_matched && is_matched;
         remove_ignored(report.choice, passing, &mut breaches);
         let fails = any_fails(report.choice, order, passing.way, breaches.as_slice());
-        self.is_broken = self.is_broken || fails;
+        self.is_broken = self.is_broken || (fails || unfit.fails(order, passing, report.choice));
         self.is_begun = true;
         let told = self
             .tally
             .tell_breaches(place, order, passing, breaches.as_slice(), report, out);
         drop(breaches);
-        told
+        told?;
+        self.tally
+            .tell_unfit(place, order, passing, unfit, report, out)
     }
 
     /// Sees a message, and returns what it breaks: the rules of the watch, and then what it goes against of what was announced.
@@ -443,17 +493,39 @@ impl Tally {
         out: &mut W,
     ) -> Result<()> {
         for breach in breaches.iter() {
-            self.tell_breach(place, order, passing, breach, report, out)?;
+            let text = format!(in report.alloc; "{}", breach.rule)?;
+            self.tell_breach(place, order, passing, breach, text.as_str(), report, out)?;
         }
         Ok(())
     }
 
-    fn tell_breach<W: Write>(
+    /// Tells the rules of types and texts that a message breaks, and where.
+    fn tell_unfit<W: Write>(
         &mut self,
         place: u64,
         order: Order,
         passing: &Passing,
+        unfit: &Unfit,
+        report: &Report<'_>,
+        out: &mut W,
+    ) -> Result<()> {
+        for at in 0..unfit.len() {
+            if let Some(breach) = unfit.breach(at, passing) {
+                let text = unfit.text(at, report.alloc)?;
+                self.tell_breach(place, order, passing, &breach, text.as_str(), report, out)?;
+            }
+        }
+        Ok(())
+    }
+
+    /// Tells a breach in these words.
+    fn tell_breach<'a, W: Write>(
+        &mut self,
+        place: u64,
+        order: Order,
+        passing: &'a Passing,
         breach: &Breach,
+        text: &'a str,
         report: &Report<'_>,
         out: &mut W,
     ) -> Result<()> {
@@ -466,7 +538,6 @@ impl Tally {
             self.counts.failing = self.counts.failing.saturating_add(1);
         }
         let subject = subject_of(report.alloc, breach.rule, passing)?;
-        let text = format!(in report.alloc; "{}", breach.rule)?;
         let told = Told {
             kind: if is_sure {
                 Kind::Breach
@@ -479,7 +550,7 @@ impl Tally {
             fails,
             method: Some(passing.method()),
             about: subject.about(),
-            text: text.as_str(),
+            text,
             against: breach.against,
         };
         report.tell(&told, out)

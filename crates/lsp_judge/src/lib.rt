@@ -28,3 +28,4 @@ mod time;
 pub mod told;
 mod trace;
 mod traced;
+mod types;

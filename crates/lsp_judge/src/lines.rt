@@ -71,6 +71,7 @@ impl Lines {
         let mut passing = Passing::new(found.way, message);
         passing.time = found.time;
         passing.took = found.took;
+        passing.types = self.log.shows_types();
         let seen = self
             .sessions
             .see(self.log.name(), found.line, &passing, report, out);

@@ -2,7 +2,7 @@
 use crate::format::{Format, ONE_DIRECTION};
 use crate::reader::{Found, LogReader, Taken};
 use anyhow::{Error, Result};
-use lsp_watch::{LoggedMessage, Rule};
+use lsp_watch::{LoggedMessage, Rule, Verdict};
 use std::alloc::Global;
 use std::io::BufRead;
 
@@ -65,6 +65,11 @@ impl Log {
     /// Whether there were messages of which only the method and the id are known.
     pub fn is_short(&self) -> bool {
         self.log.is_short()
+    }
+
+    /// How sure it is that a member in the log has another type than LSP lists.
+    pub fn shows_types(&self) -> Option<Verdict> {
+        self.log.format()?.shows_types()
     }
 
     /// Whether the last message is to be skipped: it can't be read, and an editor printed it in its own notation, or its line is cut.

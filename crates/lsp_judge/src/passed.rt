@@ -1,8 +1,8 @@
 // A message that passed.
-ghost use Rattle.std.specs.Prelude.{◌≡◌};
+ghost use Rattle.std.specs.Prelude.{◌≡◌, Some};
 ghost use Rattle.lsp_judge.specs.Choice.{decides as decides_for, is_known as is_all_known, narrowed as narrowed_by};
 
-use lsp_watch::{Direction, LoggedMessage, Rule};
+use lsp_watch::{Direction, LoggedMessage, Rule, Verdict};
 
 /// What is known of the order in which two ways passed.
 #[derive(Clone, Copy, Debug, PartialEq, Eq)]
@@ -33,7 +33,14 @@ impl Order {
                 | Rule::NotAnnounced
                 | Rule::AnnouncedUnknown
                 | Rule::ClientCannot
-                | Rule::NeverOpened,
+                | Rule::NeverOpened
+                | Rule::WrongType
+                | Rule::LooseType
+                | Rule::EditsOverlap
+                | Rule::TokensNotInFives
+                | Rule::SelectionOutside
+                | Rule::RangeReversed
+                | Rule::LineOutside,
             ) => false,
             (
                 Order::Unknown,
@@ -74,6 +81,8 @@ pub struct Passing {
     /// How many milliseconds a reply took, if that is known.
     pub took: Option<u64>,
     pub order: Order,
+    /// How sure a breach of a rule of types is. These rules are not judged if the log does not show members as they were sent.
+    pub types: Option<Verdict>,
 }
 
 impl Passing {
@@ -82,6 +91,7 @@ impl Passing {
         ensures way { result.way ≡ way }
         ensures message { result.message ≡ message }
         ensures order { result.order ≡ Order.Known }
+        ensures types { result.types ≡ Some Verdict.Breach }
     {
         Passing {
             way,
@@ -89,6 +99,7 @@ impl Passing {
             time: None,
             took: None,
             order: Order::Known,
+            types: Some(Verdict::Breach),
         }
     }
 

@@ -33,11 +33,12 @@ level_named n = if n == 0 then Must else if n == 1 then Should else Implied
 abbrev pub is_late : LspJudgeOptions → Bool
 is_late o = o.begins_late == 1
 
--- what counts is what the options say, and nothing is ignored
+-- what counts is what the options say, no rule of types or texts is judged, and nothing is ignored
 pub record Picks (o : LspJudgeOptions) (choice : Choice) : Type 0 where
   pub side : choice.fail_on ≡ side_named o.side
   pub level : choice.level ≡ level_named o.level
   pub groups : choice.capabilities ≡ (o.groups == 1)
+  pub types : choice.types.items ≡ []
   pub all : choice.ignored.items ≡ []
 
 -- each breach of a rule counts, and the log is judged from its first message on

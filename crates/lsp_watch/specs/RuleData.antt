@@ -1,7 +1,7 @@
 -- How strongly the standards demand each rule, who breaks it, and which group it belongs to.
 use Rattle.std.specs.Prelude.{List, [], ◌∷◌}
 use Rattle.lsp_watch.specs.declared.rule.Group.{Group}
-use Rattle.lsp_watch.specs.declared.rule.Group.TheVariants.{Session, Capabilities}
+use Rattle.lsp_watch.specs.declared.rule.Group.TheVariants.{Session, Capabilities, Types, Texts}
 use Rattle.lsp_watch.specs.declared.rule.Level.{Level}
 use Rattle.lsp_watch.specs.declared.rule.Level.TheVariants.{Must, Should, Implied}
 use Rattle.lsp_watch.specs.declared.rule.Rule.{Rule}
@@ -11,7 +11,9 @@ use Rattle.lsp_watch.specs.declared.rule.Rule.TheVariants.{NoOutcome, BadError, 
 use Rattle.lsp_watch.specs.declared.rule.Rule.TheVariants.{IdStillOpen, NoReply, BeforeResult, BeforeInitialized}
 use Rattle.lsp_watch.specs.declared.rule.Rule.TheVariants.{SentAgain, AfterShutdown, AfterExit, AlreadyOpen, NotOpen}
 use Rattle.lsp_watch.specs.declared.rule.Rule.TheVariants.{VersionNotHigher, NoSuchToken, TokenEnded, NotAnnounced}
-use Rattle.lsp_watch.specs.declared.rule.Rule.TheVariants.{AnnouncedUnknown, ClientCannot, NeverOpened}
+use Rattle.lsp_watch.specs.declared.rule.Rule.TheVariants.{AnnouncedUnknown, ClientCannot, NeverOpened, WrongType, LooseType}
+use Rattle.lsp_watch.specs.declared.rule.Rule.TheVariants.{EditsOverlap, TokensNotInFives, SelectionOutside}
+use Rattle.lsp_watch.specs.declared.rule.Rule.TheVariants.{RangeReversed, LineOutside}
 use Rattle.lsp_watch.specs.declared.rule.Side.{Side}
 use Rattle.lsp_watch.specs.declared.rule.Side.TheVariants.{Sender, Receiver, Client}
 
@@ -26,6 +28,8 @@ level_of NotAnnounced = Implied
 level_of AnnouncedUnknown = Implied
 level_of ClientCannot = Implied
 level_of NeverOpened = Implied
+level_of LooseType = Implied
+level_of RangeReversed = Implied
 level_of rule = Must
 
 abbrev pub side_of : Rule → Side
@@ -44,10 +48,18 @@ group_of NotAnnounced = Capabilities
 group_of AnnouncedUnknown = Capabilities
 group_of ClientCannot = Capabilities
 group_of NeverOpened = Capabilities
+group_of WrongType = Types
+group_of LooseType = Types
+group_of EditsOverlap = Texts
+group_of TokensNotInFives = Texts
+group_of SelectionOutside = Texts
+group_of RangeReversed = Texts
+group_of LineOutside = Texts
 group_of rule = Session
 
 abbrev pub all_rules : List Rule
 all_rules = NotUtf8 ∷ NotJson ∷ Unreadable ∷ Batch ∷ NoObject ∷ BadVersion ∷ NoMessage ∷ BadMethod ∷ BadId ∷ WideId
     ∷ BadParams ∷ BothOutcomes ∷ NoOutcome ∷ BadError ∷ NeedsId ∷ TakesNoId ∷ NobodyAsked ∷ IdStillOpen ∷ NoReply
     ∷ BeforeResult ∷ BeforeInitialized ∷ SentAgain ∷ AfterShutdown ∷ AfterExit ∷ AlreadyOpen ∷ NotOpen
-    ∷ VersionNotHigher ∷ NoSuchToken ∷ TokenEnded ∷ NotAnnounced ∷ AnnouncedUnknown ∷ ClientCannot ∷ NeverOpened ∷ []
+    ∷ VersionNotHigher ∷ NoSuchToken ∷ TokenEnded ∷ NotAnnounced ∷ AnnouncedUnknown ∷ ClientCannot ∷ NeverOpened
+    ∷ WrongType ∷ LooseType ∷ EditsOverlap ∷ TokensNotInFives ∷ SelectionOutside ∷ RangeReversed ∷ LineOutside ∷ []

@@ -88,6 +88,20 @@ pub enum Rule {
     ClientCannot,
     /// A server publishes diagnostics for documents that the client opened.
     NeverOpened,
+    /// Params and results have the types that LSP lists.
+    WrongType,
+    /// A member that may be missing is not null, and an enumeration has a listed value.
+    LooseType,
+    /// Edits of one text do not overlap.
+    EditsOverlap,
+    /// Semantic tokens have five numbers each.
+    TokensNotInFives,
+    /// The part of a symbol or a link that is selected is within the whole part.
+    SelectionOutside,
+    /// A range ends at its start or after it.
+    RangeReversed,
+    /// The lines of a folding range are lines of its document.
+    LineOutside,
 }
 
 /// Which rules are judged together. It prints as one word.
@@ -97,6 +111,10 @@ pub enum Group {
     Session,
     /// The rules of what both sides announced.
     Capabilities,
+    /// The rules of the types of params and results.
+    Types,
+    /// The rules of edits, tokens and parts of texts.
+    Texts,
 }
 
 /// How strongly the standards demand what a rule says. It prints as one word.
@@ -136,7 +154,9 @@ impl Rule {
             | Rule::NotAnnounced
             | Rule::AnnouncedUnknown
             | Rule::ClientCannot
-            | Rule::NeverOpened => Level::Implied,
+            | Rule::NeverOpened
+            | Rule::LooseType
+            | Rule::RangeReversed => Level::Implied,
             _ => Level::Must,
         }
     }
@@ -148,6 +168,12 @@ impl Rule {
         match self {
             Rule::NotAnnounced | Rule::AnnouncedUnknown | Rule::ClientCannot | Rule::NeverOpened =>
                 Group::Capabilities,
+            Rule::WrongType | Rule::LooseType => Group::Types,
+            Rule::EditsOverlap
+            | Rule::TokensNotInFives
+            | Rule::SelectionOutside
+            | Rule::RangeReversed
+            | Rule::LineOutside => Group::Texts,
             _ => Group::Session,
         }
     }
@@ -210,6 +236,13 @@ impl Rule {
             Rule::AnnouncedUnknown => "AnnouncedUnknown",
             Rule::ClientCannot => "ClientCannot",
             Rule::NeverOpened => "NeverOpened",
+            Rule::WrongType => "WrongType",
+            Rule::LooseType => "LooseType",
+            Rule::EditsOverlap => "EditsOverlap",
+            Rule::TokensNotInFives => "TokensNotInFives",
+            Rule::SelectionOutside => "SelectionOutside",
+            Rule::RangeReversed => "RangeReversed",
+            Rule::LineOutside => "LineOutside",
             _ => "TokenEnded",
         }
     }
@@ -259,6 +292,14 @@ impl Rule {
                 "the server announced or registered this method, and answers that it does not know it",
             Rule::ClientCannot => "the client did not announce that it answers this request",
             Rule::NeverOpened => "the client never opened the document of these diagnostics",
+            Rule::WrongType => "a member is missing or has another type",
+            Rule::LooseType =>
+                "a member is null that may only be missing, or its value is not listed",
+            Rule::EditsOverlap => "two edits of one text overlap",
+            Rule::TokensNotInFives => "semantic tokens have five numbers each",
+            Rule::SelectionOutside => "the part that is selected is not within the whole part",
+            Rule::RangeReversed => "the end of a range is before its start",
+            Rule::LineOutside => "a line of a folding range is no line of the document",
             _ => "the progress of this token has ended",
         }
     }
@@ -297,6 +338,12 @@ impl Rule {
                 "LSP 3.17, \"Capabilities\""
             }
             Rule::NeverOpened => "LSP 3.17, \"PublishDiagnostics Notification\"",
+            Rule::WrongType | Rule::LooseType => "the method's section of LSP 3.17",
+            Rule::EditsOverlap => "LSP 3.17, \"TextEdit[]\"",
+            Rule::TokensNotInFives => "LSP 3.17, \"Semantic Tokens\"",
+            Rule::SelectionOutside => "LSP 3.17, \"DocumentSymbol\" and \"LocationLink\"",
+            Rule::RangeReversed => "LSP 3.17, \"Range\" and \"FoldingRange\"",
+            Rule::LineOutside => "LSP 3.17, \"FoldingRange\"",
         }
     }
 }
@@ -339,6 +386,13 @@ pub fn rules(alloc: Global) -> Result<Vec<Rule>, AllocError>
         Rule::AnnouncedUnknown,
         Rule::ClientCannot,
         Rule::NeverOpened,
+        Rule::WrongType,
+        Rule::LooseType,
+        Rule::EditsOverlap,
+        Rule::TokensNotInFives,
+        Rule::SelectionOutside,
+        Rule::RangeReversed,
+        Rule::LineOutside,
     ];
     match Vec::from_array(alloc, rules) {
         Ok(rules) => Ok(rules),
@@ -374,6 +428,8 @@ impl fmt::Display for Group {
         f.write_str(match self {
             Group::Session => "session",
             Group::Capabilities => "capabilities",
+            Group::Types => "types",
+            Group::Texts => "texts",
         })
     }
 }

@@ -18,5 +18,6 @@ returns-clause-seen g c = λ j judges ignored read.
     c.in_ok-message.ensures.text c.in_ok-message.ensures.bytes)
     c.args.report.now.choice.now c.args.report.now.may_begin_late c.args.number j c.see-seen.new.self
     c.new-passing.result
-    c.new-passing.ensures.way c.new-passing.ensures.message c.new-passing.ensures.order read
+    c.new-passing.ensures.way c.new-passing.ensures.message c.new-passing.ensures.order
+    c.new-passing.ensures.types read
     (c.in_ok-seen.ensures j judges ignored)
