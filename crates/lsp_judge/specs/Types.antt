@@ -4,13 +4,13 @@ use Rattle.serde_json.specs.Data.{Data}
 use Rattle.lsp_message.specs.Message.{Message}
 use Rattle.lsp_model.specs.Findings.{any_if, is_unfit_message}
 use Rattle.lsp_model.specs.declared.mode.Mode.{Mode}
-use Rattle.lsp_model.specs.declared.mode.Mode.TheVariants.{Loose, Strict, Edits, Tokens, Selection}
+use Rattle.lsp_model.specs.declared.mode.Mode.TheVariants.{Loose, Strict, Edits, Tokens, Selection, Ranges}
 use Rattle.lsp_model.specs.declared.model.Model.{Model}
 use Rattle.lsp_watch.specs.Log.{Log}
 use Rattle.lsp_watch.specs.declared.breach.Verdict.{Verdict}
 use Rattle.lsp_watch.specs.declared.direction.Direction.{Direction}
 use Rattle.lsp_watch.specs.declared.rule.Rule.TheVariants.{WrongType, LooseType, EditsOverlap, TokensNotInFives}
-use Rattle.lsp_watch.specs.declared.rule.Rule.TheVariants.{SelectionOutside}
+use Rattle.lsp_watch.specs.declared.rule.Rule.TheVariants.{SelectionOutside, RangeReversed}
 use Rattle.lsp_watch.specs.declared.rule.Rule.{Rule}
 use Rattle.lsp_judge.specs.declared.choice.Choice.{Choice}
 
@@ -21,6 +21,7 @@ mode_of LooseType = Some Strict
 mode_of EditsOverlap = Some Edits
 mode_of TokensNotInFives = Some Tokens
 mode_of SelectionOutside = Some Selection
+mode_of RangeReversed = Some Ranges
 mode_of rule = None
 
 -- A message breaks a rule of types or texts. The tree is the whole message.

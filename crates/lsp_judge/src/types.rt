@@ -189,6 +189,7 @@ fn mode_of(rule: Rule) -> Option<Mode>
         Rule::EditsOverlap => Some(Mode::Edits),
         Rule::TokensNotInFives => Some(Mode::Tokens),
         Rule::SelectionOutside => Some(Mode::Selection),
+        Rule::RangeReversed => Some(Mode::Ranges),
         _ => None,
     }
 }
