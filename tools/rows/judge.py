@@ -225,7 +225,7 @@ class Judge:
     """Judges one session, message by message."""
 
     def __init__(self, is_whole=True, capabilities=None, shows_types=None):
-        self.is_whole, self.capabilities, self.shows_types = is_whole, capabilities, shows_types
+        self.is_whole, self.capabilities, self.shows_types, self.folds = is_whole, capabilities, shows_types, types_judge.Folds()
         self.asked, self.live, self.ended, self.documents = [], set(), {}, {}
         self.result = self.initialized = self.shutdown = self.exit = None
 
@@ -247,9 +247,20 @@ class Judge:
                 self.capabilities.keep(way, message, asked)
             if self.shows_types is not None:
                 against = asked["place"] if asked else None
-                found += [(rule, against, self.shows_types, told) for rule, told in types_judge.faults(way, message, asked)]
+                faults = types_judge.faults(way, message, asked)
+                outside = self.folds.fault(message, asked) if ("WrongType" not in dict(faults)) else None
+                faults += [("LineOutside", outside)] if outside else []
+                found += [(rule, against, self.shows_types, told) for rule, told in faults]
+            self.folds.keep(place, way, message, asked)
             self.keep(place, way, message)
+        else:
+            self.lose(way)
         return found
+
+    def lose(self, way):
+        """A message that is none, or that can't be read, may have changed any document."""
+        if way == "->":
+            self.folds = types_judge.Folds()
 
     def waiting(self, way, name):
         return next((it for it in self.asked if (it["way"], it["key"]) == (way, name)), None)

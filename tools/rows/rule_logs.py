@@ -92,7 +92,8 @@ def folds(start, end, text="a\nb\nc"):
     found = [{"startLine": start[0], "startCharacter": start[1], "endLine": end[0], "endCharacter": end[1]}]
     opened = tells("->", "textDocument/didOpen", {"textDocument": {"uri": "file:///a", "languageId": "a", "version": 1, "text": text}})
     asked = asks("->", 1, "textDocument/foldingRange", DOCUMENT)
-    return announced("foldingRangeProvider", opened, asked, replies("<-", 1, found), CLOSE)
+    offered = replies("<-", 0, {"capabilities": {"textDocumentSync": 1, "foldingRangeProvider": True}})
+    return [INITIALIZE, offered, *within(opened, asked, replies("<-", 1, found), CLOSE)[2:]]
 
 
 # The rule, the log that keeps it, and the one that breaks it.
@@ -139,7 +140,7 @@ LOGS = {
     "TokensNotInFives": (tokens(0, 0, 1, 0, 0), tokens(0, 0, 1, 0)),
     "SelectionOutside": (symbols({"name": "a", "kind": 12}, 4), symbols({"name": "a", "kind": 12}, 5)),
     "RangeReversed": (folds((1, 1), (1, 1)), folds((1, 1), (1, 0))),
-    # "LineOutside": (folds((0, 1), (2, 1)), folds((0, 1), (3, 0))),
+    "LineOutside": (folds((0, 1), (2, 1)), folds((0, 1), (3, 0))),
 }
 
 

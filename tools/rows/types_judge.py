@@ -203,3 +203,85 @@ def faults(way, message, asked):
     if not Look("WrongType").fits(forms, value):
         return [("WrongType", Look("WrongType").where(forms, value, path))]
     return [(rule, Look(rule).where(forms, value, path)) for rule in RULES[1:] if not Look(rule).fits(forms, value)]
+
+
+class Folds:
+    """The texts of the open documents, and whether folding ranges have lines that their document does not have (LSP 3.17, "FoldingRange")."""
+
+    def __init__(self):
+        self.texts, self.asked, self.is_synced = {}, {}, False
+
+    def fault(self, message, asked):
+        """The first line that is outside. It is not known if the document changed since the request."""
+        uri, changed = self.asked.get(asked["place"], (None, None)) if asked else (None, None)
+        text, place = self.texts.get(uri, (None, None))
+        result = message.get("result")
+        if not self.is_synced or text is None or place != changed or message.get("error") is not None or not isinstance(result, list):
+            return None
+        outside = (
+            f"`/result/{at}/{key}`" for at, fold in enumerate(result) for key in ("startLine", "endLine")
+            if isinstance(fold, dict) and is_count(fold.get(key)) and fold[key] > text.count("\n"))
+        return next(outside, None)
+
+    def keep(self, place, way, message, asked):
+        params = message.get("params")
+        uri = params["textDocument"].get("uri") if isinstance(params, dict) and isinstance(params.get("textDocument"), dict) else None
+        if "method" not in message:
+            if asked and asked["method"] == "initialize" and asked["way"] == "->":
+                self.is_synced = wants_changes(message.get("result"))
+            self.asked.pop(asked["place"] if asked else None, None)
+        elif way == "->" and isinstance(uri, str) and "id" in message and message["method"] == "textDocument/foldingRange" and uri in self.texts:
+            self.asked[place] = uri, self.texts[uri][1]
+        elif way == "->" and isinstance(uri, str) and "id" not in message:
+            self.keep_document(place, message["method"], params, uri)
+
+    def keep_document(self, place, method, params, uri):
+        match method:
+            case "textDocument/didOpen":
+                self.texts[uri] = whole(params["textDocument"].get("text")), place
+            case "textDocument/didClose":
+                self.texts.pop(uri, None)
+            case "textDocument/didChange":
+                self.is_synced = True
+                if uri in self.texts:
+                    self.texts[uri] = changed_text(self.texts[uri][0], params.get("contentChanges")), place
+
+
+def wants_changes(result):
+    """Whether a server wants to be notified of changes (LSP 3.17, "TextDocumentSyncKind")."""
+    capabilities = result.get("capabilities") if isinstance(result, dict) else None
+    sync = capabilities.get("textDocumentSync") if isinstance(capabilities, dict) else None
+    sync = sync.get("change") if isinstance(sync, dict) else sync
+    return type(sync) is int and sync in (1, 2)
+
+
+def whole(text):
+    """A text, unless its lines are not known: after a lone carriage return a later edit may put a line feed."""
+    return text if isinstance(text, str) and "\r" not in text.replace("\r\n", "") else None
+
+
+def changed_text(text, changes):
+    """The text after changes, one after the other."""
+    if not isinstance(changes, list):
+        return None
+    for change in changes:
+        given = whole(change.get("text")) if isinstance(change, dict) else None
+        if not isinstance(change, dict) or "range" not in change:
+            text = given
+            continue
+        found = span(change["range"])
+        is_known = text is not None and given is not None and found and found[0][0] <= found[1][0]
+        text = text[:offset(text, found[0])] + given + text[offset(text, found[1]):] if is_known else None
+    return text
+
+
+def offset(text, position):
+    """Where a position stands in a text. Past the end of its line it is that end, and past the last line the end of the text."""
+    lines = text.split("\n")
+    if position[0] >= len(lines):
+        return len(text)
+    line = lines[position[0]].removesuffix("\r" if position[0] + 1 < len(lines) else "")
+    units, at = 0, 0
+    while at < len(line) and units < position[1]:
+        units, at = units + (2 if ord(line[at]) > 0xFFFF else 1), at + 1
+    return sum(len(it) + 1 for it in lines[:position[0]]) + at

@@ -3,7 +3,8 @@ use crate::frames::Frames;
 use crate::merged::tell_stop;
 use anyhow::Result;
 use crossbeam_channel::{Receiver, bounded};
-use lsp_judge::judgement::{Ends, Judgement};
+use lsp_judge::full::FullJudgement;
+use lsp_judge::judgement::Ends;
 use lsp_judge::outcome::Outcome;
 use lsp_judge::passed::Passing;
 use lsp_judge::report::{Report, SECOND};
@@ -94,7 +95,7 @@ where
 /// What is judged of the two ways.
 #[derive(Drop)]
 struct Ways {
-    judged: Judgement,
+    judged: FullJudgement,
     client: Frames,
     server: Frames,
     /// Whether the server closed before the client.
@@ -114,7 +115,7 @@ fn judge_heard<R: Wait, W: Write>(
 ) -> Result<Outcome> {
     let alloc = report.alloc;
     let mut ways = Ways {
-        judged: Judgement::new(alloc, report.choice.capabilities),
+        judged: FullJudgement::new(alloc, report.choice.capabilities),
         client: Frames::new(alloc),
         server: Frames::new(alloc),
         is_server_first: false,

@@ -1,13 +1,13 @@
 // The judgement of what passed between two ends.
 ghost use Rattle.std.specs.List.{list_any};
-ghost use Rattle.std.specs.Prelude.{◌≡◌, ◌==◌, ◌++◌, ℕ, [], true, false, ◌&&◌, length, map, OnOk, IfOk, option_map, option_to_list};
+ghost use Rattle.std.specs.Prelude.{◌≡◌, ◌==◌, ◌++◌, ℕ, [], true, false, ◌&&◌, ◌||◌, length, map, OnOk, IfOk, option_map, option_to_list};
 ghost use Rattle.serde_json.specs.View.{view};
 ghost use Rattle.lsp_capabilities.specs.Knows.{Knows};
 ghost use Rattle.lsp_watch.specs.Entries.{entry_view};
-ghost use Rattle.lsp_watch.specs.Log.{asks as has_request};
+ghost use Rattle.lsp_watch.specs.Log.{Log, asks as has_request};
 ghost use Rattle.lsp_watch.specs.Orders.{says_unasked as is_of_unasked};
 ghost use Rattle.lsp_watch.specs.Verdicts.{breaches_of, as_breach, entered};
-ghost use Rattle.lsp_judge.specs.Choice.{is_known as is_all_known, fails as fails_for, leaves as leaves_for};
+ghost use Rattle.lsp_judge.specs.Choice.{is_known as is_all_known, fails as fails_for, fails_shown as fails_if_shown, leaves as leaves_for};
 ghost use Rattle.lsp_judge.specs.Judged.{Judged, Judges, nothing, begins, begins_late as begins_late_in, begun, seen, passed_on, goes_in, against, broken_of, is_unasked, left, is_initialize as opens};
 ghost use Rattle.lsp_judge.specs.Types.{unfit as unfit_of};
 
@@ -200,16 +200,20 @@ impl Judgement {
         let is_matched = passing.order.is_known() || !any_unasked(breaches.as_slice());
         self.is_matched = self.is_matched && is_matched;
         remove_ignored(report.choice, passing, &mut breaches);
-        let fails = any_fails(report.choice, order, passing.way, breaches.as_slice());
-        self.is_broken = self.is_broken || (fails || unfit.fails(order, passing, report.choice));
+        let fails = fails_by(report.choice, order, passing, breaches.as_slice(), unfit);
+        self.is_broken = self.is_broken || fails;
         self.is_begun = true;
-        let told = self
-            .tally
-            .tell_breaches(place, order, passing, breaches.as_slice(), report, out);
+        let told = self.tally.tell_all(
+            place,
+            order,
+            passing,
+            breaches.as_slice(),
+            unfit,
+            report,
+            out,
+        );
         drop(breaches);
-        told?;
-        self.tally
-            .tell_unfit(place, order, passing, unfit, report, out)
+        told
     }
 
     /// Sees a message, and returns what it breaks: the rules of the watch, and then what it goes against of what was announced.
@@ -275,6 +279,23 @@ impl Judgement {
         );
         drop(unanswered);
         told
+    }
+
+    /// Reports a breach that was found beside this judgement, in these words. Only what is counted changes.
+    pub fn tell<'a, W: Write>(
+        &mut self,
+        place: u64,
+        passing: &'a Passing,
+        breach: &Breach,
+        text: &'a str,
+        report: &Report<'_>,
+        out: &mut W,
+    ) -> Result<()>
+        ensures { (j : Judged) → Judges self.old j → Judges self.new j }
+    {
+        let order = passing.order.narrowed(self.is_matched);
+        self.tally
+            .tell_breach(place, order, passing, breach, text, report, out)
     }
 
     /// What was seen of the session that goes on.
@@ -344,6 +365,24 @@ fn remove_ignored(choice: &Choice, passing: &Passing, breaches: &mut Vec<Breach>
     if !choice.ignored.is_empty() {
         breaches.retain(|it| !choice.ignores(it.rule, passing.method()));
     }
+}
+
+/// Whether one of the breaches makes the status 1, or one of the rules of types and texts that are broken.
+fn fails_by(
+    choice: &Choice,
+    order: Order,
+    passing: &Passing,
+    breaches: &[Breach],
+    unfit: &Unfit,
+) -> bool
+    ensures { (log : Log) → unfit.now.rules.items ≡ unfit_of choice.now passing.now.types log passing.now.way
+        (option_map entry_view passing.now.message.entry) (option_map (λ e. view e.tree) passing.now.message.entry)
+        → result ≡ (list_any (fails_for choice.now order passing.now.way) breaches.now
+        || list_any (fails_if_shown choice.now order passing.now.types passing.now.way)
+        (unfit_of choice.now passing.now.types log passing.now.way (option_map entry_view passing.now.message.entry)
+        (option_map (λ e. view e.tree) passing.now.message.entry))) }
+{
+    any_fails(choice, order, passing.way, breaches) || unfit.fails(order, passing, choice)
 }
 
 /// Whether one of the breaches makes the status 1 that a message of this way has.
@@ -483,6 +522,20 @@ impl Tally {
         Ok(())
     }
 
+    fn tell_all<W: Write>(
+        &mut self,
+        place: u64,
+        order: Order,
+        passing: &Passing,
+        breaches: &[Breach],
+        unfit: &Unfit,
+        report: &Report<'_>,
+        out: &mut W,
+    ) -> Result<()> {
+        self.tell_breaches(place, order, passing, breaches, report, out)?;
+        self.tell_unfit(place, order, passing, unfit, report, out)
+    }
+
     fn tell_breaches<W: Write>(
         &mut self,
         place: u64,
@@ -593,7 +646,10 @@ fn tell_asked<W: Write>(
         }
         _ => (Kind::Open, None),
     };
-    let text = format!(in report.alloc; "{}", Rule::NoReply)?;
+    let text = match rule {
+        Some(rule) => format!(in report.alloc; "{rule}")?,
+        None => String::from_str(report.alloc, "has no reply")?,
+    };
     let told = Told {
         kind,
         place: asked.place,
@@ -602,11 +658,7 @@ fn tell_asked<W: Write>(
         fails: kind == Kind::Breach && report.choice.counts(Rule::NoReply, asked.way),
         method: Some(asked.method.as_str()),
         about: About::Id(id.as_str()),
-        text: if rule.is_some() {
-            text.as_str()
-        } else {
-            "has no reply"
-        },
+        text: text.as_str(),
         against: None,
     };
     report.tell(&told, out)?;

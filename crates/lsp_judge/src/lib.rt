@@ -5,6 +5,7 @@ mod bytes;
 pub mod choice;
 mod emacs;
 pub mod format;
+pub mod full;
 pub mod json;
 pub mod judgement;
 pub mod junit;

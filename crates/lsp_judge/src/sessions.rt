@@ -1,5 +1,6 @@
 // The judgements of the servers of a log: each has one of its own.
-use crate::judgement::{Ends, Judgement};
+use crate::full::FullJudgement;
+use crate::judgement::Ends;
 use crate::passed::Passing;
 use crate::report::Report;
 use anyhow::{Result, ensure};
@@ -13,7 +14,7 @@ const MOST: usize = 64;
 #[derive(Drop)]
 struct Session {
     name: Vec<u8>,
-    judged: Judgement,
+    judged: FullJudgement,
 }
 
 /// The servers of a log.
@@ -67,7 +68,7 @@ impl Sessions {
     fn add(&mut self, name: &[u8], announces: bool) -> Result<(), AllocError> {
         let session = Session {
             name: Vec::from_slice(self.alloc, name)?,
-            judged: Judgement::new(self.alloc, announces),
+            judged: FullJudgement::new(self.alloc, announces),
         };
         Ok(self.all.push(session)?)
     }

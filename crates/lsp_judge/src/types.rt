@@ -172,7 +172,7 @@ fn misfit(
 }
 
 /// The place of the request that a reply answers.
-fn asked_at(watch: &Watch, passing: &Passing) -> Option<u64> {
+pub fn asked_at(watch: &Watch, passing: &Passing) -> Option<u64> {
     match passing.message.entry.as_ref()?.kind() {
         Kind::Reply(id, _) => Some(watch.waiting(passing.way.other(), id)?.place),
         Kind::Request(_) | Kind::Notification => None,

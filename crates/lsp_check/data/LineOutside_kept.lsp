@@ -1,0 +1,10 @@
+-> {"jsonrpc":"2.0","id":0,"method":"initialize","params":{"processId":null,"rootUri":null,"capabilities":{"window":{"workDoneProgress":true},"workspace":{"inlayHint":{"refreshSupport":true}}}}}
+<- {"jsonrpc":"2.0","id":0,"result":{"capabilities":{"textDocumentSync":1,"foldingRangeProvider":true}}}
+-> {"jsonrpc":"2.0","method":"initialized","params":{}}
+-> {"jsonrpc":"2.0","method":"textDocument/didOpen","params":{"textDocument":{"uri":"file:///a","languageId":"a","version":1,"text":"a\nb\nc"}}}
+-> {"jsonrpc":"2.0","id":1,"method":"textDocument/foldingRange","params":{"textDocument":{"uri":"file:///a"}}}
+<- {"jsonrpc":"2.0","id":1,"result":[{"startLine":0,"startCharacter":1,"endLine":2,"endCharacter":1}]}
+-> {"jsonrpc":"2.0","method":"textDocument/didClose","params":{"textDocument":{"uri":"file:///a"}}}
+-> {"jsonrpc":"2.0","id":9,"method":"shutdown"}
+<- {"jsonrpc":"2.0","id":9,"result":null}
+-> {"jsonrpc":"2.0","method":"exit"}
