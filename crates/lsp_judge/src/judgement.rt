@@ -1,10 +1,10 @@
 // The judgement of what passed between two ends.
 ghost use Rattle.std.specs.List.{list_any};
-ghost use Rattle.std.specs.Prelude.{◌≡◌, ◌==◌, ◌++◌, ℕ, [], true, false, ◌&&◌, ◌||◌, length, map, OnOk, IfOk, option_map, option_to_list};
+ghost use Rattle.std.specs.Prelude.{◌≡◌, ◌==◌, ◌++◌, ℕ, [], true, false, not, ◌&&◌, ◌||◌, length, map, OnOk, IfOk, option_map, option_to_list};
 ghost use Rattle.serde_json.specs.View.{view};
 ghost use Rattle.lsp_capabilities.specs.Knows.{Knows};
 ghost use Rattle.lsp_watch.specs.Entries.{entry_view};
-ghost use Rattle.lsp_watch.specs.Log.{Log, asks as has_request};
+ghost use Rattle.lsp_watch.specs.Log.{asks as has_request};
 ghost use Rattle.lsp_watch.specs.Orders.{says_unasked as is_of_unasked};
 ghost use Rattle.lsp_watch.specs.Verdicts.{breaches_of, as_breach, entered};
 ghost use Rattle.lsp_judge.specs.Choice.{is_known as is_all_known, fails as fails_for, fails_shown as fails_if_shown, leaves as leaves_for};
@@ -197,11 +197,16 @@ impl Judgement {
     {
         let order = passing.order.narrowed(self.is_matched);
         let mut breaches = self.observe(place, passing)?;
-        let is_matched = passing.order.is_known() || !any_unasked(breaches.as_slice());
-        self.is_matched = self.is_matched && is_matched;
+        self.is_matched = stays_matched(self.is_matched, passing.order, breaches.as_slice());
         remove_ignored(report.choice, passing, &mut breaches);
-        let fails = fails_by(report.choice, order, passing, breaches.as_slice(), unfit);
-        self.is_broken = self.is_broken || fails;
+        self.is_broken = breaks_by(
+            self.is_broken,
+            report.choice,
+            order,
+            passing,
+            breaches.as_slice(),
+            unfit,
+        );
         self.is_begun = true;
         let told = self.tally.tell_all(
             place,
@@ -367,22 +372,28 @@ fn remove_ignored(choice: &Choice, passing: &Passing, breaches: &mut Vec<Breach>
     }
 }
 
-/// Whether one of the breaches makes the status 1, or one of the rules of types and texts that are broken.
-fn fails_by(
+/// Whether each reply had its request wherever the order is not known, after a message with these breaches.
+fn stays_matched(is_matched: bool, order: Order, breaches: &[Breach]) -> bool
+    ensures { result ≡ (is_matched && (is_all_known order || not (list_any is_unasked breaches.now))) }
+{
+    is_matched && (order.is_known() || !any_unasked(breaches))
+}
+
+/// Whether the status is 1 after a message with these breaches, which breaks these rules of types and texts.
+fn breaks_by(
+    is_broken: bool,
     choice: &Choice,
     order: Order,
     passing: &Passing,
     breaches: &[Breach],
     unfit: &Unfit,
 ) -> bool
-    ensures { (log : Log) → unfit.now.rules.items ≡ unfit_of choice.now passing.now.types log passing.now.way
-        (option_map entry_view passing.now.message.entry) (option_map (λ e. view e.tree) passing.now.message.entry)
-        → result ≡ (list_any (fails_for choice.now order passing.now.way) breaches.now
-        || list_any (fails_if_shown choice.now order passing.now.types passing.now.way)
-        (unfit_of choice.now passing.now.types log passing.now.way (option_map entry_view passing.now.message.entry)
-        (option_map (λ e. view e.tree) passing.now.message.entry))) }
+    ensures { result ≡ (is_broken || (list_any (fails_for choice.now order passing.now.way) breaches.now
+        || list_any (fails_if_shown choice.now order passing.now.types passing.now.way) unfit.now.rules.items)) }
 {
-    any_fails(choice, order, passing.way, breaches) || unfit.fails(order, passing, choice)
+    is_broken
+        || any_fails(choice, order, passing.way, breaches)
+        || unfit.fails(order, passing, choice)
 }
 
 /// Whether one of the breaches makes the status 1 that a message of this way has.
