@@ -173,7 +173,8 @@ module _ (choice : Choice) (strict : IsStrict choice) where
       let begins : b ≡ begins_in true log way m = ap (λ w. begins_in w j.log way m) s.whole ∙ ap
       (λ l. begins_in true l way m) s.log_is in
       record {
-        log_is = ap (λ r. r.log) is ∙ begun_log b (fresh j) (goes_on j) log refl s.log_is ∙ ap (λ t. cond t [] log) begins;
+        log_is = ap (λ r. r.log) is ∙ begun_log b (fresh j) (goes_on j) log refl s.log_is
+            ∙ ap (λ t. cond t [] log) begins;
         whole = ap (λ r. r.is_whole) is ∙ begun_whole b (fresh j) (goes_on j) refl s.whole;
         clean = clean_if (begins_in true log way m) log s.clean;
       }

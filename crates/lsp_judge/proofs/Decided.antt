@@ -57,7 +57,8 @@ shaped_by rule (Some place) not_it e = cc
 some_shaped : (rule : Rule) (at : Option ℕ) → is_of_shape rule ≡ false → Shaped (Some (rule, at)) → ⊥
 some_shaped rule at not_it e = cc
 
-shaped_opened : (s : Lifecycle) (v : Option ℕ) (m : Message) (result : Option ℕ) → Shaped (opened_finding s v result m) → ⊥
+shaped_opened : (s : Lifecycle) (v : Option ℕ) (m : Message) (result : Option ℕ)
+    → Shaped (opened_finding s v result m) → ⊥
 shaped_opened s v m None e = some_shaped BeforeResult v refl e
 shaped_opened s v m (Some place) e = shaped_cond (tells (codes "initialized") m) (broken_by SentAgain s.initialized) _
     (shaped_by SentAgain s.initialized refl)
@@ -75,7 +76,8 @@ shaped_client s v m e = shaped_cond (tells (codes "exit") m) (broken_by AfterExi
     (shaped_or (broken_by SentAgain s.result) (broken_by BeforeResult v) (shaped_by SentAgain s.result refl)
     (shaped_by BeforeResult v refl)) (shaped_opened s v m s.result))) e
 
-shaped_server : (s : Lifecycle) (v : Option ℕ) (may_tell : Bool) (m : Message) → Shaped (server_finding s v may_tell m) → ⊥
+shaped_server : (s : Lifecycle) (v : Option ℕ) (may_tell : Bool) (m : Message)
+    → Shaped (server_finding s v may_tell m) → ⊥
 shaped_server s v may_tell m e = shaped_cond _ None (Some (BeforeResult, v)) nothing_shaped
     (some_shaped BeforeResult v refl) e
 
@@ -123,7 +125,8 @@ shaped_document before way m e = by (deed_in way m) e
     by None e = cc
     by (Some deed) e = at deed (uri_in (params_in m)) e
 
-shaped_created : (b : Bool) (way : Direction) (token : Option Token) → Shaped (cond b None (created_finding way token)) → ⊥
+shaped_created : (b : Bool) (way : Direction) (token : Option Token)
+    → Shaped (cond b None (created_finding way token)) → ⊥
 shaped_created true way token e = cc
 shaped_created false ToServer token e = cc
 shaped_created false ToClient None e = cc

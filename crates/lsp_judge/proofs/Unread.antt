@@ -152,7 +152,8 @@ module _ (line content : List ℕ) (way : Direction) (m : LoggedMessage) (t : Bo
   pub line_sees : (choice : Choice) (late : Bool) (n : ℕ) (j : Judged) (k : Judgement) (p : Passing) → p.way ≡ way →
       p.message ≡ m
       → p.order ≡ Known → p.types ≡ Some Breach → t ≡ true
-      → Judges k (seen choice late p.order p.types j n p.way p.message.faults.items (option_map entry_view p.message.entry)
+      → Judges k (seen choice late p.order p.types j n p.way p.message.faults.items
+      (option_map entry_view p.message.entry)
       (option_map (λ e. view e.tree) p.message.entry))
       → Judges k (with_line choice late n j (line_tree line))
   line_sees choice late n j k p way_is message_is order_is types_are is_true sees =
@@ -167,7 +168,8 @@ module _ (line content : List ℕ) (way : Direction) (m : LoggedMessage) (t : Bo
       at : (o : Option Data) → Reads m t o → Judges k (with_line choice late n j (of_tree o))
       at None r = absurd (true≢false (sym is_true ∙ r))
       at (Some d) r =
-          subst (λ it. Judges k (seen choice late Known (Some Breach) j n way (faults_of d) (entry_in d) it)) r.1.tree_is
+          subst (λ it. Judges k (seen choice late Known (Some Breach) j n way (faults_of d) (entry_in d) it))
+          r.1.tree_is
           (subst (λ fs. Judges k (seen choice late Known (Some Breach) j n way fs (entry_in d)
           (option_map (λ e. view e.tree) m.entry))) r.1.faults_are
           (subst (λ e. Judges k (seen choice late Known (Some Breach) j n way m.faults.items e

@@ -63,7 +63,8 @@ module _ (choice : Choice) (may_begin_late : Bool) where
   abbrev pub with_line : ℕ → Judged → Option (Direction × Data) → Judged
   with_line n j None = j
   with_line n j (Some m) =
-      seen choice may_begin_late Known (Some Breach) j n m.0 (faults_of m.1) (entry_in m.1) (option_map (λ x. m.1) (entry_in m.1))
+      seen choice may_begin_late Known (Some Breach) j n m.0 (faults_of m.1) (entry_in m.1)
+      (option_map (λ x. m.1) (entry_in m.1))
 
   -- the judgement after these lines, which are counted from n on
   abbrev pub after_lines : ℕ → Judged → List (List ℕ) → Judged

@@ -1,4 +1,5 @@
--- How many lines an open document has, without its text (LSP 3.17, "Text Documents"). A text is the list of the bytes of its UTF-8.
+-- How many lines an open document has, without its text (LSP 3.17, "Text Documents"). A text is the list of the
+-- bytes of its UTF-8.
 use Rattle.std.specs.Prelude.{ℕ, ◌+◌, ◌-◌, ◌^◌, min, nat_lt, Bool, false, not, ◌&&◌, ◌||◌, ◌==◌, List, [], ◌∷◌}
 use Rattle.std.specs.Prelude.{Option, Some, None, option_and_then, count_by, slice_index_or, if◌then◌else◌, codes}
 use Rattle.serde_json.specs.Data.{Data, array, Items, no_items, item}
@@ -31,7 +32,8 @@ lines_of bs = option_and_then (λ breaks. in_64_bits (breaks + 1)) (breaks_in bs
 abbrev pub line_within : ℕ → ℕ → ℕ
 line_within lines line = min line (lines - 1)
 
--- The lines of a text after text with so many line ends has replaced a range. They are not known if the range is reversed.
+-- The lines of a text after text with so many line ends has replaced a range. They are not known if the range is
+-- reversed.
 abbrev pub after_edit : ℕ → Span → ℕ → Option ℕ
 after_edit lines span breaks =
     if nat_lt span.end.line span.start.line then None

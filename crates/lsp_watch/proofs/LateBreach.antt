@@ -150,7 +150,8 @@ of_server o e is = apart o.way (both (same_way ToClient o.way) (same_id o.id o.i
     apart ToServer e is = cc
     apart ToClient e is = cc
 
-answers_it : (log : Log) (way : Direction) (place : ℕ) (m : Message) → answers_initialize log (passed way place m) ≡ true
+answers_it : (log : Log) (way : Direction) (place : ℕ) (m : Message)
+    → answers_initialize log (passed way place m) ≡ true
     → AnswersIt log (passed way place m)
 answers_it log way place (request i method params) e = cc
 answers_it log way place (notification method params) e = cc
@@ -431,7 +432,8 @@ late_two : (b c : Option Finding) → list_any is_late (option_to_list b ++ opti
 late_two None c e = inr (late_last c e)
 late_two (Some b) c e = ⊎_elim (λ at. inl at) (λ at. inr (late_last c at)) (or_cases (is_late b) _ e)
 
-late_one : (a b c : Option Finding) → list_any is_late (option_to_list a ++ (option_to_list b ++ option_to_list c)) ≡ true
+late_one : (a b c : Option Finding)
+    → list_any is_late (option_to_list a ++ (option_to_list b ++ option_to_list c)) ≡ true
     → Late a ⊎ (Late b ⊎ Late c)
 late_one None b c e = inr (late_two b c e)
 late_one (Some a) b c e = ⊎_elim (λ at. inl at) (λ at. inr (late_two b c at)) (or_cases (is_late a) _ e)
@@ -452,7 +454,8 @@ under_client name o e = opens_client o (both (opens_session o) _ e).0
 
 module _ (before rest : Log) (whole : Matched before) (part : Matched rest) (newer : List Passed) where
   -- of the client: its side sent the same before
-  module _ (own : sent ToServer rest ≡ sent ToServer before) (others : sent ToClient before ≡ newer ++ sent ToClient rest)
+  module _ (own : sent ToServer rest ≡ sent ToServer before)
+      (others : sent ToClient before ≡ newer ++ sent ToClient rest)
     where
       asked_same : (id : Id) → asked_in ToServer id rest ≡ asked_in ToServer id before ++ []
       asked_same id = asked_from ToServer id before rest [] own
@@ -468,7 +471,8 @@ module _ (before rest : Log) (whole : Matched before) (part : Matched rest) (new
       again : is_some (initialize_result before) ≡ true
           → (is_some (initialize_result rest) ≡ true) ⊎ (is_some (initializing rest) ≡ true)
       again e = ⊎_elim (λ at. inl (in_part at)) (λ at. inr (still at))
-          (split (sent ToClient h.since) h.reply (sent ToClient h.earlier) newer (sent ToClient rest) (sym stands ∙ others))
+          (split (sent ToClient h.since) h.reply (sent ToClient h.earlier) newer (sent ToClient rest)
+          (sym stands ∙ others))
         where
           h : HasResult before
           h = has_result before e
@@ -510,9 +514,11 @@ module _ (before rest : Log) (whole : Matched before) (part : Matched rest) (new
       opening m e none = by (asks (codes "initialize") m) e none
         where
           by : (b : Bool)
-              → Late (cond b (option_or (broken_by SentAgain (initialize_result before)) (broken_by BeforeResult (initializing before)))
+              → Late (cond b (option_or (broken_by SentAgain (initialize_result before))
+              (broken_by BeforeResult (initializing before)))
               (opened_finding (lifecycle_of before) (initializing before) (initialize_result before) m))
-              → cond b (option_or (broken_by SentAgain (initialize_result rest)) (broken_by BeforeResult (initializing rest)))
+              → cond b (option_or (broken_by SentAgain (initialize_result rest))
+              (broken_by BeforeResult (initializing rest)))
               (opened_finding (lifecycle_of rest) (initializing rest) (initialize_result rest) m) ≡ None → ⊥
           by true e none =
               let result : initialize_result rest ≡ None = mapped_none _ _ (first_none _ _ none) in
@@ -521,7 +527,8 @@ module _ (before rest : Log) (whole : Matched before) (part : Matched rest) (new
               (λ at. ⊎_elim (absent (initialize_result rest) result) (absent (initializing rest) waits) (again at))
               (λ at. absent (initializing rest) waits (waits_still at))
               (late_again (initialize_result before) (initializing before) e)
-          by false e none = late_opened (lifecycle_of before) (lifecycle_of rest) (initializing before) (initializing rest)
+          by false e none = late_opened (lifecycle_of before) (lifecycle_of rest) (initializing before)
+              (initializing rest)
               m (initialize_result before) (initialize_result rest)
               (tells_same (codes "initialized") before ∙ ap (place_of (client_tells (codes "initialized"))) (sym own)
               ∙ sym (tells_same (codes "initialized") rest))
@@ -530,7 +537,8 @@ module _ (before rest : Log) (whole : Matched before) (part : Matched rest) (new
       client : (m : Message) → Late (client_finding (lifecycle_of before) (initializing before) m)
           → client_finding (lifecycle_of rest) (initializing rest) m ≡ None → ⊥
       client m e none =
-          let parts = late_call (tells (codes "exit") m) (lifecycle_of before).exit (lifecycle_of before).shutdown _ e in
+          let parts = late_call (tells (codes "exit") m) (lifecycle_of before).exit (lifecycle_of before).shutdown
+          _ e in
           opening m parts.1 (otherwise (tells (codes "exit") m) _ _ _ parts.0 none)
 
       of_client : (m : Message) → Late (session_finding before ToServer m) → session_finding rest ToServer m ≡ None → ⊥
@@ -549,7 +557,8 @@ module _ (before rest : Log) (whole : Matched before) (part : Matched rest) (new
           (replied_from ToClient i rest before [] own) asked.0 asked.1 (late_reply (waiting ToClient i before) e)
 
   -- of the server: its side sent the same before
-  module _ (own : sent ToClient rest ≡ sent ToClient before) (others : sent ToServer before ≡ newer ++ sent ToServer rest)
+  module _ (own : sent ToClient rest ≡ sent ToClient before)
+      (others : sent ToServer before ≡ newer ++ sent ToServer rest)
     where
       asked_more : (id : Id) → (more : List Open) × (asked_in ToServer id before ≡ asked_in ToServer id rest ++ more)
       asked_more id = (asked_in ToServer id newer, asked_from ToServer id rest before newer others)
@@ -566,19 +575,22 @@ module _ (before rest : Log) (whole : Matched before) (part : Matched rest) (new
           → is_some_such (λ name. list_any (opens_under name) (open_of rest)) name ≡ true
           → is_some_such (λ name. list_any (opens_under name) (open_of before)) name ≡ true
       may_tell None e = e
-      may_tell (Some name) e = waits_too (opens_under name) (under_client name) rest before part whole asked_more as_many e
+      may_tell (Some name) e = waits_too (opens_under name) (under_client name) rest before part whole asked_more
+          as_many e
 
       server : (m : Message)
           → Late (server_finding (lifecycle_of before) (initializing before) (tells_opening before m) m)
           → server_finding (lifecycle_of rest) (initializing rest) (tells_opening rest m) m ≡ None → ⊥
       server m e none = late_server
-          (is_some (initialize_result before) || (is_some (initializing before) && (tells_opening before m || is_early m)))
+          (is_some (initialize_result before) || (is_some (initializing before)
+          && (tells_opening before m || is_early m)))
           (is_some (initialize_result rest) || (is_some (initializing rest) && (tells_opening rest m || is_early m)))
           (initializing before) (initializing rest)
           (grows _ _ _ _ _ _ _ (result_too before rest whole part newer [] others (sym own)) waits_more
           (may_tell (progress_token m))) e none
 
-      of_server_side : (m : Message) → Late (session_finding before ToClient m) → session_finding rest ToClient m ≡ None → ⊥
+      of_server_side : (m : Message) → Late (session_finding before ToClient m)
+          → session_finding rest ToClient m ≡ None → ⊥
       of_server_side (request i method params) e none = ⊎_elim
           (λ at. server (request i method params) at (first_none _ _ none))
           (λ at. let asked = late_id (waiting ToClient i before) at in
@@ -594,7 +606,8 @@ module _ (before rest : Log) (whole : Matched before) (part : Matched rest) (new
           (asked_from ToServer i rest before newer others)
           (replied_from ToServer i rest before [] own) asked.0 asked.1 (late_reply (waiting ToServer i before) e)
 
-one_message : (way : Direction) (m : Message) (before rest : Log) → Matched before → Matched rest → (newer : List Passed)
+one_message : (way : Direction) (m : Message) (before rest : Log) → Matched before → Matched rest
+    → (newer : List Passed)
     → sent way rest ≡ sent way before → sent (other way) before ≡ newer ++ sent (other way) rest
     → Late (session_finding before way m) → session_finding rest way m ≡ None → ⊥
 one_message ToServer m before rest whole part newer own others = of_client before rest whole part newer own others m
@@ -617,7 +630,8 @@ sent_past p since earlier = sent_append (other p.way) since (p ∷ earlier)
     ∙ ap (λ b. sent (other p.way) since ++ cond b (p ∷ sent (other p.way) earlier) (sent (other p.way) earlier))
     (not_other p.way)
 
-no_first : (a : Option Finding) (more : List Finding) → list_any any_finding (option_to_list a ++ more) ≡ false → a ≡ None
+no_first : (a : Option Finding) (more : List Finding) → list_any any_finding (option_to_list a ++ more) ≡ false
+    → a ≡ None
 no_first None more e = refl
 no_first (Some a) more e = cc
 

@@ -204,7 +204,8 @@ module _ (way : Direction) (id : Id) where
   }
 
   take_off : (went : Direction) (place : ℕ) (i : Id) (outcome : _) (before : Log) (o : Open)
-      → is_reply way id (passed went place (response i outcome)) ≡ true → queue way id before ≡ o ∷ rest (queue way id before)
+      → is_reply way id (passed went place (response i outcome)) ≡ true
+      → queue way id before ≡ o ∷ rest (queue way id before)
       → queue way id (passed went place (response i outcome) ∷ before) ≡ rest (queue way id before) → Kept before
       → Kept (passed went place (response i outcome) ∷ before)
   take_off went place i outcome before o replies waits left kept = record {
@@ -317,7 +318,8 @@ module _ {A : Type 0} (such : A → Bool) where
       let shorter : length xs ≤ length ys = omega (arith, short) in
       later_has xs ys more others tail shorter is
 
--- A request that waits in one log waits in another one, in which as much or more was asked, and as much or less replied.
+-- A request that waits in one log waits in another one, in which as much or more was asked, and as much or less
+-- replied.
 pub still_waits : (way : Direction) (id : Id) (one two : Log) (such : Open → Bool) → Matched one → Matched two
     → (more : List Open) → asked_in way id two ≡ asked_in way id one ++ more
     → replied_in way id two ≤ replied_in way id one

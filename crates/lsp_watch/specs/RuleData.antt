@@ -11,7 +11,8 @@ use Rattle.lsp_watch.specs.declared.rule.Rule.TheVariants.{NoOutcome, BadError, 
 use Rattle.lsp_watch.specs.declared.rule.Rule.TheVariants.{IdStillOpen, NoReply, BeforeResult, BeforeInitialized}
 use Rattle.lsp_watch.specs.declared.rule.Rule.TheVariants.{SentAgain, AfterShutdown, AfterExit, AlreadyOpen, NotOpen}
 use Rattle.lsp_watch.specs.declared.rule.Rule.TheVariants.{VersionNotHigher, NoSuchToken, TokenEnded, NotAnnounced}
-use Rattle.lsp_watch.specs.declared.rule.Rule.TheVariants.{AnnouncedUnknown, ClientCannot, NeverOpened, WrongType, LooseType}
+use Rattle.lsp_watch.specs.declared.rule.Rule.TheVariants.{AnnouncedUnknown, ClientCannot, NeverOpened, WrongType}
+use Rattle.lsp_watch.specs.declared.rule.Rule.TheVariants.{LooseType}
 use Rattle.lsp_watch.specs.declared.rule.Rule.TheVariants.{EditsOverlap, TokensNotInFives, SelectionOutside}
 use Rattle.lsp_watch.specs.declared.rule.Rule.TheVariants.{RangeReversed, LineOutside}
 use Rattle.lsp_watch.specs.declared.rule.Side.{Side}
