@@ -6,22 +6,22 @@ ghost use Rattle.lsp_message.specs.declared.frame.limits.Limits.{Limits as most}
 ghost use Rattle.lsp_threads.specs.Passing.{OfTaken, noted};
 
 use crate::report::{report, report_usage};
-use lsp_message::{Limits, Passed};
+use lsp_message::{ByteTrace, Limits};
 use lsp_threads::{PumpFault, pump_traced};
 use std::alloc::Global;
 use std::io::{BufRead, Write};
 use std::sync::Wait;
 use std::thread::{Builder, Threads};
 
-/// The exit status, and accounts of the bytes that were read and written, which only clauses see.
+/// The exit status, and traces of the bytes that were read and written, which only clauses see.
 #[derive(Drop)]
 pub struct PumpStatus {
     /// 0 if all messages were passed on, and 1 otherwise.
     pub status: u8,
     /// The bytes that were taken from the reader.
-    pub taken: Passed,
+    pub taken: ByteTrace,
     /// The bytes that the writer took.
-    pub given: Passed,
+    pub given: ByteTrace,
 }
 
 /// Runs the program with its arguments, and returns the exit status.
@@ -57,8 +57,8 @@ where
     let Some(limit) = pump_limits(words) else {
         return PumpStatus {
             status: report_usage(errors),
-            taken: Passed::new(),
-            given: Passed::new(),
+            taken: ByteTrace::new(),
+            given: ByteTrace::new(),
         };
     };
     let pumped = pump_traced(rt, Builder::new(), alloc, reader, writer, limit);

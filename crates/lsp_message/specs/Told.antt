@@ -1,4 +1,4 @@
--- What was taken from a reader, part after part, as an account has it. This is said of each reader, whether or not its
+-- What was taken from a reader, part after part, as a trace has it. This is said of each reader, whether or not its
 -- bytes are known.
 use Rattle.std.specs.List.{concat}
 use Rattle.std.specs.Prelude.{◌≡◌, ℕ, Bool, true, false, List, [], ◌∷◌, ◌++◌, Option, Some, OnSome, Result, Ok, Err}
@@ -10,7 +10,7 @@ use Rattle.lsp_message.specs.declared.frame.ReadFault.{ReadFault}
 use Rattle.lsp_message.specs.declared.frame.WriteFault.{WriteFault}
 use Rattle.lsp_message.specs.declared.frame.WriteFault.TheVariants.{Output, Memory}
 
--- the parts of an account
+-- the parts of a trace
 abbrev pub Parts : Type 0
 Parts = List (List ℕ)
 
@@ -24,7 +24,7 @@ shows_end [] = false
 shows_end (part ∷ []) = is_nothing part
 shows_end (part ∷ next ∷ more) = shows_end (next ∷ more)
 
--- These parts were taken, and added to the account. If the reader's bytes are known, they were the first of them, and
+-- These parts were taken, and added to the trace. If the reader's bytes are known, they were the first of them, and
 -- it showed its end only where none are left.
 pub record Takes (parts before after : Parts) (known left : Option (List ℕ)) : Type 0 where
   pub added : after ≡ before ++ parts
@@ -48,7 +48,7 @@ abbrev pub IsOfParts : {X A : Type 0} → (X → A) → (List ℕ → Reading A)
 IsOfParts view reading result parts = (rest : List ℕ) → MayFollow result parts rest
     → Answers view result (Some rest) (reading (concat parts ++ rest))
 
--- These parts were given to a writer, and added to the account. If what the writer holds is known, it grew by them.
+-- These parts were given to a writer, and added to the trace. If what the writer holds is known, it grew by them.
 pub record Gives (parts before after : Parts) (old new : Option (List ℕ)) : Type 0 where
   pub added : after ≡ before ++ parts
   pub appended : Appends old new (concat parts)

@@ -10,11 +10,11 @@ use std::io::ErrorKind;
 use std::{fmt, io};
 
 pub(crate) mod body;
+pub(crate) mod byte_trace;
 pub(crate) mod content;
 pub(crate) mod header;
 pub(crate) mod limits;
 pub(crate) mod line;
-pub(crate) mod passed;
 pub(crate) mod place;
 pub(crate) mod read;
 pub(crate) mod scan;

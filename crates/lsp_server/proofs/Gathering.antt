@@ -12,7 +12,7 @@ use Rattle.lsp_message.specs.View.{message_view}
 use Rattle.lsp_message.specs.Written.{AppendsBeginning, AreFramesOf, GetsFrames, IsFrameOf, IsOutput}
 use Rattle.lsp_message.specs.declared.frame.WriteFault.{WriteFault}
 use Rattle.lsp_message.specs.declared.frame.WriteFault.TheVariants.{Output, Memory}
-use Rattle.lsp_message.specs.declared.frame.passed.Passed.{Passed}
+use Rattle.lsp_message.specs.declared.frame.byte_trace.ByteTrace.{ByteTrace}
 use Rattle.lsp_message.specs.declared.msg.Message as msg
 use Rattle.lsp_session.proofs.Handing.{AreFramesOf-push}
 use Rattle.lsp_threads.proofs.Frames.{breaks}
@@ -25,7 +25,7 @@ use Rattle.lsp_server.specs.declared.io_fault.IoFault.TheVariants.{Write}
 use Rattle.lsp_server.specs.declared.outgoing.TakenMessages.{TakenMessages}
 
 -- ---- a text that was written, as the account has it
-module _ (text : List ℕ) (old new : Passed) (a b : Option (List ℕ)) where
+module _ (text : List ℕ) (old new : ByteTrace) (a b : Option (List ℕ)) where
   grown : (r : Result (Unit {0}) WriteFault) (told : Given (WritesText text r) old.parts new.parts a b)
       → Appends (noted old) (noted new) (concat told.0)
   grown r told = ap concat told.1.added ∙ concat-append old.parts told.0
@@ -238,7 +238,7 @@ written_to_end before after a b ends frames = (
 )
 
 -- the account of a thread that begins with nothing
-pub from_nothing : (taken all : TakenMessages) (first : Passed) (answer : Result (Unit {0}) IoFault)
+pub from_nothing : (taken all : TakenMessages) (first : ByteTrace) (answer : Result (Unit {0}) IoFault)
     (b : Option (List ℕ)) → first.parts ≡ [] → all ≡ taken
     → WritesMessages (taken_of taken) (noted first) answer b → WritesMessages (taken_of all) (Some []) answer b
 from_nothing taken all first answer b none same written =

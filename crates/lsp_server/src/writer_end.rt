@@ -2,7 +2,7 @@
 use crate::io_fault::IoFault;
 use crate::outgoing::TakenMessages;
 use crossbeam_channel::Receiver;
-use lsp_message::{Message, Passed};
+use lsp_message::{ByteTrace, Message};
 use std::snapshot::Snapshot;
 use std::thread::Promise;
 
@@ -14,7 +14,7 @@ pub(crate) struct WriterEnd {
     /// The messages that it took.
     pub(crate) taken: TakenMessages,
     /// The bytes that the writer took.
-    pub(crate) given: Passed,
+    pub(crate) given: ByteTrace,
     /// Whether all was written.
     pub(crate) answer: Result<(), IoFault>,
 }

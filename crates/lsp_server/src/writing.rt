@@ -12,7 +12,7 @@ use crate::outgoing::Outgoing;
 use crate::writer_end::WriterEnd;
 use crate::written::Written;
 use crossbeam_channel::Receiver;
-use lsp_message::{Message, Passed, WriteFault, write_frames_traced};
+use lsp_message::{ByteTrace, Message, WriteFault, write_frames_traced};
 use std::alloc::{AllocError, Global};
 use std::io::Write;
 use std::snapshot::Snapshot;
@@ -34,7 +34,7 @@ pub(crate) fn write_all<R: Wait + Drop, W: Write + Drop>(
 {
     let channel = Snapshot::of(&outgoing);
     let mut outgoing = Outgoing::new(outgoing);
-    let mut given = Passed::new();
+    let mut given = ByteTrace::new();
     let answer = write_messages(&rt, alloc, &mut outgoing, &mut writer, &written, &mut given);
     let taken = outgoing.finish();
     WriterEnd {
@@ -53,7 +53,7 @@ fn write_messages<R: Wait, W: Write>(
     outgoing: &mut Outgoing,
     writer: &mut W,
     written: &Written<Message>,
-    given: &mut Passed,
+    given: &mut ByteTrace,
 ) -> Result<(), IoFault>
     requires { taken_of outgoing.old.taken ≡ untaken }
     ensures written { WritesMessages (taken_of outgoing.new.taken) (noted given.old) result (noted given.new) }
@@ -79,7 +79,7 @@ fn write_message<R: Wait, W: Write>(
     outgoing: &mut Outgoing,
     writer: &mut W,
     written: &Written<Message>,
-    given: &mut Passed,
+    given: &mut ByteTrace,
 ) -> Result<(), WriteFault>
     ensures written { WritesFrom (message_view message) (taken_of outgoing.old.taken) (noted given.old) result
         (taken_of outgoing.new.taken) (noted given.new) }
@@ -114,7 +114,7 @@ fn write_behind<R: Wait, W: Write>(
     outgoing: &mut Outgoing,
     writer: &mut W,
     written: &Written<Message>,
-    given: &mut Passed,
+    given: &mut ByteTrace,
 ) -> Result<(), WriteFault>
     ensures written { WritesBehind (string_bytes frame) (taken_of outgoing.old.taken) (noted given.old) result
         (taken_of outgoing.new.taken) (noted given.new) }
@@ -151,7 +151,7 @@ fn join<W: Write>(
     pending: String,
     next: String,
     writer: &mut W,
-    given: &mut Passed,
+    given: &mut ByteTrace,
 ) -> Result<String, WriteFault>
     ensures ok { IfOk result (λ left. (done : List ℕ)
         × Appends (noted given.old) (noted given.new) done
@@ -171,7 +171,7 @@ fn join<W: Write>(
 }
 
 /// Writes the frames that were gathered before memory ran out, and returns the fault.
-fn fail_behind<W: Write>(writer: &mut W, gathered: String, given: &mut Passed) -> WriteFault
+fn fail_behind<W: Write>(writer: &mut W, gathered: String, given: &mut ByteTrace) -> WriteFault
     ensures written { FailsBehind (string_bytes gathered) result (noted given.old) (noted given.new) }
     ensures given { GivesMore given.old.parts given.new.parts (W.contents writer.old) (W.contents writer.new) }
 {
@@ -182,7 +182,11 @@ fn fail_behind<W: Write>(writer: &mut W, gathered: String, given: &mut Passed) -
 }
 
 /// Writes a text of whole frames.
-fn write_text<W: Write>(writer: &mut W, text: String, given: &mut Passed) -> Result<(), WriteFault>
+fn write_text<W: Write>(
+    writer: &mut W,
+    text: String,
+    given: &mut ByteTrace,
+) -> Result<(), WriteFault>
     ensures ok { OnOk result (Appends (noted given.old) (noted given.new) (string_bytes text)) }
     ensures begun { AppendsBeginning (noted given.old) (noted given.new) (string_bytes text) }
     ensures fault { IfErr result IsOutput }

@@ -17,7 +17,7 @@ use Rattle.lsp_message.specs.declared.frame.ReadFault.{ReadFault}
 use Rattle.lsp_message.specs.declared.frame.ReadFault.TheVariants.{Input, Memory as NoMemoryToRead}
 use Rattle.lsp_message.specs.declared.frame.WriteFault.{WriteFault}
 use Rattle.lsp_message.specs.declared.frame.WriteFault.TheVariants.{Output, Memory as NoMemory}
-use Rattle.lsp_message.specs.declared.frame.passed.Passed.{Passed}
+use Rattle.lsp_message.specs.declared.frame.byte_trace.ByteTrace.{ByteTrace}
 use Rattle.lsp_message.specs.declared.frame.limits.Limits.{Limits}
 use Rattle.lsp_session.specs.ReadLoop.{Extent, ReadsOver}
 use Rattle.lsp_session.specs.Session.{Exchange, sends_of, SessionPart, Stop}
@@ -117,7 +117,7 @@ some_bytes [] none = absurd (cc (none))
 some_bytes (x ∷ text) none = omega arith
 
 -- a text that was written, as the account has it
-module _ (text : List ℕ) (old new : Passed) (a b : Option (List ℕ)) (some : 0 < length text) where
+module _ (text : List ℕ) (old new : ByteTrace) (a b : Option (List ℕ)) (some : 0 < length text) where
   grown : (parts : Parts) → new.parts ≡ old.parts ++ parts → concat new.parts ≡ concat old.parts ++ concat parts
   grown parts added = ap concat added ∙ concat-append old.parts parts
 
@@ -221,7 +221,7 @@ module _ (all : List ℕ) (old new : Option (List ℕ)) (given : Appends old new
     pump_known (Err (Start fault)) kept = kept_known kept
 
 -- What a pump says of all bytes, at those that are known.
-pub pumped_known : (limit : Limits) (known : Option (List ℕ)) (taken : Parts) (given : Passed) (old new : Option
+pub pumped_known : (limit : Limits) (known : Option (List ℕ)) (taken : Parts) (given : ByteTrace) (old new : Option
     (List ℕ)) (answer : Result (Unit {0}) PumpFault)
     → OfTaken taken (λ text. Pumps limit text (Some []) (noted given) answer) → TakenFrom known taken
     → GivenTo old given.parts new → IfSome known (λ text. Pumps limit text old new answer)
@@ -232,7 +232,7 @@ pumped_known limit known taken given old new answer told from to =
 -- What a session says of all bytes, at those that are known.
 pub told_known : (wakeable : Bool) {L : Type 0} (passes : L → ReadFault → L → Type 0) (limit : Limits) (P : SessionPart)
     (first last : L) (answer : Result SessionEnd SessionFault)
-    (known : Option (List ℕ)) (taken : Parts) (given : Passed) (old new : Option (List ℕ))
+    (known : Option (List ℕ)) (taken : Parts) (given : ByteTrace) (old new : Option (List ℕ))
     → OfTaken taken (λ text. ThreadsTellOver wakeable passes limit P text first last (Some []) (noted given) answer)
     → TakenFrom known taken → GivenTo old given.parts new
     → IfSome known (λ text. ThreadsTellOver wakeable passes limit P text first last old new answer)

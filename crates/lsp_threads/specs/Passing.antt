@@ -2,7 +2,7 @@
 use Rattle.std.specs.Prelude.{◌≡◌, ℕ, true, List, [], ◌++◌, Option, Some}
 use Rattle.std.specs.List.{concat}
 use Rattle.lsp_message.specs.Told.{Parts, shows_end, Gives, Takes}
-use Rattle.lsp_message.specs.declared.frame.passed.Passed.{Passed}
+use Rattle.lsp_message.specs.declared.frame.byte_trace.ByteTrace.{ByteTrace}
 
 -- This holds of each text that begins with the bytes that were taken. If the reader showed its end, there is just one.
 abbrev pub OfTaken : Parts → (List ℕ → Type 0) → Type 0
@@ -17,10 +17,10 @@ TakenFrom known taken = (left : Option (List ℕ)) × Takes taken [] taken known
 abbrev pub GivenTo : Option (List ℕ) → Parts → Option (List ℕ) → Type 0
 GivenTo old given new = Gives given [] given old new
 
--- the same, of the parts that an account has more
+-- the same, of the parts that a trace has more
 abbrev pub GivesMore : Parts → Parts → Option (List ℕ) → Option (List ℕ) → Type 0
 GivesMore before after old new = (parts : Parts) × Gives parts before after old new
 
 -- what a writer holds that began empty and was given these bytes
-abbrev pub noted : Passed → Option (List ℕ)
-noted account = Some (concat account.parts)
+abbrev pub noted : ByteTrace → Option (List ℕ)
+noted trace = Some (concat trace.parts)

@@ -4,7 +4,7 @@ ghost use Rattle.lsp_relay.specs.Relay.{ended, has_end, IsOpen};
 ghost use Rattle.lsp_threads.specs.Contents.{Contents as Carried, BeginsAny, Stays, bytes_of, contents_of};
 
 use crate::backlog::Backlog;
-use lsp_message::Passed;
+use lsp_message::ByteTrace;
 use lsp_relay::{Parcel, Plan, RelayRx, RelayTx};
 use std::alloc::{AllocError, Global};
 use std::marker::Model;
@@ -12,12 +12,12 @@ use std::mem;
 use std::sync::Wait;
 
 /// What a parcel of a session's relay carries: the content parts of some messages, in order (LSP 3.17, "Content Part");
-/// an account of all bytes that were taken from the reader up to their end; and whether the reading thread waits after
+/// a trace of all bytes that were taken from the reader up to their end; and whether the reading thread waits after
 /// the last of them.
 #[derive(Drop)]
 pub struct Contents {
     pub(crate) parts: Vec<Vec<u8>>,
-    pub(crate) taken: Passed,
+    pub(crate) taken: ByteTrace,
     /// Whether nothing is read until the session goes on after the last content part.
     pub(crate) waits: bool,
 }
@@ -51,7 +51,7 @@ pub struct ContentBatch<R: Wait + Drop> {
     backlog: Backlog,
     pending: Vec<Vec<u8>>,
     /// The bytes that were taken up to the end of the last content part.
-    taken: Passed,
+    taken: ByteTrace,
     /// How many bytes wait to be passed on.
     size: usize,
     closed: bool,
@@ -93,7 +93,7 @@ impl<R: Wait + Drop> ContentBatch<R> {
             tx,
             backlog,
             pending: Vec::new(alloc),
-            taken: Passed::new(),
+            taken: ByteTrace::new(),
             size: 0,
             closed: false,
         }
@@ -108,7 +108,7 @@ impl<R: Wait + Drop> ContentBatch<R> {
 
     /// Adds a content part, of the bytes that were taken up to its end. If it does not fit into one parcel with the
     /// content parts that wait, those are passed on first. The error means that an allocation failed.
-    pub fn add(&mut self, content: Vec<u8>, taken: &Passed) -> Result<(), AllocError>
+    pub fn add(&mut self, content: Vec<u8>, taken: &ByteTrace) -> Result<(), AllocError>
         requires { self.old.closed ≡ false
             → BeginsAny self.old.relay.1 (self.old.contents ++ content.items ∷ []) taken.now.parts }
         ensures ok { OnOk result (Stays self.old (self.old.contents ++ content.items ∷ []) self.new) }
@@ -122,7 +122,7 @@ impl<R: Wait + Drop> ContentBatch<R> {
     }
 
     /// Adds a content part to those that wait.
-    fn gather(&mut self, content: Vec<u8>, taken: &Passed) -> Result<(), AllocError>
+    fn gather(&mut self, content: Vec<u8>, taken: &ByteTrace) -> Result<(), AllocError>
         requires { self.old.closed ≡ false
             → BeginsAny self.old.relay.1 (self.old.contents ++ content.items ∷ []) taken.now.parts }
         ensures ok { OnOk result (Stays self.old (self.old.contents ++ content.items ∷ []) self.new) }

@@ -7,7 +7,7 @@ ghost use Rattle.lsp_threads.specs.Contents.{bytes_of, parts_of, NextIs};
 use crate::backlog::Takes;
 use crate::content_batch::{ContentsRx, weight};
 use crate::parcels::collect_or_wake;
-use lsp_message::Passed;
+use lsp_message::ByteTrace;
 use lsp_relay::Parcel;
 use std::alloc::Global;
 use std::collections::VecDeque;
@@ -37,7 +37,7 @@ pub struct ContentParts<R: Wait + Drop> {
     takes: Takes,
     waiting: VecDeque<Vec<u8>>,
     /// The bytes that were taken from the reader up to the end of the last parcel.
-    taken: Passed,
+    taken: ByteTrace,
     /// Whether the reading thread waits after the last parcel.
     is_awaited: bool,
     drained: bool,
@@ -77,7 +77,7 @@ impl<R: Wait + Drop> ContentParts<R> {
             rx,
             takes,
             waiting: VecDeque::new(alloc),
-            taken: Passed::new(),
+            taken: ByteTrace::new(),
             is_awaited: false,
             drained: false,
         }
@@ -138,10 +138,10 @@ impl<R: Wait + Drop> ContentParts<R> {
         }
     }
 
-    /// Takes no further content part, and returns the relay's end, with an account of the bytes that were taken from
+    /// Takes no further content part, and returns the relay's end, with a trace of the bytes that were taken from
     /// the reader up to the end of the last parcel. From then on the reading thread waits neither for unread bytes nor
     /// for the session to go on.
-    pub fn leave(self) -> (ContentsRx, Passed)
+    pub fn leave(self) -> (ContentsRx, ByteTrace)
         ensures relay { (result.0.relay, result.0.source, result.0.wakeable) ≡ self.relay }
         ensures taken { result.0.taken ≡ self.taken }
         ensures wakes { result.0.wakes ≡ self.wakes }
@@ -168,7 +168,7 @@ fn next_content<R: Wait>(
     rx: &mut ContentsRx,
     takes: &Takes,
     waiting: &mut VecDeque<Vec<u8>>,
-    taken: &mut Passed,
+    taken: &mut ByteTrace,
     is_awaited: &mut bool,
 ) -> Next
     requires unended { has_end rx.old.taken ≡ false }

@@ -9,7 +9,7 @@ use crate::goes_on::surely_goes_on;
 use crate::peeking_reader::PeekingReader;
 use crate::workers::ReadsInto;
 use json::Scratch;
-use lsp_message::{Limits, Passed, ReadFault, read_content_traced};
+use lsp_message::{ByteTrace, Limits, ReadFault, read_content_traced};
 use lsp_relay::RelayTx;
 use lsp_session::ReadEnd;
 use std::alloc::Global;
@@ -24,7 +24,7 @@ fn read_contents<R: Wait + Drop, S: BufRead>(
     reader: &mut PeekingReader<S>,
     outbox: &mut ContentBatch<R>,
     limits: Limits,
-    taken: &mut Passed,
+    taken: &mut ByteTrace,
 ) -> ReadEnd
     requires fresh { (outbox.old.contents ≡ []) × (taken.old.parts ≡ []) }
     requires source { outbox.old.relay.1 ≡ Some (source_of (S.remaining reader.old.inner) limits) }
@@ -78,7 +78,7 @@ impl ReadsInto for RelayTx<Contents, ContentsPlan> {
         reader: S,
         limits: Limits,
         backlog: Backlog,
-    ) -> (ContentsTx, ReadEnd, Passed)
+    ) -> (ContentsTx, ReadEnd, ByteTrace)
         requires { (self.sent ≡ []) × ReadsFor (S.remaining reader) limits self }
         ensures relay { result.0.relay ≡ self.relay }
         ensures told { TellsContents limits (S.remaining reader) self result.1 result.2.parts
@@ -86,7 +86,7 @@ impl ReadsInto for RelayTx<Contents, ContentsPlan> {
     {
         let mut reader = PeekingReader::new(reader);
         let mut outbox = ContentBatch::new(rt, alloc, self, backlog);
-        let mut taken = Passed::new();
+        let mut taken = ByteTrace::new();
         let end = read_contents(alloc, &mut reader, &mut outbox, limits, &mut taken);
         (outbox.finish(), end, taken)
     }

@@ -8,7 +8,7 @@ ghost use Rattle.lsp_threads.specs.Passing.{GivenTo, GivesMore, noted};
 
 use crate::backlog::{Backlog, Takes};
 use crate::parcels::{collect, deliver};
-use lsp_message::{Message, Passed, WriteFault, write_frames_traced};
+use lsp_message::{ByteTrace, Message, WriteFault, write_frames_traced};
 use lsp_relay::{Parcel, RelayRx, RelayTx, Taken};
 use std::alloc::{AllocError, Global};
 use std::io::Write;
@@ -139,7 +139,7 @@ pub fn write_texts<R: Wait, W: Write>(
     alloc: Global,
     rx: RelayRx<String>,
     writer: &mut W,
-    given: &mut Passed,
+    given: &mut ByteTrace,
     takes: &Takes,
 ) -> (RelayRx<String>, Option<WriteFault>)
     requires { rx.taken ≡ [] }
@@ -192,7 +192,7 @@ fn gather<W: Write>(
     pending: String,
     text: String,
     writer: &mut W,
-    given: &mut Passed,
+    given: &mut ByteTrace,
 ) -> (String, Option<WriteFault>)
     ensures gathered { Gathers before (string_bytes pending ++ string_bytes text)
         (string_bytes result.0) result.1 (noted given.old) (noted given.new) }
@@ -226,7 +226,7 @@ fn write_after<W: Write>(
     before: Option<WriteFault>,
     text: &str,
     writer: &mut W,
-    given: &mut Passed,
+    given: &mut ByteTrace,
 ) -> Option<WriteFault>
     ensures none { before ≡ None → WritesBytes text.now result (noted given.old) (noted given.new) }
     ensures some { OnSome before ((result ≡ before) × (given.new ≡ given.old)) }

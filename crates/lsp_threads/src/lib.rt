@@ -22,7 +22,7 @@ mod watched_writer;
 mod workers;
 
 pub use content_batch::{Contents, ContentsPlan, ContentsRx, ContentsTx};
-pub use pumping::{PumpFault, PumpOutcome, pump, pump_by, pump_traced, pump_within};
+pub use pumping::{PumpFault, PumpOutcome, pump, pump_traced, pump_with, pump_within};
 pub use run::{
     DEFAULT_READ_AHEAD_BYTES, ThreadOptions, Threaded, UNWRITTEN_BYTES, run_in_threads,
     run_in_threads_over, run_threads, run_threads_within,

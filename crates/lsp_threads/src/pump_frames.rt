@@ -7,7 +7,7 @@ use crate::backlog::Backlog;
 use crate::frame_batch::FrameBatch;
 use crate::peeking_reader::PeekingReader;
 use crate::workers::ReadsInto;
-use lsp_message::{Limits, Message, Passed, ReadFault};
+use lsp_message::{ByteTrace, Limits, Message, ReadFault};
 use lsp_relay::RelayTx;
 use lsp_session::{ReadEnd, is_exit};
 use std::alloc::Global;
@@ -21,7 +21,7 @@ fn read_frames<R: Wait + Drop, S: BufRead>(
     reader: &mut PeekingReader<S>,
     outbox: &mut FrameBatch<R>,
     limits: Limits,
-    taken: &mut Passed,
+    taken: &mut ByteTrace,
 ) -> ReadEnd
     requires { taken.old.parts ≡ [] }
     ensures handed { OfTaken taken.new.parts (λ text. HandsSome limits text outbox.old outbox.new result) }
@@ -66,14 +66,14 @@ impl ReadsInto for RelayTx<String> {
         reader: S,
         limits: Limits,
         backlog: Backlog,
-    ) -> (RelayTx<String>, ReadEnd, Passed)
+    ) -> (RelayTx<String>, ReadEnd, ByteTrace)
         requires { self.sent ≡ [] }
         ensures relay { result.0.relay ≡ self.relay }
         ensures told { TellsFrames limits (S.remaining reader) self result.1 result.2.parts result.0 }
     {
         let mut reader = PeekingReader::new(reader);
         let mut outbox = FrameBatch::new(rt, alloc, self, backlog);
-        let mut taken = Passed::new();
+        let mut taken = ByteTrace::new();
         let end = read_frames(alloc, &mut reader, &mut outbox, limits, &mut taken);
         (outbox.finish(), end, taken)
     }

@@ -7,7 +7,7 @@ ghost use Rattle.lsp_threads.specs.Pump.{Pumps, pump_answer};
 use crate::backlog::bounded_backlog;
 use crate::frame_batch::write_texts;
 use crate::workers::{StartFault, start_reader};
-use lsp_message::{Limits, Passed, ReadFault, WriteFault};
+use lsp_message::{ByteTrace, Limits, ReadFault, WriteFault};
 use lsp_relay::{AnyPlan, RelayTx, relay, settle_all};
 use lsp_session::ReadEnd;
 use std::alloc::Global;
@@ -77,7 +77,7 @@ where
 }
 
 /// Does what `pump` does, with a limit on a content part. If one is longer than `limit` bytes, the fault is
-/// `PumpFault::Read` with `ReadFault::TooLong`. A header part is not bounded; `pump_by` bounds it too.
+/// `PumpFault::Read` with `ReadFault::TooLong`. A header part is not bounded; `pump_with` bounds it too.
 pub fn pump_within<T, R, W>(
     rt: &T,
     alloc: Global,
@@ -96,13 +96,13 @@ where
         header: None,
         content: limit,
     };
-    pump_by(rt, Builder::new(), alloc, reader, writer, limits)
+    pump_with(rt, Builder::new(), alloc, reader, writer, limits)
 }
 
 /// Does what `pump_within` does, with limits on both parts of a frame, and with a builder for the reading thread, which
 /// can set the size of its stack. After a header part that is too long the fault is `PumpFault::Read` with
 /// `ReadFault::HeaderTooLong`.
-pub fn pump_by<T, R, W>(
+pub fn pump_with<T, R, W>(
     rt: &T,
     builder: Builder,
     alloc: Global,
@@ -120,21 +120,21 @@ where
     pump_traced(rt, builder, alloc, reader, writer, limits).answer
 }
 
-/// The result of a pump, and accounts of the bytes that it took and gave, which only clauses see.
+/// The result of a pump, and traces of the bytes that it took and gave, which only clauses see.
 #[derive(Drop)]
 #[derive_where(Debug)]
 pub struct PumpOutcome {
     /// The bytes that were taken from the reader.
     #[derive_where(skip)]
-    pub taken: Passed,
+    pub taken: ByteTrace,
     /// The bytes that the writer took.
     #[derive_where(skip)]
-    pub given: Passed,
-    /// The result that `pump_by` returns.
+    pub given: ByteTrace,
+    /// The result that `pump_with` returns.
     pub answer: Result<(), PumpFault>,
 }
 
-/// Does what `pump_by` does, and says more about it for every reader and writer, including standard input and a socket.
+/// Does what `pump_with` does, and says more about it for every reader and writer, including standard input and a socket.
 /// The clause `told` is that of `pump`, for each text that begins with the bytes that were taken, and for a writer that
 /// began empty. The clauses `taken` and `given` say that these are the bytes that were read and written, if they are
 /// known. No clause says in which order bytes were taken and given.
@@ -167,7 +167,7 @@ where
         Ok(reading) => reading,
         Err(fault) => return not_started(fault),
     };
-    let mut given = Passed::new();
+    let mut given = ByteTrace::new();
     let (rx, unwritten) = write_texts(rt, alloc, rx, writer, &mut given, &takes);
     let (tx, read, taken) = reading.join(rt);
     settle_all(rt, rx, tx);
@@ -184,8 +184,8 @@ fn not_started(fault: StartFault) -> PumpOutcome
     ensures nothing { (result.taken.parts ≡ []) × (result.given.parts ≡ []) }
 {
     PumpOutcome {
-        taken: Passed::new(),
-        given: Passed::new(),
+        taken: ByteTrace::new(),
+        given: ByteTrace::new(),
         answer: Err(PumpFault::Start(fault)),
     }
 }

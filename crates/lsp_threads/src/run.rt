@@ -10,7 +10,7 @@ ghost use Rattle.lsp_threads.specs.Threads.{ThreadsGive, ThreadsTell, ThreadsTel
 use crate::content_batch::{Contents, ContentsPlan, ContentsRx, ContentsTx};
 use crate::serving::{serve_between, start_both};
 use crate::workers::{ROOM, StartFault};
-use lsp_message::{Limits, Passed};
+use lsp_message::{ByteTrace, Limits};
 use lsp_relay::relay;
 use lsp_session::{
     Application, BadContentPolicy, EndOnBadContent, Handler, HandlerService, ServiceApplication,
@@ -22,7 +22,7 @@ use std::io::{BufRead, Write};
 use std::sync::Wait;
 use std::thread::{Builder, Threads};
 
-/// The result of a session in threads. Only clauses see its accounts of bytes.
+/// The result of a session in threads. Only clauses see its traces of bytes.
 #[derive(Drop)]
 #[derive_where(Debug; W)]
 pub struct Threaded<W> {
@@ -32,10 +32,10 @@ pub struct Threaded<W> {
     /// reached the session together with this message are included, up to 64 KiB. Bytes that were read after that and
     /// dropped are not. If the session reached the end of reading, these are all bytes that were taken.
     #[derive_where(skip)]
-    pub taken: Passed,
+    pub taken: ByteTrace,
     /// The bytes that the writer took.
     #[derive_where(skip)]
-    pub given: Passed,
+    pub given: ByteTrace,
     /// How the session ended.
     pub answer: Result<SessionEnd, SessionFault>,
 }

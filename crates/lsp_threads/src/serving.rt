@@ -13,7 +13,7 @@ use crate::run::{ThreadOptions, Threaded};
 use crate::thread_ends::{ThreadEnds, serve_ends};
 use crate::watched_writer::{WatchedWriter, WriteFaults, write_faults};
 use crate::workers::{ROOM, Reader, StartFault, Writer, start_reader, start_writer};
-use lsp_message::{Limits, Passed, ReadFault, WriteFault};
+use lsp_message::{ByteTrace, Limits, ReadFault, WriteFault};
 use lsp_relay::{AnyPlan, Parcel, RelayRx, RelayTx, Source, plan, relay, settle_all};
 use lsp_session::{Application, BadContentPolicy, ReadEnd, session_answer};
 use std::alloc::Global;
@@ -23,7 +23,10 @@ use std::sync::Wait;
 use std::thread::{PromisedHandle, Threads};
 
 /// The thread that reads.
-pub(crate) type Reading<R> = PromisedHandle<(ContentsTx, ReadEnd, Passed), Reader<R, ContentsTx>>;
+pub(crate) type Reading<R> = PromisedHandle<
+    (ContentsTx, ReadEnd, ByteTrace),
+    Reader<R, ContentsTx>,
+>;
 
 /// The thread that writes.
 pub(crate) type Writing<W> = PromisedHandle<
@@ -31,7 +34,7 @@ pub(crate) type Writing<W> = PromisedHandle<
         RelayRx<String>,
         WatchedWriter<W>,
         Option<WriteFault>,
-        Passed,
+        ByteTrace,
     ),
     Writer<WatchedWriter<W>, String>,
 >;
@@ -235,7 +238,7 @@ fn leave_reading<T, R>(
     parts: ContentParts<T>,
     reading: Reading<R>,
     at_exit: bool,
-) -> (ReadEnd, Passed)
+) -> (ReadEnd, ByteTrace)
 where
     T: Threads + Wait + Copy + Drop,
     R: BufRead + Drop,

@@ -6,7 +6,7 @@ ghost use Rattle.lsp_threads.specs.Passing.{GivenTo};
 
 use crate::backlog::{Backlog, Takes};
 use crate::frame_batch::write_texts;
-use lsp_message::{Limits, Passed, WriteFault};
+use lsp_message::{ByteTrace, Limits, WriteFault};
 use lsp_relay::RelayRx;
 use lsp_session::ReadEnd;
 use std::alloc::Global;
@@ -75,7 +75,7 @@ pub trait ReadsInto: Drop {
         reader: S,
         limits: Limits,
         backlog: Backlog,
-    ) -> (Self, ReadEnd, Passed)
+    ) -> (Self, ReadEnd, ByteTrace)
         requires { may_read (S.remaining reader) limits self }
         ensures relay { same_end self result.0 }
         ensures told { tells limits (S.remaining reader) self result.1 result.2.parts result.0 };
@@ -100,7 +100,7 @@ pub trait WritesFrom: Drop {
         rx: RelayRx<Self>,
         writer: W,
         takes: Takes,
-    ) -> (RelayRx<Self>, W, Option<WriteFault>, Passed)
+    ) -> (RelayRx<Self>, W, Option<WriteFault>, ByteTrace)
         requires { rx.taken ≡ [] }
         ensures relay { result.0.relay ≡ rx.relay }
         ensures written { writes result.0.taken result.2 (Some []) (Some (concat result.3.parts)) }
@@ -115,7 +115,7 @@ pub struct Reader<S, E> {
     pub tx: Snapshot<E>,
 }
 
-impl<S: BufRead, E: ReadsInto> Promise<(E, ReadEnd, Passed)> for Reader<S, E> {
+impl<S: BufRead, E: ReadsInto> Promise<(E, ReadEnd, ByteTrace)> for Reader<S, E> {
     ghost kept_by = { λ p r. E.same_end p.tx.value r.0
         × E.tells p.limits (S.remaining p.reader.value) p.tx.value r.1 r.2.parts r.0 };
 }
@@ -128,7 +128,7 @@ pub struct Writer<W, M: Drop> {
     pub rx: Snapshot<RelayRx<M>>,
 }
 
-impl<W: Write, M: WritesFrom> Promise<(RelayRx<M>, W, Option<WriteFault>, Passed)>
+impl<W: Write, M: WritesFrom> Promise<(RelayRx<M>, W, Option<WriteFault>, ByteTrace)>
     for Writer<W, M> {
     ghost use Rattle.std.specs.List.{concat};
     ghost use Rattle.std.specs.Prelude.{◌≡◌, [], Some};
@@ -148,7 +148,7 @@ pub fn start_reader<E, R, S>(
     limits: Limits,
     tx: E,
     backlog: Backlog,
-) -> Result<PromisedHandle<(E, ReadEnd, Passed), Reader<S, E>>, StartFault>
+) -> Result<PromisedHandle<(E, ReadEnd, ByteTrace), Reader<S, E>>, StartFault>
 where
     E: ReadsInto + Drop + Send + 'static,
     R: Threads + Wait + Copy + Drop + Send + 'static,
@@ -181,7 +181,10 @@ pub fn start_writer<M, R, W>(
     rx: RelayRx<M>,
     writer: W,
     takes: Takes,
-) -> Result<PromisedHandle<(RelayRx<M>, W, Option<WriteFault>, Passed), Writer<W, M>>, StartFault>
+) -> Result<
+    PromisedHandle<(RelayRx<M>, W, Option<WriteFault>, ByteTrace), Writer<W, M>>,
+    StartFault,
+>
 where
     M: WritesFrom + Drop + Send + 'static,
     R: Threads + Wait + Copy + Drop + Send + 'static,
@@ -216,14 +219,14 @@ impl WritesFrom for String {
         rx: RelayRx<String>,
         writer: W,
         takes: Takes,
-    ) -> (RelayRx<String>, W, Option<WriteFault>, Passed)
+    ) -> (RelayRx<String>, W, Option<WriteFault>, ByteTrace)
         requires { rx.taken ≡ [] }
         ensures relay { result.0.relay ≡ rx.relay }
         ensures written { WritesParcels result.0.taken result.2 (Some []) (Some (concat result.3.parts)) }
         ensures given { GivenTo (W.contents writer) result.3.parts (W.contents result.1) }
     {
         let mut writer = writer;
-        let mut given = Passed::new();
+        let mut given = ByteTrace::new();
         let (rx, fault) = write_texts(&rt, alloc, rx, &mut writer, &mut given, &takes);
         (rx, writer, fault, given)
     }

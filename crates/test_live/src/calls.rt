@@ -10,7 +10,7 @@ use crate::sessions::{
 use crate::signals::Signals;
 use crate::table::{Call, Device, Given};
 use lsp_acts::ServerApplication;
-use lsp_message::{Front, Limits, Message, Passed, ReadFault, WriteFault, front, write_frames};
+use lsp_message::{ByteTrace, Front, Limits, Message, ReadFault, WriteFault, front, write_frames};
 use lsp_session::{
     Application, BadContentPolicy, EndOnBadContent, Event, FrameOutbox, Inbox, ListOutbox, Outbox,
     ReadEnd, SendFault, SessionEnd, SessionFault, SkipAndCount, SkipSilently, StreamInbox,
@@ -74,7 +74,7 @@ fn read(trial: &mut Trial) -> Result<Attempt, Stop> {
     let alloc = trial.alloc;
     let read = match (trial.run.device, trial.run.limit()) {
         (Device::Headers, _) => {
-            let mut taken = Passed::new();
+            let mut taken = ByteTrace::new();
             Message::read_traced(alloc, &mut trial.reader, trial.run.limits(), &mut taken)
         }
         (_, Some(limit)) => Message::read_within(alloc, &mut trial.reader, limit),

@@ -15,7 +15,7 @@ use lsp_server::{Connection, Limits};
 use lsp_session::{Application, HandlerApplication, SessionEnd, SessionFault, SkipAndCount};
 use lsp_threads::{
     DEFAULT_READ_AHEAD_BYTES, PumpFault, StartFault, ThreadOptions, Threaded, UNWRITTEN_BYTES,
-    pump_by, run_in_threads,
+    pump_with, run_in_threads,
 };
 use serde_json::{Map, Value};
 use std::alloc::{AllocError, Global};
@@ -438,7 +438,7 @@ where
 {
     let mut writer = writer;
     let builder = builder(matches!(run.device, Device::NoReader));
-    match pump_by(rt, builder, alloc, reader, &mut writer, run.limits()) {
+    match pump_with(rt, builder, alloc, reader, &mut writer, run.limits()) {
         Ok(()) => told(alloc, run, "passed on", &writer),
         Err(PumpFault::Start(fault)) => not_started(alloc, fault, run, signals),
         Err(fault) => {

@@ -131,7 +131,7 @@ pub enum Call {
     Jobs,
     /// The same. It reports what was written in the order of the texts.
     Many,
-    /// `pump_by`.
+    /// `pump_with`.
     Pump,
     /// The same. It also says how many writes there were.
     Burst,

@@ -7,7 +7,7 @@ ghost use Rattle.lsp_message.specs.Gathering.{TakesFront, TakesInto, IsFromReade
 ghost use Rattle.lsp_message.specs.Told.{Told, IsOfParts};
 ghost use Rattle.lsp_message.specs.ToldSteps.{TakesPart};
 
-use crate::frame::passed::Passed;
+use crate::frame::byte_trace::ByteTrace;
 use crate::frame::{ReadFault, unless_interrupted};
 use std::alloc::Global;
 use std::io::{BufRead, ErrorKind};
@@ -17,7 +17,7 @@ pub(crate) fn read_body<R: BufRead>(
     alloc: Global,
     reader: &mut R,
     count: u64,
-    taken: &mut Passed,
+    taken: &mut ByteTrace,
 ) -> Result<Vec<u8>, ReadFault>
     ensures exact { IfSome (R.remaining reader.old) (λ text.
         Answers (λ body. body.items) (found result) (R.remaining reader.new)
@@ -46,7 +46,7 @@ fn take_part<R: BufRead>(
     reader: &mut R,
     missing: usize,
     body: &mut Vec<u8>,
-    taken: &mut Passed,
+    taken: &mut ByteTrace,
 ) -> Result<bool, ReadFault>
     requires some { 0 < missing }
     requires room { vec_len body.old + missing ≤ vec_capacity body.old }

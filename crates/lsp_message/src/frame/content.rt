@@ -7,8 +7,8 @@ ghost use Rattle.lsp_message.specs.Told.{Told, IsOfParts};
 
 use crate::frame::ReadFault;
 use crate::frame::body::read_body;
+use crate::frame::byte_trace::ByteTrace;
 use crate::frame::limits::Limits;
-use crate::frame::passed::Passed;
 use crate::frame::read::read_header_within;
 use std::alloc::Global;
 use std::io::BufRead;
@@ -30,16 +30,16 @@ pub fn read_content_within<R: BufRead>(
     ensures memory { result ≡ Err ReadFault.Memory → IfSome (R.remaining reader.old) (λ text.
         RunsOutBefore limits text (R.remaining reader.new)) }
 {
-    read_content_traced(alloc, reader, limits, &mut Passed::new())
+    read_content_traced(alloc, reader, limits, &mut ByteTrace::new())
 }
 
 /// Reads the content part of one message, as `read_content_within` does, and adds the bytes that it takes to the
-/// account.
+/// trace.
 pub fn read_content_traced<R: BufRead>(
     alloc: Global,
     reader: &mut R,
     limits: Limits,
-    taken: &mut Passed,
+    taken: &mut ByteTrace,
 ) -> Result<Option<Vec<u8>>, ReadFault>
     ensures exact { IfSome (R.remaining reader.old) (λ text.
         Answers (λ content. content.items) result (R.remaining reader.new)

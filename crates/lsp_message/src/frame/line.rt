@@ -4,7 +4,7 @@ ghost use Rattle.lsp_message.specs.Gathering.{TakesFront, IsFromOutside, KeepsLi
 ghost use Rattle.lsp_message.specs.Told.{Told};
 ghost use Rattle.lsp_message.specs.ToldSteps.{GathersLine, GathersSome, Spends};
 
-use crate::frame::passed::Passed;
+use crate::frame::byte_trace::ByteTrace;
 use crate::frame::{ReadFault, unless_interrupted};
 use memchr::memchr;
 use std::io::{BufRead, ErrorKind};
@@ -14,7 +14,7 @@ pub(crate) fn gather_line<R: BufRead>(
     reader: &mut R,
     line: &mut Vec<u8>,
     room: &mut u64,
-    taken: &mut Passed,
+    taken: &mut ByteTrace,
 ) -> Result<(), ReadFault>
     ensures line { OnOk result
         (EndsLine line.old.items (R.remaining reader.old) line.new.items (R.remaining reader.new)) }
@@ -41,7 +41,7 @@ fn gather_some<R: BufRead>(
     reader: &mut R,
     line: &mut Vec<u8>,
     room: &mut u64,
-    taken: &mut Passed,
+    taken: &mut ByteTrace,
 ) -> Result<bool, ReadFault>
     ensures more { result ≡ Ok false
         → KeepsLine line.old.items (R.remaining reader.old) line.new.items

@@ -5,8 +5,8 @@ ghost use Rattle.lsp_message.specs.Gathering.{TakesFront};
 ghost use Rattle.lsp_message.specs.Told.{Told};
 ghost use Rattle.lsp_message.specs.ToldSteps.{ReadsInPlace, Spends};
 
+use crate::frame::byte_trace::ByteTrace;
 use crate::frame::header::{HeaderLine, header_line};
-use crate::frame::passed::Passed;
 use crate::frame::{ReadFault, unless_interrupted};
 use memchr::memchr;
 use std::io::BufRead;
@@ -26,7 +26,7 @@ pub(crate) enum InPlace {
 pub(crate) fn line_in_place<R: BufRead>(
     reader: &mut R,
     room: &mut u64,
-    taken: &mut Passed,
+    taken: &mut ByteTrace,
 ) -> Result<InPlace, ReadFault>
     ensures exact { IfSome (R.remaining reader.old)
         (AnswersInPlace result (R.remaining reader.new)) }

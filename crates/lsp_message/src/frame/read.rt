@@ -8,9 +8,9 @@ ghost use Rattle.lsp_message.specs.Told.{Told, IsOfParts};
 ghost use Rattle.lsp_message.specs.ToldSteps.{ReadsLine, Spends};
 
 use crate::frame::ReadFault;
+use crate::frame::byte_trace::ByteTrace;
 use crate::frame::header::{HeaderLine, header_line};
 use crate::frame::line::gather_line;
-use crate::frame::passed::Passed;
 use crate::frame::place::{InPlace, line_in_place};
 use std::alloc::Global;
 use std::io::{BufRead, ErrorKind};
@@ -21,7 +21,7 @@ pub(crate) fn read_header_within<R: BufRead>(
     alloc: Global,
     reader: &mut R,
     bound: Option<u64>,
-    taken: &mut Passed,
+    taken: &mut ByteTrace,
 ) -> Result<Option<u64>, ReadFault>
     ensures exact { IfSome (R.remaining reader.old) (λ text.
         AnswersHeader (λ n. n) result (R.remaining reader.new) (header_under bound text)) }
@@ -44,7 +44,7 @@ fn read_bounded_header<R: BufRead>(
     alloc: Global,
     reader: &mut R,
     most: u64,
-    taken: &mut Passed,
+    taken: &mut ByteTrace,
 ) -> Result<Option<u64>, ReadFault>
     ensures exact { IfSome (R.remaining reader.old) (λ text.
         AnswersHeader (λ n. n) result (R.remaining reader.new) (header_under (Some most) text)) }
@@ -67,7 +67,7 @@ fn read_header<R: BufRead>(
     alloc: Global,
     reader: &mut R,
     room: &mut u64,
-    taken: &mut Passed,
+    taken: &mut ByteTrace,
 ) -> Result<Option<u64>, ReadFault>
     ensures exact { IfSome (R.remaining reader.old) (λ text.
         AnswersHeader (λ n. n) result (R.remaining reader.new) (header_of text)) }
@@ -108,7 +108,7 @@ fn read_line<R: BufRead>(
     reader: &mut R,
     gathered: &mut Vec<u8>,
     room: &mut u64,
-    taken: &mut Passed,
+    taken: &mut ByteTrace,
 ) -> Result<Option<HeaderLine>, ReadFault>
     ensures exact { IfSome (R.remaining reader.old) (λ text.
         AnswersHeader (λ line. line) result (R.remaining reader.new) (first_line text)) }
@@ -129,7 +129,7 @@ fn gathered_line<R: BufRead>(
     reader: &mut R,
     gathered: &mut Vec<u8>,
     room: &mut u64,
-    taken: &mut Passed,
+    taken: &mut ByteTrace,
 ) -> Result<Option<HeaderLine>, ReadFault>
     ensures exact { IfSome (R.remaining reader.old) (λ text.
         AnswersHeader (λ line. line) result (R.remaining reader.new) (first_line text)) }

@@ -5,7 +5,7 @@ ghost use Rattle.lsp_message.specs.Told.{Given, WritesText};
 ghost use Rattle.lsp_message.specs.Written.{frame_text, AppendsBeginning, IsOutput};
 
 use crate::frame::WriteFault;
-use crate::frame::passed::Passed;
+use crate::frame::byte_trace::ByteTrace;
 use std::alloc::{AllocError, Global};
 use std::fmt::Write as _;
 use std::io::{ErrorKind, Write};
@@ -18,7 +18,7 @@ pub(crate) fn write_body<W: Write>(
     alloc: Global,
     writer: &mut W,
     body: String,
-    given: &mut Passed,
+    given: &mut ByteTrace,
 ) -> Result<(), WriteFault>
     ensures ok { OnOk result
         (Appends (W.contents writer.old) (W.contents writer.new) (frame_text (string_bytes body))) }
@@ -42,14 +42,14 @@ pub fn write_frames<W: Write>(writer: &mut W, frames: &str) -> Result<(), WriteF
     ensures begun { AppendsBeginning (W.contents writer.old) (W.contents writer.new) frames.now }
     ensures fault { IfErr result IsOutput }
 {
-    write_frames_traced(writer, frames, &mut Passed::new())
+    write_frames_traced(writer, frames, &mut ByteTrace::new())
 }
 
-/// Writes a text of whole frames, as `write_frames` does, and adds the bytes that the writer takes to the account.
+/// Writes a text of whole frames, as `write_frames` does, and adds the bytes that the writer takes to the trace.
 pub fn write_frames_traced<W: Write>(
     writer: &mut W,
     frames: &str,
-    given: &mut Passed,
+    given: &mut ByteTrace,
 ) -> Result<(), WriteFault>
     ensures ok { OnOk result (Appends (W.contents writer.old) (W.contents writer.new) frames.now) }
     ensures begun { AppendsBeginning (W.contents writer.old) (W.contents writer.new) frames.now }
@@ -78,7 +78,11 @@ pub(crate) fn with_header(alloc: Global, body: String) -> Result<String, AllocEr
 }
 
 /// Writes all the bytes, or a prefix of them. An interrupted write is a fault, as any other.
-fn write_bytes<W: Write>(writer: &mut W, bytes: &[u8], given: &mut Passed) -> Result<(), WriteFault>
+fn write_bytes<W: Write>(
+    writer: &mut W,
+    bytes: &[u8],
+    given: &mut ByteTrace,
+) -> Result<(), WriteFault>
     ensures ok { OnOk result (Appends (W.contents writer.old) (W.contents writer.new) bytes.now) }
     ensures begun { AppendsBeginning (W.contents writer.old) (W.contents writer.new) bytes.now }
     ensures fault { IfErr result IsOutput }

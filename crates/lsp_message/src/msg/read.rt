@@ -13,9 +13,9 @@ ghost use Rattle.lsp_message.specs.Told.{Given, IsOfParts, Told, WritesParts};
 ghost use Rattle.lsp_message.specs.View.{message_view};
 ghost use Rattle.lsp_message.specs.Written.{IsFrameOf, Writes};
 
+use crate::frame::byte_trace::ByteTrace;
 use crate::frame::content::read_content_traced;
 use crate::frame::limits::Limits;
-use crate::frame::passed::Passed;
 use crate::frame::write::{with_header, write_body};
 use crate::frame::{ReadFault, WriteFault};
 use crate::msg::Message;
@@ -65,21 +65,21 @@ impl Message {
             header: None,
             content: limit,
         };
-        Message::read_traced(alloc, reader, limits, &mut Passed::new())
+        Message::read_traced(alloc, reader, limits, &mut ByteTrace::new())
     }
 
-    /// Reads one message within `limits`, as `read_within` does, and adds the bytes that it takes to the account.
+    /// Reads one message within `limits`, as `read_within` does, and adds the bytes that it takes to the trace.
     ///
     /// A header part that is longer than its bound is the fault `HeaderTooLong`. Exactly one byte above the bound was
     /// taken then. A bad line below the bound has its own fault.
     ///
-    /// The account is known for every reader, also for one that does not say which bytes it has left, such as standard
+    /// The trace is known for every reader, also for one that does not say which bytes it has left, such as standard
     /// input.
     pub fn read_traced<R: BufRead>(
         alloc: Global,
         reader: &mut R,
         limits: Limits,
-        taken: &mut Passed,
+        taken: &mut ByteTrace,
     ) -> Result<Option<Message>, ReadFault>
         ensures exact { IfSome (R.remaining reader.old) (λ text.
             Answers message_view result (R.remaining reader.new) (reading_within limits text)) }
@@ -120,15 +120,15 @@ impl Message {
             WritesReadably (message_view self.now) (W.contents writer.old)
             (W.contents writer.new)) }
     {
-        self.write_traced(alloc, writer, &mut Passed::new())
+        self.write_traced(alloc, writer, &mut ByteTrace::new())
     }
 
-    /// Writes one message, as `write` does, and adds the bytes that the writer takes to the account.
+    /// Writes one message, as `write` does, and adds the bytes that the writer takes to the trace.
     pub fn write_traced<W: Write>(
         &self,
         alloc: Global,
         writer: &mut W,
-        given: &mut Passed,
+        given: &mut ByteTrace,
     ) -> Result<(), WriteFault>
         ensures frame { Writes (message_view self.now) (W.contents writer.old) result
             (W.contents writer.new) }

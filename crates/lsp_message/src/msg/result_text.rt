@@ -11,7 +11,7 @@ ghost use Rattle.lsp_message.specs.View.{message_view};
 ghost use Rattle.lsp_message.specs.Written.{IsFrameOf, MeansAgain, Writes};
 
 use crate::frame::WriteFault;
-use crate::frame::passed::Passed;
+use crate::frame::byte_trace::ByteTrace;
 use crate::frame::write::{with_header, write_body};
 use crate::msg::nesting::nests_within;
 use crate::msg::text::result_body;
@@ -122,13 +122,13 @@ impl ResultText {
     }
 
     /// Writes the response with this id and this result, as `Message::write_traced` does, and adds the bytes that the
-    /// writer takes to the account.
+    /// writer takes to the trace.
     pub fn write_traced<W: Write>(
         self,
         alloc: Global,
         writer: &mut W,
         id: &RequestId,
-        given: &mut Passed,
+        given: &mut ByteTrace,
     ) -> Result<(), WriteFault>
         ensures frame { Writes (response id.now (Ok (view self))) (W.contents writer.old) result
             (W.contents writer.new) }

@@ -1,6 +1,6 @@
 // An outbox that writes frames.
 use crate::lifecycle::{Outbox, SendFault, TextOutbox, null_response};
-use lsp_message::{Message, Passed, RequestId, ResultText, WriteFault};
+use lsp_message::{ByteTrace, Message, RequestId, ResultText, WriteFault};
 use std::alloc::Global;
 use std::io::Write;
 
@@ -55,11 +55,11 @@ impl<'a, W: Write> FrameOutbox<'a, W> {
         self.fault
     }
 
-    /// Sends a message, as `send` does, and adds the bytes that the writer takes to the account.
+    /// Sends a message, as `send` does, and adds the bytes that the writer takes to the trace.
     pub(crate) fn send_traced(
         &mut self,
         message: Message,
-        given: &mut Passed,
+        given: &mut ByteTrace,
     ) -> Result<(), SendFault>
         ensures sends { FrameOutboxSends W.contents self.old (message_view message) result self.new }
         ensures back { IfErr result (λ fault. handed_back fault ≡ message) }
@@ -98,12 +98,12 @@ impl<'a, W: Write> FrameOutbox<'a, W> {
     ghost use Rattle.lsp_session.specs.FrameBoxes.{FrameOutboxSends};
 
     /// Sends a response whose result is text already, as `send_text` does, and adds the bytes that the writer takes to
-    /// the account.
+    /// the trace.
     pub(crate) fn send_text_traced(
         &mut self,
         id: RequestId,
         text: ResultText,
-        given: &mut Passed,
+        given: &mut ByteTrace,
     ) -> Result<(), SendFault>
         ensures sends { FrameOutboxSends W.contents self.old (response id (Ok (view text))) result self.new }
         ensures back { IfErr result (λ fault. message_view (handed_back fault) ≡ response id (Ok null)) }
@@ -136,12 +136,12 @@ impl<'a, W: Write> Outbox for FrameOutbox<'a, W> {
     ghost sends = { FrameOutboxSends W.contents };
 
     fn send(&mut self, message: Message) -> Result<(), SendFault> {
-        self.send_traced(message, &mut Passed::new())
+        self.send_traced(message, &mut ByteTrace::new())
     }
 }
 
 impl<'a, W: Write> TextOutbox for FrameOutbox<'a, W> {
     fn send_text(&mut self, id: RequestId, text: ResultText) -> Result<(), SendFault> {
-        self.send_text_traced(id, text, &mut Passed::new())
+        self.send_text_traced(id, text, &mut ByteTrace::new())
     }
 }

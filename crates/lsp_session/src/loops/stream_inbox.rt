@@ -6,7 +6,7 @@ ghost use Rattle.lsp_session.specs.StreamBoxes.{StreamInboxGives};
 
 use crate::lifecycle::{Event, Inbox};
 use crate::loops::{EndOnBadContent, ReadEnd, TolerantInbox};
-use lsp_message::{Limits, Passed};
+use lsp_message::{ByteTrace, Limits};
 use std::alloc::Global;
 use std::io::BufRead;
 
@@ -70,7 +70,7 @@ impl<'a, R: BufRead> StreamInbox<'a, R> {
             self.limits,
             self.end,
         );
-        let event = inbox.next_event(&mut Passed::new());
+        let event = inbox.next_event(&mut ByteTrace::new());
         self.end = inbox.end();
         event
     }

@@ -11,7 +11,7 @@ use crate::loops::{
     Application, BadContentPolicy, FrameOutbox, ReadEnd, SessionEnd, SessionFault, SessionOutcome,
     TolerantInbox, session_answer,
 };
-use lsp_message::{Limits, Message, Passed, RequestId, ResultText, WriteFault};
+use lsp_message::{ByteTrace, Limits, Message, RequestId, ResultText, WriteFault};
 use std::alloc::Global;
 use std::io::{BufRead, Write};
 use std::snapshot::Snapshot;
@@ -121,7 +121,7 @@ impl<'a, R: BufRead, W: Write, L: BadContentPolicy> StreamTransport<'a, R, W, L>
     fn next_event(&mut self) -> Event
         ensures { StreamTransportGives R.remaining L.passes self.old (event_view result) self.new }
     {
-        let mut taken = Passed::new();
+        let mut taken = ByteTrace::new();
         let mut inbox = TolerantInbox::resumed(
             self.alloc,
             &mut *self.reader,
@@ -142,7 +142,7 @@ impl<'a, R: BufRead, W: Write, L: BadContentPolicy> StreamTransport<'a, R, W, L>
             self.new }
         ensures reads_on { StreamTransportListens L.ends self.old (arrival_view result) self.new }
     {
-        let mut taken = Passed::new();
+        let mut taken = ByteTrace::new();
         let mut inbox = TolerantInbox::resumed(
             self.alloc,
             &mut *self.reader,
@@ -193,7 +193,7 @@ impl<'a, R: BufRead, W: Write, L: BadContentPolicy> Outbox for StreamTransport<'
 
     fn send(&mut self, message: Message) -> Result<(), SendFault> {
         let sent = Snapshot::of(&message);
-        let mut given = Passed::new();
+        let mut given = ByteTrace::new();
         let mut outbox = FrameOutbox::resumed(self.alloc, &mut *self.writer, self.fault);
         let outcome = outbox.send_traced(message, &mut given);
         self.fault = outbox.fault();
@@ -206,7 +206,7 @@ impl<'a, R: BufRead, W: Write, L: BadContentPolicy> TextOutbox for StreamTranspo
     fn send_text(&mut self, id: RequestId, text: ResultText) -> Result<(), SendFault> {
         let reply = Snapshot::of(&id);
         let sent = Snapshot::of(&text);
-        let mut given = Passed::new();
+        let mut given = ByteTrace::new();
         let mut outbox = FrameOutbox::resumed(self.alloc, &mut *self.writer, self.fault);
         let outcome = outbox.send_text_traced(id, text, &mut given);
         self.fault = outbox.fault();

@@ -8,7 +8,7 @@ ghost use Rattle.lsp_session.specs.PassingBoxes.{EndsAtContent, NeverEndsAtConte
 
 use crate::lifecycle::{Arrival, Event, Inbox, WakingInbox, is_exit};
 use crate::loops::{BadContentPolicy, ReadEnd};
-use lsp_message::{Limits, Message, Passed, ReadFault};
+use lsp_message::{ByteTrace, Limits, Message, ReadFault};
 use std::alloc::Global;
 use std::io::BufRead;
 
@@ -87,7 +87,7 @@ impl<'a, R: BufRead, L: BadContentPolicy> TolerantInbox<'a, R, L> {
     }
 
     /// Reads a message, or `None` if the messages ended. A fault has not ended the messages yet.
-    fn read_next(&mut self, taken: &mut Passed) -> Result<Option<Message>, ReadFault>
+    fn read_next(&mut self, taken: &mut ByteTrace) -> Result<Option<Message>, ReadFault>
         ensures read { ReadsNext R.remaining self.old result self.new }
         ensures reads_on { NeverEndsAtContent self.old self.new }
         ensures told { Told (ReadParts self.old.limits self.old.end result self.new.end) taken.old.parts
@@ -112,7 +112,7 @@ impl<'a, R: BufRead, L: BadContentPolicy> TolerantInbox<'a, R, L> {
 
     /// Does one wait that also gives wake-ups. At a content part that is no message it asks the policy whether to read
     /// on.
-    pub(crate) fn next_arrival(&mut self, taken: &mut Passed) -> Arrival
+    pub(crate) fn next_arrival(&mut self, taken: &mut ByteTrace) -> Arrival
         ensures gives { TolerantInboxGives R.remaining L.passes self.old (arrival_view result)
             self.new }
         ensures reads_on { EndsAtContent L.ends self.old self.new }
@@ -134,7 +134,7 @@ impl<'a, R: BufRead, L: BadContentPolicy> TolerantInbox<'a, R, L> {
     }
 
     /// Does one wait that gives no wake-ups.
-    pub(crate) fn next_event(&mut self, taken: &mut Passed) -> Event
+    pub(crate) fn next_event(&mut self, taken: &mut ByteTrace) -> Event
         ensures gives { TolerantInboxGives R.remaining L.passes self.old (event_view result) self.new }
         ensures told { Told (TakenFor self.old.limits L.passes (self.old.end, self.old.policy.now) (event_view result)
             (self.new.end, self.new.policy.now))
@@ -157,12 +157,12 @@ impl<'a, R: BufRead, L: BadContentPolicy> Inbox for TolerantInbox<'a, R, L> {
     ghost receives = { TolerantInboxGives R.remaining L.passes };
 
     fn receive_for(&mut self, _seconds: u64) -> Event {
-        self.next_event(&mut Passed::new())
+        self.next_event(&mut ByteTrace::new())
     }
 
     #[tactic(auto, using(crate::proofs::Waiting::waits_none))]
     fn receive(&mut self) -> Event {
-        self.next_event(&mut Passed::new())
+        self.next_event(&mut ByteTrace::new())
     }
 }
 
@@ -174,6 +174,6 @@ impl<'a, R: BufRead, L: BadContentPolicy> WakingInbox for TolerantInbox<'a, R, L
 
     #[tactic(auto, using(crate::proofs::Waiting::waits_none))]
     fn receive_or_woken(&mut self) -> Arrival {
-        self.next_arrival(&mut Passed::new())
+        self.next_arrival(&mut ByteTrace::new())
     }
 }

@@ -8,24 +8,24 @@ ghost use Rattle.lsp_session.specs.Transcripts.{note_view, notes_of};
 
 use crate::lifecycle::{Arrival, Event, SendFault};
 use crate::loops::account::Account;
-use lsp_message::{Message, Passed, RequestId, ResultText};
+use lsp_message::{ByteTrace, Message, RequestId, ResultText};
 use std::snapshot::Snapshot;
 
 /// An act of a transport, with the bytes that were read or written in it.
 #[derive(Drop)]
 pub(crate) enum Noted {
     /// The transport returned this event.
-    Gave(Snapshot<Event>, Passed),
+    Gave(Snapshot<Event>, ByteTrace),
     /// The transport returned this in a wait that may also give a wake-up.
-    Came(Snapshot<Arrival>, Passed),
+    Came(Snapshot<Arrival>, ByteTrace),
     /// The transport took this message.
-    Took(Snapshot<Message>, Passed),
+    Took(Snapshot<Message>, ByteTrace),
     /// The transport refused this message.
-    Lost(Snapshot<Message>, Passed),
+    Lost(Snapshot<Message>, ByteTrace),
     /// The transport took the response with this id, whose result was this text.
-    TookText(Snapshot<RequestId>, Snapshot<ResultText>, Passed),
+    TookText(Snapshot<RequestId>, Snapshot<ResultText>, ByteTrace),
     /// The transport refused this response.
-    LostText(Snapshot<RequestId>, Snapshot<ResultText>, Passed),
+    LostText(Snapshot<RequestId>, Snapshot<ResultText>, ByteTrace),
 }
 
 impl Noted {
@@ -33,7 +33,7 @@ impl Noted {
     pub(crate) fn of_send(
         sent: Snapshot<Message>,
         outcome: &Result<(), SendFault>,
-        given: Passed,
+        given: ByteTrace,
     ) -> Noted
         ensures { note_view result ≡ (sending (message_view sent.value) outcome.now, given.parts) }
     {
@@ -48,7 +48,7 @@ impl Noted {
         id: Snapshot<RequestId>,
         text: Snapshot<ResultText>,
         outcome: &Result<(), SendFault>,
-        given: Passed,
+        given: ByteTrace,
     ) -> Noted
         ensures { note_view result ≡ (sending (response id.value (Ok (view text.value))) outcome.now, given.parts) }
     {

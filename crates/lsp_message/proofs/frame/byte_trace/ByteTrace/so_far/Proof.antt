@@ -25,12 +25,12 @@ use denote.Triple.Entry.{alive}
 use denote.Triple.Spec.{Meets, triple_of}
 use denote.Triple.Table.{entered}
 use denote.Triple.Walked.{says, Stays, stay_dropped, walk_of, ends_at, walk_Meets, Goes-dropped}
-use Rattle.lsp_message.specs.declared.frame.passed.Passed.{Passed}
-use Rattle.lsp_message.specs.contracts.frame.passed.Passed as T
-use Rattle.lsp_message.specs.contracts.frame.passed.Passed.so_far.Key.{name as #it}
-use Rattle.lsp_message.specs.contracts.frame.passed.Passed.so_far as it
-use Rattle.lsp_message.proofs.frame.passed.Passed.so_far.Statement as stated
-use Rattle.lsp_message.proofs.frame.passed.Passed.so_far.Code as code
+use Rattle.lsp_message.specs.declared.frame.byte_trace.ByteTrace.{ByteTrace}
+use Rattle.lsp_message.specs.contracts.frame.byte_trace.ByteTrace as T
+use Rattle.lsp_message.specs.contracts.frame.byte_trace.ByteTrace.so_far.Key.{name as #it}
+use Rattle.lsp_message.specs.contracts.frame.byte_trace.ByteTrace.so_far as it
+use Rattle.lsp_message.proofs.frame.byte_trace.ByteTrace.so_far.Statement as stated
+use Rattle.lsp_message.proofs.frame.byte_trace.ByteTrace.so_far.Code as code
 
 abbrev v : Val
 v = vstruct (vcons (vstruct vnil) vnil)
@@ -53,7 +53,7 @@ module _ {M : Type 1} {𝓤 : Ura M} (𝓛 : Logic 𝓤) (at_mem : Memory → SP
     walks =
         let a = z.0.3 in
         let vss = z.0.4 in
-        let made : Passed = record { marker = record {}; parts = a.0.now.parts } in
+        let made : ByteTrace = record { marker = record {}; parts = a.0.now.parts } in
         qed 𝓛 ((raw toks ⊛ ‵ (owns (types_at (it.ended).signature.params z.0.0) a vss))
         ∷ raw ((it.clauses 𝓛 at_mem run z.0.0 a).requires z.1) ∷ []) ∵
         keep ! (0 ∷ []) $ split ! $ move ! (1 ∷ []) $

@@ -1,5 +1,5 @@
 use Rattle.lsp_threads.proofs.Taken.{pumped_known}
-use Rattle.lsp_threads.proofs.pumping.pump_by.Goals as goal
+use Rattle.lsp_threads.proofs.pumping.pump_with.Goals as goal
 
 pub returns : goal.returns
 returns g c =

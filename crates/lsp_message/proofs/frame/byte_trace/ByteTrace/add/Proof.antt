@@ -26,12 +26,12 @@ use denote.Triple.Entry.{on_entry}
 use denote.Triple.Spec.{Meets, triple_of}
 use denote.Triple.Table.{entered}
 use denote.Triple.Walked.{says, Stays, stay_ref, walk_of, AllGo, Goes-ref, Walks, ends_at, walked, walk_Meets}
-use Rattle.lsp_message.specs.declared.frame.passed.Passed.{Passed}
-use Rattle.lsp_message.specs.contracts.frame.passed.Passed as T
-use Rattle.lsp_message.specs.contracts.frame.passed.Passed.add.Key.{name as #it}
-use Rattle.lsp_message.specs.contracts.frame.passed.Passed.add as it
-use Rattle.lsp_message.proofs.frame.passed.Passed.add.Statement as stated
-use Rattle.lsp_message.proofs.frame.passed.Passed.add.Code as code
+use Rattle.lsp_message.specs.declared.frame.byte_trace.ByteTrace.{ByteTrace}
+use Rattle.lsp_message.specs.contracts.frame.byte_trace.ByteTrace as T
+use Rattle.lsp_message.specs.contracts.frame.byte_trace.ByteTrace.add.Key.{name as #it}
+use Rattle.lsp_message.specs.contracts.frame.byte_trace.ByteTrace.add as it
+use Rattle.lsp_message.proofs.frame.byte_trace.ByteTrace.add.Statement as stated
+use Rattle.lsp_message.proofs.frame.byte_trace.ByteTrace.add.Code as code
 use denote.Ref.{Bor}
 use denote.Builtin.{u8}
 use denote.Exit.{yes}
@@ -40,19 +40,19 @@ use denote.Triple.Walked.{stay_none_slice, Goes-none_slice}
 use Rattle.std.proofs.Common.{◌<◌, ◌^◌, length}
 
 abbrev Arg : Type 0
-Arg = MutBor Passed × (Bor (List ℕ) × Unit {0})
+Arg = MutBor ByteTrace × (Bor (List ℕ) × Unit {0})
 
 abbrev stayed : Stays (it.ended).signature.params (it.ended).kept
 stayed = (stay_ref (0 ∷ []) tt (plain (λ _. T.the_row)), (stay_none_slice (1 ∷ []) tt (plain (λ _. u8)) yes, tt))
 
 module _ {M : Type 1} {𝓤 : Ura M} (𝓛 : Logic 𝓤) (at_mem : Memory → SProp 𝓤) (run : Routine → Fun 𝓤) (κ κ' : Lft)
-    (q q' : Share) (b o : ℕ) (γ : GName) (h : Passed) (s : Bor (List ℕ)) where
+    (q q' : Share) (b o : ℕ) (γ : GName) (h : ByteTrace) (s : Bor (List ℕ)) where
   open 𝓛 use {H, A}
 
   abbrev x : Arg
   x = (record { ref_ptr = (b, o); ghost_name = γ; now = h }, (s, tt))
 
-  abbrev h' : Passed
+  abbrev h' : ByteTrace
   h' = record { marker = h.marker; parts = h.parts ++ s.now ∷ [] }
 
   abbrev at : List Val × (List Val × Unit {0})

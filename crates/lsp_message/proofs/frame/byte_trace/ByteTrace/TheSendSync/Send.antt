@@ -1,6 +1,6 @@
--- An account owns nothing, so it may go to another thread.
+-- A trace owns nothing, so it may go to another thread.
 use denote.Param.Send.{IsSend, owning_send, sendable}
-use Rattle.lsp_message.specs.contracts.frame.passed.Passed.{the_row, the_type}
+use Rattle.lsp_message.specs.contracts.frame.byte_trace.ByteTrace.{the_row, the_type}
 
 pub send : IsSend the_row
 send = owning_send the_type (search sendable, tt) (λ d. tt) (λ k x w. tt)

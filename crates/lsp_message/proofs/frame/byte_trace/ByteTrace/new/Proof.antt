@@ -21,17 +21,17 @@ use denote.Triple.Entry.{on_entry}
 use denote.Triple.Spec.{Meets, triple_of}
 use denote.Triple.Table.{entered}
 use denote.Triple.Walked.{says, ends_at, walked, walk_Meets}
-use Rattle.lsp_message.specs.declared.frame.passed.Passed.{Passed}
-use Rattle.lsp_message.specs.contracts.frame.passed.Passed as T
-use Rattle.lsp_message.specs.contracts.frame.passed.Passed.new.Key.{name as #it}
-use Rattle.lsp_message.specs.contracts.frame.passed.Passed.new as it
-use Rattle.lsp_message.proofs.frame.passed.Passed.new.Statement as stated
-use Rattle.lsp_message.proofs.frame.passed.Passed.new.Code as code
+use Rattle.lsp_message.specs.declared.frame.byte_trace.ByteTrace.{ByteTrace}
+use Rattle.lsp_message.specs.contracts.frame.byte_trace.ByteTrace as T
+use Rattle.lsp_message.specs.contracts.frame.byte_trace.ByteTrace.new.Key.{name as #it}
+use Rattle.lsp_message.specs.contracts.frame.byte_trace.ByteTrace.new as it
+use Rattle.lsp_message.proofs.frame.byte_trace.ByteTrace.new.Statement as stated
+use Rattle.lsp_message.proofs.frame.byte_trace.ByteTrace.new.Code as code
 
 abbrev v : Val
 v = vstruct (vcons (vstruct vnil) vnil)
 
-abbrev r : Passed
+abbrev r : ByteTrace
 r = record { marker = record {}; parts = [] }
 
 meets : {M : Type 1} {𝓤 : Ura M} (𝓛 : Logic 𝓤) → (at_mem : Memory → SProp 𝓤) (run : Routine → Fun 𝓤) (𝓣 : Tables 𝓤 𝓛.H)

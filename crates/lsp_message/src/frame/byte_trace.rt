@@ -4,36 +4,36 @@ ghost use Rattle.std.specs.Borrow.{ftrue};
 
 use std::marker::{Model, PhantomData};
 
-/// An account of the bytes that were taken from a reader or given to a writer, part after part. Only clauses see it.
+/// A trace of the bytes that were taken from a reader or given to a writer, part after part. Only clauses see it.
 /// Nothing of it is left when a program runs. An empty part that was taken says that the reader showed its end.
 #[derive(Drop)]
-pub struct Passed {
+pub struct ByteTrace {
     marker: PhantomData<u8>,
     pub ghost parts: { List (List ℕ) },
 }
 
-impl Model for Passed {
+impl Model for ByteTrace {
     ghost also_owns = { λ _. ftrue };
 }
 
 // It owns nothing.
-unsafe impl Send for Passed {}
+unsafe impl Send for ByteTrace {}
 
-impl Passed {
-    /// Makes an empty account.
-    pub fn new() -> Passed
+impl ByteTrace {
+    /// Makes an empty trace.
+    pub fn new() -> ByteTrace
         ensures { result.parts ≡ [] }
     {
-        Passed {
+        ByteTrace {
             marker: PhantomData,
         }
     }
 
-    /// Copies the account as it is now.
-    pub fn so_far(&self) -> Passed
+    /// Copies the trace as it is now.
+    pub fn so_far(&self) -> ByteTrace
         ensures { result.parts ≡ self.now.parts }
     {
-        Passed {
+        ByteTrace {
             marker: PhantomData,
         }
     }
