@@ -8,6 +8,7 @@ use lsp_judge::judgement::Ends;
 use lsp_judge::outcome::Outcome;
 use lsp_judge::passed::Passing;
 use lsp_judge::report::{Report, SECOND};
+use lsp_model::LSP;
 use lsp_proxy::{Ended, Heard, Teller, pass_on};
 use lsp_watch::Direction;
 use std::alloc::AllocError;
@@ -115,7 +116,7 @@ fn judge_heard<R: Wait, W: Write>(
 ) -> Result<Outcome> {
     let alloc = report.alloc;
     let mut ways = Ways {
-        judged: FullJudgement::new(alloc, report.choice.capabilities),
+        judged: FullJudgement::new(alloc, report.choice.capabilities, Some(LSP)),
         client: Frames::new(alloc),
         server: Frames::new(alloc),
         is_server_first: false,

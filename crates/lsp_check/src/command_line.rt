@@ -3,7 +3,6 @@ use anyhow::{Result, bail};
 use clap::{Arg, ArgAction, ArgMatches, Command};
 use lsp_judge::choice::{Choice, FailOn, Ignored};
 use lsp_judge::report::Form;
-use lsp_model::LSP;
 use lsp_watch::{Group, Level, Rule, rules};
 use std::alloc::{AllocError, Global};
 
@@ -227,7 +226,6 @@ pub fn choice_of(alloc: Global, matches: &ArgMatches<'_>) -> Result<Choice> {
         ignored,
         capabilities,
         types,
-        model: LSP,
     })
 }
 

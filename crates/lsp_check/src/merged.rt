@@ -27,7 +27,7 @@ pub fn judge_frames<C: BufRead, S: BufRead, W: Write>(
     server: &mut Side<S>,
     out: &mut W,
 ) -> Result<Outcome> {
-    let mut judged = Judgement::new(report.alloc, false);
+    let mut judged = Judgement::new(report.alloc, false, None);
     let outcome = judge_all(&mut judged, report, client, server, out);
     drop(judged);
     outcome

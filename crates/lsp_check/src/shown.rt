@@ -7,7 +7,6 @@ use anyhow::Result;
 use clap::ArgMatches;
 use lsp_judge::choice::{Choice, FailOn};
 use lsp_judge::format::KNOWN;
-use lsp_model::LSP;
 use lsp_watch::Level;
 use std::fs;
 use std::io::{BufReader, Write};
@@ -77,7 +76,6 @@ pub fn show_html<R: Files + Input + AllocGlobal, E: Write, W: Write>(
         ignored: Vec::new(rt.alloc()),
         capabilities: false,
         types: Vec::new(rt.alloc()),
-        model: LSP,
     };
     let mut page = Page::new(rt.alloc());
     let has_message = if *file == "-" {

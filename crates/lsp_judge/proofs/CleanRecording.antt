@@ -194,7 +194,7 @@ module _ (choice : Choice) (strict : IsStrict choice) where
       (sym b.whole)
       ∙ any-front (fails choice Known way) (breaches_of at.is_whole at.log way (faults_of m.1) (entry_in m.1)) _
       (or-left _ (list_any (fails_shown choice Known (Some Breach) way)
-      (unfit choice (Some Breach) at.log way (entry_in m.1) (option_map (λ x. m.1) (entry_in m.1))))
+      (unfit at.model choice (Some Breach) at.log way (entry_in m.1) (option_map (λ x. m.1) (entry_in m.1))))
       (or-right at.is_broken _ e)) in
       record {
         log_is = ap (λ l. entered way n (entry_in m.1) l) b.log_is;
@@ -215,5 +215,5 @@ module _ (choice : Choice) (strict : IsStrict choice) where
 
   pub clean_session : (text : List ℕ) → (judged_of choice false text).is_broken ≡ false → (count : ℕ)
       → IsClean (session_after count text)
-  clean_session text e count = clean_after count 1 (nothing choice.capabilities) [] (lines text)
+  clean_session text e count = clean_after count 1 (nothing choice.capabilities None) [] (lines text)
       (record { log_is = refl; whole = refl; clean = empty_is_clean }) e

@@ -3,7 +3,7 @@ use Rattle.std.proofs.Common.{◌≡◌, ◌≢◌, ◌⊎◌, inl, inr, ℕ, �
 use Rattle.std.proofs.Common.{true≢false, cond, List, [], ◌∷◌, length}
 use Rattle.std.proofs.Common.{refl, sym, ap, subst, ◌∙◌, arith}
 use Rattle.std.specs.Io.BufRead.{take_through, drop_through}
-use Rattle.std.specs.Prelude.{Some, unwrap_or, Option}
+use Rattle.std.specs.Prelude.{Some, None, unwrap_or, Option}
 use Rattle.lsp_message.specs.HeaderPart.{lines, onto_first}
 use Rattle.lsp_judge.specs.Judged.{Judged, Judges, nothing}
 use Rattle.lsp_judge.specs.Recording.{is_read, line_tree, first_unread, with_line, after_lines, judged_of}
@@ -65,10 +65,9 @@ pub record IsAt (choice : Choice) (late : Bool) (text : List ℕ) (number : ℕ)
     pub judges : Judges j judged
     pub leads : after_lines choice late (number + 1) judged (lines rest) ≡ judged_of choice late text
 
-pub at_start : (choice : Choice) (late : Bool) (text : List ℕ) (j : Judgement) → Judges j (nothing choice.capabilities)
-    → IsAt choice late
-    text 0 text j
-at_start choice late text j judges = record { judged = nothing choice.capabilities; judges = judges; leads = refl }
+pub at_start : (choice : Choice) (late : Bool) (text : List ℕ) (j : Judgement)
+    → Judges j (nothing choice.capabilities None) → IsAt choice late text 0 text j
+at_start choice late text j judges = record { judged = nothing choice.capabilities None; judges = judges; leads = refl }
 
 -- a line that was found is the first
 pub is_found : (n later : ℕ) → found_or (n + 1) later ≡ n + 1

@@ -6,6 +6,7 @@ use Rattle.serde_json.specs.Data.{Data}
 use Rattle.lsp_capabilities.specs.Announced.{known_finding}
 use Rattle.lsp_capabilities.specs.Knows.{Knows}
 use Rattle.lsp_message.specs.Message.{Message}
+use Rattle.lsp_model.specs.declared.model.Model.{Model}
 use Rattle.lsp_watch.specs.Log.{Log, Finding, asks, from_client}
 use Rattle.lsp_watch.specs.Saw.{Saw}
 use Rattle.lsp_watch.specs.Orders.{says_unasked}
@@ -21,8 +22,8 @@ use Rattle.lsp_judge.specs.declared.judgement.Judgement.{Judgement}
 use Rattle.lsp_judge.specs.declared.passed.Order.{Order}
 
 -- the messages of the session that goes on, whether it was seen from its first one on, whether there was a message,
--- whether the status is 1, whether each reply had its request wherever the order is not known, and whether what both
--- sides announced is judged
+-- whether the status is 1, whether each reply had its request wherever the order is not known, whether what both sides
+-- announced is judged, and the methods and types of LSP, if messages are judged by them
 pub record Judged : Type 0 where
   pub log : Log
   pub is_whole : Bool
@@ -30,15 +31,17 @@ pub record Judged : Type 0 where
   pub is_broken : Bool
   pub is_matched : Bool
   pub announces : Bool
+  pub model : Option Model
 
-abbrev pub nothing : Bool → Judged
-nothing announces = record {
+abbrev pub nothing : Bool → Option Model → Judged
+nothing announces model = record {
   log = [];
   is_whole = true;
   is_begun = false;
   is_broken = false;
   is_matched = true;
   announces = announces;
+  model = model;
 }
 
 abbrev pub is_initialize : Direction → Option Message → Bool
@@ -74,6 +77,7 @@ begins is_whole is_broken is_matched j = record {
   is_broken = is_broken;
   is_matched = is_matched;
   announces = j.announces;
+  model = j.model;
 }
 
 abbrev pub goes_on : Judged → Judged
@@ -106,9 +110,11 @@ module _ (choice : Choice) where
     is_begun = true;
     is_broken =
         j.is_broken || (list_any (fails choice (narrowed order j.is_matched) way) (broken_of j way faults m d)
-        || list_any (fails_shown choice (narrowed order j.is_matched) types way) (unfit choice types j.log way m d));
+        || list_any (fails_shown choice (narrowed order j.is_matched) types way)
+        (unfit j.model choice types j.log way m d));
     is_matched = j.is_matched && (is_known order || not (list_any is_unasked (broken_of j way faults m d)));
     announces = j.announces;
+    model = j.model;
   }
 
   -- one more message
@@ -125,4 +131,5 @@ pub record Judges (judgement : Judgement) (j : Judged) : Type 0 where
   pub broken : judgement.is_broken ≡ j.is_broken
   pub matched : judgement.is_matched ≡ j.is_matched
   pub announces_is : judgement.announces ≡ j.announces
+  pub model_is : judgement.model ≡ j.model
   pub knows : j.announces ≡ true → Knows judgement.announced j.log

@@ -71,9 +71,9 @@ module _ (choice : Choice) (may_begin_late : Bool) where
   after_lines n j [] = j
   after_lines n j (line ∷ more) = after_lines (n + 1) (with_line n j (line_tree line)) more
 
-  -- the judgement of a recording
+  -- the judgement of a recording, by no rule of types or texts
   abbrev pub judged_of : List ℕ → Judged
-  judged_of text = after_lines 1 (nothing choice.capabilities) (lines text)
+  judged_of text = after_lines 1 (nothing choice.capabilities None) (lines text)
 
 -- ---- the session that goes on, whatever counts
 

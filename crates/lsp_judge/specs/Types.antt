@@ -28,13 +28,14 @@ mode_of rule = None
 abbrev pub breaks_type : Model → Log → Direction → Message → Data → Rule → Bool
 breaks_type model log way m d rule = any_if (λ mode. is_unfit_message model mode log way m d) (mode_of rule)
 
-abbrev pub unfit_known : Choice → Log → Direction → Option Message → Option Data → List Rule
-unfit_known choice log way None d = []
-unfit_known choice log way (Some m) None = []
-unfit_known choice log way (Some m) (Some d) =
-    filter (λ rule. breaks_type choice.model log way m d rule) choice.types.items
+abbrev pub unfit_known : Model → Choice → Log → Direction → Option Message → Option Data → List Rule
+unfit_known model choice log way None d = []
+unfit_known model choice log way (Some m) None = []
+unfit_known model choice log way (Some m) (Some d) =
+    filter (λ rule. breaks_type model log way m d rule) choice.types.items
 
--- the judged rules of types and texts that a message breaks, unless the log does not show them
-abbrev pub unfit : Choice → Option Verdict → Log → Direction → Option Message → Option Data → List Rule
-unfit choice None log way m d = []
-unfit choice (Some verdict) log way m d = unfit_known choice log way m d
+-- the judged rules of types and texts that a message breaks: none without a model, or where the log does not show them
+abbrev pub unfit : Option Model → Choice → Option Verdict → Log → Direction → Option Message → Option Data → List Rule
+unfit None choice verdict log way m d = []
+unfit (Some model) choice None log way m d = []
+unfit (Some model) choice (Some verdict) log way m d = unfit_known model choice log way m d

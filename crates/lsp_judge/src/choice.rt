@@ -4,7 +4,6 @@ ghost use Rattle.lsp_watch.specs.RuleData.{side_of};
 ghost use Rattle.lsp_judge.specs.Choice.{counts as counts_for, culprit as culprit_of, is_at_least as is_as_strong, fails as fails_for, fails_shown as fails_if_shown, leaves as leaves_for};
 
 use crate::passed::Order;
-use lsp_model::Model;
 use lsp_watch::{Breach, Direction, Level, Rule, Side, Unanswered, Verdict};
 
 /// Whose breaches count.
@@ -32,8 +31,6 @@ pub struct Choice {
     pub capabilities: bool,
     /// The rules of types and texts that are judged too. Those of other groups are not looked at here.
     pub types: Vec<Rule>,
-    /// The methods and types of LSP, for these rules.
-    pub model: Model,
 }
 
 impl Choice {

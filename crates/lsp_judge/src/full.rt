@@ -8,7 +8,7 @@ use crate::passed::Passing;
 use crate::report::Report;
 use crate::types::asked_at;
 use anyhow::Result;
-use lsp_model::{LineCounts, Misfit};
+use lsp_model::{LineCounts, Misfit, Model};
 use lsp_watch::{Breach, Rule};
 use std::alloc::{AllocError, Global};
 use std::io::Write;
@@ -18,6 +18,8 @@ use std::io::Write;
 pub struct FullJudgement {
     alloc: Global,
     judged: Judgement,
+    /// The methods and types of LSP, if messages are judged by them.
+    model: Option<Model>,
     lines: LineCounts,
     /// Whether a line is outside its document, so that the status is 1.
     is_outside: bool,
@@ -32,12 +34,14 @@ struct Outside {
 
 impl FullJudgement {
     /// Begins with a session that is seen from its first message on. `announces` says whether the rules of capabilities are judged too.
-    pub fn new(alloc: Global, announces: bool) -> FullJudgement
-        ensures { Judges result.judged (nothing announces) }
+    /// Without a model no rule of types or texts is judged.
+    pub fn new(alloc: Global, announces: bool, model: Option<Model>) -> FullJudgement
+        ensures { Judges result.judged (nothing announces model.entry) }
     {
         FullJudgement {
             alloc,
-            judged: Judgement::new(alloc, announces),
+            judged: Judgement::new(alloc, announces, model),
+            model,
             lines: LineCounts::new(alloc),
             is_outside: false,
         }
@@ -108,12 +112,15 @@ impl FullJudgement {
         let (Some(entry), Some(verdict)) = (&passing.message.entry, passing.types) else {
             return Ok(None);
         };
-        let (watch, way, model) = (self.judged.watch(), passing.way, &report.choice.model);
+        let Some(model) = self.model else {
+            return Ok(None);
+        };
+        let (watch, way) = (self.judged.watch(), passing.way);
         let is_ignored = report.choice.ignores(Rule::LineOutside, passing.method());
         if is_ignored
             || !self
                 .lines
-                .is_outside(report.alloc, model, watch, way, entry)
+                .is_outside(report.alloc, &model, watch, way, entry)
         {
             return Ok(None);
         }

@@ -18,6 +18,7 @@ use crate::told::{About, Counts, Kind, Slowest, Told};
 use crate::types::Unfit;
 use anyhow::Result;
 use lsp_capabilities::Announced;
+use lsp_model::Model;
 use lsp_watch::{
     Asked, Breach, Direction, Entry, Kind as MessageKind, LoggedId, LoggedMessage, Rule,
     Unanswered, Verdict, Watch,
@@ -42,6 +43,8 @@ pub struct Judgement {
     announced: Announced,
     /// Whether it is judged what goes against what both sides announced.
     announces: bool,
+    /// The methods and types of LSP, if messages are judged by them.
+    model: Option<Model>,
     /// Whether there was a message.
     is_begun: bool,
     /// Whether a rule is broken so that the status is 1.
@@ -61,15 +64,17 @@ struct Tally {
 
 impl Judgement {
     /// Begins with a session that is seen from its first message on. `announces` says whether the rules of capabilities are judged too:
-    /// then the memory also follows the documents that were opened, and the registrations.
-    pub fn new(alloc: Global, announces: bool) -> Judgement
-        ensures { Judges result (nothing announces) }
+    /// then the memory also follows the documents that were opened, and the registrations. Without a model no rule of types or texts is
+    /// judged.
+    pub fn new(alloc: Global, announces: bool, model: Option<Model>) -> Judgement
+        ensures { Judges result (nothing announces model.entry) }
     {
         Judgement {
             alloc,
             watch: Watch::new(alloc),
             announced: Announced::new(alloc),
             announces,
+            model,
             is_begun: false,
             is_broken: false,
             is_matched: true,
@@ -172,7 +177,7 @@ impl Judgement {
             passing.now.message.faults.items (option_map entry_view passing.now.message.entry)
             (option_map (λ e. view e.tree) passing.now.message.entry))) }
     {
-        let unfit = Unfit::find(&self.watch, passing, report)?;
+        let unfit = Unfit::find(self.model, &self.watch, passing, report)?;
         let passed = self.pass_with(place, passing, &unfit, report, out);
         drop(unfit);
         passed
@@ -188,7 +193,7 @@ impl Judgement {
         out: &mut W,
     ) -> Result<()>
         ensures { (j : Judged) → Judges self.old j → report.now.choice.now.ignored.items ≡ []
-            → unfit.now.rules.items ≡ unfit_of report.now.choice.now passing.now.types j.log passing.now.way
+            → unfit.now.rules.items ≡ unfit_of j.model report.now.choice.now passing.now.types j.log passing.now.way
             (option_map entry_view passing.now.message.entry) (option_map (λ e. view e.tree) passing.now.message.entry)
             → OnOk result (Judges self.new
             (passed_on report.now.choice.now passing.now.order passing.now.types j place passing.now.way
@@ -242,7 +247,7 @@ impl Judgement {
             (entered passing.now.way place (option_map entry_view passing.now.message.entry) j.log)) }
         ensures same { (self.new.watch ≡ self.old.watch) × (self.new.is_begun ≡ self.old.is_begun)
             × (self.new.is_broken ≡ self.old.is_broken) × (self.new.is_matched ≡ self.old.is_matched)
-            × (self.new.announces ≡ self.old.announces) }
+            × (self.new.announces ≡ self.old.announces) × (self.new.model ≡ self.old.model) }
     {
         if !self.announces {
             return Ok(None);
@@ -270,7 +275,7 @@ impl Judgement {
             → OnOk result (self.new.is_broken ≡ left report.now.choice.now ends.server ends.client j) }
         ensures same { (self.new.watch ≡ self.old.watch) × (self.new.is_begun ≡ self.old.is_begun)
             × (self.new.is_matched ≡ self.old.is_matched) × (self.new.announces ≡ self.old.announces)
-            × (self.new.announced ≡ self.old.announced) }
+            × (self.new.announced ≡ self.old.announced) × (self.new.model ≡ self.old.model) }
     {
         let unanswered = self.watch.finish(ends.server, ends.client)?;
         let fails = any_left(report.choice, self.watch.asked(), unanswered.as_slice());

@@ -20,7 +20,7 @@ pub struct RecordingOutcome {
 }
 
 /// Judges a recording in memory: each line is `-> ` or `<- `, and the content part of a message. What is found before the line `from` is not
-/// reported. The error means that an allocation or a write failed.
+/// reported. No rule of types or texts is judged. The error means that an allocation or a write failed.
 pub fn judge_text<W: Write>(
     text: &[u8],
     from: u64,
@@ -35,7 +35,7 @@ pub fn judge_text<W: Write>(
         → it.outcome.is_broken ≡ left report.now.choice.now false false
         (judged_of report.now.choice.now report.now.may_begin_late text.now)) }
 {
-    let mut judged = Judgement::new(report.alloc, report.choice.capabilities);
+    let mut judged = Judgement::new(report.alloc, report.choice.capabilities, None);
     let outcome = judge_with(&mut judged, text, from, report, out);
     drop(judged);
     outcome
@@ -50,9 +50,9 @@ fn judge_with<W: Write>(
 ) -> Result<RecordingOutcome>
     ensures unread { IfOk result (λ it. it.unread ≡ first_unread 1 (lines text.now)) }
     ensures whole { IfOk result (λ it. it.outcome.is_whole ≡ (it.unread == 0)) }
-    ensures judged { Judges judged.old (nothing report.now.choice.now.capabilities) → report.now.choice.now.ignored.items ≡ [] → IfOk result (λ it. it.unread ≡ 0
+    ensures judged { Judges judged.old (nothing report.now.choice.now.capabilities None) → report.now.choice.now.ignored.items ≡ [] → IfOk result (λ it. it.unread ≡ 0
         → it.outcome.is_judged ≡ (judged_of report.now.choice.now report.now.may_begin_late text.now).is_begun) }
-    ensures broken { Judges judged.old (nothing report.now.choice.now.capabilities) → report.now.choice.now.ignored.items ≡ [] → IfOk result (λ it. it.unread ≡ 0
+    ensures broken { Judges judged.old (nothing report.now.choice.now.capabilities None) → report.now.choice.now.ignored.items ≡ [] → IfOk result (λ it. it.unread ≡ 0
         → it.outcome.is_broken ≡ left report.now.choice.now false false
         (judged_of report.now.choice.now report.now.may_begin_late text.now)) }
 {

@@ -28,7 +28,7 @@ pub fn judge_recording<W: Write>(
     out: &mut W,
 ) -> Result<u64>
     ensures unread { IfOk result (λ unread. unread ≡ first_unread 1 (lines text.now)) }
-    ensures seen { Judges judged.old (nothing report.now.choice.now.capabilities) → report.now.choice.now.ignored.items ≡ [] → IfOk result (λ unread. unread ≡ 0
+    ensures seen { Judges judged.old (nothing report.now.choice.now.capabilities None) → report.now.choice.now.ignored.items ≡ [] → IfOk result (λ unread. unread ≡ 0
         → Judges judged.new (judged_of report.now.choice.now report.now.may_begin_late text.now)) }
 {
     let mut line = Vec::new(report.alloc);

@@ -4,6 +4,7 @@ use crate::judgement::Ends;
 use crate::passed::Passing;
 use crate::report::Report;
 use anyhow::{Result, ensure};
+use lsp_model::LSP;
 use std::alloc::{AllocError, Global};
 use std::io::Write;
 
@@ -68,7 +69,7 @@ impl Sessions {
     fn add(&mut self, name: &[u8], announces: bool) -> Result<(), AllocError> {
         let session = Session {
             name: Vec::from_slice(self.alloc, name)?,
-            judged: FullJudgement::new(self.alloc, announces),
+            judged: FullJudgement::new(self.alloc, announces, Some(LSP)),
         };
         Ok(self.all.push(session)?)
     }

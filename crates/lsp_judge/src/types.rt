@@ -27,14 +27,20 @@ pub struct Unfit {
 }
 
 impl Unfit {
-    /// Finds the rules of types and texts that a message breaks, of those that are judged. The watch saw the messages before it.
-    pub fn find(watch: &Watch, passing: &Passing, report: &Report<'_>) -> Result<Unfit, AllocError>
+    /// Finds the rules of types and texts that a message breaks, of those that are judged. Without a model no rule is. The watch saw the
+    /// messages before it.
+    pub fn find(
+        model: Option<Model>,
+        watch: &Watch,
+        passing: &Passing,
+        report: &Report<'_>,
+    ) -> Result<Unfit, AllocError>
         ensures { (log : Log) → Saw watch.now log → report.now.choice.now.ignored.items ≡ []
-            → IfOk result (λ found. found.rules.items ≡ unfit_of report.now.choice.now passing.now.types log passing.now.way
+            → IfOk result (λ found. found.rules.items ≡ unfit_of model.entry report.now.choice.now passing.now.types log passing.now.way
             (option_map entry_view passing.now.message.entry) (option_map (λ e. view e.tree) passing.now.message.entry)) }
     {
-        let rules = unfit_rules(watch, passing, report)?;
-        match misfits(watch, passing, rules.as_slice(), report) {
+        let rules = unfit_rules(model, watch, passing, report)?;
+        match misfits(model, watch, passing, rules.as_slice(), report.alloc) {
             Ok(misfits) => Ok(Unfit {
                 rules,
                 misfits,
@@ -83,35 +89,40 @@ impl Unfit {
 
 /// The rules of types and texts that a message breaks, of those that are judged.
 fn unfit_rules(
+    model: Option<Model>,
     watch: &Watch,
     passing: &Passing,
     report: &Report<'_>,
 ) -> Result<Vec<Rule>, AllocError>
     ensures { (log : Log) → Saw watch.now log → report.now.choice.now.ignored.items ≡ []
-        → IfOk result (λ found. found.items ≡ unfit_of report.now.choice.now passing.now.types log passing.now.way
+        → IfOk result (λ found. found.items ≡ unfit_of model.entry report.now.choice.now passing.now.types log passing.now.way
         (option_map entry_view passing.now.message.entry) (option_map (λ e. view e.tree) passing.now.message.entry)) }
 {
+    let Some(model) = model else {
+        return Ok(Vec::new(report.alloc));
+    };
     let (Some(entry), Some(_)) = (&passing.message.entry, passing.types) else {
         return Ok(Vec::new(report.alloc));
     };
     let mut rules = Vec::from_slice(report.alloc, report.choice.types.as_slice())?;
-    keep_broken(watch, passing.way, entry, report, &mut rules);
+    keep_broken(&model, report.alloc, watch, passing.way, entry, &mut rules);
     remove_ignored(report.choice, passing, &mut rules);
     Ok(rules)
 }
 
 /// Keeps the rules that a message breaks.
 fn keep_broken(
+    model: &Model,
+    alloc: Global,
     watch: &Watch,
     way: Direction,
     entry: &Entry,
-    report: &Report<'_>,
     rules: &mut Vec<Rule>,
 )
     ensures { (log : Log) → Saw watch.now log → rules.new.items ≡ filter
-        (λ rule. breaks_type_in report.now.choice.now.model log way (entry_view entry.now) (view entry.now.tree) rule) rules.old.items }
+        (λ rule. breaks_type_in model.now log way (entry_view entry.now) (view entry.now.tree) rule) rules.old.items }
 {
-    rules.retain(|it| breaks_type(watch, way, entry, report, *it));
+    rules.retain(|it| breaks_type(model, alloc, watch, way, entry, *it));
 }
 
 /// Removes the rules that are ignored.
@@ -125,47 +136,48 @@ fn remove_ignored(choice: &Choice, passing: &Passing, rules: &mut Vec<Rule>)
 
 /// Whether a message breaks a rule of types or texts.
 fn breaks_type(
+    model: &Model,
+    alloc: Global,
     watch: &Watch,
     way: Direction,
     entry: &Entry,
-    report: &Report<'_>,
     rule: Rule,
 ) -> bool
-    ensures { (log : Log) → Saw watch.now log → result ≡ breaks_type_in report.now.choice.now.model log way
+    ensures { (log : Log) → Saw watch.now log → result ≡ breaks_type_in model.now log way
         (entry_view entry.now) (view entry.now.tree) rule }
 {
-    let model: &Model = &report.choice.model;
     match mode_of(rule) {
-        Some(mode) => model.is_unfit(report.alloc, mode, watch, way, entry),
+        Some(mode) => model.is_unfit(alloc, mode, watch, way, entry),
         None => false,
     }
 }
 
 /// Where a message breaks each of these rules.
 fn misfits(
+    model: Option<Model>,
     watch: &Watch,
     passing: &Passing,
     rules: &[Rule],
-    report: &Report<'_>,
+    alloc: Global,
 ) -> Result<Vec<Option<Misfit>>, AllocError> {
-    let mut found = Vec::new(report.alloc);
+    let mut found = Vec::new(alloc);
     for rule in rules {
-        let misfit = misfit(watch, passing, *rule, report)?;
+        let misfit = misfit(model, watch, passing, *rule, alloc)?;
         found.push(misfit)?;
     }
     Ok(found)
 }
 
 fn misfit(
+    model: Option<Model>,
     watch: &Watch,
     passing: &Passing,
     rule: Rule,
-    report: &Report<'_>,
+    alloc: Global,
 ) -> Result<Option<Misfit>, AllocError> {
-    match (&passing.message.entry, mode_of(rule)) {
-        (Some(entry), Some(mode)) => {
-            let model: &Model = &report.choice.model;
-            model.misfit(report.alloc, mode, watch, passing.way, entry)
+    match (model, &passing.message.entry, mode_of(rule)) {
+        (Some(model), Some(entry), Some(mode)) => {
+            model.misfit(alloc, mode, watch, passing.way, entry)
         }
         _ => Ok(None),
     }

@@ -17,7 +17,6 @@ use lsp_judge::lines::judge_lines;
 use lsp_judge::memory::{RecordingOutcome, judge_text};
 use lsp_judge::report::{Form, Places, Report};
 use lsp_judge::rules_list::tell_rules;
-use lsp_model::Model;
 use lsp_watch::Level;
 use page::{Page, Room};
 use std::alloc::Global;
@@ -32,12 +31,6 @@ const FAILED: u8 = 4;
 
 /// The options, or a `size`, are refused, and nothing is said. C: `LSP_JUDGE_REFUSED`.
 const REFUSED: u8 = 5;
-
-/// A model without types: no rule of types or texts is judged.
-const NO_MODEL: Model = Model {
-    methods: &[],
-    types: &[],
-};
 
 /// The bytes of the two structs. `tests/clib/layout.c` compares them with the header.
 const OPTIONS_SIZE: u64 = 24;
@@ -291,7 +284,6 @@ fn choice_of(alloc: Global, options: &LspJudgeOptions) -> Choice
         ignored: Vec::new(alloc),
         capabilities: options.groups == 1,
         types: Vec::new(alloc),
-        model: NO_MODEL,
     }
 }
 
