@@ -36,7 +36,7 @@ impl FullJudgement {
     /// Begins with a session that is seen from its first message on. `announces` says whether the rules of capabilities are judged too.
     /// Without a model no rule of types or texts is judged.
     pub fn new(alloc: Global, announces: bool, model: Option<Model>) -> FullJudgement
-        ensures { Judges result.judged (nothing announces model.entry) }
+        ensures { Judges result.judged (nothing announces model) }
     {
         FullJudgement {
             alloc,

@@ -67,7 +67,7 @@ impl Judgement {
     /// then the memory also follows the documents that were opened, and the registrations. Without a model no rule of types or texts is
     /// judged.
     pub fn new(alloc: Global, announces: bool, model: Option<Model>) -> Judgement
-        ensures { Judges result (nothing announces model.entry) }
+        ensures { Judges result (nothing announces model) }
     {
         Judgement {
             alloc,

@@ -36,7 +36,7 @@ impl Unfit {
         report: &Report<'_>,
     ) -> Result<Unfit, AllocError>
         ensures { (log : Log) → Saw watch.now log → report.now.choice.now.ignored.items ≡ []
-            → IfOk result (λ found. found.rules.items ≡ unfit_of model.entry report.now.choice.now passing.now.types log passing.now.way
+            → IfOk result (λ found. found.rules.items ≡ unfit_of model report.now.choice.now passing.now.types log passing.now.way
             (option_map entry_view passing.now.message.entry) (option_map (λ e. view e.tree) passing.now.message.entry)) }
     {
         let rules = unfit_rules(model, watch, passing, report)?;
@@ -95,7 +95,7 @@ fn unfit_rules(
     report: &Report<'_>,
 ) -> Result<Vec<Rule>, AllocError>
     ensures { (log : Log) → Saw watch.now log → report.now.choice.now.ignored.items ≡ []
-        → IfOk result (λ found. found.items ≡ unfit_of model.entry report.now.choice.now passing.now.types log passing.now.way
+        → IfOk result (λ found. found.items ≡ unfit_of model report.now.choice.now passing.now.types log passing.now.way
         (option_map entry_view passing.now.message.entry) (option_map (λ e. view e.tree) passing.now.message.entry)) }
 {
     let Some(model) = model else {
