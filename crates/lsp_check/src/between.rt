@@ -8,7 +8,6 @@ use lsp_judge::judgement::Ends;
 use lsp_judge::outcome::Outcome;
 use lsp_judge::passed::Passing;
 use lsp_judge::report::{Report, SECOND};
-use lsp_model::LSP;
 use lsp_proxy::{Ended, Heard, Teller, pass_on};
 use lsp_watch::Direction;
 use std::alloc::AllocError;
@@ -115,8 +114,9 @@ fn judge_heard<R: Wait, W: Write>(
     out: &mut W,
 ) -> Result<Outcome> {
     let alloc = report.alloc;
+    let model = report.choice.model(alloc)?;
     let mut ways = Ways {
-        judged: FullJudgement::new(alloc, report.choice.capabilities, Some(LSP)),
+        judged: FullJudgement::new(alloc, report.choice.capabilities, model),
         client: Frames::new(alloc),
         server: Frames::new(alloc),
         is_server_first: false,

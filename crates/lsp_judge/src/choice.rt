@@ -4,7 +4,9 @@ ghost use Rattle.lsp_watch.specs.RuleData.{side_of};
 ghost use Rattle.lsp_judge.specs.Choice.{counts as counts_for, culprit as culprit_of, is_at_least as is_as_strong, fails as fails_for, fails_shown as fails_if_shown, leaves as leaves_for};
 
 use crate::passed::Order;
+use lsp_model::Model;
 use lsp_watch::{Breach, Direction, Level, Rule, Side, Unanswered, Verdict};
+use std::alloc::{AllocError, Global};
 
 /// Whose breaches count.
 #[derive(Clone, Copy, Debug, PartialEq, Eq)]
@@ -34,6 +36,14 @@ pub struct Choice {
 }
 
 impl Choice {
+    /// Returns the methods and types of LSP if rules of types or texts are judged. The error means that an allocation failed.
+    pub fn model(&self, alloc: Global) -> Result<Option<Model>, AllocError> {
+        if self.types.is_empty() {
+            return Ok(None);
+        }
+        Ok(Some(Model::lsp(alloc)?))
+    }
+
     /// Returns whether a breach of a rule by a message of this method is left out of the report.
     pub fn ignores(&self, rule: Rule, method: &str) -> bool {
         self.ignored.iter().any(|it| it.is_for(rule, method))

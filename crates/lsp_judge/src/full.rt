@@ -18,8 +18,6 @@ use std::io::Write;
 pub struct FullJudgement {
     alloc: Global,
     judged: Judgement,
-    /// The methods and types of LSP, if messages are judged by them.
-    model: Option<Model>,
     lines: LineCounts,
     /// Whether a line is outside its document, so that the status is 1.
     is_outside: bool,
@@ -41,7 +39,6 @@ impl FullJudgement {
         FullJudgement {
             alloc,
             judged: Judgement::new(alloc, announces, model),
-            model,
             lines: LineCounts::new(alloc),
             is_outside: false,
         }
@@ -112,7 +109,7 @@ impl FullJudgement {
         let (Some(entry), Some(verdict)) = (&passing.message.entry, passing.types) else {
             return Ok(None);
         };
-        let Some(model) = self.model else {
+        let Some(model) = self.judged.model() else {
             return Ok(None);
         };
         let (watch, way) = (self.judged.watch(), passing.way);
@@ -120,7 +117,7 @@ impl FullJudgement {
         if is_ignored
             || !self
                 .lines
-                .is_outside(report.alloc, &model, watch, way, entry)
+                .is_outside(report.alloc, model, watch, way, entry)
         {
             return Ok(None);
         }

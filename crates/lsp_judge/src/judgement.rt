@@ -177,7 +177,7 @@ impl Judgement {
             passing.now.message.faults.items (option_map entry_view passing.now.message.entry)
             (option_map (λ e. view e.tree) passing.now.message.entry))) }
     {
-        let unfit = Unfit::find(self.model, &self.watch, passing, report)?;
+        let unfit = Unfit::find(&self.model, &self.watch, passing, report)?;
         let passed = self.pass_with(place, passing, &unfit, report, out);
         drop(unfit);
         passed
@@ -306,6 +306,13 @@ impl Judgement {
         let order = passing.order.narrowed(self.is_matched);
         self.tally
             .tell_breach(place, order, passing, breach, text, report, out)
+    }
+
+    /// The methods and types of LSP, if messages are judged by them.
+    pub fn model(&self) -> &Option<Model>
+        ensures { result.now ≡ self.now.model }
+    {
+        &self.model
     }
 
     /// What was seen of the session that goes on.

@@ -1,10 +1,11 @@
 // The judgements of the servers of a log: each has one of its own.
+use crate::choice::Choice;
 use crate::full::FullJudgement;
 use crate::judgement::Ends;
 use crate::passed::Passing;
 use crate::report::Report;
 use anyhow::{Result, ensure};
-use lsp_model::LSP;
+use lsp_model::Model;
 use std::alloc::{AllocError, Global};
 use std::io::Write;
 
@@ -46,7 +47,7 @@ impl Sessions {
         report: &Report<'_>,
         out: &mut W,
     ) -> Result<()> {
-        let at = self.place_of(name, report.choice.capabilities)?;
+        let at = self.place_of(name, report.choice)?;
         match self.all.get_mut(at) {
             Some(session) => session.judged.see(place, passing, report, out),
             None => Ok(()),
@@ -54,24 +55,23 @@ impl Sessions {
     }
 
     /// The place of a server in the list. A new one is added.
-    fn place_of(&mut self, name: &[u8], announces: bool) -> Result<usize> {
+    fn place_of(&mut self, name: &[u8], choice: &Choice) -> Result<usize> {
         match self.all.iter().position(|it| it.name.as_slice() == name) {
             Some(at) => Ok(at),
             None => {
                 let at = self.all.len();
                 ensure!(at < MOST, "more than {MOST} servers in one log");
-                self.add(name, announces)?;
+                self.add(name, choice)?;
                 Ok(at)
             }
         }
     }
 
-    fn add(&mut self, name: &[u8], announces: bool) -> Result<(), AllocError> {
-        let session = Session {
-            name: Vec::from_slice(self.alloc, name)?,
-            judged: FullJudgement::new(self.alloc, announces, Some(LSP)),
-        };
-        Ok(self.all.push(session)?)
+    fn add(&mut self, name: &[u8], choice: &Choice) -> Result<(), AllocError> {
+        let name = Vec::from_slice(self.alloc, name)?;
+        let model = choice.model(self.alloc)?;
+        let judged = FullJudgement::new(self.alloc, choice.capabilities, model);
+        Ok(self.all.push(Session { name, judged })?)
     }
 
     /// Tells what is open, and how much there was, and says whether a rule is broken.

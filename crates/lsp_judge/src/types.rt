@@ -30,13 +30,13 @@ impl Unfit {
     /// Finds the rules of types and texts that a message breaks, of those that are judged. Without a model no rule is. The watch saw the
     /// messages before it.
     pub fn find(
-        model: Option<Model>,
+        model: &Option<Model>,
         watch: &Watch,
         passing: &Passing,
         report: &Report<'_>,
     ) -> Result<Unfit, AllocError>
         ensures { (log : Log) → Saw watch.now log → report.now.choice.now.ignored.items ≡ []
-            → IfOk result (λ found. found.rules.items ≡ unfit_of model report.now.choice.now passing.now.types log passing.now.way
+            → IfOk result (λ found. found.rules.items ≡ unfit_of model.now report.now.choice.now passing.now.types log passing.now.way
             (option_map entry_view passing.now.message.entry) (option_map (λ e. view e.tree) passing.now.message.entry)) }
     {
         let rules = unfit_rules(model, watch, passing, report)?;
@@ -89,13 +89,13 @@ impl Unfit {
 
 /// The rules of types and texts that a message breaks, of those that are judged.
 fn unfit_rules(
-    model: Option<Model>,
+    model: &Option<Model>,
     watch: &Watch,
     passing: &Passing,
     report: &Report<'_>,
 ) -> Result<Vec<Rule>, AllocError>
     ensures { (log : Log) → Saw watch.now log → report.now.choice.now.ignored.items ≡ []
-        → IfOk result (λ found. found.items ≡ unfit_of model report.now.choice.now passing.now.types log passing.now.way
+        → IfOk result (λ found. found.items ≡ unfit_of model.now report.now.choice.now passing.now.types log passing.now.way
         (option_map entry_view passing.now.message.entry) (option_map (λ e. view e.tree) passing.now.message.entry)) }
 {
     let Some(model) = model else {
@@ -105,7 +105,7 @@ fn unfit_rules(
         return Ok(Vec::new(report.alloc));
     };
     let mut rules = Vec::from_slice(report.alloc, report.choice.types.as_slice())?;
-    keep_broken(&model, report.alloc, watch, passing.way, entry, &mut rules);
+    keep_broken(model, report.alloc, watch, passing.way, entry, &mut rules);
     remove_ignored(report.choice, passing, &mut rules);
     Ok(rules)
 }
@@ -154,7 +154,7 @@ fn breaks_type(
 
 /// Where a message breaks each of these rules.
 fn misfits(
-    model: Option<Model>,
+    model: &Option<Model>,
     watch: &Watch,
     passing: &Passing,
     rules: &[Rule],
@@ -169,7 +169,7 @@ fn misfits(
 }
 
 fn misfit(
-    model: Option<Model>,
+    model: &Option<Model>,
     watch: &Watch,
     passing: &Passing,
     rule: Rule,

@@ -16,7 +16,7 @@ abbrev pub most_levels : ℕ
 most_levels = 1000
 
 abbrev pub fits_in : Model → Mode → ℕ → Data → Bool
-fits_in model mode at d = fits model.types.now mode most_levels at d
+fits_in model mode at d = fits model.types.items mode most_levels at d
 
 -- a value that has another type is unfit in the loose mode alone
 abbrev pub is_unfit : Model → Mode → ℕ → Data → Bool

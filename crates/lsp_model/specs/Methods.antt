@@ -21,4 +21,4 @@ is_method way name method = bytes_eq method.name.now name && takes method.receiv
 
 -- the method of this name that may go this way
 abbrev pub method_named : Direction → List ℕ → Model → Option Method
-method_named way name model = find (is_method way name) model.methods.now
+method_named way name model = find (is_method way name) model.methods.items

@@ -114,7 +114,7 @@ impl Model {
     pub fn fits(&self, mode: Mode, at: usize, value: &Value) -> bool
         ensures { result ≡ fits_model self.now mode at (view value.now) }
     {
-        fits(self.types, mode, LEVELS, at, value)
+        fits(self.types.as_slice(), mode, LEVELS, at, value)
     }
 }
 

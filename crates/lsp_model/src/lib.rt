@@ -17,7 +17,6 @@ mod texts;
 pub use fitting::fits;
 pub use form::{Form, Member};
 pub use line_counts::LineCounts;
-pub use lsp::LSP;
 pub use misfit::Misfit;
 pub use mode::Mode;
 pub use model::{Method, Model, Receiver};

@@ -55,12 +55,12 @@ impl Method {
 }
 
 /// Methods, and the types that they name by their places.
-#[derive(Clone, Copy)]
+#[derive(Drop)]
 pub struct Model {
     /// The methods.
-    pub methods: &'static [Method],
+    pub methods: Vec<Method>,
     /// The types.
-    pub types: &'static [Form],
+    pub types: Vec<Form>,
 }
 
 impl Model {
