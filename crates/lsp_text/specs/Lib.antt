@@ -4,3 +4,4 @@ pub mod Characters
 pub mod Documents
 pub mod Edits
 pub mod Places
+pub mod Blocks

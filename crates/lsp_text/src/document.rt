@@ -6,6 +6,7 @@ ghost use Rattle.lsp_text.specs.Documents.{Change, Document};
 ghost use Rattle.lsp_text.specs.Edits.{edited_by, past_by};
 ghost use Rattle.lsp_text.specs.Lines.{lined};
 
+use crate::blocks::Blocks;
 use crate::json::{members_in, needed, put};
 use crate::line_ends::LineEnds;
 use crate::position::{PositionEncoding, Range};
@@ -200,10 +201,37 @@ impl TextDocument {
     }
 }
 
+/// From how many changes on the text is edited in blocks. Two copies of the text cost as much as this many edits.
+const MANY: usize = 128;
+
 /// Applies changes to a text, one after another. If memory runs out, some of them are applied.
 fn apply_all(
     alloc: Global,
     text: &mut Text,
+    encoding: PositionEncoding,
+    changes: &[ContentChange],
+) -> Result<bool, AllocError>
+    ensures past { IfOk result (λ past. past ≡ past_by encoding text.old changes.now) }
+    ensures ok { OnOk result (text.new ≡ edited_by encoding text.old changes.now) }
+{
+    if changes.len() >= MANY {
+        let mut blocks = Blocks::new(alloc, text.as_str(), text.line_ends())?;
+        let past = apply_to_blocks(alloc, &mut blocks, encoding, changes)?;
+        *text = blocks.to_text(alloc)?;
+        return Ok(past);
+    }
+    let mut past = false;
+    for change in changes {
+        let more = text.apply(alloc, change.range, encoding, change.text.as_str())?;
+        past = past || more;
+    }
+    Ok(past)
+}
+
+/// Applies changes to a text in blocks, one after another. If memory runs out, some of them are applied.
+fn apply_to_blocks(
+    alloc: Global,
+    text: &mut Blocks,
     encoding: PositionEncoding,
     changes: &[ContentChange],
 ) -> Result<bool, AllocError>

@@ -3,6 +3,7 @@
 //! the params of a client's notifications.
 #![tactic(auto)]
 
+mod blocks;
 mod columns;
 mod document;
 mod json;
