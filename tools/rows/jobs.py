@@ -19,6 +19,8 @@ ORDERS = 50
 PLACES = 16
 # So many messages of all jobs may wait.
 ITEMS = 256
+# So many jobs may wait for a thread, if the size of a pool says nothing else.
+WAITING = 1024
 TOO_MANY = {"code": -32803, "message": "too many requests are waiting"}
 FAILED = {"code": -32803, "message": "it failed"}
 NO_MEMORY = {"code": -32603, "message": "out of memory"}
@@ -105,8 +107,6 @@ class Pool:
 
     def has_room(self, name=None):
         """As many jobs may run and wait as there are places. Those in slots leave one worker to requests, if there are two or more."""
-        if self.waiting is None:
-            return True
         jobs, waiting = [*self.queue, *filter(None, self.workers)], max(self.waiting, 1)
         if isinstance(name, Slot) and sum(isinstance(it.name, Slot) for it in jobs) >= self.for_slots() + waiting:
             return False
@@ -616,7 +616,7 @@ def in_all_orders(make, tell):
 
 def pool_size(word):
     workers, _, waiting = word.partition(":")
-    return int(workers), int(waiting) if waiting else None
+    return int(workers), int(waiting or WAITING)
 
 
 def reads_of(data, limit):

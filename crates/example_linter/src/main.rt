@@ -370,8 +370,12 @@ where
 {
     session_with_jobs_keeps_laws::<T, Linter, Analysis>();
     marks_are_of_held_texts::<T>();
-    // Two analyses run at a time, and as many as there are documents may wait.
-    let mut options = JobOptions::new(PoolSize::from(2));
+    // Two analyses run at a time. At most one waits for each open document, so the pool needs no bound of its own.
+    let mut options = JobOptions::new(PoolSize {
+        workers: 2,
+        waiting: None,
+        stack: None,
+    });
     options.threads.limits = client.limits;
     let (reader, writer) = (client.reader, client.writer);
     run_jobs(rt, alloc, reader, writer, linter, policy, options)
