@@ -25,7 +25,7 @@ use lsp_documents::{DocumentSnapshot, SyncOptions, TextDocuments};
 use lsp_jobs::laws::session_with_jobs_keeps_laws;
 use lsp_jobs::{
     AnsweredBy, Interrupted, Job, JobCommand, JobContext, JobEnd, JobKey, JobName, JobOptions,
-    JobResult, JobServer, KeyedJobs, PoolSize, run_jobs,
+    JobResult, JobServer, KeyedJobs, PoolSize, StatesJobs, run_jobs,
 };
 use lsp_methods::publish;
 use lsp_server::clients::{ClientOptions, serve_clients};
@@ -352,18 +352,7 @@ where
     requires documents { HasNone linter.documents }
     ensures told { IfOk result.1 (λ done. OfTaken done.taken.parts (λ text.
         ThreadsTellOver true ⟦<EndOnBadContent as BadContentPolicy>⟧.passes client.limits (LintSession T ⟦<Linter as Server>⟧
-        (record {
-          is_long_post = ⟦<Linter as JobServer<Analysis>>⟧.is_long_post;
-          job_post = ⟦<Linter as JobServer<Analysis>>⟧.job_post;
-          job_reply_post = ⟦<Linter as JobServer<Analysis>>⟧.job_reply_post;
-          take_commands_post = ⟦<Linter as KeyedJobs<Linter, Analysis>>⟧.take_commands_post;
-          found_post = ⟦<Linter as KeyedJobs<Linter, Analysis>>⟧.found_post;
-          ended_post = ⟦<Linter as KeyedJobs<Linter, Analysis>>⟧.ended_post;
-          is_for = ⟦<Analysis as Job>⟧.is_for;
-          run_post = ⟦<Analysis as Job>⟧.run_post;
-          reports = ⟦<Analysis as Job>⟧.reports;
-          asks = ⟦<Analysis as Job>⟧.asks;
-        }) linter result.0)
+        ⟦<Linter as StatesJobs<Analysis>>⟧.jobs linter result.0)
         text policy.old policy.new (Some []) (noted done.given) done.answer)) }
     ensures passed { IfOk result.1 (λ done. TakenFrom (R.remaining client.reader) done.taken.parts
         × GivenTo (W.contents client.writer) done.given.parts (W.contents done.writer)) }
@@ -387,20 +376,7 @@ where
 fn marks_are_of_held_texts<T: Wait + Drop>()
     ensures { (first last : Linter) (exchanges : List Exchange) (stop : Stop)
         (answer : SessionAnswer) → first.changes.items ≡ [] → HasNone first.documents
-        → LawfulJobSession T ⟦<Linter as Server>⟧
-        (record {
-          is_long_post = ⟦<Linter as JobServer<Analysis>>⟧.is_long_post;
-          job_post = ⟦<Linter as JobServer<Analysis>>⟧.job_post;
-          job_reply_post = ⟦<Linter as JobServer<Analysis>>⟧.job_reply_post;
-          take_commands_post = ⟦<Linter as KeyedJobs<Linter, Analysis>>⟧.take_commands_post;
-          found_post = ⟦<Linter as KeyedJobs<Linter, Analysis>>⟧.found_post;
-          ended_post = ⟦<Linter as KeyedJobs<Linter, Analysis>>⟧.ended_post;
-          is_for = ⟦<Analysis as Job>⟧.is_for;
-          run_post = ⟦<Analysis as Job>⟧.run_post;
-          reports = ⟦<Analysis as Job>⟧.reports;
-          asks = ⟦<Analysis as Job>⟧.asks;
-        })
-        first last exchanges stop answer
+        → LawfulJobSession T ⟦<Linter as Server>⟧ ⟦<Linter as StatesJobs<Analysis>>⟧.jobs first last exchanges stop answer
         → ShowsOpenTexts exchanges }
 {}
 

@@ -12,7 +12,7 @@ ghost use Rattle.example_search.specs.Promise.{AnswersOnce, SearchSession};
 use crate::search::Search;
 use crate::server::Sums;
 use lsp_jobs::laws::{requests_are_answered_by_their_jobs, session_with_jobs_keeps_laws};
-use lsp_jobs::{Job, JobOptions, JobServer, KeyedJobs, NoKeyedJobs, PoolSize, run_jobs};
+use lsp_jobs::{JobOptions, PoolSize, StatesJobs, run_jobs};
 use lsp_server::laws::server_keeps_laws;
 use lsp_server::policies::{BadContentPolicy, SkipAndFlag};
 use lsp_server::transports::ClientStreams;
@@ -107,18 +107,7 @@ where
     requires { HasNone sums.documents }
     ensures told { IfOk result.1 (λ done. OfTaken done.taken.parts (λ text.
         ThreadsTellOver true ⟦<SkipAndFlag as BadContentPolicy>⟧.passes client.limits (SearchSession T ⟦<Sums as Server>⟧
-        (record {
-          is_long_post = ⟦<Sums as JobServer<Search>>⟧.is_long_post;
-          job_post = ⟦<Sums as JobServer<Search>>⟧.job_post;
-          job_reply_post = ⟦<Sums as JobServer<Search>>⟧.job_reply_post;
-          take_commands_post = ⟦<NoKeyedJobs as KeyedJobs<Sums, Search>>⟧.take_commands_post;
-          found_post = ⟦<NoKeyedJobs as KeyedJobs<Sums, Search>>⟧.found_post;
-          ended_post = ⟦<NoKeyedJobs as KeyedJobs<Sums, Search>>⟧.ended_post;
-          is_for = ⟦<Search as Job>⟧.is_for;
-          run_post = ⟦<Search as Job>⟧.run_post;
-          reports = ⟦<Search as Job>⟧.reports;
-          asks = ⟦<Search as Job>⟧.asks;
-        }) sums result.0)
+        ⟦<Sums as StatesJobs<Search>>⟧.jobs sums result.0)
         text passed_over.old passed_over.new (Some []) (noted done.given) done.answer)) }
     ensures passed { IfOk result.1 (λ done. TakenFrom (R.remaining client.reader) done.taken.parts
         × GivenTo (W.contents client.writer) done.given.parts (W.contents done.writer)) }
@@ -138,20 +127,7 @@ where
 fn symbols_are_of_open_texts<T: Wait + Drop>()
     ensures { (first last : Sums) (exchanges : List Exchange) (stop : Stop)
         (answer : SessionAnswer) → HasNone first.documents
-        → LawfulJobSession T ⟦<Sums as Server>⟧
-        (record {
-          is_long_post = ⟦<Sums as JobServer<Search>>⟧.is_long_post;
-          job_post = ⟦<Sums as JobServer<Search>>⟧.job_post;
-          job_reply_post = ⟦<Sums as JobServer<Search>>⟧.job_reply_post;
-          take_commands_post = ⟦<NoKeyedJobs as KeyedJobs<Sums, Search>>⟧.take_commands_post;
-          found_post = ⟦<NoKeyedJobs as KeyedJobs<Sums, Search>>⟧.found_post;
-          ended_post = ⟦<NoKeyedJobs as KeyedJobs<Sums, Search>>⟧.ended_post;
-          is_for = ⟦<Search as Job>⟧.is_for;
-          run_post = ⟦<Search as Job>⟧.run_post;
-          reports = ⟦<Search as Job>⟧.reports;
-          asks = ⟦<Search as Job>⟧.asks;
-        })
-        first last exchanges stop answer
+        → LawfulJobSession T ⟦<Sums as Server>⟧ ⟦<Sums as StatesJobs<Search>>⟧.jobs first last exchanges stop answer
         → SearchesOpenTexts exchanges }
 {
     requests_are_answered_by_their_jobs::<Sums, Search>();

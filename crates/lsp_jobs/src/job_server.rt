@@ -177,6 +177,20 @@ pub trait KeyedJobs<S: Server, J: Job> {
             ended_post server.old name.now end (map (act_view S.PendingData.eq) acts.items) server.new) };
 }
 
+/// What a `JobServer`, its `KeyedJobs` and its `Job` promise, as one value for contracts. Each `JobServer` has it.
+pub trait StatesJobs<J: Job>: Server {
+    ghost use Rattle.lsp_jobs.specs.Stated.{StatedJobs};
+
+    /// Their ghost members, by name.
+    ghost jobs: { StatedJobs Self J J.Found Self.PendingData };
+}
+
+impl<S: JobServer<J>, J: Job> StatesJobs<J> for S {
+    ghost use Rattle.lsp_jobs.specs.Stated.{stated_jobs};
+
+    ghost jobs = { stated_jobs S.JobServer.own ⟦<S::KeyedJobs as KeyedJobs<S, J>>⟧ J.Job };
+}
+
 /// The server has no jobs under keys, and does nothing when a job ended.
 pub struct NoKeyedJobs;
 

@@ -16,11 +16,10 @@ ghost use Rattle.lsp_jobs.specs.JobSession.{JobSession, seen_with_jobs};
 ghost use Rattle.lsp_jobs.specs.PendingJobs.{no_jobs};
 ghost use Rattle.lsp_jobs.specs.PoolView.{pending_jobs};
 ghost use Rattle.lsp_jobs.specs.KeyedJobLaw.{SlotHistory};
-ghost use Rattle.lsp_jobs.specs.Stated.{stated_jobs};
 ghost use Rattle.lsp_jobs.specs.declared.pooled_server.PooledServer.{PooledServer as Pooled};
 
 use crate::job::Job;
-use crate::job_server::{JobServer, KeyedJobs};
+use crate::job_server::{JobServer, StatesJobs};
 use lsp_session::BadContentPolicy;
 use std::sync::Wait;
 
@@ -39,13 +38,13 @@ use std::sync::Wait;
 pub fn session_with_jobs_keeps_laws<T: Wait + Drop, S: JobServer<J>, J: Job>()
     ensures exchanges { (first last : S) (exchanges : List Exchange) (stop : Stop)
         (answer : SessionAnswer)
-        → JobSession T S.Server (stated_jobs S.JobServer.own ⟦<S::KeyedJobs as KeyedJobs<S, J>>⟧ J.Job) first last exchanges stop answer
-        → LawfulJobSession T S.Server (stated_jobs S.JobServer.own ⟦<S::KeyedJobs as KeyedJobs<S, J>>⟧ J.Job) first last exchanges stop answer }
+        → JobSession T S.Server ⟦<S as StatesJobs<J>>⟧.jobs first last exchanges stop answer
+        → LawfulJobSession T S.Server ⟦<S as StatesJobs<J>>⟧.jobs first last exchanges stop answer }
     ensures bytes { (limit : Limits) (first last : S) (text : List ℕ) (before after : Option (List ℕ))
         (answer : Result EndOfSession FaultOfSession)
-        → ThreadsGiveOver true limit (JobSession T S.Server (stated_jobs S.JobServer.own ⟦<S::KeyedJobs as KeyedJobs<S, J>>⟧ J.Job) first last) text
+        → ThreadsGiveOver true limit (JobSession T S.Server ⟦<S as StatesJobs<J>>⟧.jobs first last) text
         before after answer
-        → ThreadsGiveOver true limit (LawfulJobSession T S.Server (stated_jobs S.JobServer.own ⟦<S::KeyedJobs as KeyedJobs<S, J>>⟧ J.Job) first last)
+        → ThreadsGiveOver true limit (LawfulJobSession T S.Server ⟦<S as StatesJobs<J>>⟧.jobs first last)
         text before after answer }
 {}
 
@@ -61,18 +60,18 @@ pub fn session_with_jobs_that_asks_keeps_laws<
     ensures bytes { (limit : Limits) (first last : S) (text : List ℕ) (policy policy_last : L)
         (before after : Option (List ℕ)) (answer : Result EndOfSession FaultOfSession)
         → ThreadsTellOver true L.passes limit
-        (JobSession T S.Server (stated_jobs S.JobServer.own ⟦<S::KeyedJobs as KeyedJobs<S, J>>⟧ J.Job) first last) text policy policy_last before
+        (JobSession T S.Server ⟦<S as StatesJobs<J>>⟧.jobs first last) text policy policy_last before
         after answer
         → ThreadsTellOver true L.passes limit
-        (LawfulJobSession T S.Server (stated_jobs S.JobServer.own ⟦<S::KeyedJobs as KeyedJobs<S, J>>⟧ J.Job) first last) text policy policy_last
+        (LawfulJobSession T S.Server ⟦<S as StatesJobs<J>>⟧.jobs first last) text policy policy_last
         before after answer }
     ensures nothing_passed { (limit : Limits) (first last : S) (text : List ℕ) (policy policy_last : L)
         (before after : Option (List ℕ)) (answer : Result EndOfSession FaultOfSession)
         → SkipsNoContent L.passes
         → ThreadsTellOver true L.passes limit
-        (JobSession T S.Server (stated_jobs S.JobServer.own ⟦<S::KeyedJobs as KeyedJobs<S, J>>⟧ J.Job) first last) text policy policy_last before
+        (JobSession T S.Server ⟦<S as StatesJobs<J>>⟧.jobs first last) text policy policy_last before
         after answer
-        → ThreadsGiveOver true limit (JobSession T S.Server (stated_jobs S.JobServer.own ⟦<S::KeyedJobs as KeyedJobs<S, J>>⟧ J.Job) first last) text
+        → ThreadsGiveOver true limit (JobSession T S.Server ⟦<S as StatesJobs<J>>⟧.jobs first last) text
         before after answer }
 {}
 
@@ -89,12 +88,12 @@ pub fn session_with_jobs_that_asks_keeps_laws<
 ///   manner.
 pub fn requests_are_answered_by_their_jobs<S: JobServer<J>, J: Job>()
     ensures { (first : S) (stop : Stop) (exchanges : List Exchange)
-        → AnswersByJobs S.Server (stated_jobs S.JobServer.own ⟦<S::KeyedJobs as KeyedJobs<S, J>>⟧ J.Job) first stop exchanges
+        → AnswersByJobs S.Server ⟦<S as StatesJobs<J>>⟧.jobs first stop exchanges
         → (earlier later : List Exchange) (x : Exchange) (before after : List Message) (id : Id)
         (outcome : Outcome) → exchanges ≡ earlier ++ x ∷ later → x.came ≡ None
         → offered x ≡ before ++ response id outcome ∷ after
-        → AnswersRequest S.Server (stated_jobs S.JobServer.own ⟦<S::KeyedJobs as KeyedJobs<S, J>>⟧ J.Job) first earlier id outcome
-        ⊎ RepliesItself S.Server (stated_jobs S.JobServer.own ⟦<S::KeyedJobs as KeyedJobs<S, J>>⟧ J.Job) first earlier (offered x) id outcome }
+        → AnswersRequest S.Server ⟦<S as StatesJobs<J>>⟧.jobs first earlier id outcome
+        ⊎ RepliesItself S.Server ⟦<S as StatesJobs<J>>⟧.jobs first earlier (offered x) id outcome }
 {}
 
 /// Describes the turns of a server with jobs, from its state at the result of `initialize` on (`GoesOn` in
@@ -119,9 +118,9 @@ pub fn each_key_reports_its_last_job<T: Wait + Drop, S: JobServer<J>, J: Job>()
     ensures turns { (start last : Pooled T S J J.Found) (opening : Exchange)
         (later : List Exchange) (m : Message) → pending_jobs start.pool ≡ no_jobs
         → opening.came ≡ Some m → is_initialized m ≡ true
-        → (part : TakesPart (seen_with_jobs T S.Server (stated_jobs S.JobServer.own ⟦<S::KeyedJobs as KeyedJobs<S, J>>⟧ J.Job)) start last opening later)
-        → SlotHistory S.Server (stated_jobs S.JobServer.own ⟦<S::KeyedJobs as KeyedJobs<S, J>>⟧ J.Job) start.server opening part.begun part.calls }
+        → (part : TakesPart (seen_with_jobs T S.Server ⟦<S as StatesJobs<J>>⟧.jobs) start last opening later)
+        → SlotHistory S.Server ⟦<S as StatesJobs<J>>⟧.jobs start.server opening part.begun part.calls }
     ensures first { (early : List Exchange) (old start : Pooled T S J J.Found)
-        → AnswersInitialize (seen_with_jobs T S.Server (stated_jobs S.JobServer.own ⟦<S::KeyedJobs as KeyedJobs<S, J>>⟧ J.Job)) old early start
+        → AnswersInitialize (seen_with_jobs T S.Server ⟦<S as StatesJobs<J>>⟧.jobs) old early start
         → pending_jobs start.pool ≡ pending_jobs old.pool }
 {}

@@ -21,7 +21,9 @@ mod workers;
 
 pub use asking::RequestOrigin;
 pub use job::{DoneJob, Interrupted, Job, JobContext, JobResult};
-pub use job_server::{AnsweredBy, JobCommand, JobEnd, JobServer, KeyedJobs, NoKeyedJobs};
+pub use job_server::{
+    AnsweredBy, JobCommand, JobEnd, JobServer, KeyedJobs, NoKeyedJobs, StatesJobs,
+};
 pub use names::{JobKey, JobName};
 pub use pool::{JobMessage, JobPool, PoolSize, SubmitFault};
 pub use pooled_server::PooledServer;

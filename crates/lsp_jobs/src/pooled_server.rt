@@ -14,13 +14,12 @@ ghost use Rattle.lsp_jobs.specs.PendingJobs.{with_job, without};
 ghost use Rattle.lsp_jobs.specs.PoolView.{came_view, pending_jobs};
 ghost use Rattle.lsp_jobs.specs.Pooled.{reply_at, reply_with, unanswered, without_cancelled, Changes, ChangesSlots, Ends, EndsThen, Frees, IsAtOnce, StartsOne, TakesLong};
 ghost use Rattle.lsp_jobs.specs.ServerView.{AnsweredSo};
-ghost use Rattle.lsp_jobs.specs.Stated.{stated_jobs};
 ghost use Rattle.lsp_jobs.specs.declared.names.JobName.TheVariants.{Request as OfRequest};
 ghost use Rattle.lsp_jobs.specs.Seen.{seen};
 
 use crate::asking::RequestOrigin;
 use crate::job::{DoneJob, Interrupted, Job, Ran};
-use crate::job_server::{AnsweredBy, JobCommand, JobEnd, JobServer, KeyedJobs};
+use crate::job_server::{AnsweredBy, JobCommand, JobEnd, JobServer, KeyedJobs, StatesJobs};
 use crate::names::JobName;
 use crate::pool::{JobMessage, JobPool, SubmitFault};
 use lsp_acts::{Act, Server, cancelled_id};
@@ -135,7 +134,7 @@ where
         ran: Ran<J::Found>,
     ) -> Result<Vec<Act<S::PendingData>>, AllocError>
         ensures { IfOk result (λ acts.
-            Ends (stated_jobs S.JobServer.own ⟦<S::KeyedJobs as KeyedJobs<S, J>>⟧ J.Job) name (end_of (came_view «ran»)) (reply_at name (came_view «ran»))
+            Ends ⟦<S as StatesJobs<J>>⟧.jobs name (end_of (came_view «ran»)) (reply_at name (came_view «ran»))
             (seen self.old) (map (act_view S.PendingData.eq) acts.items) (seen self.new)) }
     {
         let (outcome, found, end) = parts_of(self.alloc, ran)?;
@@ -155,7 +154,7 @@ where
         end: JobEnd,
         acts: &mut Vec<Act<S::PendingData>>,
     ) -> Result<(), AllocError>
-        ensures { IfOk result (λ _. EndsThen (stated_jobs S.JobServer.own ⟦<S::KeyedJobs as KeyedJobs<S, J>>⟧ J.Job) name.now (ended end)
+        ensures { IfOk result (λ _. EndsThen ⟦<S as StatesJobs<J>>⟧.jobs name.now (ended end)
             (self.old.server, pending_jobs self.old.pool, map (act_view S.PendingData.eq) acts.old.items)
             (self.new.server, pending_jobs self.new.pool, map (act_view S.PendingData.eq) acts.new.items)) }
     {
@@ -170,7 +169,7 @@ where
         request: Request,
     ) -> Result<Vec<Act<RequestOrigin<S::PendingData>>>, AllocError>
         requires { pending_jobs self.old.pool (OfRequest request.id) ≡ None }
-        ensures { IfOk result (λ all. TakesLong (stated_jobs S.JobServer.own ⟦<S::KeyedJobs as KeyedJobs<S, J>>⟧ J.Job) (seen self.old) request.id
+        ensures { IfOk result (λ all. TakesLong ⟦<S as StatesJobs<J>>⟧.jobs (seen self.old) request.id
             (string_bytes request.method) (view request.params)
             (map (act_view (same_origin S.PendingData.eq)) all.items) (seen self.new)) }
     {
@@ -188,7 +187,7 @@ where
             (λ job. J.is_for job (string_bytes request.method) (view request.params)
             × S.JobServer.job_post self.now.server request.id (string_bytes request.method)
             (view request.params) job)
-            (λ outcome. IsAtOnce (stated_jobs S.JobServer.own ⟦<S::KeyedJobs as KeyedJobs<S, J>>⟧ J.Job) self.now.server request.id
+            (λ outcome. IsAtOnce ⟦<S as StatesJobs<J>>⟧.jobs self.now.server request.id
             (string_bytes request.method) (view request.params) outcome)) }
     {
         if !self.pool.has_room() {
@@ -230,7 +229,7 @@ where
         acts: Vec<Act<S::PendingData>>,
     ) -> Result<Vec<Act<RequestOrigin<S::PendingData>>>, AllocError>
         ensures { IfOk result (λ all. ByServers (λ own.
-            ChangesSlots (stated_jobs S.JobServer.own ⟦<S::KeyedJobs as KeyedJobs<S, J>>⟧ J.Job) (seen self.old) (map (act_view S.PendingData.eq) acts.items) own
+            ChangesSlots ⟦<S as StatesJobs<J>>⟧.jobs (seen self.old) (map (act_view S.PendingData.eq) acts.items) own
             (seen self.new)) (map (act_view (same_origin S.PendingData.eq)) all.items)) }
     {
         let all = self.change_slots(acts)?;
@@ -243,7 +242,7 @@ where
         acts: Vec<Act<S::PendingData>>,
     ) -> Result<Vec<Act<S::PendingData>>, AllocError>
         ensures { IfOk result (λ all.
-            ChangesSlots (stated_jobs S.JobServer.own ⟦<S::KeyedJobs as KeyedJobs<S, J>>⟧ J.Job) (seen self.old) (map (act_view S.PendingData.eq) acts.items)
+            ChangesSlots ⟦<S as StatesJobs<J>>⟧.jobs (seen self.old) (map (act_view S.PendingData.eq) acts.items)
             (map (act_view S.PendingData.eq) all.items) (seen self.new)) }
     {
         self.forget_answered(&acts)?;
@@ -258,7 +257,7 @@ where
         acts: Vec<Act<S::PendingData>>,
     ) -> Result<Vec<Act<S::PendingData>>, AllocError>
         ensures { IfOk result (λ all.
-            FoldsTo (Changes (stated_jobs S.JobServer.own ⟦<S::KeyedJobs as KeyedJobs<S, J>>⟧ J.Job))
+            FoldsTo (Changes ⟦<S as StatesJobs<J>>⟧.jobs)
             (self.old.server, pending_jobs self.old.pool, map (act_view S.PendingData.eq) acts.items) changes.items
             (self.new.server, pending_jobs self.new.pool, map (act_view S.PendingData.eq) all.items)) }
     {
@@ -275,7 +274,7 @@ where
         change: JobCommand<J>,
         acts: &mut Vec<Act<S::PendingData>>,
     ) -> Result<(), AllocError>
-        ensures { IfOk result (λ _. Changes (stated_jobs S.JobServer.own ⟦<S::KeyedJobs as KeyedJobs<S, J>>⟧ J.Job)
+        ensures { IfOk result (λ _. Changes ⟦<S as StatesJobs<J>>⟧.jobs
             (self.old.server, pending_jobs self.old.pool, map (act_view S.PendingData.eq) acts.old.items) «change»
             (self.new.server, pending_jobs self.new.pool, map (act_view S.PendingData.eq) acts.new.items)) }
     {
@@ -296,7 +295,7 @@ where
         end: JobEnd,
         acts: &mut Vec<Act<S::PendingData>>,
     ) -> Result<(), AllocError>
-        ensures { IfOk result (λ _. Frees (stated_jobs S.JobServer.own ⟦<S::KeyedJobs as KeyedJobs<S, J>>⟧ J.Job) name.now (ended end)
+        ensures { IfOk result (λ _. Frees ⟦<S as StatesJobs<J>>⟧.jobs name.now (ended end)
             (self.old.server, pending_jobs self.old.pool, map (act_view S.PendingData.eq) acts.old.items)
             (self.new.server, pending_jobs self.new.pool, map (act_view S.PendingData.eq) acts.new.items)) }
     {
@@ -314,7 +313,7 @@ where
         acts: &mut Vec<Act<S::PendingData>>,
     ) -> Result<(), AllocError>
         ensures { IfOk result (λ _.
-            StartsOne (stated_jobs S.JobServer.own ⟦<S::KeyedJobs as KeyedJobs<S, J>>⟧ J.Job) name «job»
+            StartsOne ⟦<S as StatesJobs<J>>⟧.jobs name «job»
             (self.old.server, pending_jobs self.old.pool, map (act_view S.PendingData.eq) acts.old.items)
             (self.new.server, pending_jobs self.new.pool, map (act_view S.PendingData.eq) acts.new.items)) }
     {
@@ -482,21 +481,21 @@ where
 
     type PendingData = RequestOrigin<S::PendingData>;
 
-    ghost initialize_post = { (seen_with_jobs T S.Server (stated_jobs S.JobServer.own ⟦<S::KeyedJobs as KeyedJobs<S, J>>⟧ J.Job)).initialize_post };
+    ghost initialize_post = { (seen_with_jobs T S.Server ⟦<S as StatesJobs<J>>⟧.jobs).initialize_post };
 
-    ghost initialized_post = { (seen_with_jobs T S.Server (stated_jobs S.JobServer.own ⟦<S::KeyedJobs as KeyedJobs<S, J>>⟧ J.Job)).initialized_post };
+    ghost initialized_post = { (seen_with_jobs T S.Server ⟦<S as StatesJobs<J>>⟧.jobs).initialized_post };
 
-    ghost request_post = { (seen_with_jobs T S.Server (stated_jobs S.JobServer.own ⟦<S::KeyedJobs as KeyedJobs<S, J>>⟧ J.Job)).request_post };
+    ghost request_post = { (seen_with_jobs T S.Server ⟦<S as StatesJobs<J>>⟧.jobs).request_post };
 
-    ghost notification_post = { (seen_with_jobs T S.Server (stated_jobs S.JobServer.own ⟦<S::KeyedJobs as KeyedJobs<S, J>>⟧ J.Job)).notification_post };
+    ghost notification_post = { (seen_with_jobs T S.Server ⟦<S as StatesJobs<J>>⟧.jobs).notification_post };
 
-    ghost response_post = { (seen_with_jobs T S.Server (stated_jobs S.JobServer.own ⟦<S::KeyedJobs as KeyedJobs<S, J>>⟧ J.Job)).response_post };
+    ghost response_post = { (seen_with_jobs T S.Server ⟦<S as StatesJobs<J>>⟧.jobs).response_post };
 
-    ghost woken_post = { (seen_with_jobs T S.Server (stated_jobs S.JobServer.own ⟦<S::KeyedJobs as KeyedJobs<S, J>>⟧ J.Job)).woken_post };
+    ghost woken_post = { (seen_with_jobs T S.Server ⟦<S as StatesJobs<J>>⟧.jobs).woken_post };
 
-    ghost shutdown_post = { (seen_with_jobs T S.Server (stated_jobs S.JobServer.own ⟦<S::KeyedJobs as KeyedJobs<S, J>>⟧ J.Job)).shutdown_post };
+    ghost shutdown_post = { (seen_with_jobs T S.Server ⟦<S as StatesJobs<J>>⟧.jobs).shutdown_post };
 
-    ghost ids_exhausted_post = { (seen_with_jobs T S.Server (stated_jobs S.JobServer.own ⟦<S::KeyedJobs as KeyedJobs<S, J>>⟧ J.Job)).ids_exhausted_post };
+    ghost ids_exhausted_post = { (seen_with_jobs T S.Server ⟦<S as StatesJobs<J>>⟧.jobs).ids_exhausted_post };
 
     fn initialize(&mut self, params: Value) -> Result<Result<Value, ResponseError>, AllocError> {
         self.server.initialize(params)

@@ -4,10 +4,9 @@ ghost use Rattle.lsp_message.specs.Frame.{no_limit};
 ghost use Rattle.lsp_threads.specs.Passing.{GivenTo, OfTaken, TakenFrom, noted};
 ghost use Rattle.lsp_threads.specs.Threads.{ThreadsTellOver};
 ghost use Rattle.lsp_jobs.specs.JobSession.{JobSession};
-ghost use Rattle.lsp_jobs.specs.Stated.{stated_jobs};
 
 use crate::job::Job;
-use crate::job_server::{JobServer, KeyedJobs};
+use crate::job_server::{JobServer, StatesJobs};
 use crate::pool::{PoolSize, start_pool};
 use crate::pooled_server::PooledServer;
 use lsp_acts::ServerApplication;
@@ -98,13 +97,13 @@ where
     ensures unstarted { OnErr result.1 ((result.0 ≡ server) × (policy.new ≡ policy.old)) }
     ensures told { IfOk result.1 (λ done. OfTaken done.taken.parts (λ text.
         ThreadsTellOver true L.passes options.threads.limits
-        (JobSession T S.Server (stated_jobs S.JobServer.own ⟦<S::KeyedJobs as KeyedJobs<S, J>>⟧ J.Job) server result.0) text
+        (JobSession T S.Server ⟦<S as StatesJobs<J>>⟧.jobs server result.0) text
         policy.old policy.new (Some []) (noted done.given) done.answer)) }
     ensures passed { IfOk result.1 (λ done. TakenFrom (R.remaining reader) done.taken.parts
         × GivenTo (W.contents writer) done.given.parts (W.contents done.writer)) }
     ensures session { IfSome (R.remaining reader) (λ text. IfOk result.1 (λ done.
         ThreadsTellOver true L.passes options.threads.limits
-        (JobSession T S.Server (stated_jobs S.JobServer.own ⟦<S::KeyedJobs as KeyedJobs<S, J>>⟧ J.Job) server result.0) text
+        (JobSession T S.Server ⟦<S as StatesJobs<J>>⟧.jobs server result.0) text
         policy.old policy.new (W.contents writer) (W.contents done.writer) done.answer)) }
 {
     let Ok((mut tx, rx)) = relay::<Contents, ContentsPlan>(alloc, ROOM) else {
