@@ -73,9 +73,17 @@ impl<E: Drop> Entries<E> {
         ensures removed { entry_of self.new ≡ without name.now (entry_of self.old) }
     {
         match name {
-            JobName::Request(id) => self.requests.complete(id),
+            JobName::Request(id) => self.remove_request(id),
             JobName::Keyed(slot) => self.slots.complete(slot.key()),
         }
+    }
+
+    /// Takes out the entry of the request with this id.
+    pub fn remove_request(&mut self, id: &RequestId) -> Option<E>
+        ensures value { result ≡ entry_of self.old (Request id.now) }
+        ensures removed { entry_of self.new ≡ without (Request id.now) (entry_of self.old) }
+    {
+        self.requests.complete(id)
     }
 }
 

@@ -3,6 +3,7 @@ ghost use Rattle.std.specs.Prelude.{◌≡◌, Some, IfOk, IfNone, IfSome, OnErr
 ghost use Rattle.std.specs.Option.{is_some};
 ghost use Rattle.lsp_jobs.specs.PendingJobs.{no_jobs, without, with_job, Tells};
 ghost use Rattle.lsp_jobs.specs.PoolView.{job_message_view, pending_jobs};
+ghost use Rattle.lsp_jobs.specs.declared.names.JobName.TheVariants.{Request as OfRequest};
 
 use crate::asking::Replies;
 use crate::cancellation::CancellationToken;
@@ -10,7 +11,7 @@ use crate::channel::{AnyJob, WorkerMessage};
 use crate::job::{DoneJob, Interrupted, Job, Ran};
 use crate::names::JobName;
 use crate::notifier::Notifier;
-use crate::table::JobTable;
+use crate::table::{Entry, JobTable};
 use crate::waiting_jobs::{JobSource, WaitingJobs, queue_of_jobs};
 use crate::workers::{QueuedJob, join_all, start_job_workers};
 use crossbeam_channel::{Receiver, bounded};
@@ -238,12 +239,22 @@ impl<T: Wait + Drop, J: Job> JobPool<T, J> {
             (pending_jobs self.new ≡ with_job name «job» (pending_jobs self.old)) }
         ensures err { OnErr result (pending_jobs self.new ≡ without name (pending_jobs self.old)) }
     {
-        self.cancel(&name);
+        self.submit_under(&name, job)
+    }
+
+    /// Does what `submit` does, and leaves the name to the caller.
+    pub(crate) fn submit_under(&mut self, name: &JobName, job: J) -> Result<(), SubmitFault>
+        ensures ok { OnOk result
+            (pending_jobs self.new ≡ with_job name.now «job» (pending_jobs self.old)) }
+        ensures err { OnErr result
+            (pending_jobs self.new ≡ without name.now (pending_jobs self.old)) }
+    {
+        self.cancel(name);
         if !self.waiting.has_room(&self.rt, name.is_keyed()) {
             drop(job);
             return Err(SubmitFault::Full);
         }
-        match self.hand_over(&name, job) {
+        match self.hand_over(name, job) {
             Ok(()) => Ok(()),
             Err(_) => Err(SubmitFault::Memory),
         }
@@ -299,10 +310,24 @@ impl<T: Wait + Drop, J: Job> JobPool<T, J> {
         let Some(entry) = self.table.complete(name) else {
             return false;
         };
+        self.end_job(entry);
+        true
+    }
+
+    /// Does what `cancel` does, for the job of the request with this id.
+    pub(crate) fn cancel_request(&mut self, id: &RequestId)
+        ensures { pending_jobs self.new ≡ without (OfRequest id.now) (pending_jobs self.old) }
+    {
+        if let Some(entry) = self.table.complete_request(id) {
+            self.end_job(entry);
+        }
+    }
+
+    /// Makes a job end that is no longer in the table.
+    fn end_job(&self, entry: Entry<J>) {
         let ticket = entry.cancel();
         self.waiting.take_back(&self.rt, ticket);
         self.replies.let_cancelled_go(&self.rt);
-        true
     }
 
     /// Makes all jobs end, as `cancel` does for one, for example because the client shuts the session down.

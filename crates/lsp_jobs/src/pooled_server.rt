@@ -66,7 +66,7 @@ impl<T: Wait + Drop, S: Drop, J: Job> PooledServer<T, S, J> {
         )) }
     {
         if let Some(id) = cancelled_id(notification)? {
-            self.pool.cancel(&JobName::Request(id));
+            self.pool.cancel_request(&id);
         }
         Ok(())
     }
@@ -86,37 +86,25 @@ impl<T: Wait + Drop, S: Drop, J: Job> PooledServer<T, S, J> {
     }
 
     /// Forgets the jobs of requests that the server answers itself.
-    fn forget_answered<P: Drop + PartialEq>(&mut self, acts: &[Act<P>]) -> Result<(), AllocError>
-        ensures { IfOk result (λ _. seen self.new ≡ (
-          self.old.server,
-          unanswered (map (act_view P.eq) acts.now) (pending_jobs self.old.pool),
-        )) }
+    fn forget_answered<P: Drop + PartialEq>(&mut self, acts: &[Act<P>])
+        ensures { seen self.new
+            ≡ (self.old.server, unanswered (map (act_view P.eq) acts.now) (pending_jobs self.old.pool)) }
     {
         for act in acts {
-            self.forget_if_answered(act)?;
+            self.forget_if_answered(act);
         }
-        Ok(())
     }
 
     /// Forgets the job of a request that this act answers.
-    fn forget_if_answered<P: Drop + PartialEq>(&mut self, act: &Act<P>) -> Result<(), AllocError>
-        ensures { IfOk result (λ _. seen self.new
-            ≡ (self.old.server, unanswered (act_view P.eq act.now ∷ []) (pending_jobs self.old.pool))) }
+    fn forget_if_answered<P: Drop + PartialEq>(&mut self, act: &Act<P>)
+        ensures { seen self.new
+            ≡ (self.old.server, unanswered (act_view P.eq act.now ∷ []) (pending_jobs self.old.pool)) }
     {
         match act {
-            Act::Reply(id, _) => self.forget_request(id),
-            Act::ReplyText(id, _) => self.forget_request(id),
-            _ => Ok(()),
+            Act::Reply(id, _) => self.pool.cancel_request(id),
+            Act::ReplyText(id, _) => self.pool.cancel_request(id),
+            _ => (),
         }
-    }
-
-    /// Forgets the job of the request with this id.
-    fn forget_request(&mut self, id: &RequestId) -> Result<(), AllocError>
-        ensures { IfOk result (λ _. seen self.new
-            ≡ (self.old.server, without (OfRequest id.now) (pending_jobs self.old.pool))) }
-    {
-        self.pool.cancel(&JobName::Request(id.clone()?));
-        Ok(())
     }
 }
 
@@ -143,7 +131,7 @@ where
             None => S::KeyedJobs::ended(&mut self.server, &name, end, self.alloc)?,
         };
         push_reply(&mut acts, name, outcome)?;
-        self.forget_answered(&acts)?;
+        self.forget_answered(&acts);
         Ok(acts)
     }
 
@@ -159,7 +147,7 @@ where
             (self.new.server, pending_jobs self.new.pool, map (act_view S.PendingData.eq) acts.new.items)) }
     {
         let mut more = S::KeyedJobs::ended(&mut self.server, name, end, self.alloc)?;
-        self.forget_answered(&more)?;
+        self.forget_answered(&more);
         acts.append(&mut more)
     }
 
@@ -216,10 +204,14 @@ where
               without (OfRequest id) (pending_jobs self.old.pool),
             )))) }
     {
-        let name = JobName::Request(id.clone()?);
+        let name = JobName::Request(id);
+        let mut acts = Vec::new(self.alloc);
         match self.pool.hand_over(&name, job) {
-            Ok(()) => Ok(Vec::new(self.alloc)),
-            Err(_) => one_act(self.alloc, Act::Reply(id, Err(out_of_memory(self.alloc)?))),
+            Ok(()) => Ok(acts),
+            Err(_) => {
+                push_reply(&mut acts, name, Err(out_of_memory(self.alloc)?))?;
+                Ok(acts)
+            }
         }
     }
 
@@ -245,7 +237,7 @@ where
             ChangesSlots ⟦<S as StatesJobs<J>>⟧.jobs (seen self.old) (map (act_view S.PendingData.eq) acts.items)
             (map (act_view S.PendingData.eq) all.items) (seen self.new)) }
     {
-        self.forget_answered(&acts)?;
+        self.forget_answered(&acts);
         let changes = S::KeyedJobs::take_commands(&mut self.server, self.alloc)?;
         self.change_all(changes, acts)
     }
@@ -317,7 +309,7 @@ where
             (self.old.server, pending_jobs self.old.pool, map (act_view S.PendingData.eq) acts.old.items)
             (self.new.server, pending_jobs self.new.pool, map (act_view S.PendingData.eq) acts.new.items)) }
     {
-        match self.pool.submit(name.clone()?, job) {
+        match self.pool.submit_under(&name, job) {
             Ok(()) => Ok(()),
             Err(SubmitFault::Full) => self.end_then(&name, JobEnd::Refused, acts),
             Err(SubmitFault::Memory) => Err(AllocError),
@@ -510,7 +502,7 @@ where
         &mut self,
         request: Request,
     ) -> Result<Vec<Act<RequestOrigin<S::PendingData>>>, AllocError> {
-        self.pool.cancel(&JobName::Request(request.id.clone()?));
+        self.pool.cancel_request(&request.id);
         if self.server.is_long(&request) {
             return self.take_long(request);
         }

@@ -6,6 +6,7 @@ ghost use Rattle.crossbeam_channel.specs.Ends.{receives_on, sends_on};
 ghost use Rattle.lsp_jobs.specs.Outcomes.{KnowsAll, IsSaidBy, all_jobs};
 ghost use Rattle.lsp_jobs.specs.PendingJobs.{no_jobs, without, with_job};
 ghost use Rattle.lsp_jobs.specs.Waiting.{HaveTickets, MaySay, entry_of, pending_of};
+ghost use Rattle.lsp_jobs.specs.declared.names.JobName.TheVariants.{Request as OfRequest};
 
 use crate::cancellation::CancellationToken;
 use crate::channel::{
@@ -15,6 +16,7 @@ use crate::channel::{
 use crate::entries::Entries;
 use crate::job::{Job, Ran};
 use crate::names::JobName;
+use lsp_message::RequestId;
 use std::alloc::{AllocError, Global};
 use std::mem;
 use std::snapshot::Snapshot;
@@ -125,6 +127,13 @@ impl<J: Job> JobTable<J> {
         ensures removed { pending_of self.new.jobs ≡ without name.now (pending_of self.old.jobs) }
     {
         self.jobs.remove(name)
+    }
+
+    /// Takes out the job of the request with this id, which is no longer pending.
+    pub fn complete_request(&mut self, id: &RequestId) -> Option<Entry<J>>
+        ensures { pending_of self.new.jobs ≡ without (OfRequest id.now) (pending_of self.old.jobs) }
+    {
+        self.jobs.remove_request(id)
     }
 
     /// Takes out all jobs.

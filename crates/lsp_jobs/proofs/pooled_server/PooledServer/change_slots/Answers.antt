@@ -12,7 +12,7 @@ pub returns : goal.returns
 returns g c =
     let may = stated_jobs g.S.JobServer g.S.KeyedJobs.KeyedJobs g.J.Job in
     let changes = c.in_ok-changes.changes.items in
-    let forgot = c.in_ok-forget_answered.ensures in
+    let forgot = c.forget_answered.ensures in
     let server = ap (λ (x : _ × PendingJobs _). x.0) forgot in
     let mid = c.take_commands.new.server in
     let view = act_view g.S.PendingData.PartialEq.eq in

@@ -20,7 +20,7 @@ loop-act-preserved g c =
     let split : map see (drop i acts) ≡ see act ∷ rest =
     ap (map see) (drop_more acts i act c.loop-act-test.true ∙ ap (λ (a : Act g.row.P.Denot). a ∷ drop (i + 1) acts)
     (sym c.act-item.is)) in
-    let now = c.in_ok-forget_if_answered.ensures in (
+    let now = c.forget_if_answered.ensures in (
       ap (λ (s : g.row.S.Denot × PendingJobs g.row.J.Denot). s.0) now ∙ c.loop-act.invariant.0,
       ap (λ (s : g.row.S.Denot × PendingJobs g.row.J.Denot). unanswered rest s.1) now
           ∙ (sym (unanswered_first (see act) rest old)

@@ -1,11 +1,10 @@
 use Rattle.serde_json.specs.View.{view}
 use Rattle.std.proofs.Common.{◌∙◌, ap, subst, inl, inr, map, string_bytes}
 use Rattle.std.proofs.lemmas.Result.{IfOk-weaker}
-use Rattle.lsp_message.specs.Id.{Id}
 use Rattle.lsp_acts.specs.View.{act_view}
 use Rattle.lsp_jobs.proofs.PendingLemmas.{given_up, long_again}
 use Rattle.lsp_jobs.specs.Asking.{same_origin}
-use Rattle.lsp_jobs.specs.PendingJobs.{PendingJobs, without}
+use Rattle.lsp_jobs.specs.PendingJobs.{PendingJobs}
 use Rattle.lsp_jobs.specs.PoolView.{pending_jobs}
 use Rattle.lsp_jobs.specs.Pooled.{ChangesSlots, TakesLong}
 use Rattle.lsp_jobs.specs.Seen.{seen}
@@ -16,8 +15,7 @@ use Rattle.lsp_jobs.proofs.pooled_server.PooledServerServer.request.Goals as goa
 pub take_long-requires : goal.take_long-requires
 take_long-requires g c =
     let before = pending_jobs c.args.self.now.pool in
-    let left = c.cancel.ensures.pending
-    ∙ ap (λ (id : Id). without (Request id) before) c.in_ok-clone.ensures in
+    let left = c.cancel_request.ensures in
     ap (λ (p : PendingJobs _). p (Request c.args.request.id)) left ∙ given_up before (Request c.args.request.id)
 
 pub returns-then-is_long : goal.returns-then-is_long
@@ -30,8 +28,7 @@ returns-then-is_long g c =
     let params = view c.args.request.params in
     let did = seen c.take_long.new.self in
     let view_all = act_view (same_origin g.S.PendingData.PartialEq.eq) in
-    let left = c.cancel.ensures.pending
-    ∙ ap (λ (id : Id). without (Request id) before) c.in_ok-clone.ensures in
+    let left = c.cancel_request.ensures in
     IfOk-weaker c.take_long.result _ _ (λ all long. inl (
       c.if-is_long.ensures,
       long_again jobs server before id method params (map view_all all.items) did
@@ -45,8 +42,7 @@ returns g c =
     let acts = map (act_view g.S.PendingData.PartialEq.eq) c.in_ok-acts.acts.items in
     let did = c.request-2.new.self in
     let before = pending_jobs c.args.self.now.pool in
-    let left = c.cancel.ensures.pending
-    ∙ ap (λ (id : Id). without (Request id) before) c.in_ok-clone.ensures in
+    let left = c.cancel_request.ensures in
     IfOk-weaker c.acts_with_changes.result _ _ (λ all others. inr (
       c.if-is_long.ensures,
       (
