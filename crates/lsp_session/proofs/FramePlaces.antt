@@ -7,7 +7,7 @@ use Rattle.std.proofs.Common.{arith, inl, inr, ◌⊎◌, take-append-drop, true
 use Rattle.std.proofs.Math.Seq.{get_or-append_seam, take-append_seam, drop-append_seam}
 use Rattle.std.proofs.lemmas.Bool.{lt-ltb, le-ltb}
 use Rattle.std.proofs.lemmas.Bool.Decides.{Decides-eqb}
-use Rattle.std.proofs.lemmas.List.{take-append-le, drop-append-le}
+use Rattle.std.proofs.lemmas.List.{take-append-le}
 use Rattle.std.proofs.lemmas.Slice.Eq.{ends_is}
 use Rattle.std.specs.List.{ends_with}
 use Rattle.std.specs.Result.{result_err, is_err, is_ok}
@@ -21,9 +21,8 @@ use Rattle.lsp_message.specs.Message.{Message}
 use Rattle.lsp_message.specs.Reading.{Reading, found}
 use Rattle.lsp_message.specs.ReadingSteps.{Decodes}
 use Rattle.lsp_message.specs.View.{message_view}
-use Rattle.lsp_message.specs.declared.frame.Front.TheVariants.{More}
 use Rattle.lsp_message.specs.declared.frame.ReadFault.{ReadFault}
-use Rattle.lsp_message.specs.declared.frame.ReadFault.TheVariants.{Input, Memory, HeaderTooLong, TooLong, NoLength}
+use Rattle.lsp_message.specs.declared.frame.ReadFault.TheVariants.{Memory, HeaderTooLong, TooLong, NoLength}
 use Rattle.lsp_message.specs.declared.frame.ReadFault.TheVariants.{LineNotText, LineEnd, NoJson, ShortBody}
 use Rattle.lsp_message.specs.declared.frame.header.HeaderLine.{HeaderLine}
 use Rattle.lsp_message.specs.declared.frame.header.HeaderLine.TheVariants.{Blank}
@@ -95,21 +94,18 @@ nothing = refl
 
 pub begins_with : (limits : Limits) (text : List ℕ) (fault : ReadFault) → (reading_within limits text).outcome
     ≡ Err fault → BeginsWithFault limits text fault
-begins_with limits text (Input kind) is = tt
 begins_with limits text Memory is = tt
 begins_with limits text fault is = is
 
 pub fault_kept : (limits : Limits) (text : List ℕ) (fault : ReadFault) → BeginsWithFault limits text fault
     → IsFaultOf limits text fault
-fault_kept limits text (Input kind) is = λ _ never. absurd (never kind refl)
-fault_kept limits text Memory is = λ never _. absurd (never refl)
-fault_kept limits text fault is = λ _ _. ap result_err is
+fault_kept limits text Memory is = λ never. absurd (never refl)
+fault_kept limits text fault is = λ _. ap result_err is
 
 pub fault_known : (limits : Limits) (text : List ℕ) (fault : ReadFault) → IsFaultOf limits text fault
     → BeginsWithFault limits text fault
-fault_known limits text (Input kind) is = tt
 fault_known limits text Memory is = tt
-fault_known limits text fault is = known (reading_within limits text).outcome (is (λ e. cc (e)) (λ kind e. cc (e)))
+fault_known limits text fault is = known (reading_within limits text).outcome (is (λ e. cc (e)))
   where
     known : (r : Result (Option Message) ReadFault) → result_err r ≡ Some fault → r ≡ Err fault
     known (Ok found) e = cc (e)
@@ -376,7 +372,6 @@ module _ (limits : Limits) where
 
       pub read_fault : (fault : ReadFault) → Decodes message_view (Err fault) (body_means (drop start new))
           → BeginsWithFault limits new fault
-      read_fault (Input kind) means = tt
       read_fault Memory means = tt
       read_fault fault means = subst (λ (l : List ℕ). (reading_within limits l).outcome ≡ Err fault)
           (take-append-drop start new) (whole_fault size (take start new) (drop start new) head size_of fault means)

@@ -17,6 +17,7 @@ pub mod Knowing
 pub mod Late
 pub mod Lending
 pub mod MachineRows
+pub mod MessagesEnd
 pub mod TransportRuns
 pub mod Noting
 pub mod Ordering
@@ -25,6 +26,7 @@ pub mod PendingFrames
 pub mod Ran
 pub mod ReadsOn
 pub mod Refused
+pub mod RefusedBytes
 pub mod RefusedDialogs
 pub mod RefusedPassing
 pub mod RefusedReplies

@@ -9,16 +9,19 @@ use Rattle.lsp_message.specs.View.{message_view}
 use Rattle.lsp_message.specs.Written.{AreFramesOf}
 use Rattle.lsp_message.specs.declared.frame.Front.TheVariants.{More}
 use Rattle.lsp_message.specs.declared.frame.ReadFault.{ReadFault}
-use Rattle.lsp_message.specs.declared.frame.ReadFault.TheVariants.{Input, Memory, HeaderTooLong, TooLong}
+use Rattle.lsp_message.specs.declared.frame.ReadFault.TheVariants.{Memory, HeaderTooLong, TooLong}
 use Rattle.lsp_message.specs.declared.frame.limits.Limits.{Limits}
 use Rattle.lsp_message.specs.declared.msg.Message as msg
-use Rattle.lsp_session.specs.Event.{Event, message}
+use Rattle.lsp_session.specs.Event.{Event, message, closed}
 use Rattle.lsp_session.specs.Machine.{Advances, IsAwaited}
 use Rattle.lsp_session.specs.ProtocolError.{out_of_memory}
 use Rattle.lsp_session.specs.Session.{Behavior}
 use Rattle.lsp_session.specs.SessionOutcome.{served_by}
+use Rattle.lsp_session.specs.declared.loops.ReadEnd.{ReadEnd}
+use Rattle.lsp_session.specs.declared.loops.ReadEnd.TheVariants.{End as AtEnd, Fault as AtFault}
 use Rattle.lsp_session.specs.declared.loops.machine.Stage.{Stage}
 use Rattle.lsp_session.specs.declared.loops.machine.Stage.TheVariants.{Ended}
+use Rattle.lsp_session.specs.declared.loops.session_outcome.StopReason.TheVariants.{NoMore}
 
 -- these bytes are the frame of the message, whatever follows them
 abbrev pub IsFrameRead : Limits → Message → List ℕ → Type 0
@@ -26,7 +29,6 @@ IsFrameRead limits m frame = (rest : List ℕ) → Begins limits (frame ++ rest)
 
 -- The bytes begin with this fault. Of a want of memory nothing is said of the bytes.
 abbrev pub BeginsWithFault : Limits → List ℕ → ReadFault → Type 0
-BeginsWithFault limits text (Input kind) = Unit {0}
 BeginsWithFault limits text Memory = Unit {0}
 BeginsWithFault limits text fault = (reading_within limits text).outcome ≡ Err fault
 
@@ -42,6 +44,18 @@ ReadsOne limits text (Ok (Some m)) left = (frame : List ℕ) × IsFrameRead limi
     × (text ≡ frame ++ left)
 ReadsOne limits text (Ok None) left = left ≡ text
 ReadsOne limits text (Err fault) left = (left ≡ text) × BeginsWithFault limits text fault
+
+-- What ends the messages is a fact of the bytes that are unread then. They end at the start of a header line, or they
+-- begin with this fault.
+abbrev pub IsEndOf : Limits → List ℕ → ReadEnd → Type 0
+IsEndOf limits text AtEnd = (reading_within limits text).outcome ≡ Ok None
+IsEndOf limits text (AtFault fault) = BeginsWithFault limits text fault
+IsEndOf limits text end = ⊥
+
+-- the session goes on, or it ended for another reason than the end of the messages
+abbrev pub StopsOtherwise : Stage → Type 0
+StopsOtherwise (Ended outcome) = outcome.stop ≢ NoMore
+StopsOtherwise stage = Unit {0}
 
 -- the bytes that are read for an event: a message has its frame, and the other events have no bytes
 abbrev pub IsReadFor : Limits → Event → List ℕ → Type 0
@@ -102,6 +116,18 @@ abbrev pub writes_of : List Exchanged → List ℕ
 writes_of [] = []
 writes_of (x ∷ xs) = x.written ++ writes_of xs
 
+abbrev pub IsMessage : Event → Type 0
+IsMessage (message m) = Unit {0}
+IsMessage event = ⊥
+
+-- Bytes bring messages, and no other event, and what is reported as the end of the messages stays. Or the last event is
+-- the end of the messages, and the report is a fault with which the bytes that are left begin.
+abbrev pub BringMessages : Limits → Option ReadEnd → List Exchanged → List ℕ → Option ReadEnd → Type 0
+BringMessages limits was [] left end = end ≡ was
+BringMessages limits was (x ∷ xs) left end = (IsMessage x.event × BringMessages limits was xs left end)
+    ⊎ ((x.event ≡ closed) × (xs ≡ [])
+    × ((fault : ReadFault) × (end ≡ Some (AtFault fault)) × BeginsWithFault limits left fault))
+
 module _ (limits : Limits) (most : ℕ) {S : Type 0} (may : Behavior S) where
   -- one exchange of a session
   pub record Exchanges (old : Standing S) (x : Exchanged) (new : Standing S) : Type 0 where
@@ -110,11 +136,14 @@ module _ (limits : Limits) (most : ℕ) {S : Type 0} (may : Behavior S) where
     pub room : HasRoomFor most x.event old.pending
     pub answers : Answers may old x.event x.written new
 
-  -- What a session did: its exchanges, one after another. The bytes that were unread and those that came are what was
-  -- read for the exchanges, and then what is unread now. What was pending and what was written for the exchanges is
-  -- pending now, in this order.
-  pub record Goes (old : Standing S) (unread came : List ℕ) (new : Standing S) (left : List ℕ) : Type 0 where
+  -- What a session did for bytes: its exchanges, one after another. The bytes that were unread and those that came are
+  -- what was read for the exchanges, and then what is unread now. What was pending and what was written for the
+  -- exchanges is pending now, in this order. Nothing wakes the service, and no time passes. Only a fault of the bytes
+  -- ends the messages, and it is reported.
+  pub record Goes (old : Standing S) (unread : List ℕ) (was : Option ReadEnd) (came : List ℕ) (new : Standing S)
+      (left : List ℕ) (end : Option ReadEnd) : Type 0 where
     pub exchanges : List Exchanged
     pub taken : FoldsTo Exchanges old exchanges new
+    pub events : BringMessages limits was exchanges left end
     pub read : unread ++ came ≡ reads_of exchanges ++ left
     pub written : new.pending ≡ old.pending ++ writes_of exchanges

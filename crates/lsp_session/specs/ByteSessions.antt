@@ -1,9 +1,18 @@
 -- A session between bytes and bytes, as contracts see it.
-use Rattle.std.specs.Prelude.{◌≡◌, ◌⊎◌, ℕ, List}
-use Rattle.lsp_session.specs.ByteSession.{AwaitsMore, Standing}
+use Rattle.std.specs.Prelude.{◌≡◌, ◌⊎◌, ℕ, List, Option, Some, None}
+use Rattle.lsp_message.specs.declared.frame.limits.Limits.{Limits}
+use Rattle.lsp_session.specs.ByteSession.{AwaitsMore, IsEndOf, Standing, StopsOtherwise}
 use Rattle.lsp_session.specs.PendingOutput.{waiting}
 use Rattle.lsp_session.specs.TransportTurn.{IsOver}
+use Rattle.lsp_session.specs.declared.loops.ReadEnd.{ReadEnd}
 use Rattle.lsp_session.specs.declared.loops.byte_session.ByteSession.{ByteSession}
+use Rattle.lsp_session.specs.declared.loops.machine.Stage.{Stage}
+
+-- Of a session in this stage, with these bytes unread: this ended the messages, and the session with them, or nothing
+-- did.
+abbrev pub EndIsKnown : Limits → List ℕ → Stage → Option ReadEnd → Type 0
+EndIsKnown limits text stage None = StopsOtherwise stage
+EndIsKnown limits text stage (Some end) = IsOver stage × IsEndOf limits text end
 
 module _ {S : Type 0} where
   -- where the session stands
@@ -18,6 +27,11 @@ module _ {S : Type 0} where
   -- came whole.
   abbrev pub HasServed : ByteSession S → Type 0
   HasServed b = IsOver b.core.stage ⊎ AwaitsMore b.input.limits (unread b)
+
+  -- What the session reports as the end of its messages is that of the unread bytes. If it reports none, it goes on, or
+  -- it ended for another reason.
+  abbrev pub KnowsEnd : ByteSession S → Type 0
+  KnowsEnd b = EndIsKnown b.input.limits (unread b) b.core.stage b.end
 
   -- the bounds stay
   abbrev pub KeepsBounds : ByteSession S → ByteSession S → Type 0

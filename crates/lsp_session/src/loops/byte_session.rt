@@ -1,7 +1,7 @@
 // A session of a server between bytes and bytes.
 ghost use Rattle.std.specs.Prelude.{◌≡◌, ◌≤◌, ◌<◌, ◌⊎◌, [], length, drop as drop_front, take, IsTrue, None, Some};
-ghost use Rattle.lsp_session.specs.ByteSession.{Comes, Goes};
-ghost use Rattle.lsp_session.specs.ByteSessions.{standing, unread, HasServed, KeepsBounds};
+ghost use Rattle.lsp_session.specs.ByteSession.{BeginsWithFault, Comes, Goes};
+ghost use Rattle.lsp_session.specs.ByteSessions.{standing, unread, HasServed, KeepsBounds, KnowsEnd};
 ghost use Rattle.lsp_session.specs.Event.{closed, timeout, woken};
 ghost use Rattle.lsp_session.specs.Machine.{awaited_in, came_view, outcome_of};
 ghost use Rattle.lsp_session.specs.SessionFault.{session_answer as session_answer_spec};
@@ -70,6 +70,7 @@ impl<S: Service> ByteSession<S> {
         ensures most { result.most_pending ≡ most_pending }
         ensures unended { result.end ≡ None }
         ensures served { HasServed result }
+        ensures known { KnowsEnd result }
     {
         ByteSession {
             core: SessionCore::new(alloc),
@@ -101,13 +102,17 @@ impl<S: Service> ByteSession<S> {
     /// Takes bytes that arrived, in pieces of any size, and serves each message as soon as it is whole. It returns how
     /// many bytes it took: all of them, unless the session ends or more than `most_pending` bytes are to be sent. Pass
     /// in the others again when enough of the output was sent.
+    ///
+    /// The session takes no other event for bytes. It ends here at its last message, at a fault of the bytes, or because
+    /// memory ran out.
     pub fn receive(&mut self, bytes: &[u8]) -> usize
         ensures within { result ≤ length bytes.now }
         ensures goes { Goes self.old.input.limits self.old.most_pending S.behavior (standing self.old) (unread self.old)
-            (take result bytes.now) (standing self.new) (unread self.new) }
+            self.old.end (take result bytes.now) (standing self.new) (unread self.new) self.new.end }
         ensures all { (result ≡ length bytes.now) ⊎ IsOver (standing self.new).stage
             ⊎ (self.new.most_pending < length (standing self.new).pending) }
         ensures served { HasServed self.old → HasServed self.new }
+        ensures known { KnowsEnd self.old → KnowsEnd self.new }
         ensures kept { KeepsBounds self.old self.new }
     {
         let mut taken = 0;
@@ -124,8 +129,9 @@ impl<S: Service> ByteSession<S> {
         ensures within { result ≤ length bytes.now }
         ensures some { (0 < length bytes.now → 0 < result) ⊎ IsOver (standing self.new).stage }
         ensures goes { Goes self.old.input.limits self.old.most_pending S.behavior (standing self.old) (unread self.old)
-            (take result bytes.now) (standing self.new) (unread self.new) }
+            self.old.end (take result bytes.now) (standing self.new) (unread self.new) self.new.end }
         ensures served { HasServed self.new }
+        ensures known { KnowsEnd self.old → KnowsEnd self.new }
         ensures kept { KeepsBounds self.old self.new }
     {
         let (count, read) = self.input.receive(bytes);
@@ -137,11 +143,14 @@ impl<S: Service> ByteSession<S> {
         count
     }
 
-    /// Ends the messages with this fault.
+    /// Ends the messages with this fault, with which the unread bytes begin.
     fn fail(&mut self, fault: ReadFault)
-        ensures goes { Goes self.old.input.limits self.old.most_pending S.behavior (standing self.old) (unread self.old) []
-            (standing self.new) (unread self.new) }
+        requires waits { IsOver (standing self.old).stage → ⊥ }
+        requires begins { BeginsWithFault self.old.input.limits (unread self.old) fault }
+        ensures goes { Goes self.old.input.limits self.old.most_pending S.behavior (standing self.old) (unread self.old)
+            self.old.end [] (standing self.new) (unread self.new) self.new.end }
         ensures ends { self.new.end ≡ Some (Fault fault) }
+        ensures known { KnowsEnd self.new }
         ensures over { IsOver (standing self.new).stage }
         ensures kept { KeepsBounds self.old self.new }
     {
@@ -175,15 +184,13 @@ impl<S: Service> ByteSession<S> {
         ensures comes { Comes S.behavior (standing self.old) closed (standing self.new) }
         ensures unread { unread self.new ≡ unread self.old }
         ensures over { IsOver (standing self.new).stage }
+        ensures known { KnowsEnd self.old → KnowsEnd self.new }
         ensures kept { KeepsBounds self.old self.new }
     {
         if self.core.awaits() == Awaits::Nothing {
             return;
         }
-        self.end = Some(match self.input.fault_at_end() {
-            Some(fault) => ReadEnd::Fault(fault),
-            None => ReadEnd::End,
-        });
+        self.end = Some(self.input.end_of_input());
         self.come(Came::Closed);
     }
 
@@ -193,6 +200,7 @@ impl<S: Service> ByteSession<S> {
         ensures comes { Comes S.behavior (standing self.old) woken (standing self.new) }
         ensures unread { unread self.new ≡ unread self.old }
         ensures served { HasServed self.old → HasServed self.new }
+        ensures known { KnowsEnd self.old → KnowsEnd self.new }
         ensures kept { KeepsBounds self.old self.new }
     {
         self.come(Came::Woken);
@@ -204,6 +212,7 @@ impl<S: Service> ByteSession<S> {
         ensures comes { Comes S.behavior (standing self.old) timeout (standing self.new) }
         ensures unread { unread self.new ≡ unread self.old }
         ensures served { HasServed self.old → HasServed self.new }
+        ensures known { KnowsEnd self.old → KnowsEnd self.new }
         ensures kept { KeepsBounds self.old self.new }
     {
         self.come(Came::Timeout);
@@ -223,6 +232,7 @@ impl<S: Service> ByteSession<S> {
         ensures sent { standing self.new ≡ record (standing self.old) { pending = drop_front count (standing self.old).pending } }
         ensures unread { unread self.new ≡ unread self.old }
         ensures served { HasServed self.old → HasServed self.new }
+        ensures known { KnowsEnd self.old → KnowsEnd self.new }
         ensures kept { KeepsBounds self.old self.new }
     {
         self.output.sent(count);

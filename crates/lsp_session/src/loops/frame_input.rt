@@ -2,11 +2,12 @@
 ghost use Rattle.std.specs.Prelude.{◌≡◌, ◌⊎◌, ◌<◌, ◌≤◌, ◌+◌, ◌++◌, [], ℕ, Option, length, drop as drop_front, take, Ok, Some, None, IfOk, IfErr, IsTrue, MatchOption};
 ghost use Rattle.lsp_message.specs.Frame.{reading_within};
 ghost use Rattle.lsp_message.specs.View.{message_view};
-ghost use Rattle.lsp_session.specs.ByteSession.{AwaitsMore, BeginsWithFault, ReadsOne};
+ghost use Rattle.lsp_session.specs.ByteSession.{AwaitsMore, BeginsWithFault, IsEndOf, ReadsOne};
 ghost use Rattle.lsp_session.specs.FramePlace.{AreFields, HasNoFeed, InContent, InHeader, IsFaultOf, IsLine, IsPlaceOf};
 ghost use Rattle.lsp_message.specs.declared.frame.ReadFault.{ReadFault};
 ghost use Rattle.lsp_session.specs.declared.loops.frame_input.Place.TheVariants.{Content, Fault, Header};
 
+use crate::loops::ReadEnd;
 use lsp_message::{HeaderLine, Limits, Message, ReadFault, header_line};
 use memchr::memchr;
 use std::alloc::Global;
@@ -156,9 +157,20 @@ impl FrameInput {
         }
     }
 
+    /// Returns what ends the messages where the input ends: the end of the input at the start of a line of a header
+    /// part, and a fault elsewhere.
+    pub(crate) fn end_of_input(&self) -> ReadEnd
+        ensures { IsEndOf self.now.limits self.now.bytes.items result }
+    {
+        match self.fault_at_end() {
+            Some(fault) => ReadEnd::Fault(fault),
+            None => ReadEnd::End,
+        }
+    }
+
     /// Returns the fault with which the messages end if no more bytes arrive. There is none at the start of a line of a
     /// header part.
-    pub(crate) fn fault_at_end(&self) -> Option<ReadFault>
+    fn fault_at_end(&self) -> Option<ReadFault>
         ensures { MatchOption result ((reading_within self.now.limits self.now.bytes.items).outcome ≡ Ok None)
             (BeginsWithFault self.now.limits self.now.bytes.items) }
     {

@@ -1,6 +1,7 @@
-use Rattle.std.proofs.Common.{◌∙◌, ◌-◌, length, take, drop}
+use Rattle.std.proofs.Common.{◌∙◌, ◌-◌, length, take, drop, rules}
 use Rattle.lsp_session.proofs.ByteHistory.{goes_more, goes_same, within_more}
 use Rattle.lsp_session.specs.ByteSessions.{standing, unread}
+use Rattle.lsp_session.specs.TransportTurn.{IsOver}
 use Rattle.lsp_session.proofs.loops.byte_session.ByteSession.receive.Goals as goal
 
 pub loop-taken-preserved : goal.loop-taken-preserved
@@ -14,12 +15,15 @@ loop-taken-preserved g c =
     let may = g.S.Service.behavior in
     let before = c.loop-taken.invariant in
     let part = c.receive_part-taken.ensures in
+    let waits : IsOver (standing old).stage → ⊥ = search rules in
     record {
       within = within_more n r bytes before.within part.within;
       goes = goes_more start.input.limits start.most_pending may (standing start) (standing old) (standing new)
-          (unread start) (unread old) (unread new) bytes n r before.goes (goes_same start.input.limits old.input.limits
-          start.most_pending old.most_pending may (standing old) (standing new) (unread old)
-          (take r (take (length bytes - n) (drop n bytes))) (unread new) before.kept.0 before.kept.1 part.goes);
+          (unread start) (unread old) (unread new) start.end old.end new.end bytes n r waits before.goes
+          (goes_same start.input.limits old.input.limits start.most_pending old.most_pending may (standing old)
+          (standing new) (unread old) old.end (take r (take (length bytes - n) (drop n bytes))) (unread new) new.end
+          before.kept.0 before.kept.1 part.goes);
       served = λ _. part.served;
+      known = λ first. part.known (before.known first);
       kept = (part.kept.0 ∙ before.kept.0, part.kept.1 ∙ before.kept.1);
     }

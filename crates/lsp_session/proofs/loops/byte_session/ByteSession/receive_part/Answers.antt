@@ -1,11 +1,15 @@
-use Rattle.std.proofs.Common.{refl, ap, subst, ◌∙◌, inl, inr, ◌++◌, ◌<◌, [], take, length, Option, Result, Ok, Err}
+use Rattle.std.proofs.Common.{refl, sym, ap, subst, ◌∙◌, inl, inr, ℕ, List, ◌++◌, ◌<◌, [], take, length, Option}
+use Rattle.std.proofs.Common.{Result, Ok}
 use Rattle.std.proofs.Common.{IfOk}
 use Rattle.lsp_message.specs.View.{message_view}
 use Rattle.lsp_message.specs.declared.frame.ReadFault.{ReadFault}
+use Rattle.lsp_message.specs.declared.frame.limits.Limits.{Limits}
 use Rattle.lsp_message.specs.declared.msg.Message as msg
 use Rattle.lsp_session.proofs.ByteHistory.{goes_on, goes_kept, goes_message, goes_same, goes_still}
+use Rattle.lsp_session.proofs.MessagesEnd.{known_open, knows_still}
 use Rattle.lsp_session.proofs.Served.{served_after}
-use Rattle.lsp_session.specs.ByteSession.{AwaitsMore, ReadsOne}
+use Rattle.lsp_session.specs.ByteSession.{AwaitsMore, BeginsWithFault, ReadsOne}
+use Rattle.lsp_session.specs.Event.{message}
 use Rattle.lsp_session.specs.ByteSessions.{standing, unread}
 use Rattle.lsp_session.specs.declared.loops.frame_input.FrameInput.{FrameInput}
 use Rattle.lsp_session.proofs.loops.byte_session.ByteSession.receive_part.Goals as goal
@@ -28,10 +32,11 @@ returns-in-Ok-Some-clause-goes g c =
     let left = c.receive-count.new.self.bytes.items in
     let read = subst (λ (r : Result (Option msg.Message) ReadFault). ReadsOne limits text r left)
     (c.in-Ok-Some.is ∙ ap Ok c.in-Ok-Some.field-0-is) c.receive-count.ensures.read in
-    goes_on limits start.most_pending may (standing start) (standing new) (unread start) text (unread new) part refl
-    (goes_message limits start.most_pending may (standing start) (standing new) (message_view c.in-Ok-Some.message)
-    read.0 text left (unread new) read.1 read.2 (ap (λ (i : FrameInput). i.bytes.items) c.come.ensures.input)
-    c.requires.room c.requires.waits c.come.ensures.comes)
+    goes_on limits start.most_pending may (standing start) (standing new) (unread start) text (unread new) start.end
+    new.end part refl (goes_message limits start.most_pending may (standing start) (standing new)
+    (message_view c.in-Ok-Some.message) read.0 text left (unread new) start.end new.end read.1 read.2
+    (ap (λ (i : FrameInput). i.bytes.items) c.come.ensures.input) c.come.ensures.end c.requires.room c.requires.waits
+    c.come.ensures.comes)
 
 pub returns-in-Ok-Some-clause-served : goal.returns-in-Ok-Some-clause-served
 returns-in-Ok-Some-clause-served g c =
@@ -56,8 +61,8 @@ returns-in-Ok-None-clause-goes g c =
     let left = c.receive-count.new.self.bytes.items in
     let read = subst (λ (r : Result (Option msg.Message) ReadFault). ReadsOne limits text r left)
     (c.in-Ok-None.is ∙ ap Ok c.in-Ok-None.field-0-is) c.receive-count.ensures.read in
-    goes_on limits start.most_pending may (standing start) (standing start) (unread start) text left part refl
-    (goes_still limits start.most_pending may (standing start) text left read)
+    goes_on limits start.most_pending may (standing start) (standing start) (unread start) text left start.end
+    start.end part refl (goes_still limits start.most_pending may (standing start) text start.end left read)
 
 pub returns-in-Ok-None-clause-served : goal.returns-in-Ok-None-clause-served
 returns-in-Ok-None-clause-served g c =
@@ -80,10 +85,41 @@ returns-in-Err-clause-goes g c =
     let left = input.bytes.items in
     let read = subst (λ (r : Result (Option msg.Message) ReadFault). ReadsOne limits text r left) c.in-Err.is
     c.receive-count.ensures.read in
-    goes_on limits start.most_pending may (standing start) (standing new) (unread start) text (unread new) part refl
-    (goes_kept limits start.most_pending may (standing start) (standing new) text left [] (unread new) read.0
-    (goes_same limits input.limits start.most_pending start.most_pending may (standing start) (standing new) left []
-    (unread new) c.receive-count.ensures.limits refl c.fail.ensures.goes))
+    goes_on limits start.most_pending may (standing start) (standing new) (unread start) text (unread new) start.end
+    new.end part refl (goes_kept limits start.most_pending may (standing start) (standing new) text left start.end []
+    (unread new) new.end read.0 (goes_same limits input.limits start.most_pending start.most_pending may
+    (standing start) (standing new) left start.end [] (unread new) new.end c.receive-count.ensures.limits refl
+    c.fail.ensures.goes))
 
 pub returns-in-Err-clause-served : goal.returns-in-Err-clause-served
 returns-in-Err-clause-served g c = inl c.fail.ensures.over
+
+pub returns-in-Ok-Some-clause-known : goal.returns-in-Ok-Some-clause-known
+returns-in-Ok-Some-clause-known g c =
+    let start = c.args.self.now in
+    let read = record start { input = c.receive-count.new.self } in λ known.
+    knows_still g.S.Service.behavior read c.come.new.self (message (message_view c.in-Ok-Some.message)) (λ e. cc (e))
+    c.come.ensures.comes c.come.ensures.input c.come.ensures.end (known_open start.input.limits read.input.limits
+    (unread start) (unread read) start.core.stage start.end c.requires.waits known)
+
+pub returns-in-Ok-None-clause-known : goal.returns-in-Ok-None-clause-known
+returns-in-Ok-None-clause-known g c =
+    let start = c.args.self.now in
+    let input = c.receive-count.new.self in λ known.
+    known_open start.input.limits input.limits (unread start) input.bytes.items start.core.stage start.end
+    c.requires.waits known
+
+pub fail-requires-clause-begins : goal.fail-requires-clause-begins
+fail-requires-clause-begins g c =
+    let start = c.args.self.now in
+    let limits = start.input.limits in
+    let left = c.receive-count.new.self.bytes.items in
+    let text = unread start ++ take c.receive-count.result.0 c.args.bytes.now in
+    let fault = c.in-Err.fault in
+    let read = subst (λ (r : Result (Option msg.Message) ReadFault). ReadsOne limits text r left) c.in-Err.is
+    c.receive-count.ensures.read in
+    subst (λ (l : Limits). BeginsWithFault l left fault) (sym c.receive-count.ensures.limits)
+    (subst (λ (l : List ℕ). BeginsWithFault limits l fault) (sym read.0) read.1)
+
+pub returns-in-Err-clause-known : goal.returns-in-Err-clause-known
+returns-in-Err-clause-known g c = λ known. c.fail.ensures.known
