@@ -1,13 +1,14 @@
 // The frames that a session has to send, until they are sent.
 ghost use Rattle.serde_json.specs.View.{view};
-ghost use Rattle.std.specs.Prelude.{◌≡◌, ◌≤◌, ◌++◌, Ok, [], ◌∷◌, length, drop as drop_front, IfOk, OnErr, string_bytes};
+ghost use Rattle.std.specs.Prelude.{◌≡◌, ◌≤◌, ◌++◌, Ok, [], length, drop as drop_front, IfOk, OnErr, string_bytes};
 ghost use Rattle.lsp_message.specs.Message.{response};
 ghost use Rattle.lsp_message.specs.View.{message_view};
 
 use crate::error::ProtocolError;
 use crate::lifecycle::{Outbox, SendFault, TextOutbox, null_response};
-use crate::loops::machine::{Turn, TurnOutput};
-use crate::loops::service::{Sendable, send_message};
+use crate::loops::machine::Turn;
+use crate::loops::service::{Sendable, WithTexts, send_message};
+use crate::loops::transport::send_turn;
 use lsp_message::{Message, RequestId, ResultText};
 use std::alloc::{AllocError, Global};
 
@@ -83,7 +84,7 @@ impl PendingOutput {
 }
 
 impl PendingOutput {
-    ghost use Rattle.lsp_session.specs.Machine.{sends_of, turn_sends};
+    ghost use Rattle.lsp_session.specs.Machine.{turn_sends};
     ghost use Rattle.lsp_session.specs.PendingOutput.{waiting, AddsFrames};
 
     /// Adds the frames of a turn's messages, in order, up to one for which memory runs out.
@@ -91,29 +92,11 @@ impl PendingOutput {
         ensures { AddsFrames (waiting self.old) (turn_sends T.shows turn) result (waiting self.new) }
     {
         let Turn { output, reply } = turn;
-        self.add_output(output)?;
+        send_turn::<PendingOutput, T, WithTexts>(self, output)?;
         match reply {
-            Some(id) => self.add_reply(null_response(id)),
+            Some(id) => send_message(self, null_response(id)),
             None => Ok(()),
         }
-    }
-
-    /// Adds the frames of an output.
-    fn add_output<T: Sendable>(&mut self, output: TurnOutput<T>) -> Result<(), ProtocolError>
-        ensures { AddsFrames (waiting self.old) (sends_of T.shows output) result (waiting self.new) }
-    {
-        match output {
-            TurnOutput::Nothing => Ok(()),
-            TurnOutput::One(message) => self.add_reply(message),
-            TurnOutput::Given(output) => output.send_on(self),
-        }
-    }
-
-    /// Adds the frame of one message.
-    fn add_reply(&mut self, message: Message) -> Result<(), ProtocolError>
-        ensures { AddsFrames (waiting self.old) (message_view message ∷ []) result (waiting self.new) }
-    {
-        send_message(self, message)
     }
 }
 

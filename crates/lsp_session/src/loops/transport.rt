@@ -115,7 +115,7 @@ fn wait<L: WakingInbox>(transport: &mut L, session: &SessionCore) -> Came
 
 /// Sends the messages of a turn in order, up to the first that is refused.
 #[inline(always)]
-fn send_turn<O: Outbox, T: Sendable, W: Sending<O, T>>(
+pub(crate) fn send_turn<O: Outbox, T: Sendable, W: Sending<O, T>>(
     outbox: &mut O,
     output: TurnOutput<T>,
 ) -> Result<(), ProtocolError>
