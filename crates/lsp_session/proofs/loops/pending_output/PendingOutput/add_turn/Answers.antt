@@ -1,5 +1,6 @@
 use Rattle.std.proofs.Common.{[], ◌∷◌, subst}
 use Rattle.std.proofs.lemmas.Result.{err_from_is_err_and}
+use Rattle.lsp_message.specs.View.{message_view}
 use Rattle.lsp_session.proofs.PendingFrames.{adds_all, adds_then, adds_some_with}
 use Rattle.lsp_session.specs.Machine.{sends_of}
 use Rattle.lsp_session.specs.PendingOutput.{waiting, AddsFrames}
@@ -24,7 +25,8 @@ returns-in-Some g c =
     c.send_turn.new.outbox c.send_turn.ensures) in
     let last = subst (λ m. AddsFrames {E = ProtocolFault} (waiting c.send_turn.new.outbox) (m ∷ [])
     c.send_message.result (waiting c.send_message.new.outbox)) c.null_response.ensures (adds_all c.send_turn.new.outbox
-    _ c.send_message.result c.send_message.new.outbox c.send_message.ensures) in
+    (message_view c.null_response.result ∷ []) c.send_message.result c.send_message.new.outbox c.send_message.ensures)
+    in
     rw c.in-Some.is (adds_then (waiting c.args.self.now) (waiting c.send_turn.new.outbox)
     (waiting c.send_message.new.outbox) sent (null_reply c.in-Some.id ∷ []) c.send_message.result first last)
 
