@@ -5,6 +5,7 @@ What it says in text is the stored run. The other forms say the same. It ends in
 """
 import json
 import os
+import resource
 import subprocess
 import sys
 import xml.etree.ElementTree as xml
@@ -199,8 +200,37 @@ def check_page():
         expect(f"the bars of {name}", page.count('class="row"'), requests)
 
 
+def with_open_requests(many):
+    """A log in which three of four requests get no reply, each with an id and a token of its own, and progress comes under them."""
+    lines = [
+        '-> {"jsonrpc":"2.0","id":-1,"method":"initialize","params":{}}',
+        '<- {"jsonrpc":"2.0","id":-1,"result":{"capabilities":{}}}',
+        '-> {"jsonrpc":"2.0","method":"initialized","params":{}}',
+    ]
+    for number in range(many):
+        asks = {"jsonrpc": "2.0", "id": number, "method": "workspace/symbol", "params": {"query": "", "workDoneToken": f"t{number}"}}
+        tells = {"jsonrpc": "2.0", "method": "$/progress", "params": {"token": f"t{number}", "value": {"kind": "begin", "title": ""}}}
+        lines += ["-> " + json.dumps(asks), "<- " + json.dumps(tells)]
+        if number % 4 == 3:
+            lines.append("<- " + json.dumps({"jsonrpc": "2.0", "id": number, "result": []}))
+    return "\n".join(lines).encode() + b"\n"
+
+
+def taken(given):
+    """How much processor time `lsp_check` takes for a log."""
+    before = resource.getrusage(resource.RUSAGE_CHILDREN).ru_utime
+    expect("the status of open requests", check("-", given=given).returncode, 0)
+    return resource.getrusage(resource.RUSAGE_CHILDREN).ru_utime - before
+
+
+def check_growth():
+    print("twice as many open requests take about twice the time")
+    few, many = with_open_requests(20000), with_open_requests(40000)
+    expect("whether the time stays below three times", taken(many) < 3 * taken(few), True)
+
+
 def check_all():
-    for part in [check_chosen, check_statuses, check_frames, check_forms, check_rules, check_stats, check_page]:
+    for part in [check_chosen, check_statuses, check_frames, check_forms, check_rules, check_stats, check_page, check_growth]:
         part()
 
 

@@ -26,6 +26,7 @@ use lsp_watch::{
 use serde_json::Value;
 use std::alloc::{AllocError, Global};
 use std::collections::BTreeMap;
+use std::collections::btree_map::Values;
 use std::io::Write;
 
 /// Which sides have ended.
@@ -416,7 +417,7 @@ fn any_fails(choice: &Choice, order: Order, way: Direction, breaches: &[Breach])
 }
 
 /// Whether one of the requests without a reply makes the status 1, and is not ignored.
-fn any_left(choice: &Choice, asked: &[Asked], unanswered: &[Unanswered]) -> bool
+fn any_left(choice: &Choice, asked: Values<'_, u64, Asked>, unanswered: &[Unanswered]) -> bool
     ensures { choice.now.ignored.items ≡ [] → result ≡ list_any (leaves_for choice.now) unanswered.now }
 {
     if choice.ignored.is_empty() {
@@ -434,9 +435,9 @@ fn any_leaves(choice: &Choice, unanswered: &[Unanswered]) -> bool
 }
 
 /// The same, if some are ignored.
-fn any_told(asked: &[Asked], unanswered: &[Unanswered], choice: &Choice) -> bool {
+fn any_told(asked: Values<'_, u64, Asked>, unanswered: &[Unanswered], choice: &Choice) -> bool {
     let mut rest = unanswered;
-    for asked in asked.iter() {
+    for asked in asked {
         if let Some(over) = over_of(asked, &mut rest)
             && choice.leaves(&over)
             && !choice.ignores(Rule::NoReply, asked.method.as_str())
@@ -525,14 +526,14 @@ impl Tally {
     /// Tells the requests that have no reply: that is a breach where the session is over.
     fn tell_open<W: Write>(
         &mut self,
-        asked: &[Asked],
+        asked: Values<'_, u64, Asked>,
         unanswered: &[Unanswered],
         is_sure: bool,
         report: &Report<'_>,
         out: &mut W,
     ) -> Result<()> {
         let mut rest = unanswered;
-        for asked in asked.iter() {
+        for asked in asked {
             let over = told_of(over_of(asked, &mut rest), is_sure);
             self.counts.open = self.counts.open.saturating_add(1);
             if tell_asked(asked, over, report, out)? {

@@ -1,13 +1,15 @@
 mod CleanOrder
 mod CleanReplies
 mod EachOrder
+mod Indexing
 mod LateBreach
 mod Matched
 mod NoFalseAlarm
+mod Numbered
 pub mod Queues
 mod Refused
 mod RefusedContent
 mod RefusedLawful
 mod RefusedOrders
-mod Removed
 mod Tokens
+mod UsedBy

@@ -2,6 +2,7 @@ pub mod CleanLog
 pub mod Documents
 pub mod Entries
 pub mod Held
+pub mod Indexed
 pub mod KeptId
 pub mod Keys
 pub mod Lawful

@@ -11,9 +11,11 @@ mod logged;
 mod methods;
 mod open;
 mod progress;
+mod requests;
 mod rule;
 mod shape;
 mod unread;
+mod uses;
 mod watch;
 
 pub use breach::{Breach, Unanswered, Verdict};

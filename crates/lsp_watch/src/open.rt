@@ -1,10 +1,10 @@
 // The requests that have no reply yet (JSON-RPC 2.0, section 5).
-ghost use Rattle.std.specs.Prelude.{◌≡◌, ◌<◌, ⊤, [], length, IfOk, MatchOption, find, position, remove, option_map, unwrap_or};
+ghost use Rattle.std.specs.Prelude.{◌≡◌, [], IfOk, option_map, unwrap_or};
 ghost use Rattle.serde_json.specs.Data.{null};
 ghost use Rattle.serde_json.specs.View.{view};
 ghost use Rattle.lsp_watch.specs.Entries.{method_in, params_in};
 ghost use Rattle.lsp_watch.specs.Keys.{key_in as key_in_data};
-ghost use Rattle.lsp_watch.specs.Log.{is_for as is_for_it, opens_session, created_name as created_name_of, without_first, request_of};
+ghost use Rattle.lsp_watch.specs.Log.{is_for as is_for_it, opens_session, created_name as created_name_of, request_of};
 
 use crate::direction::Direction;
 use crate::logged::{Entry, LoggedId};
@@ -54,46 +54,6 @@ impl Asked {
     {
         self.way.is_from_client() && self.method.as_str() == "initialize"
     }
-}
-
-/// The first request of this way and id.
-pub fn first_for<'a>(asked: &'a [Asked], way: Direction, id: &LoggedId) -> Option<&'a Asked>
-    ensures { option_map (λ a. a.now) result ≡ find (is_for_it way id.now) asked.now }
-{
-    asked.iter().find(|it| it.is_for(way, id))
-}
-
-/// The place of the first `initialize`.
-pub fn place_of_opening(asked: &[Asked]) -> Option<u64>
-    ensures { result ≡ option_map (λ o. o.place) (find opens_session asked.now) }
-{
-    asked
-        .iter()
-        .find(|it| it.opens_session())
-        .map(|it| it.place)
-}
-
-/// Takes out the first request of this way and id.
-pub fn answer(asked: &mut Vec<Asked>, way: Direction, id: &LoggedId)
-    ensures { asked.new.items ≡ without_first (is_for_it way id.now) asked.old.items }
-{
-    let at = place_for(asked, way, id);
-    take_out(asked, at);
-}
-
-fn take_out(asked: &mut Vec<Asked>, at: Option<usize>)
-    requires { MatchOption at ⊤ (λ i. i < length asked.old.items) }
-    ensures { asked.new.items ≡ unwrap_or (option_map (remove asked.old.items) at) asked.old.items }
-{
-    if let Some(at) = at {
-        drop(asked.remove(at));
-    }
-}
-
-fn place_for(asked: &[Asked], way: Direction, id: &LoggedId) -> Option<usize>
-    ensures { result ≡ position (is_for_it way id.now) asked.now }
-{
-    asked.iter().position(|it| it.is_for(way, id))
 }
 
 /// What is kept of a request.

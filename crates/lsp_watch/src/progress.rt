@@ -1,19 +1,19 @@
 // The tokens of progress (LSP 3.17, "Work Done Progress", "Partial Result Progress" and "Creating Work Done Progress").
 ghost use Rattle.std.specs.Prelude.{◌≡◌, ℕ, true, false, [], Some, IfOk, OnOk, OnErr, if◌then◌else◌, option_map, option_and_then, codes};
-ghost use Rattle.std.specs.List.{list_any};
 ghost use Rattle.serde_json.specs.Find.{get};
 ghost use Rattle.serde_json.specs.View.{view};
 ghost use Rattle.lsp_watch.specs.Documents.{text_in};
 ghost use Rattle.lsp_message.specs.Id.{Id, same_id};
 ghost use Rattle.lsp_watch.specs.Entries.{entry_view};
-ghost use Rattle.lsp_watch.specs.Log.{is_id as is_same, progress_token as token_named};
-ghost use Rattle.lsp_watch.specs.Rules.{opens_under};
+ghost use Rattle.lsp_watch.specs.Log.{progress_token as token_named};
 ghost use Rattle.lsp_watch.specs.Held.{token_held, Accepted};
-ghost use Rattle.lsp_watch.specs.Progress.{gives, token_finding, created_finding, is_end as says_end, ended_name, after_accept, after_end, once_ended};
+ghost use Rattle.lsp_watch.specs.Indexed.{IsIndexed, asked_in};
+ghost use Rattle.lsp_watch.specs.Progress.{token_finding, created_finding, is_end as says_end, ended_name, after_accept, after_end, once_ended};
 
 use crate::direction::Direction;
 use crate::logged::{Entry, Kind, LoggedId};
-use crate::open::{Asked, key_in};
+use crate::open::key_in;
+use crate::requests::OpenRequests;
 use crate::rule::Rule;
 use serde_json::Value;
 use std::alloc::{AllocError, Global};
@@ -46,13 +46,14 @@ impl Created {
     /// Returns the rule that progress of this way under a token breaks.
     pub fn breaks(
         &self,
-        asked: &[Asked],
+        asked: &OpenRequests,
         way: Direction,
         name: &LoggedId,
     ) -> Option<(Rule, Option<u64>)>
-        ensures { result ≡ token_finding asked.now (token_held self.now name.now) way name.now }
+        ensures { IsIndexed asked.now
+            → result ≡ token_finding (asked_in asked.now) (token_held self.now name.now) way name.now }
     {
-        if is_given(asked, way, name) {
+        if asked.is_given(way, name) {
             return None;
         }
         created_breaks(way, self.get(name))
@@ -132,13 +133,6 @@ fn created_breaks(way: Direction, token: Option<Token>) -> Option<(Rule, Option<
     }
 }
 
-/// Returns whether a request lets its receiver or its sender report progress in this direction under a token.
-fn is_given(asked: &[Asked], way: Direction, name: &LoggedId) -> bool
-    ensures { result ≡ list_any (gives way name.now) asked.now }
-{
-    asked.iter().any(|it| gives_token(it, way, name))
-}
-
 /// The token of which a message says that its work ended.
 fn name_ended(message: &Entry) -> Result<Option<LoggedId>, AllocError>
     ensures { IfOk result (λ name. name ≡ ended_name (entry_view message.now)) }
@@ -147,37 +141,6 @@ fn name_ended(message: &Entry) -> Result<Option<LoggedId>, AllocError>
         progress_token(message)
     } else {
         Ok(None)
-    }
-}
-
-/// Whether a request lets progress of this way be told under a token: its receiver under the tokens of its params, and its sender
-/// under the one that it creates.
-fn gives_token(asked: &Asked, way: Direction, name: &LoggedId) -> bool
-    ensures { result ≡ gives way name.now asked.now }
-{
-    if asked.way == way {
-        is_some_id(name, &asked.created)
-    } else {
-        is_some_id(name, &asked.work) || is_some_id(name, &asked.part)
-    }
-}
-
-/// Returns whether progress under a token may be sent while an `initialize` waits (LSP 3.17, "Initialize Request"): it is that of the
-/// request.
-pub fn may_tell(asked: &[Asked], name: &LoggedId) -> bool
-    ensures { result ≡ list_any (opens_under name.now) asked.now }
-{
-    asked
-        .iter()
-        .any(|it| it.opens_session() && is_some_id(name, &it.work))
-}
-
-fn is_some_id(name: &LoggedId, other: &Option<LoggedId>) -> bool
-    ensures { result ≡ is_same name.now other.now }
-{
-    match other {
-        Some(other) => name.is(other),
-        None => false,
     }
 }
 

@@ -6,6 +6,7 @@ ghost use Rattle.lsp_message.specs.Id.{Id};
 ghost use Rattle.lsp_message.specs.Message.{Message};
 ghost use Rattle.lsp_watch.specs.Entries.{entry_view, method_in, params_in};
 ghost use Rattle.lsp_watch.specs.Held.{Opened, token_held};
+ghost use Rattle.lsp_watch.specs.Indexed.{IsIndexed, asked_in};
 ghost use Rattle.lsp_watch.specs.Log.{Log, passed, waiting, open_of, answered, request_of, is_some_such, progress_token as token_named, answers_initialize as replies_to_it};
 ghost use Rattle.lsp_watch.specs.Progress.{progress_finding, after_end, after_accept, ended_by, accepted_in};
 ghost use Rattle.lsp_watch.specs.Rules.{session_finding, lifecycle_finding, id_finding, opens_under};
@@ -17,10 +18,12 @@ use crate::direction::Direction;
 use crate::documents::Documents;
 use crate::lifecycle::{Lifecycle, asks};
 use crate::logged::{Entry, Kind, LoggedId, LoggedMessage};
-use crate::open::{Asked, answer, first_for, kept_of, place_of_opening};
-use crate::progress::{Created, may_tell, progress_token};
+use crate::open::{Asked, kept_of};
+use crate::progress::{Created, progress_token};
+use crate::requests::OpenRequests;
 use crate::rule::Rule;
 use std::alloc::{AllocError, Global};
+use std::collections::btree_map::Values;
 
 /// Sees each message that passes between a client and a server in one session, and says which rules it breaks.
 ///
@@ -30,7 +33,7 @@ use std::alloc::{AllocError, Global};
 pub struct Watch {
     alloc: Global,
     is_whole: bool,
-    asked: Vec<Asked>,
+    asked: OpenRequests,
     created: Created,
     stands: Lifecycle,
     documents: Documents,
@@ -61,7 +64,7 @@ impl Watch {
         Watch {
             alloc,
             is_whole,
-            asked: Vec::new(alloc),
+            asked: OpenRequests::new(alloc),
             created: Created::new(alloc),
             stands: Lifecycle::new(),
             documents: Documents::new(alloc),
@@ -177,7 +180,7 @@ impl Watch {
         ensures { (log : Log) → Saw self.now log → option_map (λ t. t.now) token.entry ≡ token_named (entry_view message.now)
             → result ≡ lifecycle_finding log way (entry_view message.now) }
     {
-        let waiting = place_of_opening(&self.asked);
+        let waiting = self.asked.place_of_opening();
         match (way, message.kind()) {
             (_, Kind::Reply(_, _)) => None,
             (Direction::ToServer, _) => self.stands.client_breaks(waiting, message),
@@ -189,10 +192,11 @@ impl Watch {
     }
 
     fn tells_opening(&self, token: Option<&LoggedId>) -> bool
-        ensures { result ≡ is_some_such (λ name. list_any (opens_under name) self.now.asked.items) (option_map (λ t. t.now) token.entry) }
+        ensures { IsIndexed self.now.asked → result
+            ≡ is_some_such (λ name. list_any (opens_under name) (asked_in self.now.asked)) (option_map (λ t. t.now) token.entry) }
     {
         match token {
-            Some(token) => may_tell(&self.asked, token),
+            Some(token) => self.asked.may_tell(token),
             None => false,
         }
     }
@@ -244,17 +248,17 @@ impl Watch {
         let left = self.stands.exit.is_some();
         all_unanswered(
             self.alloc,
-            &self.asked,
+            self.asked.iter(),
             server_ended || left,
             client_ended || left,
         )
     }
 
     /// The requests that have no reply, in the order in which they passed.
-    pub fn asked(&self) -> &[Asked]
-        ensures { (log : Log) → Saw self.now log → result.now ≡ open_of log }
+    pub fn asked(&self) -> Values<'_, u64, Asked>
+        ensures { (log : Log) → Saw self.now log → result ≡ open_of log }
     {
-        &self.asked
+        self.asked.iter()
     }
 
     /// The request that the next reply of this id answers, if a request of this way waits under it.
@@ -262,7 +266,7 @@ impl Watch {
         ensures { (log : Log) → Saw self.now log
             → option_map (λ a. a.now) result ≡ waiting way id.now log }
     {
-        first_for(&self.asked, way, id)
+        self.asked.first_for(way, id)
     }
 
     fn enter(
@@ -319,11 +323,12 @@ impl Watch {
         id: &LoggedId,
         message: &Entry,
     ) -> Result<(), AllocError>
-        ensures asked { OnOk result (self.new.asked.items ≡ self.old.asked.items
+        ensures asked { IsIndexed self.old.asked → OnOk result (asked_in self.new.asked ≡ asked_in self.old.asked
             ++ request_of way place id.now (unwrap_or (method_in (view message.now.tree)) []) (params_in (view message.now.tree)) ∷ []) }
+        ensures indexed { IsIndexed self.old.asked → IsIndexed self.new.asked }
         ensures same { (self.new.created ≡ self.old.created) × (self.new.documents ≡ self.old.documents)
             × (self.new.stands ≡ self.old.stands) × (self.new.is_whole ≡ self.old.is_whole) }
-        ensures err { OnErr result (self.new.asked.items ≡ self.old.asked.items) }
+        ensures err { OnErr result (asked_in self.new.asked ≡ asked_in self.old.asked) }
     {
         let kept = kept_of(self.alloc, way, place, id, message)?;
         self.asked.push(kept)?;
@@ -336,7 +341,7 @@ impl Watch {
             (passed way place (entry_view message.now) ∷ log)) }
         ensures tokens { OnOk result ((name : Id) → token_held self.new.created name
             ≡ after_end name place (ended_by way (entry_view message.now)) (token_held self.old.created name)) }
-        ensures same { (self.new.asked.items ≡ self.old.asked.items) × (self.new.stands ≡ self.old.stands)
+        ensures same { (self.new.asked ≡ self.old.asked) × (self.new.stands ≡ self.old.stands)
             × (self.new.is_whole ≡ self.old.is_whole) }
         ensures err { OnErr result (KeepsSame self.old self.new) }
     {
@@ -353,16 +358,17 @@ impl Watch {
         id: &LoggedId,
         succeeds: bool,
     ) -> Result<(), AllocError>
-        ensures asked { OnOk result (self.new.asked.items ≡ answered way id.now self.old.asked.items) }
-        ensures tokens { OnOk result ((name : Id) → token_held self.new.created name
-            ≡ after_accept name (accepted_in succeeds way id.now self.old.asked.items) (token_held self.old.created name)) }
+        ensures asked { IsIndexed self.old.asked → OnOk result (asked_in self.new.asked ≡ answered way id.now (asked_in self.old.asked)) }
+        ensures indexed { IsIndexed self.old.asked → IsIndexed self.new.asked }
+        ensures tokens { IsIndexed self.old.asked → OnOk result ((name : Id) → token_held self.new.created name
+            ≡ after_accept name (accepted_in succeeds way id.now (asked_in self.old.asked)) (token_held self.old.created name)) }
         ensures same { (self.new.documents ≡ self.old.documents) × (self.new.stands ≡ self.old.stands)
             × (self.new.is_whole ≡ self.old.is_whole) }
         ensures err { OnErr result (KeepsSame self.old self.new) }
     {
         let name = self.accepted(way, id, succeeds)?;
         self.created.accept(name)?;
-        answer(&mut self.asked, way.other(), id);
+        self.asked.answer(way.other(), id);
         Ok(())
     }
 
@@ -373,12 +379,12 @@ impl Watch {
         id: &LoggedId,
         succeeds: bool,
     ) -> Result<Option<LoggedId>, AllocError>
-        ensures { IfOk result (λ name. name ≡ accepted_in succeeds way id.now self.now.asked.items) }
+        ensures { IsIndexed self.now.asked → IfOk result (λ name. name ≡ accepted_in succeeds way id.now (asked_in self.now.asked)) }
     {
         if !succeeds {
             return Ok(None);
         }
-        let Some(asked) = first_for(&self.asked, way.other(), id) else {
+        let Some(asked) = self.asked.first_for(way.other(), id) else {
             return Ok(None);
         };
         match &asked.created {
@@ -398,15 +404,14 @@ fn shape_breaches(alloc: Global, faults: &[Rule]) -> Result<Vec<Breach>, AllocEr
 /// The requests that have no reply, of those sides that have ended.
 fn all_unanswered(
     alloc: Global,
-    asked: &[Asked],
+    asked: Values<'_, u64, Asked>,
     server_ended: bool,
     client_ended: bool,
 ) -> Result<Vec<Unanswered>, AllocError>
     ensures { IfOk result (λ found. found.items
-        ≡ map told_by (filter (is_over_for server_ended client_ended) asked.now)) }
+        ≡ map told_by (filter (is_over_for server_ended client_ended) asked.entry)) }
 {
     asked
-        .iter()
         .filter(|it| is_over(server_ended, client_ended, it))
         .map(told_of)
         .collect(alloc)
