@@ -17,11 +17,13 @@ from lsp import CRATES, Difference, expect, run
 ROOT = CRATES.parent
 HERE, BINDINGS, DATA = ROOT / "tests/clib", ROOT / "bindings", CRATES / "lsp_check/data"
 RUNS, RUNS_IN_VALGRIND = 20_000, 150
-EXPORTS = {"lsp_judge": {"lsp_judge_log", "lsp_judge_rules", "lsp_judge_version"}, "lsp_front": {"lsp_front", "lsp_message_kind"}}
+OF_JUDGE = ("log", "rules", "version", "new", "message", "end", "free")
+EXPORTS = {"lsp_judge": {f"lsp_judge_{it}" for it in OF_JUDGE}, "lsp_front": {"lsp_front", "lsp_message_kind"}}
 # What the shared objects take of the C library. (The last one is named by an error's text.)
 IMPORTS = {"malloc", "realloc", "free", "memcpy", "memmove", "memset", "memcmp", "bcmp", "strlen", "__xpg_strerror_r"}
-WIDTHS = {"u8": "uint8_t", "u32": "uint32_t", "u64": "uint64_t", "usize": "size_t"}
+WIDTHS = {"u8": "uint8_t ", "u32": "uint32_t ", "u64": "uint64_t ", "usize": "size_t ", "bool": "uint8_t ", "*mut u8": "void *"}
 STRUCTS = {"LspJudgeOptions": "lsp_judge_options", "LspJudgeVerdict": "lsp_judge_verdict", "LspFrontFound": "lsp_front_found"}
+STRUCTS |= {"LspJudgeSession": "lsp_judge_session"}
 # The bytes that a shared object may have.
 MOST = {"lsp_judge": 600_000, "lsp_front": 300_000}
 
@@ -42,13 +44,13 @@ def found(name):
 
 def check_headers():
     """The structs of the crates have the members of the headers, in this order and of this width."""
-    code = "".join((CRATES / it / "src/lib.rt").read_text() for it in ("lsp_judge_c", "lsp_front_c"))
+    code = "".join((CRATES / it).read_text() for it in ("lsp_judge_c/src/lib.rt", "lsp_judge_c/src/handle.rt", "lsp_front_c/src/lib.rt"))
     headers = "".join(it.read_text() for it in sorted((BINDINGS / "c").glob("*.h")))
     for ours, theirs in STRUCTS.items():
         body = re.search(rf"pub struct {ours} \{{(.*?)\n\}}", code, re.S)[1]
         header = re.search(rf"struct {theirs} \{{(.*?)\n\}};", headers, re.S)[1]
-        members = [(WIDTHS[width], name) for name, width in re.findall(r"pub (\w+): (\w+),", body)]
-        expect(theirs, re.findall(r"(?m)^    (\w+) (\w+);", header), members)
+        members = [(WIDTHS[width], name) for name, width in re.findall(r"(?m)^    (?:pub )?(\w+): ([*\w ]+),$", body)]
+        expect(theirs, re.findall(r"(?m)^    (\w+ \*?)(\w+);", header), members)
 
 
 def check_versions():

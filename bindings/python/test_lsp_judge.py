@@ -114,6 +114,74 @@ class Servers(unittest.TestCase):
         self.with_client(words, "plaintext", "a text\n").check(level="implied")
 
 
+def session_of(log, **how):
+    """A session in which the lines of a recording passed."""
+    session = lsp_judge.Session(**how)
+    for line in log.splitlines():
+        (session.sent if line.startswith(b"-> ") else session.got)(line[3:])
+    return session
+
+
+def failure_of(call):
+    try:
+        call()
+    except AssertionError as error:
+        return str(error)
+    return None
+
+
+class Messages(unittest.TestCase):
+    """A session judges each message when it passes."""
+
+    @unittest.skipUnless(DATA, "LSP_JUDGE_DATA names no recordings")
+    def test_a_session_is_judged_as_its_recording(self):
+        for path in sorted(Path(DATA).glob("*_*.lsp")):
+            log = b"".join(it + b"\n" for it in path.read_bytes().splitlines() if it[:3] in (b"-> ", b"<- "))
+            for side, level in (("server", "should"), ("client", "must"), ("both", "implied")):
+                session = session_of(log, side=side, level=level, begins_late=True)
+                self.assertEqual(session._end(), lsp_judge.judge(log, side, level, begins_late=True), path.name)
+                at_once = failure_of(lambda: session_of(log, side=side, level=level, begins_late=True, raise_at_once=True).check())
+                failed = failure_of(session.check)
+                self.assertEqual(at_once is None, failed is None, path.name)
+                self.assertIn(at_once.splitlines()[0] if at_once else "", failed or "", path.name)
+
+    def test_a_wrong_message_raises_at_once(self):
+        session = lsp_judge.Session("server", raise_at_once=True)
+        session.sent({"jsonrpc": "2.0", "id": 1, "method": "initialize", "params": {"capabilities": {}}})
+        session.got({"jsonrpc": "2.0", "id": 1, "result": {"capabilities": {}}})
+        session.sent({"jsonrpc": "2.0", "method": "textDocument/didSave"})
+        with self.assertRaisesRegex(AssertionError, "^line 4: NobodyAsked: .*\n    <- "):
+            session.got({"jsonrpc": "2.0", "id": 1, "result": None})
+        session.sent({"jsonrpc": "2.0", "id": 2, "method": "shutdown"})
+        with self.assertRaisesRegex(AssertionError, "line 6: NotJson"):
+            session.got(b"hello")
+        with self.assertRaisesRegex(AssertionError, "^line 4: NobodyAsked"):
+            session.check()
+
+    def test_a_session_goes_on_behind_its_check(self):
+        session = lsp_judge.Session(level="implied", capabilities=True)
+        session.sent({"jsonrpc": "2.0", "id": 1, "method": "initialize", "params": {"capabilities": {}}})
+        session.got({"jsonrpc": "2.0", "id": 1, "result": {"capabilities": {}}})
+        self.assertEqual((session.check()["requests"], session.check()["replies"]), (1, 1))
+        session.sent({"jsonrpc": "2.0", "method": "initialized", "params": {}})
+        self.assertEqual(session.check()["messages"], 3)
+        session.sent({"jsonrpc": "2.0", "id": 2, "method": "textDocument/hover", "params": {}})
+        with self.assertRaisesRegex(AssertionError, "line 4: NotAnnounced"):
+            session.check()
+        session.check("server", "must")
+        self.assertEqual(session.log().count(b"\n"), 4)
+
+    def test_a_report_that_does_not_fit_is_told_whole(self):
+        calls = [b'-> {"jsonrpc":"2.0","id":%d,"method":"a"}\n' % it for it in range(500)]
+        start = [b'-> {"jsonrpc":"2.0","id":"i","method":"initialize","params":{}}\n', b'<- {"jsonrpc":"2.0","id":"i","result":{}}\n']
+        over = [b'-> {"jsonrpc":"2.0","id":"s","method":"shutdown"}\n', b'-> {"jsonrpc":"2.0","method":"exit"}\n']
+        log = b"".join([*start, *calls, *over, *start])
+        session = session_of(log)
+        self.assertEqual(session._end(), lsp_judge.judge(log, level="must"))
+        self.assertGreater(session._room, 1 << 14)
+        self.assertIn("line 502: NoReply", failure_of(session.check))
+
+
 class Recordings(unittest.TestCase):
     @unittest.skipUnless(DATA, "LSP_JUDGE_DATA names no recordings")
     def test_each_rule(self):

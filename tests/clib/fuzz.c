@@ -1,5 +1,6 @@
 /* fuzz RUNS FILE..: byte strings through the C functions: random bytes, pieces of JSON, and the files with bytes changed and cut. Each is judged
- * twice: with little room, and with the room that is needed. */
+ * twice: with little room, and with the room that is needed. The lines of a recording that have a mark are also judged one at a time: the
+ * status and the report are those of the recording. */
 #include "lsp_front.h"
 #include "lsp_judge.h"
 #include <stdio.h>
@@ -118,6 +119,81 @@ static int holds(const unsigned char *log, size_t n, unsigned long counts[]) {
     return 1;
 }
 
+/* ---- one message at a time */
+
+/* The lines that begin with `-> ` or `<- `, each with its end. */
+static size_t marked_lines(const unsigned char *log, size_t n, unsigned char *out) {
+    size_t count = 0;
+    for (size_t at = 0, end; at < n; at = end) {
+        for (end = at; end < n && log[end] != '\n'; end++)
+            ;
+        if (end - at >= 3 && (!memcmp(log + at, "-> ", 3) || !memcmp(log + at, "<- ", 3))) {
+            memcpy(out + count, log + at, end - at);
+            out[count + end - at] = '\n';
+            count += end - at + 1;
+        }
+        end += end < n;
+    }
+    return count;
+}
+
+/* Passes the lines to a session. The status in the end, or 9 if a call was wrong. A room of 0 is one of a random size for each report. */
+static int one_by_one(const struct lsp_judge_options *options, const unsigned char *log, size_t n, unsigned char *report, size_t room,
+                      struct lsp_judge_verdict *all) {
+    struct lsp_judge_session session = LSP_JUDGE_CLOSED;
+    struct lsp_judge_verdict v = {.size = sizeof v};
+    size_t used = 0, at = 0, place = 1;
+    int before = 0, status = lsp_judge_new(options, &session);
+    memset(all, 0, sizeof *all);
+    for (int is_over = 0; !status && !is_over; place++) {
+        const unsigned char *line_end = at < n ? memchr(log + at, '\n', n - at) : NULL;
+        size_t some = room ? room - used : next() % 400, length = line_end ? (size_t)(line_end - log) - at - 3 : 0;
+        unsigned char *content = malloc(length + 1), *out = malloc(some + 1);
+        if (line_end)
+            memcpy(content, log + at + 3, length);
+        is_over = !line_end;
+        int now = is_over ? lsp_judge_end(&session, LSP_JUDGE_NO_SIDE_ENDED, out, some, &v)
+                          : lsp_judge_message(&session, log[at] == '<', place, content, length, out, some, &v);
+        if (now > 3 || v.written > some || (v.needed <= some && v.written != v.needed) || (before == 1 && now != 1) || (before == 3 && !now))
+            status = 9;
+        if (room)
+            memcpy(report + used, out, v.written);
+        used += v.written;
+        all->needed += v.needed, all->written += v.written, all->unread = v.unread;
+        before = now;
+        at += length + 4;
+        free(content);
+        free(out);
+    }
+    lsp_judge_free(&session);
+    return status ? 9 : before;
+}
+
+/* A recording is judged alike in one piece and one message at a time. A group of rules beside those of a session has the other format. */
+static int holds_one_by_one(const unsigned char *log, size_t n) {
+    static unsigned char lines[2 * MOST];
+    size_t count = marked_lines(log, n, lines);
+    struct lsp_judge_options options = {.size = sizeof options, .side = next() % 3, .level = next() % 3, .begins_late = next() % 2};
+    struct lsp_judge_verdict v = {.size = sizeof v}, w;
+    unsigned char none;
+    int status = lsp_judge_log(&options, lines, count, &none, 0, &v);
+    if (status < 2 && next() % 2) {
+        options.groups = LSP_JUDGE_CAPABILITIES, options.format = LSP_JUDGE_ANY_LOG;
+        status = lsp_judge_log(&options, lines, count, &none, 0, &v);
+    }
+    unsigned char *report = malloc(v.needed + 1), *again = malloc(v.needed + 1);
+    size_t all = v.needed;
+    lsp_judge_log(&options, lines, count, report, all, &v);
+    int came = one_by_one(&options, lines, count, again, all, &w);
+    if (came != status || w.needed != all || w.written != all || w.unread != v.unread || memcmp(report, again, all))
+        return fail("another answer one message at a time", came);
+    if (one_by_one(&options, lines, count, again, 0, &w) != status || w.needed != all)
+        return fail("another answer in little room", status);
+    free(report);
+    free(again);
+    return 1;
+}
+
 int main(int argc, char **argv) {
     unsigned long counts[5] = {0};
     unsigned char *bytes = malloc(MOST);
@@ -127,7 +203,7 @@ int main(int argc, char **argv) {
         size_t n = run % 3 == 0 ? random_bytes(bytes) : run % 3 == 1 || !count ? random_pieces(bytes) : changed_seed(bytes);
         unsigned char *exact = malloc(n ? n : 1);
         memcpy(exact, bytes, n);
-        if (!holds(exact, n, counts)) {
+        if (!holds(exact, n, counts) || !holds_one_by_one(exact, n)) {
             fwrite(exact, 1, n, stdout);
             return 1;
         }

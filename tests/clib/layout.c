@@ -20,6 +20,9 @@ AT(lsp_judge_verdict, size, 0, 8);
 AT(lsp_judge_verdict, unread, 8, 8);
 AT(lsp_judge_verdict, needed, 16, 8);
 AT(lsp_judge_verdict, written, 24, 8);
+_Static_assert(sizeof(struct lsp_judge_session) == 16, "lsp_judge_session");
+AT(lsp_judge_session, at, 0, 8);
+AT(lsp_judge_session, is_open, 8, 1);
 _Static_assert(sizeof(struct lsp_front_found) == 16, "lsp_front_found");
 AT(lsp_front_found, kind, 0, 1);
 AT(lsp_front_found, count, 8, 8);
@@ -144,6 +147,88 @@ static void refused(void) {
     expect("the verdict", verdict.size, 24);
 }
 
+static struct lsp_judge_session session = LSP_JUDGE_CLOSED;
+
+static uint8_t pass(uint8_t direction, uint64_t place, const char *content) {
+    return lsp_judge_message(&session, direction, place, (const uint8_t *)content, strlen(content), report, sizeof report, &verdict);
+}
+
+static uint8_t end(uint8_t ended) {
+    return lsp_judge_end(&session, ended, report, sizeof report, &verdict);
+}
+
+/* The messages of SESSION, one at a time, and what is said of the requests that are open in the end. */
+static void messages(void) {
+    struct lsp_judge_options it = {.size = sizeof it, .side = LSP_JUDGE_BOTH};
+    verdict.size = sizeof verdict;
+    expect("opened", lsp_judge_new(&it, &session), 0);
+    expect("nothing passed", end(LSP_JUDGE_BOTH_ENDED), LSP_JUDGE_NOTHING);
+    expect("closed", session.is_open, 0);
+    expect("opened again", lsp_judge_new(&it, &session), 0);
+    expect("initialize", pass(LSP_JUDGE_TO_SERVER, 1, "{\"jsonrpc\":\"2.0\",\"id\":1,\"method\":\"initialize\",\"params\":{}}"), LSP_JUDGE_CLEAN);
+    expect("no report", verdict.needed, 0);
+    expect("its reply", pass(LSP_JUDGE_TO_CLIENT, 2, "{\"jsonrpc\":\"2.0\",\"id\":1,\"result\":{\"capabilities\":{}}}"), LSP_JUDGE_CLEAN);
+    expect("a request", pass(LSP_JUDGE_TO_SERVER, 3, "{\"jsonrpc\":\"2.0\",\"id\":2,\"method\":\"shutdown\"}"), LSP_JUDGE_CLEAN);
+    struct lsp_judge_session other = LSP_JUDGE_CLOSED;
+    lsp_judge_new(&it, &other);
+    expect("no message of another session", lsp_judge_end(&other, 0, report, sizeof report, &verdict), LSP_JUDGE_NOTHING);
+    expect("the server has ended", end(LSP_JUDGE_SERVER_ENDED), LSP_JUDGE_BROKEN);
+    report[verdict.written] = 0;
+    expect("the request without a reply", strstr((char *)report, "\"line\":3") != NULL && strstr((char *)report, "\"rule\":\"NoReply\"") != NULL, 1);
+    for (uint8_t ended = 0; ended < 4; ended++) {
+        lsp_judge_new(&it, &session);
+        pass(LSP_JUDGE_TO_CLIENT, 7, "{\"jsonrpc\":\"2.0\",\"id\":2,\"method\":\"window/showMessageRequest\",\"params\":{}}");
+        expect("a request to the client", end(ended), ended & LSP_JUDGE_CLIENT_ENDED ? LSP_JUDGE_BROKEN : LSP_JUDGE_CLEAN);
+    }
+}
+
+/* A breach shows at once, and stays. */
+static void breaches_at_once(void) {
+    struct lsp_judge_options it = {.size = sizeof it, .side = LSP_JUDGE_SERVER, .begins_late = 1};
+    lsp_judge_new(&it, &session);
+    expect("the start is missing", pass(LSP_JUDGE_TO_SERVER, 1, "{\"jsonrpc\":\"2.0\",\"id\":2,\"method\":\"shutdown\"}"), LSP_JUDGE_CLEAN);
+    expect("a reply", pass(LSP_JUDGE_TO_CLIENT, 2, "{\"jsonrpc\":\"2.0\",\"id\":2,\"result\":null}"), LSP_JUDGE_CLEAN);
+    expect("no JSON of the client", pass(LSP_JUDGE_TO_SERVER, 3, "hello"), LSP_JUDGE_UNREAD);
+    expect("which message", verdict.unread, 3);
+    expect("another one", pass(LSP_JUDGE_TO_SERVER, 4, "\xff"), LSP_JUDGE_UNREAD);
+    expect("the first one", verdict.unread, 3);
+    expect("a batch, must", pass(LSP_JUDGE_TO_CLIENT, 5, "[]"), LSP_JUDGE_UNREAD);
+    expect("a reply again", pass(LSP_JUDGE_TO_CLIENT, 6, "{\"jsonrpc\":\"2.0\",\"id\":2,\"result\":null}"), LSP_JUDGE_UNREAD);
+    expect("a wrong version", pass(LSP_JUDGE_TO_CLIENT, 7, "{\"jsonrpc\":\"1.0\",\"method\":\"a\"}"), LSP_JUDGE_BROKEN);
+    expect("a good message behind it", pass(LSP_JUDGE_TO_CLIENT, 8, "{\"jsonrpc\":\"2.0\",\"method\":\"a\"}"), LSP_JUDGE_BROKEN);
+    expect("the end", end(LSP_JUDGE_NO_SIDE_ENDED), LSP_JUDGE_BROKEN);
+    expect("its first message that was not read", verdict.unread, 3);
+}
+
+static void refused_sessions(void) {
+    struct lsp_judge_options good = {.size = sizeof good}, it = good;
+    static const char content[] = "{\"jsonrpc\":\"2.0\",\"method\":\"a\"}";
+    expect("a closed session", pass(0, 1, content), LSP_JUDGE_REFUSED);
+    expect("its end", end(0), LSP_JUDGE_REFUSED);
+    lsp_judge_free(&session);
+    it.from_line = 2;
+    expect("from_line of a session", lsp_judge_new(&it, &session), LSP_JUDGE_REFUSED);
+    it = good, it.groups = 2;
+    expect("a group of a session", lsp_judge_new(&it, &session), LSP_JUDGE_REFUSED);
+    it = good, it.format = 2;
+    expect("a format of a session", lsp_judge_new(&it, &session), LSP_JUDGE_REFUSED);
+    it = good, it.size = 0;
+    expect("options of another size", lsp_judge_new(&it, &session), LSP_JUDGE_REFUSED);
+    expect("still closed", session.is_open, 0);
+    good.groups = LSP_JUDGE_CAPABILITIES, good.from_line = 1;
+    expect("groups of a session", lsp_judge_new(&good, &session), 0);
+    expect("a direction", pass(2, 1, content), LSP_JUDGE_REFUSED);
+    expect("the place 0", pass(0, 0, content), LSP_JUDGE_REFUSED);
+    expect("a side", end(4), LSP_JUDGE_REFUSED);
+    verdict.size = 24;
+    expect("the verdict's size", pass(0, 1, content), LSP_JUDGE_REFUSED);
+    expect("the verdict's size in the end", end(0), LSP_JUDGE_REFUSED);
+    expect("the verdict", verdict.size, 24);
+    verdict.size = sizeof verdict;
+    expect("still open", session.is_open, 1);
+    expect("no message was counted", end(0), LSP_JUDGE_NOTHING);
+}
+
 static void rules(void) {
     memset(&verdict, 0, sizeof verdict);
     verdict.size = sizeof verdict;
@@ -191,6 +276,9 @@ int main(void) {
     capabilities();
     room();
     refused();
+    messages();
+    breaches_at_once();
+    refused_sessions();
     rules();
     front();
     kinds();

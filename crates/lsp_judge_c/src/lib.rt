@@ -1,7 +1,11 @@
 //! The judge of logs for C: `bindings/c/lsp_judge.h`.
 #![tactic(auto)]
 
+mod handle;
+mod loose;
+mod messages;
 mod page;
+mod session;
 
 ghost use Rattle.std.specs.Prelude.{◌≡◌, ◌≢◌, ◌<◌, ◌≤◌, ℕ, [], length, IfOk, true, false};
 ghost use Rattle.lsp_message.specs.HeaderPart.{lines};
@@ -172,11 +176,7 @@ fn judge<R: Room>(
 {
     let mut page: Page<'_, R> = Page::new(room);
     let has_told = Cell::new(false);
-    let places = Places {
-        first: "log",
-        second: None,
-    };
-    let report = report_of(alloc, options, places, choice, &has_told);
+    let report = report_of(alloc, options, choice, &has_told);
     let judged = judge_format(options, log, &report, &mut page)?;
     Ok(Judged {
         status: judged.outcome.status(),
@@ -184,11 +184,10 @@ fn judge<R: Room>(
     })
 }
 
-/// The report as lines of JSON.
+/// Returns how the report is written: as lines of JSON.
 fn report_of<'a>(
     alloc: Global,
     options: &LspJudgeOptions,
-    places: Places<'a>,
     choice: &'a Choice,
     has_told: &'a Cell<bool>,
 ) -> Report<'a>
@@ -198,7 +197,10 @@ fn report_of<'a>(
     Report {
         alloc,
         form: Form::Json,
-        places,
+        places: Places {
+            first: "log",
+            second: None,
+        },
         server: "",
         choice,
         may_begin_late: options.begins_late == 1,
