@@ -154,6 +154,7 @@ void lsp_judge_free(struct lsp_judge_session *session);
  * - A status below 4 of lsp_judge_message says just what the definitions of a recording say after one more line with this message. A
  *   content that was not read breaks one rule alone: NotUtf8 if it is not UTF-8, and else NotJson or Unreadable.
  * - A status below 4 of lsp_judge_end is that of the messages that passed, with those requests that have no reply and whose side has ended.
+ * - If the messages of a recording pass one after another, and each of its lines can be read, the session is judged as that recording.
  * - The status is 5 exactly if the session is closed or an argument has another value than this header names.
  * - After the status 4 of lsp_judge_message the session is closed. After each status of lsp_judge_end but 5, and after lsp_judge_free, it
  *   is closed.

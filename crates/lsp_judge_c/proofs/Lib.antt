@@ -1,3 +1,4 @@
 pub mod LooseValues
+pub mod OneByOne
 pub mod Unread
 pub mod Values

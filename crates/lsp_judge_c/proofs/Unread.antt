@@ -142,60 +142,60 @@ module _ (m : LoggedMessage) where
   of_bytes r = record { rule = NotUtf8; why = refl; no_entry = r.no_entry; faults_are = r.why }
 
   module _ (content : List ℕ) (text : IsUtf8 content → ReadsAs m (read content)) (bytes : NoUtf8 content → IsNoText m)
-      where
-    reads : Reads (is_utf8 content) m (tree_in content)
-    reads = at (is_utf8 content) refl
-      where
-        at : (t : Bool) → is_utf8 content ≡ t → Reads t m (cond t (read content) None)
-        at true e = of_text (read content) (text (IsUtf8-from_is_utf8 content e))
-        at false e = of_bytes (bytes (λ utf8. true≢false (sym (is_utf8-from_IsUtf8 content utf8) ∙ e)))
+    where
+      reads : Reads (is_utf8 content) m (tree_in content)
+      reads = at (is_utf8 content) refl
+        where
+          at : (t : Bool) → is_utf8 content ≡ t → Reads t m (cond t (read content) None)
+          at true e = of_text (read content) (text (IsUtf8-from_is_utf8 content e))
+          at false e = of_bytes (bytes (λ utf8. true≢false (sym (is_utf8-from_IsUtf8 content utf8) ∙ e)))
 
-    is_unread : list_any says_unread m.faults.items ≡ not (is_some (tree_in content))
-    is_unread = at (tree_in content) reads
-      where
-        at : (o : Option Data) → Reads (is_utf8 content) m o → list_any says_unread m.faults.items ≡ not (is_some o)
-        at None r = ap (list_any says_unread) r.faults_are ∙ says (is_utf8 content) r.rule r.why
-        at (Some d) r = ap (list_any says_unread) r.faults_are ∙ none_says_unread d
+      is_unread : list_any says_unread m.faults.items ≡ not (is_some (tree_in content))
+      is_unread = at (tree_in content) reads
+        where
+          at : (o : Option Data) → Reads (is_utf8 content) m o → list_any says_unread m.faults.items ≡ not (is_some o)
+          at None r = ap (list_any says_unread) r.faults_are ∙ says (is_utf8 content) r.rule r.why
+          at (Some d) r = ap (list_any says_unread) r.faults_are ∙ none_says_unread d
 
-    pub goes_unread : (unread place new : ℕ)
-        → new ≡ (if unread == 0 && list_any says_unread m.faults.items then place else unread)
-        → new ≡ unread_after unread place content
-    goes_unread unread place new e = e ∙ ap (λ b. if unread == 0 && b then place else unread) is_unread
+      pub goes_unread : (unread place new : ℕ)
+          → new ≡ (if unread == 0 && list_any says_unread m.faults.items then place else unread)
+          → new ≡ unread_after unread place content
+      goes_unread unread place new e = e ∙ ap (λ b. if unread == 0 && b then place else unread) is_unread
 
-    -- ---- the judgement after it
+      -- ---- the judgement after it
 
-    abbrev told : Choice → Bool → ℕ → Judged → Order → Option Verdict → Direction → LoggedMessage → Judged
-    told choice late n j o v w x = seen choice late o v j n w x.faults.items (option_map entry_view x.entry)
-        (option_map (λ e. view e.tree) x.entry)
+      abbrev told : Choice → Bool → ℕ → Judged → Order → Option Verdict → Direction → LoggedMessage → Judged
+      told choice late n j o v w x = seen choice late o v j n w x.faults.items (option_map entry_view x.entry)
+          (option_map (λ e. view e.tree) x.entry)
 
-    pub sees : (choice : Choice) (late : Bool) (n : ℕ) (j : Judged) (way : Direction) (k : Judgement) (p : Passing)
-        → p.way ≡ way → p.message ≡ m → p.order ≡ Known → p.types ≡ Some Breach
-        → Judges k (seen choice late p.order p.types j n p.way p.message.faults.items
-        (option_map entry_view p.message.entry) (option_map (λ e. view e.tree) p.message.entry))
-        → SawNext choice late n j way content (tree_in content) k
-    sees choice late n j way k p way_is message_is order_is types_are judges = at (tree_in content) reads
-      where
-        plain : Judges k (told choice late n j Known (Some Breach) way m)
-        plain = subst (λ x. Judges k (told choice late n j Known (Some Breach) way x)) message_is
-            (subst (λ w. Judges k (told choice late n j Known (Some Breach) w p.message)) way_is
-            (subst (λ v. Judges k (told choice late n j Known v p.way p.message)) types_are
-            (subst (λ o. Judges k (told choice late n j o p.types p.way p.message)) order_is judges)))
+      pub sees : (choice : Choice) (late : Bool) (n : ℕ) (j : Judged) (way : Direction) (k : Judgement) (p : Passing)
+          → p.way ≡ way → p.message ≡ m → p.order ≡ Known → p.types ≡ Some Breach
+          → Judges k (seen choice late p.order p.types j n p.way p.message.faults.items
+          (option_map entry_view p.message.entry) (option_map (λ e. view e.tree) p.message.entry))
+          → SawNext choice late n j way content (tree_in content) k
+      sees choice late n j way k p way_is message_is order_is types_are judges = at (tree_in content) reads
+        where
+          plain : Judges k (told choice late n j Known (Some Breach) way m)
+          plain = subst (λ x. Judges k (told choice late n j Known (Some Breach) way x)) message_is
+              (subst (λ w. Judges k (told choice late n j Known (Some Breach) w p.message)) way_is
+              (subst (λ v. Judges k (told choice late n j Known v p.way p.message)) types_are
+              (subst (λ o. Judges k (told choice late n j o p.types p.way p.message)) order_is judges)))
 
-        unread : NotRead (is_utf8 content) m → SawUnread choice late n j way content k
-        unread r = record {
-          rule = r.rule;
-          why = r.why;
-          judges = subst (λ fs. Judges k (seen choice late Known (Some Breach) j n way fs None None)) r.faults_are
-              (subst (λ e. Judges k (seen choice late Known (Some Breach) j n way m.faults.items
-              (option_map entry_view e) (option_map (λ e. view e.tree) e))) r.no_entry plain);
-        }
+          unread : NotRead (is_utf8 content) m → SawUnread choice late n j way content k
+          unread r = record {
+            rule = r.rule;
+            why = r.why;
+            judges = subst (λ fs. Judges k (seen choice late Known (Some Breach) j n way fs None None)) r.faults_are
+                (subst (λ e. Judges k (seen choice late Known (Some Breach) j n way m.faults.items
+                (option_map entry_view e) (option_map (λ e. view e.tree) e))) r.no_entry plain);
+          }
 
-        at : (o : Option Data) → Reads (is_utf8 content) m o → SawNext choice late n j way content o k
-        at None r = unread r
-        at (Some d) r =
-            subst (λ it. Judges k (seen choice late Known (Some Breach) j n way (faults_of d) (entry_in d) it))
-            r.tree_is
-            (subst (λ fs. Judges k (seen choice late Known (Some Breach) j n way fs (entry_in d)
-            (option_map (λ e. view e.tree) m.entry))) r.faults_are
-            (subst (λ e. Judges k (seen choice late Known (Some Breach) j n way m.faults.items e
-            (option_map (λ e. view e.tree) m.entry))) r.entry_is plain))
+          at : (o : Option Data) → Reads (is_utf8 content) m o → SawNext choice late n j way content o k
+          at None r = unread r
+          at (Some d) r =
+              subst (λ it. Judges k (seen choice late Known (Some Breach) j n way (faults_of d) (entry_in d) it))
+              r.tree_is
+              (subst (λ fs. Judges k (seen choice late Known (Some Breach) j n way fs (entry_in d)
+              (option_map (λ e. view e.tree) m.entry))) r.faults_are
+              (subst (λ e. Judges k (seen choice late Known (Some Breach) j n way m.faults.items e
+              (option_map (λ e. view e.tree) m.entry))) r.entry_is plain))

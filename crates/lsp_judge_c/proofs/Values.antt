@@ -35,13 +35,13 @@ kept x p = box_owns (λ ty ptr. chunk ty ptr) session.the_row p x
 module _ {M : Type 1} {𝓤 : Ura M} {𝓛 : Logic 𝓤} {K : Type 0} {Γ : List (Item 𝓤)} {G : Goal 𝓤 𝓛.H} where
   pub handle_in : K → (p : Ptr) (z : Bool) (x : Option Session)
       → Step K 𝓛 (‵ ((handle.the_row).own_val (record { at = p; is_open = z; value = x }) (word p z ∷ [])) ∷ Γ) G
-          (‵ (held z p x) ∷ Γ) G
+      (‵ (held z p x) ∷ Γ) G
   handle_in t p z x = step (λ s.
       nothing t $ feq_i t (List Val) (vbool z ∷ []) (vbool z ∷ []) refl $ fjoin t $
       feq_i t (List Val) (ptr_val p ∷ []) (ptr_val p ∷ []) refl $ fjoin t $
       feq_i t (List Val) (word p z ∷ []) (word p z ∷ []) refl $ fjoin t $
       fpack t (Valss (RawPtr ∷ bool ∷ [])) (within (shape handle.the_type) (p, (z, tt)) (word p z ∷ []))
-          (ptr_val p ∷ [], (vbool z ∷ [], tt)) $ fjoin t $ s)
+      (ptr_val p ∷ [], (vbool z ∷ [], tt)) $ fjoin t $ s)
 
   pub handle_out : K → (d : LspJudgeSession) (vs : List Val)
       → (vs ≡ word d.at d.is_open ∷ [] → Seq K 𝓛 (‵ (held d.is_open d.at d.value) ∷ Γ) G)
@@ -58,11 +58,11 @@ module _ {M : Type 1} {𝓤 : Ura M} {𝓛 : Logic 𝓤} {K : Type 0} {Γ : List
   pub held_cases : K → (z : Bool) (p : Ptr) (x : Option Session)
       → (z ≡ false → x ≡ None → Seq K 𝓛 (‵ ftrue ∷ Γ) G)
       → ((b o : ℕ) (y : Session) → z ≡ true → p ≡ block_ptr b o → x ≡ Some y → Seq K 𝓛 (‵ (kept y (block_ptr b o)) ∷ Γ)
-          G)
+      G)
       → Seq K 𝓛 (‵ (held z p x) ∷ Γ) G
   held_cases t false p None shut kept_in = shut refl refl
   held_cases t false p (Some y) shut kept_in = lost t
   held_cases t true p None shut kept_in = lost t
   held_cases t true p (Some y) shut kept_in =
       in_a_block t p (kept y) (fst∗ 𝓤 (never 𝓤) (sem 𝓛 (chunk (bare (layout session.the_row)) null_ptr))) (λ b o e.
-          kept_in b o y refl e refl)
+      kept_in b o y refl e refl)

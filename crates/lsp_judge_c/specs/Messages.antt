@@ -1,5 +1,5 @@
 -- What is kept of a session that is judged one message at a time, and what the functions for it return.
-use Rattle.std.specs.Prelude.{◌≡◌, ◌⊎◌, ℕ, ◌==◌, ◌&&◌, ◌||◌, not, nat_le, Bool, true, false, List, [], ◌∷◌}
+use Rattle.std.specs.Prelude.{◌≡◌, ◌⊎◌, ℕ, ◌+◌, drop, ◌==◌, ◌&&◌, ◌||◌, not, nat_le, Bool, true, false, List, [], ◌∷◌}
 use Rattle.std.specs.Prelude.{Option, Some, None, is_some, if◌then◌else◌}
 use Rattle.std.specs.Str.{is_utf8}
 use Rattle.serde_json.specs.Data.{Data}
@@ -9,7 +9,7 @@ use Rattle.lsp_watch.specs.declared.direction.Direction.{Direction}
 use Rattle.lsp_watch.specs.declared.rule.Rule.TheVariants.{NotUtf8, NotJson, Unreadable}
 use Rattle.lsp_watch.specs.declared.rule.Rule.{Rule}
 use Rattle.lsp_judge.specs.Judged.{Judged, Judges, nothing, seen, left}
-use Rattle.lsp_judge.specs.Recording.{tree_in, with_line}
+use Rattle.lsp_judge.specs.Recording.{way_of, tree_in, with_line}
 use Rattle.lsp_judge.specs.declared.choice.Choice.{Choice}
 use Rattle.lsp_judge.specs.declared.judgement.Judgement.{Judgement}
 use Rattle.lsp_judge.specs.declared.passed.Order.TheVariants.{Known}
@@ -80,6 +80,23 @@ pub record Passes (before after : Session) (way : Direction) (place : ℕ) (cont
   pub unread : after.unread ≡ unread_after before.unread place content
   pub judges : (j : Judged) → Judges before.judgement j → before.choice.ignored.items ≡ []
       → SawNext before.choice (is_late before.options) place j way content (tree_in content) after.judgement
+
+-- ---- the messages of a recording
+
+-- the message of a line passes, by its direction; a line without a direction has none
+abbrev pub PassesLine : Option Direction → ℕ → List ℕ → Session → Session → Type 0
+PassesLine None n line before after = after ≡ before
+PassesLine (Some way) n line before after = Passes before after way n (drop 3 line)
+
+-- the messages of these lines, which are counted from n on, pass one after another; with the sessions after each line
+abbrev pub PassEach : ℕ → Session → List (List ℕ) → List Session → Type 0
+PassEach n s [] later = later ≡ []
+PassEach n s (line ∷ more) [] = ⊥
+PassEach n s (line ∷ more) (t ∷ later) = PassesLine (way_of line) n line s t × PassEach (n + 1) t more later
+
+abbrev pub last_of : Session → List Session → Session
+last_of s [] = s
+last_of s (t ∷ later) = last_of t later
 
 -- ---- statuses
 

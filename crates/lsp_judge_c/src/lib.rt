@@ -2,6 +2,7 @@
 #![tactic(auto)]
 
 mod handle;
+pub mod laws;
 mod loose;
 mod messages;
 mod page;

@@ -54,13 +54,7 @@ impl Session {
     /// Judges one more message, and tells the rules that it breaks.
     ///
     /// The error means that an allocation failed. It is not known then what was judged.
-    pub fn see(
-        &mut self,
-        alloc: Global,
-        way: Direction,
-        place: u64,
-        content: &[u8],
-    ) -> Result<Told>
+    pub fn see(&mut self, alloc: Global, way: Direction, place: u64, content: &[u8]) -> Result<Told>
         ensures seen { OnOk result (Passes self.old self.new way place content.now) }
         ensures status { IfOk result (λ it. it.status ≡ status_after self.new) }
         ensures known { IfOk result (λ it. it.status < FAILED) }

@@ -24,13 +24,13 @@ pub closed_spec : {M : Type 1} → statement M
 closed_spec 𝓤 𝓛 𝓜 𝓡 wired =
     let c = f.clauses 𝓛 𝓜.mem 𝓡.returns in let W = walk_of 𝓛 f.ended tt c in let 𝓣 = tables 𝓤 𝓛.H 𝓜 𝓡 𝓡.env in
     proved 𝓛 f.ended tt c 𝓜 𝓡 tt f.Key.name code.function (code.unfolded 𝓤 𝓛.H 𝓜 𝓡 wired)
-        (λ κs. tt) (λ κs. tt) (λ κs qs bounds a g are.
+    (λ κs. tt) (λ κs. tt) (λ κs qs bounds a g are.
     let y : W.Ghost = ((κs, qs, bounds, a, tt), g) in let w : Val = word null_ptr false in
     qed 𝓛 (raw (on_entry 𝓛 f.signature κs qs a tt) ∷ ‵ ftrue ∷ []) ∵ drop ! $ drop ! $
     enter ! _ _ _ _ _ $ alloc_all ! (λ l. pass_all ! refl tt $
     sets ! (agg ! (and_then ! (lit ! tt) (and_then ! (false_lit !) (no_more !)))) refl
-        (tt, (record { fits = lit< tt }, (tt, tt))) $
+    (tt, (record { fits = lit< tt }, (tt, tt))) $
     returns ! (look_at ! 0 refl) $ free_all ! refl $
     suffices ! _ (ends_at 𝓛 f.ended tt c y w (record { at = null_ptr; is_open = false; value = None }) tt tt) $
-        says ! refl $
+    says ! refl $
     nothing ! $ handle_in ! null_ptr false None $ nothing ! $ nothing ! $ group ! 3 $ done !))

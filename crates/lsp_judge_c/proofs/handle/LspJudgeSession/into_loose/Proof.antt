@@ -45,49 +45,52 @@ into_loose_spec 𝓤 𝓛 𝓜 𝓡 wired =
     let R : RattleType = session.the_row in let Z : RattleType = heap.the_row in let LZ = heap_laws.the_row_laws in
     let Lo : RattleType = Loose R Z LZ ghosts in
     let hs : Stays f.ended.signature.params f.ended.kept =
-        (stay_dropped (plain (λ _. handle.the_row)) yes, (stay_dropped (plain (λ _. Z)) yes, tt)) in
-    proved_at 𝓛 f.ended hs c 𝓜 𝓡 (Goes-blank 𝓛 0 (plain (λ _. handle.the_row)) yes (λ κs x w.
-        tt), (Goes-dropped 𝓛 0 (plain (λ _. Z)) yes (λ κs x w. refl), tt))
+    (stay_dropped (plain (λ _. handle.the_row)) yes, (stay_dropped (plain (λ _. Z)) yes, tt)) in
+    proved_at 𝓛 f.ended hs c 𝓜 𝓡 (
+      Goes-blank 𝓛 0 (plain (λ _. handle.the_row)) yes (λ κs x w.
+          tt),
+      (Goes-dropped 𝓛 0 (plain (λ _. Z)) yes (λ κs x w. refl), tt),
+    )
     f.Key.name fn (code.unfolded 𝓤 H 𝓜 𝓡 wired) (λ z are.
     let d = z.0.3.0 in let a = z.0.3.1.0 in let Out : RattleType = type_at f.ended.signature.result z.0.0 in
     let Post : Val → SProp 𝓤 = (walk_of 𝓛 f.ended hs c).post z in let Run : List Val → SProp 𝓤 =
-        λ ws. WpFn 𝓤 H 𝓣.C 𝓣.Λ fn ws Post in
+    λ ws. WpFn 𝓤 H 𝓣.C 𝓣.Λ fn ws Post in
     qed 𝓛 ((‵ ftrue ⊛ ‵ (owns (types_at f.ended.signature.params z.0.0) z.0.3 z.0.4)) ∷ ‵ ftrue ∷ []) ∵
     split ! $ move ! (1 ∷ []) $ fsplit ! $ move ! (1 ∷ []) $ fsplit ! $ handle_tells (al R Z LZ ghosts) ! a z.0.4.1.0
-        (λ h eh fits.
+    (λ h eh fits.
     move ! (2 ∷ []) $ handle_out ! d z.0.4.0 (λ ew. keep ! (0 ∷ 1 ∷ []) $
     let goes : (p : Ptr) (y : Bool) → d.at ≡ p → d.is_open ≡ y → ent 𝓤 (Run (word p y ∷ h ∷ []))
-        (Run (z.0.4.0 ++ (z.0.4.1.0 ++ []))) =
+    (Run (z.0.4.0 ++ (z.0.4.1.0 ++ []))) =
     λ p y ep ey. let ws : z.0.4.0 ≡ word p y ∷ [] = ew ∙ (λ i. word (ep i) (ey i) ∷ []) in
     subst (λ (us : List Val). ent 𝓤 (Run (word p y ∷ h ∷ [])) (Run us)) (sym (λ i. ws i ++ (eh i ++ [])))
-        (id⊢ 𝓤 (Run (word p y ∷ h ∷ []))) in
+    (id⊢ 𝓤 (Run (word p y ∷ h ∷ []))) in
     held_cases ! d.is_open d.at d.value
     (λ shut none.
     let w : Val = word d.at false in let v : Val = live 0 vnil in let made : Good (layout Out) v =
-        (tt, (record { fits = lit< tt }, tt)) in
+    (tt, (record { fits = lit< tt }, tt)) in
     suffices ! (Run (w ∷ h ∷ [])) (goes d.at false refl shut) $ drop ! $ drop ! $
     enter ! 𝓣.C 𝓣.Λ fn (w ∷ h ∷ []) Post $ alloc_all !
-        (λ l. pass_all ! refl ((and_tt _ (Ptr-Good d.at).0, ((Ptr-Good d.at).1, (tt, tt))), (fits, tt)) $ let Ev =
-        env fn.locals l in
+    (λ l. pass_all ! refl ((and_tt _ (Ptr-Good d.at).0, ((Ptr-Good d.at).1, (tt, tt))), (fits, tt)) $ let Ev =
+    env fn.locals l in
     sets ! (of_opd ! (get_in ! (fld ! refl (stop !)) (sub ! 0 refl (whole !)))) refl (Ptr-Good d.at) $
     sets ! (of_opd ! (get_in ! (fld ! refl (stop !)) (sub ! 1 refl (whole !)))) refl (tt, tt) $
     sets ! (of_opd ! (get ! refl)) refl (tt, tt) $
     first ! $ branches ! (get ! refl) (λ wrong. absurd wrong) (λ _.
     sets_last ! (agg ! (and_then ! (lit ! tt) (no_more !))) refl made $ exec ! 𝓣.C 𝓣.Λ Ev (after 4 fn.body)
-        (at_ret Ev Post) $
+    (at_ret Ev Post) $
     sets ! (of_opd ! (get ! refl)) refl made $ returns ! (look_at ! 0 refl) $ free_all ! refl $
     suffices ! _ (ends_at 𝓛 f.ended hs c z v None (tt, (tt, tt)) (tt, (tt, tt))) $ says ! none $
     use0 𝓛 (‵ (Out.own_val None (v ∷ []))) (none_of 𝓛 Lo) $ nothing ! $ nothing ! $ join ! $ nothing ! $ join ! $
-        nothing ! $ group ! 3 $ done !)))
+    nothing ! $ group ! 3 $ done !)))
     (λ b o x opened at is.
     let p : Ptr = block_ptr b o in let w : Val = word p true in let m : Val = both (vptr b o) h in let typed =
-        loose_good R Z LZ ghosts b o h fits in
+    loose_good R Z LZ ghosts b o h fits in
     let v : Val = live 1 (vcons m vnil) in let made : Good (layout Out) v =
-        (and_tt _ typed.0, (record { fits = lit< tt }, (typed.1, tt))) in
+    (and_tt _ typed.0, (record { fits = lit< tt }, (typed.1, tt))) in
     let r : Lo.Denot = record { at = p; alloc = a; value = x } in
     suffices ! (Run (w ∷ h ∷ [])) (goes p true at opened) $
     enter ! 𝓣.C 𝓣.Λ fn (w ∷ h ∷ []) Post $ alloc_all ! (λ l. pass_all ! refl ((tt, (tt, (tt, tt))), (fits, tt)) $
-        let Ev = env fn.locals l in
+    let Ev = env fn.locals l in
     -- [the block; the allocator; the locals]
     sets ! (of_opd ! (get_in ! (fld ! refl (stop !)) (sub ! 0 refl (whole !)))) refl (tt, tt) $
     sets ! (of_opd ! (get_in ! (fld ! refl (stop !)) (sub ! 1 refl (whole !)))) refl (tt, tt) $
@@ -96,7 +99,7 @@ into_loose_spec 𝓤 𝓛 𝓜 𝓡 wired =
     sets ! (of_opd ! (get ! refl)) refl (tt, tt) $
     sets ! (agg ! (and_then ! (get ! refl) (and_then ! (get ! refl) (no_more !)))) refl typed $
     sets_last ! (agg ! (and_then ! (lit ! tt) (and_then ! (get ! refl) (no_more !)))) refl made $
-        exec ! 𝓣.C 𝓣.Λ Ev (after 4 fn.body) (at_ret Ev Post) $
+    exec ! 𝓣.C 𝓣.Λ Ev (after 4 fn.body) (at_ret Ev Post) $
     sets ! (of_opd ! (get ! refl)) refl made $ returns ! (look_at ! 0 refl) $ free_all ! refl $
     suffices ! _ (ends_at 𝓛 f.ended hs c z v (Some r) (tt, (tt, tt)) (tt, (tt, tt))) $ says ! is $
     loose_in R Z LZ ghosts ! b o h a x $ use1 𝓛 (‵ (Out.own_val (Some r) (v ∷ []))) (Some-of 𝓛 Lo r m) $
