@@ -157,6 +157,14 @@ static uint8_t end(uint8_t ended) {
     return lsp_judge_end(&session, ended, report, sizeof report, &verdict);
 }
 
+static const char INITIALIZE[] = "{\"jsonrpc\":\"2.0\",\"id\":1,\"method\":\"initialize\",\"params\":{}}";
+static const char INITIALIZE_REPLY[] = "{\"jsonrpc\":\"2.0\",\"id\":1,\"result\":{\"capabilities\":{}}}";
+static const char SHUTDOWN[] = "{\"jsonrpc\":\"2.0\",\"id\":2,\"method\":\"shutdown\"}";
+static const char SHUTDOWN_REPLY[] = "{\"jsonrpc\":\"2.0\",\"id\":2,\"result\":null}";
+static const char ASKS_CLIENT[] = "{\"jsonrpc\":\"2.0\",\"id\":2,\"method\":\"window/showMessageRequest\",\"params\":{}}";
+static const char TELLS[] = "{\"jsonrpc\":\"2.0\",\"method\":\"a\"}";
+static const char OF_VERSION_1[] = "{\"jsonrpc\":\"1.0\",\"method\":\"a\"}";
+
 /* The messages of SESSION, one at a time, and what is said of the requests that are open in the end. */
 static void messages(void) {
     struct lsp_judge_options it = {.size = sizeof it, .side = LSP_JUDGE_BOTH};
@@ -165,19 +173,20 @@ static void messages(void) {
     expect("nothing passed", end(LSP_JUDGE_BOTH_ENDED), LSP_JUDGE_NOTHING);
     expect("closed", session.is_open, 0);
     expect("opened again", lsp_judge_new(&it, &session), 0);
-    expect("initialize", pass(LSP_JUDGE_TO_SERVER, 1, "{\"jsonrpc\":\"2.0\",\"id\":1,\"method\":\"initialize\",\"params\":{}}"), LSP_JUDGE_CLEAN);
+    expect("initialize", pass(LSP_JUDGE_TO_SERVER, 1, INITIALIZE), LSP_JUDGE_CLEAN);
     expect("no report", verdict.needed, 0);
-    expect("its reply", pass(LSP_JUDGE_TO_CLIENT, 2, "{\"jsonrpc\":\"2.0\",\"id\":1,\"result\":{\"capabilities\":{}}}"), LSP_JUDGE_CLEAN);
-    expect("a request", pass(LSP_JUDGE_TO_SERVER, 3, "{\"jsonrpc\":\"2.0\",\"id\":2,\"method\":\"shutdown\"}"), LSP_JUDGE_CLEAN);
+    expect("its reply", pass(LSP_JUDGE_TO_CLIENT, 2, INITIALIZE_REPLY), LSP_JUDGE_CLEAN);
+    expect("a request", pass(LSP_JUDGE_TO_SERVER, 3, SHUTDOWN), LSP_JUDGE_CLEAN);
     struct lsp_judge_session other = LSP_JUDGE_CLOSED;
     lsp_judge_new(&it, &other);
     expect("no message of another session", lsp_judge_end(&other, 0, report, sizeof report, &verdict), LSP_JUDGE_NOTHING);
     expect("the server has ended", end(LSP_JUDGE_SERVER_ENDED), LSP_JUDGE_BROKEN);
     report[verdict.written] = 0;
-    expect("the request without a reply", strstr((char *)report, "\"line\":3") != NULL && strstr((char *)report, "\"rule\":\"NoReply\"") != NULL, 1);
+    expect("the request without a reply", strstr((char *)report, "\"rule\":\"NoReply\"") != NULL, 1);
+    expect("its place", strstr((char *)report, "\"line\":3") != NULL, 1);
     for (uint8_t ended = 0; ended < 4; ended++) {
         lsp_judge_new(&it, &session);
-        pass(LSP_JUDGE_TO_CLIENT, 7, "{\"jsonrpc\":\"2.0\",\"id\":2,\"method\":\"window/showMessageRequest\",\"params\":{}}");
+        pass(LSP_JUDGE_TO_CLIENT, 7, ASKS_CLIENT);
         expect("a request to the client", end(ended), ended & LSP_JUDGE_CLIENT_ENDED ? LSP_JUDGE_BROKEN : LSP_JUDGE_CLEAN);
     }
 }
@@ -186,24 +195,23 @@ static void messages(void) {
 static void breaches_at_once(void) {
     struct lsp_judge_options it = {.size = sizeof it, .side = LSP_JUDGE_SERVER, .begins_late = 1};
     lsp_judge_new(&it, &session);
-    expect("the start is missing", pass(LSP_JUDGE_TO_SERVER, 1, "{\"jsonrpc\":\"2.0\",\"id\":2,\"method\":\"shutdown\"}"), LSP_JUDGE_CLEAN);
-    expect("a reply", pass(LSP_JUDGE_TO_CLIENT, 2, "{\"jsonrpc\":\"2.0\",\"id\":2,\"result\":null}"), LSP_JUDGE_CLEAN);
+    expect("the start is missing", pass(LSP_JUDGE_TO_SERVER, 1, SHUTDOWN), LSP_JUDGE_CLEAN);
+    expect("a reply", pass(LSP_JUDGE_TO_CLIENT, 2, SHUTDOWN_REPLY), LSP_JUDGE_CLEAN);
     expect("no JSON of the client", pass(LSP_JUDGE_TO_SERVER, 3, "hello"), LSP_JUDGE_UNREAD);
     expect("which message", verdict.unread, 3);
     expect("another one", pass(LSP_JUDGE_TO_SERVER, 4, "\xff"), LSP_JUDGE_UNREAD);
     expect("the first one", verdict.unread, 3);
     expect("a batch, must", pass(LSP_JUDGE_TO_CLIENT, 5, "[]"), LSP_JUDGE_UNREAD);
-    expect("a reply again", pass(LSP_JUDGE_TO_CLIENT, 6, "{\"jsonrpc\":\"2.0\",\"id\":2,\"result\":null}"), LSP_JUDGE_UNREAD);
-    expect("a wrong version", pass(LSP_JUDGE_TO_CLIENT, 7, "{\"jsonrpc\":\"1.0\",\"method\":\"a\"}"), LSP_JUDGE_BROKEN);
-    expect("a good message behind it", pass(LSP_JUDGE_TO_CLIENT, 8, "{\"jsonrpc\":\"2.0\",\"method\":\"a\"}"), LSP_JUDGE_BROKEN);
+    expect("a reply again", pass(LSP_JUDGE_TO_CLIENT, 6, SHUTDOWN_REPLY), LSP_JUDGE_UNREAD);
+    expect("a wrong version", pass(LSP_JUDGE_TO_CLIENT, 7, OF_VERSION_1), LSP_JUDGE_BROKEN);
+    expect("a good message behind it", pass(LSP_JUDGE_TO_CLIENT, 8, TELLS), LSP_JUDGE_BROKEN);
     expect("the end", end(LSP_JUDGE_NO_SIDE_ENDED), LSP_JUDGE_BROKEN);
     expect("its first message that was not read", verdict.unread, 3);
 }
 
 static void refused_sessions(void) {
     struct lsp_judge_options good = {.size = sizeof good}, it = good;
-    static const char content[] = "{\"jsonrpc\":\"2.0\",\"method\":\"a\"}";
-    expect("a closed session", pass(0, 1, content), LSP_JUDGE_REFUSED);
+    expect("a closed session", pass(0, 1, TELLS), LSP_JUDGE_REFUSED);
     expect("its end", end(0), LSP_JUDGE_REFUSED);
     lsp_judge_free(&session);
     it.from_line = 2;
@@ -217,11 +225,11 @@ static void refused_sessions(void) {
     expect("still closed", session.is_open, 0);
     good.groups = LSP_JUDGE_CAPABILITIES, good.from_line = 1;
     expect("groups of a session", lsp_judge_new(&good, &session), 0);
-    expect("a direction", pass(2, 1, content), LSP_JUDGE_REFUSED);
-    expect("the place 0", pass(0, 0, content), LSP_JUDGE_REFUSED);
+    expect("a direction", pass(2, 1, TELLS), LSP_JUDGE_REFUSED);
+    expect("the place 0", pass(0, 0, TELLS), LSP_JUDGE_REFUSED);
     expect("a side", end(4), LSP_JUDGE_REFUSED);
     verdict.size = 24;
-    expect("the verdict's size", pass(0, 1, content), LSP_JUDGE_REFUSED);
+    expect("the verdict's size", pass(0, 1, TELLS), LSP_JUDGE_REFUSED);
     expect("the verdict's size in the end", end(0), LSP_JUDGE_REFUSED);
     expect("the verdict", verdict.size, 24);
     verdict.size = sizeof verdict;

@@ -70,7 +70,8 @@ static struct lsp_judge_options every = {sizeof every, 0, 0, LSP_JUDGE_BOTH, LSP
 static struct lsp_judge_session session = LSP_JUDGE_CLOSED;
 
 static int is_refused(struct lsp_judge_verdict *v) {
-    return lsp_judge_message(&session, 0, 1, log_, 1, report, MOST, v) == LSP_JUDGE_REFUSED && lsp_judge_end(&session, 0, report, MOST, v) == LSP_JUDGE_REFUSED;
+    int message = lsp_judge_message(&session, 0, 1, log_, 1, report, MOST, v);
+    return message == LSP_JUDGE_REFUSED && lsp_judge_end(&session, 0, report, MOST, v) == LSP_JUDGE_REFUSED;
 }
 
 /* What a failed call leaves: no verdict, and a session that is closed, and that can be freed, and freed again. */
