@@ -177,7 +177,7 @@ static int holds_one_by_one(const unsigned char *log, size_t n) {
     struct lsp_judge_verdict v = {.size = sizeof v}, w;
     unsigned char none;
     int status = lsp_judge_log(&options, lines, count, &none, 0, &v);
-    if (status < 2 && next() % 2) {
+    if (status < 2 && !v.unread && next() % 2) {
         options.groups = LSP_JUDGE_CAPABILITIES, options.format = LSP_JUDGE_ANY_LOG;
         status = lsp_judge_log(&options, lines, count, &none, 0, &v);
     }

@@ -176,16 +176,20 @@ static void messages(void) {
     expect("initialize", pass(LSP_JUDGE_TO_SERVER, 1, INITIALIZE), LSP_JUDGE_CLEAN);
     expect("no report", verdict.needed, 0);
     expect("its reply", pass(LSP_JUDGE_TO_CLIENT, 2, INITIALIZE_REPLY), LSP_JUDGE_CLEAN);
-    expect("a request", pass(LSP_JUDGE_TO_SERVER, 3, SHUTDOWN), LSP_JUDGE_CLEAN);
+    pass(LSP_JUDGE_TO_SERVER, 3, "{\"jsonrpc\":\"2.0\",\"method\":\"initialized\",\"params\":{}}");
+    expect("a request", pass(LSP_JUDGE_TO_SERVER, 4, SHUTDOWN), LSP_JUDGE_CLEAN);
     struct lsp_judge_session other = LSP_JUDGE_CLOSED;
     lsp_judge_new(&it, &other);
     expect("no message of another session", lsp_judge_end(&other, 0, report, sizeof report, &verdict), LSP_JUDGE_NOTHING);
     expect("the server has ended", end(LSP_JUDGE_SERVER_ENDED), LSP_JUDGE_BROKEN);
     report[verdict.written] = 0;
     expect("the request without a reply", strstr((char *)report, "\"rule\":\"NoReply\"") != NULL, 1);
-    expect("its place", strstr((char *)report, "\"line\":3") != NULL, 1);
+    expect("its place", strstr((char *)report, "\"line\":4") != NULL, 1);
     for (uint8_t ended = 0; ended < 4; ended++) {
         lsp_judge_new(&it, &session);
+        pass(LSP_JUDGE_TO_SERVER, 1, INITIALIZE);
+        pass(LSP_JUDGE_TO_CLIENT, 2, INITIALIZE_REPLY);
+        pass(LSP_JUDGE_TO_SERVER, 3, "{\"jsonrpc\":\"2.0\",\"method\":\"initialized\",\"params\":{}}");
         pass(LSP_JUDGE_TO_CLIENT, 7, ASKS_CLIENT);
         expect("a request to the client", end(ended), ended & LSP_JUDGE_CLIENT_ENDED ? LSP_JUDGE_BROKEN : LSP_JUDGE_CLEAN);
     }
