@@ -10,8 +10,8 @@ returns-in-Ok-clause-ok g c =
     c.in-Ok.ensures.ok ∙ ap (λ (p : PendingJobs _). with_job c.args.name.now c.args.job p) c.cancel.ensures.pending
     ∙ with_again before c.args.name.now c.args.job
 
-pub returns-clause-err : goal.returns-clause-err
-returns-clause-err g c =
+pub returns-in-Err-clause-err : goal.returns-in-Err-clause-err
+returns-in-Err-clause-err g c =
     c.in-Err.ensures.err
     ∙ ap (λ (p : PendingJobs _). without c.args.name.now p) c.cancel.ensures.pending
     ∙ without_again (pending_jobs c.args.self.now) c.args.name.now

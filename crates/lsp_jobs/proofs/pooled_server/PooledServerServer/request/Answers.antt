@@ -40,7 +40,7 @@ pub returns : goal.returns
 returns g c =
     let jobs = stated_jobs g.S.JobServer g.S.KeyedJobs.KeyedJobs g.J.Job in
     let acts = map (act_view g.S.PendingData.PartialEq.eq) c.in_ok-acts.acts.items in
-    let did = c.request-2.new.self in
+    let did = c.request.new.self in
     let before = pending_jobs c.args.self.now.pool in
     let left = c.cancel_request.ensures in
     IfOk-weaker c.acts_with_changes.result _ _ (λ all others. inr (
