@@ -256,7 +256,7 @@ def function_at(file, text, at):
     taken = re.fullmatch(r"([\w:]+)<([\w, <>]*)>", of_trait)
     if taken:
         left_out = {of_type.strip(), *re.findall(r"\w+", given)}
-        of_trait = taken[1] + "".join(it for it in re.findall(r"\w+", taken[2]) if it not in left_out)
+        of_trait = taken[1] + "".join(it[0].upper() + it[1:] for it in re.findall(r"\w+", taken[2]) if it not in left_out)
     of_trait = "".join(re.findall(r"\w+", re.sub(r"'\w+|\w+::", "", of_trait)))
     # Where the type is taken at types of its own, their names are a part of the printed name, so the whole module is asked for.
     is_plain = set(re.findall(r"[\w:]+", rest)) <= set(re.findall(r"\w+", given))
