@@ -10,6 +10,7 @@ from contextlib import contextmanager
 
 sys.dont_write_bytecode = True
 
+import lsp
 from lsp import (
     EXIT, HOST, INITIALIZE_REPLY, PATIENCE, SHUTDOWN, SHUTDOWN_REPLY, Client, Program, accepted, built, expect, frame, free_port,
     read_piece, run,
@@ -130,13 +131,14 @@ def check_types():
     reply = b'{"jsonrpc":"2.0","id":7,"result":{"range":null}}'
     for words, status in [([], 0), (["--rules", "types"], 1), (["--rules", "types", "--fail-on", "client"], 0)]:
         with both_ends("--once", "--json", *words) as (check, client, theirs):
-            for one, other, message in [(client, theirs, INITIALIZE), (theirs, client, INITIALIZE_REPLY), (client, theirs, INITIALIZED), (client, theirs, ask), (theirs, client, reply)]:
+            passes = [(client, theirs, lsp.INITIALIZE), (theirs, client, INITIALIZE_REPLY), (client, theirs, INITIALIZED), (client, theirs, ask), (theirs, client, reply)]
+            for one, other, message in passes:
                 one.send_bytes(frame(message))
                 other.receive(frame(message))
             client.connection.close()
             theirs.connection.close()
             ended, out, errors = check.end()
-            found = [(it["rule"], it["file"], it["byte"]) for it in map(json.loads, out.splitlines()) if it["kind"] == "breach" and it["way"] == "<-"]
+            found = [(it["rule"], it["file"], it["byte"]) for it in map(json.loads, out.splitlines()) if it["kind"] == "breach"]
             wanted = [("WrongType", "server", len(frame(INITIALIZE_REPLY)))] if words else []
             expect(f"the status, and what is found by {words}", (ended, found), (status, wanted))
 
