@@ -1,7 +1,8 @@
 -- Over a transport that keeps an account, a session acts in order: what it sends for a message stands before what it
 -- reads next.
 use Rattle.lsp_session.proofs.Histories.{history_as}
-use Rattle.lsp_session.specs.Account.{Act, gave, sending, KeepsAccount, NotesReceive, NotesSend, InOrder}
+use Rattle.lsp_session.specs.Account.{Act, gave, sending, NotesReceive, NotesSend, InOrder}
+use Rattle.lsp_session.specs.KeptAccount.{KeepsAccount}
 use Rattle.lsp_session.specs.Boxes.{Sends, Receives}
 use Rattle.lsp_session.specs.Prompt.{Talks}
 use Rattle.lsp_session.specs.Session.{SessionAnswer, SessionPart, starting}

@@ -1,14 +1,13 @@
 -- What an inbox gave in a session over boxes: events that bring the messages and wakes of its exchanges, in order.
 use Rattle.lsp_message.specs.Message.{Message}
 use Rattle.lsp_session.proofs.Waiting.{FoldsTo-append, list_all-push}
-use Rattle.lsp_session.specs.Boxes.{Receives, Takes, WaitsFor, is_timeout}
+use Rattle.lsp_session.specs.Boxes.{Receives, Takes, is_timeout}
 use Rattle.lsp_session.specs.Event.{Event, message, timeout, closed, woken}
 use Rattle.lsp_session.specs.Prompt.{event_of, WaitsIn, AwaitsEnd, Refuses, Meets, History, any_wait}
 use Rattle.lsp_session.specs.Session.{SessionAnswer, Exchange, came_of, Stop, decided, no_more, timed_out, refused}
-use Rattle.lsp_session.specs.Session.{exhausted, Phase, starting, replied, serving, asked, broken, ended}
+use Rattle.lsp_session.specs.Session.{exhausted, Phase, asked, broken, ended}
 use Rattle.lsp_session.specs.SessionRun.{sends_nothing}
-use Rattle.lsp_session.specs.declared.lifecycle.SendFault.{SendFault}
-use Rattle.std.proofs.Common.{◌≡◌, refl, sym, ◌∙◌, ap, subst, inl, inr, ◌⊎◌, ◌≤◌, ◌-◌, ◌^◌, ℕ, Bool, true, false, List}
+use Rattle.std.proofs.Common.{◌≡◌, refl, sym, ◌∙◌, ap, subst, inl, inr, ◌⊎◌, ◌≤◌, ◌-◌, ◌^◌, Bool, true, false, List}
 use Rattle.std.proofs.Common.{[], ◌∷◌, ◌++◌, length, length-append, append_assoc, append-nil, arith, Option, Some, None}
 use Rattle.std.proofs.lemmas.List.Elements.{filter_map-append}
 use Rattle.std.proofs.lemmas.List.Folds.{list_all-append}

@@ -12,7 +12,7 @@ use Rattle.lsp_session.specs.Prompt.{event_of, WaitsIn, AwaitsEnd, Refuses, Meet
 use Rattle.lsp_session.specs.ProtocolError.{ProtocolFault, fault_of_refusal}
 use Rattle.lsp_session.specs.Replies.{null_reply}
 use Rattle.lsp_session.specs.Session.{Behavior, SessionAnswer, SessionPart, Exchange, Stop, no_more, timed_out}
-use Rattle.lsp_session.specs.Session.{exhausted, decided, refused, Step, Steps, Stops, TakesTurn, IsOffered}
+use Rattle.lsp_session.specs.Session.{exhausted, decided, refused, Step, Steps, Stops, TakesTurn}
 use Rattle.lsp_session.specs.Session.{AfterRefusal, SessionFrom, any_service, phase_after, Phase, starting, replied}
 use Rattle.lsp_session.specs.Session.{serving, asked, broken, ended}
 use Rattle.lsp_session.specs.SessionLaws.{Both}
@@ -25,7 +25,6 @@ use Rattle.lsp_session.specs.declared.loops.machine.Stage.TheVariants.{Starting,
 use Rattle.lsp_session.specs.declared.loops.session_outcome.SessionOutcome.{SessionOutcome}
 use Rattle.lsp_session.specs.declared.loops.session_outcome.StopReason.{StopReason}
 use Rattle.lsp_session.specs.declared.loops.session_outcome.StopReason.TheVariants.{Decided, Refused}
-use Rattle.serde_json.specs.Data.{Data}
 use Rattle.std.proofs.Common.{◌≡◌, refl, sym, ap, subst, ◌∙◌, inl, inr, ◌⊎◌, ◌≤◌, ◌-◌, ◌^◌, ℕ, ◌+◌, List, [], ◌∷◌, ◌++◌}
 use Rattle.std.proofs.Common.{length, length-append, append_assoc, arith, Option, Some, None}
 use Rattle.std.proofs.lemmas.Fn.{FoldsTo-push}

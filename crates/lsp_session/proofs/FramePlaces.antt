@@ -47,6 +47,12 @@ pub added : {E : Type 0} (r : Result Unit E) (failed : Bool) (old x new : List �
 added (Ok done) failed old x new fails is items = items
 added (Err fault) failed old x new fails is items = absurd (true≢false (sym fails ∙ is))
 
+-- bytes that were added are dropped again
+pub put_back : (old x new back : List ℕ) (count : ℕ) → new ≡ old ++ x → count ≡ length old → back ≡ take count new
+    → back ≡ old
+put_back old x new back count now all is = is ∙ ap (take count) now ∙ ap (λ n. take n (old ++ x)) all
+    ∙ take-append_seam old x
+
 -- ---- the end of the line
 
 -- the rest of a slice
@@ -92,24 +98,22 @@ nothing : body_means [] ≡ Err NoJson
 unfolding value is_utf8 chars lex punctuate
 nothing = refl
 
-pub begins_with : (limits : Limits) (text : List ℕ) (fault : ReadFault) → (reading_within limits text).outcome
-    ≡ Err fault → BeginsWithFault limits text fault
-begins_with limits text Memory is = tt
-begins_with limits text fault is = is
-
-pub fault_kept : (limits : Limits) (text : List ℕ) (fault : ReadFault) → BeginsWithFault limits text fault
-    → IsFaultOf limits text fault
-fault_kept limits text Memory is = λ never. absurd (never refl)
-fault_kept limits text fault is = λ _. ap result_err is
+pub fault_kept : (limits : Limits) (text : List ℕ) (fault : ReadFault) → (reading_within limits text).outcome
+    ≡ Err fault → IsFaultOf limits text fault
+fault_kept limits text fault is = ap result_err is
 
 pub fault_known : (limits : Limits) (text : List ℕ) (fault : ReadFault) → IsFaultOf limits text fault
-    → BeginsWithFault limits text fault
-fault_known limits text Memory is = tt
-fault_known limits text fault is = known (reading_within limits text).outcome (is (λ e. cc (e)))
+    → (reading_within limits text).outcome ≡ Err fault
+fault_known limits text fault is = known (reading_within limits text).outcome is
   where
     known : (r : Result (Option Message) ReadFault) → result_err r ≡ Some fault → r ≡ Err fault
     known (Ok found) e = cc (e)
     known (Err other) e = cc (e)
+
+pub begins_with : (limits : Limits) (text : List ℕ) (fault : ReadFault) → IsFaultOf limits text fault
+    → BeginsWithFault limits text fault
+begins_with limits text Memory is = tt
+begins_with limits text fault is = fault_known limits text fault is
 
 -- an answer is no fault
 none_fault : (a : Result (Option Message) ReadFault) (fault : ReadFault) → a ≡ Ok None → a ≡ Err fault → ⊥
@@ -370,11 +374,12 @@ module _ (limits : Limits) where
       read_message m means = subst (λ (l : List ℕ). IsFrameRead limits m l) (take-append-drop start new)
           (whole_message size (take start new) (drop start new) head size_of m means)
 
-      pub read_fault : (fault : ReadFault) → Decodes message_view (Err fault) (body_means (drop start new))
-          → BeginsWithFault limits new fault
-      read_fault Memory means = tt
-      read_fault fault means = subst (λ (l : List ℕ). (reading_within limits l).outcome ≡ Err fault)
-          (take-append-drop start new) (whole_fault size (take start new) (drop start new) head size_of fault means)
+      pub read_fault : (fault : ReadFault) → fault ≢ Memory → Decodes message_view (Err fault)
+          (body_means (drop start new)) → IsFaultOf limits new fault
+      read_fault Memory other means = absurd (other refl)
+      read_fault fault other means = fault_kept limits new fault (subst (λ (l : List ℕ).
+          (reading_within limits l).outcome ≡ Err fault) (take-append-drop start new) (whole_fault size (take start new)
+          (drop start new) head size_of fault means))
 
   -- ---- places
 
@@ -391,9 +396,9 @@ module _ (limits : Limits) where
       → InContent limits text start size
   fault_content text fault start size is = absurd (cc (is))
 
-  pub fault_fault : (text : List ℕ) (fault : ReadFault) → BeginsWithFault limits text fault → (kind : ReadFault)
+  pub fault_fault : (text : List ℕ) (fault : ReadFault) → IsFaultOf limits text fault → (kind : ReadFault)
       → Fault fault ≡ Fault kind → IsFaultOf limits text kind
-  fault_fault text fault begins kind is = subst (IsFaultOf limits text) (one is) (fault_kept limits text fault begins)
+  fault_fault text fault begins kind is = subst (IsFaultOf limits text) (one is) begins
     where
       one : {a b : ReadFault} → Fault a ≡ Fault b → a ≡ b
       one e = cc (e)
@@ -441,7 +446,7 @@ module _ (limits : Limits) where
         (ap (header_after given) same ∙ open_line given b bs (subst HasNoFeed same here.unended) fault is) refl
 
     pub end_in_line : line ≢ length text → MatchOption (result_err (header_line (drop line text)))
-        ((reading_within limits text).outcome ≡ Ok None) (BeginsWithFault limits text)
+        ((reading_within limits text).outcome ≡ Ok None) (IsFaultOf limits text)
     end_in_line other = at (unended (drop line text) here.unended)
       where
         some : 0 < length (drop line text)
@@ -449,12 +454,13 @@ module _ (limits : Limits) where
 
         at : (header_line (drop line text) ≡ Err LineNotText) ⊎ (header_line (drop line text) ≡ Err LineEnd)
             → MatchOption (result_err (header_line (drop line text)))
-            ((reading_within limits text).outcome ≡ Ok None) (BeginsWithFault limits text)
-        at (inl is) = rw is (end_at_fault (drop line text) refl some LineNotText is)
-        at (inr is) = rw is (end_at_fault (drop line text) refl some LineEnd is)
+            ((reading_within limits text).outcome ≡ Ok None) (IsFaultOf limits text)
+        at (inl is) = rw is (fault_kept limits text LineNotText (end_at_fault (drop line text) refl some LineNotText
+            is))
+        at (inr is) = rw is (fault_kept limits text LineEnd (end_at_fault (drop line text) refl some LineEnd is))
 
   pub end_in_content : (text : List ℕ) (start size : ℕ) → InContent limits text start size
-      → (reading_within limits text).outcome ≡ Err ShortBody
-  end_in_content text start size here = subst (λ (l : List ℕ). (reading_within limits l).outcome ≡ Err ShortBody)
-      (take-append-drop start text) (short_part size (take start text) (drop start text) here.header
-      (missing_part text start size here))
+      → IsFaultOf limits text ShortBody
+  end_in_content text start size here = fault_kept limits text ShortBody (subst (λ (l : List ℕ).
+      (reading_within limits l).outcome ≡ Err ShortBody) (take-append-drop start text) (short_part size
+      (take start text) (drop start text) here.header (missing_part text start size here)))

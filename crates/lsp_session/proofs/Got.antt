@@ -5,10 +5,10 @@ use Rattle.lsp_session.proofs.Ordering.{none_after}
 use Rattle.lsp_session.proofs.Ran.{IsSound, IsWhole, TurnCase, turn_case, whole, lost_reply, breaks, row}
 use Rattle.lsp_session.proofs.Ran.{phase_unbroken}
 use Rattle.lsp_session.proofs.Waiting.{FoldsTo-append}
-use Rattle.lsp_session.specs.Boxes.{Sends, Takes, WaitsFor}
+use Rattle.lsp_session.specs.Boxes.{Sends, Takes}
 use Rattle.lsp_session.specs.Event.{Event, closed, timeout}
 use Rattle.lsp_session.specs.Prompt.{event_of, WaitsIn, AwaitsEnd, Refuses, Meets, History, any_wait}
-use Rattle.lsp_session.specs.Session.{SessionAnswer, Exchange, sends_of, and_refused, Stop, decided, no_more}
+use Rattle.lsp_session.specs.Session.{SessionAnswer, Exchange, sends_of, Stop, decided, no_more}
 use Rattle.lsp_session.specs.Session.{timed_out, refused, exhausted, Phase, starting, replied, serving, asked, broken}
 use Rattle.lsp_session.specs.Session.{ended, Step, Steps, Stops, any_service}
 use Rattle.lsp_session.specs.SessionBytes.{lost_of}
@@ -17,7 +17,7 @@ use Rattle.lsp_session.specs.declared.lifecycle.SendFault.{SendFault}
 use Rattle.std.proofs.Common.{◌≡◌, refl, sym, ◌∙◌, ap, subst, inl, inr, ℕ, Bool, List, [], ◌∷◌, ◌++◌, length}
 use Rattle.std.proofs.Common.{append_assoc, append-nil, Option, Some, None}
 use Rattle.std.specs.List.{FoldsTo}
-use Rattle.std.specs.Prelude.{Ok, Err}
+use Rattle.std.specs.Prelude.{Err}
 
 -- a session that is sound stops at no refusal
 stops_whole : (passes : Bool) (p : Phase) (stop : Stop) (answer : SessionAnswer) → IsSound p

@@ -1,8 +1,7 @@
 -- The header part of a frame whose bytes come in pieces, line by line.
-use Rattle.std.proofs.Common.{◌≡◌, ◌≢◌, refl, sym, ap, subst, ◌∙◌, ℕ, zero, suc, ◌+◌, ◌-◌, ◌<◌, ◌≤◌, Bool, true, false}
-use Rattle.std.proofs.Common.{not}
-use Rattle.std.proofs.Common.{eqb, eq-eqb, eqb-true, ne_eqb, true≢false, List, [], ◌∷◌, ◌++◌, length, append_assoc}
-use Rattle.std.proofs.Common.{length-append, take, drop, get_or, Option, Some, None, Result, Ok, Err, arith, inl, inr}
+use Rattle.std.proofs.Common.{◌≡◌, refl, sym, ap, ◌∙◌, ℕ, zero, suc, ◌+◌, ◌-◌, ◌<◌, ◌≤◌, Bool, true, false}
+use Rattle.std.proofs.Common.{eqb, eq-eqb, eqb-true, ne_eqb, List, [], ◌∷◌, ◌++◌, length, append_assoc}
+use Rattle.std.proofs.Common.{length-append, take, get_or, Option, Some, None, Result, Ok, Err, arith, inl, inr}
 use Rattle.std.proofs.Common.{◌⊎◌}
 use Rattle.std.proofs.Common.{get_or-take, length-take-le, le_refl, nat_lt}
 use Rattle.std.proofs.Math.Seq.{get_or-append_seam, take-suc}

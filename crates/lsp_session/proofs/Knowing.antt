@@ -1,11 +1,10 @@
 -- What is known of a session besides what is promised of it: how it stopped.
-use Rattle.lsp_message.specs.Message.{Message}
 use Rattle.lsp_session.proofs.Ran.{session_facts}
 use Rattle.lsp_session.specs.Session.{Behavior, Exchange, SessionAnswer, SessionOut, SessionPart, Stop, starting}
 use Rattle.lsp_session.specs.SessionLaws.{Both}
 use Rattle.lsp_session.specs.SessionOutcome.{StopsBy, StopsFor}
 use Rattle.lsp_session.specs.declared.loops.session_outcome.StopReason.{StopReason}
-use Rattle.std.proofs.Common.{refl, List, Option}
+use Rattle.std.proofs.Common.{refl, List}
 
 abbrev pub Knows : SessionPart → SessionPart → StopReason → Type 0
 Knows P Q reason = (xs : List Exchange) (stop : Stop) (answer : SessionAnswer)

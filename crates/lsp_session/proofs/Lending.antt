@@ -11,7 +11,7 @@ use Rattle.lsp_session.specs.HandlerSession.{initialize_result, of_handler}
 use Rattle.lsp_session.specs.Prompt.{Talks}
 use Rattle.lsp_session.specs.Session.{Behavior, SessionAnswer, Exchange, Stop, decided, timed_out, refused, exhausted}
 use Rattle.lsp_session.specs.Session.{Phase, starting, replied, serving, asked, broken, ended, phase_after, Step, Steps}
-use Rattle.lsp_session.specs.Session.{AfterRefusal, IsOffered, TakesTurn, Stops, SessionOut, SessionPart}
+use Rattle.lsp_session.specs.Session.{AfterRefusal, IsOffered, Stops, SessionOut, SessionPart}
 use Rattle.lsp_session.specs.SessionBytes.{ReadsMessage, SessionOver, Gives}
 use Rattle.lsp_session.specs.SessionRun.{Runs}
 use Rattle.lsp_session.specs.declared.lifecycle.SendFault.{SendFault}
@@ -21,7 +21,7 @@ use Rattle.lsp_session.specs.declared.loops.handler_service.HandlerService.{Hand
 use Rattle.lsp_session.specs.declared.loops.stream_session.SessionFault.{SessionFault}
 use Rattle.serde_json.specs.Data.{Data}
 use Rattle.serde_json.specs.View.{view}
-use Rattle.std.proofs.Common.{◌≡◌, refl, sym, ◌∙◌, ap, inl, inr, ◌⊎◌, ℕ, List, [], ◌∷◌, ◌++◌, Option, Some, None}
+use Rattle.std.proofs.Common.{◌≡◌, refl, sym, ◌∙◌, ap, inl, inr, ◌⊎◌, ℕ, List, [], ◌∷◌, Option, Some, None}
 use Rattle.std.proofs.Common.{IfSome}
 use Rattle.std.specs.Prelude.{Result, Ok}
 

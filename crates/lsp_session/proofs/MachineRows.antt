@@ -20,7 +20,7 @@ use Rattle.lsp_session.specs.declared.loops.session_outcome.StopReason.{StopReas
 use Rattle.lsp_session.specs.declared.loops.session_outcome.StopReason.TheVariants.{Decided}
 use Rattle.serde_json.specs.Data.{Data}
 use Rattle.std.proofs.Common.{◌≡◌, refl, ap, inl, inr, ◌⊎◌, ℕ, Bool, true, false, ◌&&◌, List, [], ◌∷◌, ◌++◌}
-use Rattle.std.proofs.Common.{Some, None, codes}
+use Rattle.std.proofs.Common.{Some, codes}
 use Rattle.std.specs.Bool.{MatchBool}
 use Rattle.std.specs.Prelude.{Ok, Err, IsErrAnd}
 use Rattle.std.specs.Str.{bytes_eq}

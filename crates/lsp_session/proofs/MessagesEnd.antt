@@ -1,15 +1,19 @@
 -- What ended the messages of a session between bytes.
-use Rattle.std.proofs.Common.{◌≡◌, ◌≢◌, refl, sym, subst, inl, inr, ℕ, List, Option, Some, None}
+use Rattle.std.proofs.Common.{◌≡◌, ◌≢◌, ◌⊎◌, refl, sym, subst, ◌∙◌, inl, inr, ℕ, List, [], Option, Some, None}
+use Rattle.std.proofs.Common.{IsSomeAnd}
 use Rattle.lsp_message.specs.Message.{Message}
+use Rattle.lsp_message.specs.declared.frame.ReadFault.{ReadFault}
+use Rattle.lsp_message.specs.declared.frame.ReadFault.TheVariants.{Memory}
 use Rattle.lsp_message.specs.declared.frame.limits.Limits.{Limits}
 use Rattle.lsp_session.proofs.ByteHistory.{over_stays}
-use Rattle.lsp_session.specs.ByteSession.{Comes, IsEndOf, Standing, StopsOtherwise, WritesTurn}
-use Rattle.lsp_session.specs.ByteSessions.{standing, EndIsKnown, KnowsEnd}
+use Rattle.lsp_session.specs.ByteSession.{BeginsWithFault, Comes, IsEndOf, Standing, StopsOtherwise, WritesTurn}
+use Rattle.lsp_session.specs.ByteSessions.{standing, EndIsKnown, EndsAtFrame, KnowsEnd}
 use Rattle.lsp_session.specs.Event.{Event, message, timeout, closed, woken}
 use Rattle.lsp_session.specs.Machine.{Advances, StandsIn}
 use Rattle.lsp_session.specs.Session.{Behavior, Phase, starting, replied, serving, asked, broken, ended}
 use Rattle.lsp_session.specs.TransportTurn.{IsOver}
 use Rattle.lsp_session.specs.declared.loops.ReadEnd.{ReadEnd}
+use Rattle.lsp_session.specs.declared.loops.ReadEnd.TheVariants.{Fault as AtFault}
 use Rattle.lsp_session.specs.declared.loops.byte_session.ByteSession.{ByteSession}
 use Rattle.lsp_session.specs.declared.loops.frame_input.FrameInput.{FrameInput}
 use Rattle.lsp_session.specs.declared.loops.machine.Stage.{Stage}
@@ -96,9 +100,33 @@ known_open limits limits' text text' stage (Some end) waits known = absurd (wait
 
 -- the messages ended so
 pub known_now : {S : Type 0} (new : ByteSession S) (end : ReadEnd) (input : FrameInput) → new.end ≡ Some end
-    → new.input ≡ input → IsOver new.core.stage → IsEndOf input.limits input.bytes.items end → KnowsEnd new
+    → new.input ≡ input → IsOver new.core.stage → IsEndOf input.limits input.bytes.items end ⊎ (end ≡ AtFault Memory)
+    → KnowsEnd new
 known_now new end input is same over of =
     subst (λ (e : Option ReadEnd). EndIsKnown new.input.limits new.input.bytes.items new.core.stage e) (sym is) (
       over,
-      subst (λ (i : FrameInput). IsEndOf i.limits i.bytes.items end) (sym same) of,
+      subst (λ (i : FrameInput). IsEndOf i.limits i.bytes.items end ⊎ (end ≡ AtFault Memory)) (sym same) of,
     )
+
+-- a fault with which the bytes begin
+pub begun_end : (limits : Limits) (text : List ℕ) (fault : ReadFault) → BeginsWithFault limits text fault
+    → IsEndOf limits text (AtFault fault) ⊎ (AtFault fault ≡ AtFault Memory)
+begun_end limits text Memory begins = inr refl
+begun_end limits text fault begins = inl begins
+
+-- the input ended so
+pub end_now : (limits : Limits) (text : List ℕ) (end : ReadEnd) (now : Option ReadEnd) → now ≡ Some end
+    → IsEndOf limits text end → IsSomeAnd now (IsEndOf limits text)
+end_now limits text end now is of = subst (λ (e : Option ReadEnd). IsSomeAnd e (IsEndOf limits text)) (sym is) of
+
+-- no byte is unread where the session has no frame begun
+pub ends_at_frame : {S : Type 0} (new : ByteSession S) (input : FrameInput) → new.input ≡ input → input.bytes.items ≡ []
+    → EndsAtFrame new
+ends_at_frame new input same none = λ over unended. subst (λ (i : FrameInput). i.bytes.items ≡ []) (sym same) none
+
+-- where the messages ended with this, something else is to be shown
+pub ends_otherwise : {S : Type 0} (new : ByteSession S) (end : ReadEnd) → new.end ≡ Some end → EndsAtFrame new
+ends_otherwise new end is = λ over unended. absurd (never (sym unended ∙ is))
+  where
+    never : None ≡ Some end → ⊥
+    never e = cc (e)

@@ -16,7 +16,7 @@ use Rattle.std.proofs.Common.{append_assoc, subst, inl, inr, ◌⊎◌, append-n
 use Rattle.std.proofs.lemmas.List.{map-append}
 use Rattle.std.proofs.lemmas.List.Elements.{filter_map-append}
 use Rattle.std.proofs.lemmas.List.Folds.{list_all-append}
-use Rattle.std.specs.List.{FoldsTo, filter_map, list_all}
+use Rattle.std.specs.List.{filter_map, list_all}
 use Rattle.std.specs.Prelude.{Result, Ok, Err, MatchOption}
 use Rattle.lsp_message.specs.Id.{Id}
 use Rattle.lsp_message.specs.Methods.{is_early, is_initialize, is_initialized, is_shutdown, is_exit}

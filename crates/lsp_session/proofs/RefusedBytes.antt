@@ -205,15 +205,19 @@ module _ (limits : Limits) (most : ℕ) {S : Type 0} (may : Behavior S) where
 -- a frame that is cut off is reported as the end of the input
 pub takes_a_cut_frame_for_the_end : (limits : Limits) (text : List ℕ) (stage : Stage) (fault : ReadFault)
     → (reading_within limits text).outcome ≡ Err fault → EndIsKnown limits text stage (Some AtEnd) → ⊥
-takes_a_cut_frame_for_the_end limits text stage fault has known =
-    no_fault (sym has ∙ known.1)
+takes_a_cut_frame_for_the_end limits text stage fault has known = elim known.1 [
+  | inl is ↦ no_fault (sym has ∙ is)
+  | inr e ↦ cc (e)
+]
 
 -- the end of the input is reported as a fault
 pub takes_the_end_for_a_fault : (limits : Limits) (text : List ℕ) (stage : Stage) (fault : ReadFault)
     → fault ≢ Memory → (reading_within limits text).outcome ≡ Ok None
     → EndIsKnown limits text stage (Some (AtFault fault)) → ⊥
-takes_the_end_for_a_fault limits text stage fault bytes has known = never fault bytes known.1
+takes_the_end_for_a_fault limits text stage fault bytes has known = elim known.1 [
+  | inl is ↦ no_fault (sym is ∙ has)
+  | inr e ↦ bytes (one e)
+]
   where
-    never : (g : ReadFault) → g ≢ Memory → BeginsWithFault limits text g → ⊥
-    never Memory bytes begins = bytes refl
-    never g bytes begins = no_fault (sym begins ∙ has)
+    one : {f g : ReadFault} → AtFault f ≡ AtFault g → f ≡ g
+    one e = cc (e)

@@ -14,7 +14,7 @@ use Rattle.lsp_session.specs.Prompt.{event_of, WaitsIn, AwaitsEnd, Refuses, Meet
 use Rattle.lsp_session.specs.ProtocolError.{unexpected_in_shutdown}
 use Rattle.lsp_session.specs.Replies.{null_reply, IsEarlyReply}
 use Rattle.lsp_session.specs.Session.{Behavior, SessionAnswer, SessionPart, Exchange, Stop, decided, no_more, timed_out}
-use Rattle.lsp_session.specs.Session.{refused, exhausted, Phase, starting, replied, serving, asked, broken, ended}
+use Rattle.lsp_session.specs.Session.{refused, exhausted, Phase, starting, serving, asked, broken, ended}
 use Rattle.lsp_session.specs.Session.{phase_after, is_initialize, is_served, Fails, Leaves, Step, Steps, TakesTurn}
 use Rattle.lsp_session.specs.Session.{SessionFrom, any_service}
 use Rattle.lsp_session.specs.declared.lifecycle.SendFault.{SendFault}

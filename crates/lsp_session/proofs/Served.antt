@@ -1,5 +1,5 @@
 -- A session between bytes that has served each message that came whole.
-use Rattle.std.proofs.Common.{◌≡◌, refl, sym, subst, inl, inr, ◌⊎◌}
+use Rattle.std.proofs.Common.{◌≡◌, sym, subst, inl, inr}
 use Rattle.lsp_session.specs.ByteSession.{AwaitsMore, Comes}
 use Rattle.lsp_session.specs.ByteSessions.{standing, HasServed}
 use Rattle.lsp_session.specs.Event.{Event}

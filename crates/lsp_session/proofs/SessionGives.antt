@@ -31,7 +31,7 @@ use Rattle.lsp_session.specs.declared.loops.stream_inbox.StreamInbox.{StreamInbo
 use Rattle.std.proofs.Common.{◌≡◌, refl, ◌∙◌, ap, inl, inr, ℕ, List, [], ◌∷◌, ◌++◌, Some, None, Option}
 use Rattle.std.specs.Io.KnownBytes.{Keeps}
 use Rattle.std.specs.List.{FoldsTo}
-use Rattle.std.specs.Prelude.{Result, Ok, Err, MatchOption}
+use Rattle.std.specs.Prelude.{Ok, Err, MatchOption}
 
 module _ {R : Type 0} (remaining : R → Option (List ℕ)) (limit : Limits) where
   -- receives from an inbox over a reader, as they are seen, and the reader that it was lent

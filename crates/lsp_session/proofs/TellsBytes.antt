@@ -15,11 +15,9 @@ use Rattle.lsp_session.specs.Passing.{TolerantGives}
 use Rattle.lsp_session.specs.PassingBoxes.{stream_of}
 use Rattle.lsp_session.specs.PassingBytes.{SkipsNoContent}
 use Rattle.lsp_session.specs.Prompt.{Talks}
-use Rattle.lsp_session.specs.Session.{Behavior, starting, SessionAnswer, SessionPart, Exchange, Stop, SessionOut}
-use Rattle.lsp_session.specs.SessionOutcome.{StopsFor}
+use Rattle.lsp_session.specs.Session.{starting, SessionAnswer, SessionPart, Exchange, Stop}
 use Rattle.lsp_session.specs.SessionFault.{session_answer}
 use Rattle.lsp_session.specs.Streams.{Stream, StreamReads}
-use Rattle.lsp_session.specs.SessionLaws.{Both}
 use Rattle.lsp_session.specs.StreamTransports.{account_of, inbox_of, IsUnused, StreamTransportGives}
 use Rattle.lsp_session.specs.StreamTransports.{StreamTransportSends, PassesBetween, Serves}
 use Rattle.lsp_session.specs.Transcripts.{notes_of}

@@ -5,7 +5,8 @@ use Rattle.lsp_session.proofs.Accounts.{talks_in_order}
 use Rattle.lsp_session.proofs.TransportRuns.{transport_runs}
 use Rattle.lsp_session.proofs.Passing.{session_gives}
 use Rattle.lsp_session.proofs.Knowing.{Knows}
-use Rattle.lsp_session.specs.Account.{Act, KeepsAccount, InOrder}
+use Rattle.lsp_session.specs.Account.{Act, InOrder}
+use Rattle.lsp_session.specs.KeptAccount.{KeepsAccount}
 use Rattle.lsp_session.specs.ActBytes.{Note, acts_in}
 use Rattle.lsp_session.specs.Boxes.{Receives}
 use Rattle.lsp_session.specs.FrameBoxes.{FrameOutboxSends}

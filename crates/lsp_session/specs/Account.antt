@@ -2,7 +2,6 @@
 -- then reads again.
 use Rattle.std.specs.Prelude.{◌≡◌, List, [], ◌∷◌, ◌++◌, Result, Ok, Err}
 use Rattle.lsp_message.specs.Message.{Message}
-use Rattle.lsp_session.specs.Boxes.{Sends, Receives}
 use Rattle.lsp_session.specs.Event.{Event}
 use Rattle.lsp_session.specs.Prompt.{History, any_wait}
 use Rattle.lsp_session.specs.Session.{SessionPart, starting}
@@ -22,19 +21,11 @@ abbrev pub sending : Message → Result (Unit {0}) SendFault → Act
 sending m (Ok done) = took m
 sending m (Err fault) = lost m
 
--- The transport keeps an account: each act is added when it is done, and no other.
-pub record KeepsAccount {L : Type 0} (receives : Receives L) (sends : Sends L) (account : L
-    → List Act) : Type 0 where
-  pub receiving : (old : L) (event : Event) (new : L) → receives old event new
-      → account new ≡ account old ++ gave event ∷ []
-  pub offering : (old : L) (m : Message) (outcome : Result (Unit {0}) SendFault) (new : L)
-      → sends old m outcome new → account new ≡ account old ++ sending m outcome ∷ []
-
 -- a list of acts, to which each receive and each send is added
-abbrev pub NotesReceive : Receives (List Act)
+abbrev pub NotesReceive : List Act → Event → List Act → Type 0
 NotesReceive old event new = new ≡ old ++ gave event ∷ []
 
-abbrev pub NotesSend : Sends (List Act)
+abbrev pub NotesSend : List Act → Message → Result (Unit {0}) SendFault → List Act → Type 0
 NotesSend old m outcome new = new ≡ old ++ sending m outcome ∷ []
 
 -- These are the acts of a session, in order: its history as a list.

@@ -38,18 +38,16 @@ pub record AwaitsMore (limits : Limits) (text : List ℕ) : Type 0 where
   pub header_fits : (reading_within limits text).outcome ≢ Err HeaderTooLong
   pub content_fits : (reading_within limits text).outcome ≢ Err TooLong
 
--- the first message is taken off the bytes, or they stay
+-- the bytes are the frame of the message, and none is left; or they stay
 abbrev pub ReadsOne : Limits → List ℕ → Result (Option msg.Message) ReadFault → List ℕ → Type 0
-ReadsOne limits text (Ok (Some m)) left = (frame : List ℕ) × IsFrameRead limits (message_view m) frame
-    × (text ≡ frame ++ left)
+ReadsOne limits text (Ok (Some m)) left = IsFrameRead limits (message_view m) text × (left ≡ [])
 ReadsOne limits text (Ok None) left = left ≡ text
 ReadsOne limits text (Err fault) left = (left ≡ text) × BeginsWithFault limits text fault
 
--- What ends the messages is a fact of the bytes that are unread then. They end at the start of a header line, or they
--- begin with this fault.
+-- What a reader has where these bytes end: the end of the input, at the start of a header line, or this fault.
 abbrev pub IsEndOf : Limits → List ℕ → ReadEnd → Type 0
 IsEndOf limits text AtEnd = (reading_within limits text).outcome ≡ Ok None
-IsEndOf limits text (AtFault fault) = BeginsWithFault limits text fault
+IsEndOf limits text (AtFault fault) = (reading_within limits text).outcome ≡ Err fault
 IsEndOf limits text end = ⊥
 
 -- the session goes on, or it ended for another reason than the end of the messages

@@ -1,18 +1,20 @@
 -- A session between bytes and bytes, as contracts see it.
-use Rattle.std.specs.Prelude.{◌≡◌, ◌⊎◌, ℕ, List, Option, Some, None}
+use Rattle.std.specs.Prelude.{◌≡◌, ◌⊎◌, ℕ, List, [], Option, Some, None}
 use Rattle.lsp_message.specs.declared.frame.limits.Limits.{Limits}
 use Rattle.lsp_session.specs.ByteSession.{AwaitsMore, IsEndOf, Standing, StopsOtherwise}
 use Rattle.lsp_session.specs.PendingOutput.{waiting}
 use Rattle.lsp_session.specs.TransportTurn.{IsOver}
+use Rattle.lsp_message.specs.declared.frame.ReadFault.TheVariants.{Memory}
 use Rattle.lsp_session.specs.declared.loops.ReadEnd.{ReadEnd}
+use Rattle.lsp_session.specs.declared.loops.ReadEnd.TheVariants.{Fault as AtFault}
 use Rattle.lsp_session.specs.declared.loops.byte_session.ByteSession.{ByteSession}
 use Rattle.lsp_session.specs.declared.loops.machine.Stage.{Stage}
 
 -- Of a session in this stage, with these bytes unread: this ended the messages, and the session with them, or nothing
--- did.
+-- did. A want of memory is no fact of the bytes.
 abbrev pub EndIsKnown : Limits → List ℕ → Stage → Option ReadEnd → Type 0
 EndIsKnown limits text stage None = StopsOtherwise stage
-EndIsKnown limits text stage (Some end) = IsOver stage × IsEndOf limits text end
+EndIsKnown limits text stage (Some end) = IsOver stage × (IsEndOf limits text end ⊎ (end ≡ AtFault Memory))
 
 module _ {S : Type 0} where
   -- where the session stands
@@ -32,6 +34,11 @@ module _ {S : Type 0} where
   -- it ended for another reason.
   abbrev pub KnowsEnd : ByteSession S → Type 0
   KnowsEnd b = EndIsKnown b.input.limits (unread b) b.core.stage b.end
+
+  -- If the session has ended, the fault of the unread bytes ended it, or there are none: the last message that it
+  -- served was the last that it took bytes of.
+  abbrev pub EndsAtFrame : ByteSession S → Type 0
+  EndsAtFrame b = IsOver b.core.stage → b.end ≡ None → unread b ≡ []
 
   -- the bounds stay
   abbrev pub KeepsBounds : ByteSession S → ByteSession S → Type 0

@@ -8,8 +8,8 @@ use Rattle.std.specs.Prelude.{◌≡◌, ◌≤◌, ◌-◌, ◌^◌, ◌⊎◌,
 use Rattle.lsp_message.specs.Message.{Message}
 use Rattle.lsp_session.specs.Boxes.{Sends, Receives, Takes, WaitsFor}
 use Rattle.lsp_session.specs.Event.{Event, message, timeout, closed, woken}
-use Rattle.lsp_session.specs.Session.{SessionAnswer, SessionPart, Exchange, Stop, decided, no_more, timed_out, refused}
-use Rattle.lsp_session.specs.Session.{exhausted, Phase, starting, replied, serving, asked, broken, ended, TakesTurn}
+use Rattle.lsp_session.specs.Session.{SessionAnswer, SessionPart, Exchange, Stop, no_more, timed_out}
+use Rattle.lsp_session.specs.Session.{exhausted, Phase, serving, asked, broken, ended, TakesTurn}
 use Rattle.lsp_session.specs.Session.{Stops, any_service}
 use Rattle.lsp_session.specs.declared.lifecycle.SendFault.{SendFault}
 
@@ -77,5 +77,5 @@ module _ {L : Type 0} (receives listens : Receives L) where
       pub part : P exchanges stop answer
 
 -- nothing more is said of a wait
-abbrev pub any_wait : {L : Type 0} → Receives L
+abbrev pub any_wait : {L : Type 0} → L → Event → L → Type 0
 any_wait old event new = Unit {0}

@@ -1,7 +1,8 @@
 //! What a client of a session may wait for.
 ghost use Rattle.serde_json.specs.Data.{Data};
 ghost use Rattle.std.specs.Prelude.{◌≡◌, List, [], ◌++◌};
-ghost use Rattle.lsp_session.specs.Account.{Act, KeepsAccount, InOrder};
+ghost use Rattle.lsp_session.specs.Account.{Act, InOrder};
+ghost use Rattle.lsp_session.specs.KeptAccount.{KeepsAccount};
 ghost use Rattle.lsp_session.specs.Dialog.{Client, NeverBothWait, WaitsForReplies, WaitsForItsDue};
 ghost use Rattle.lsp_session.specs.HandlerSession.{of_handler};
 ghost use Rattle.lsp_session.specs.Prompt.{Talks};

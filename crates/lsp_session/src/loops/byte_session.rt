@@ -1,7 +1,7 @@
 // A session of a server between bytes and bytes.
-ghost use Rattle.std.specs.Prelude.{◌≡◌, ◌≤◌, ◌<◌, ◌⊎◌, [], length, drop as drop_front, take, IsTrue, None, Some};
-ghost use Rattle.lsp_session.specs.ByteSession.{BeginsWithFault, Comes, Goes};
-ghost use Rattle.lsp_session.specs.ByteSessions.{standing, unread, HasServed, KeepsBounds, KnowsEnd};
+ghost use Rattle.std.specs.Prelude.{◌≡◌, ◌≤◌, ◌<◌, ◌⊎◌, [], length, drop as drop_front, take, IsTrue, None, Some, IsSomeAnd};
+ghost use Rattle.lsp_session.specs.ByteSession.{BeginsWithFault, Comes, Goes, IsEndOf};
+ghost use Rattle.lsp_session.specs.ByteSessions.{standing, unread, EndsAtFrame, HasServed, KeepsBounds, KnowsEnd};
 ghost use Rattle.lsp_session.specs.Event.{closed, timeout, woken};
 ghost use Rattle.lsp_session.specs.Machine.{awaited_in, came_view, outcome_of};
 ghost use Rattle.lsp_session.specs.SessionFault.{session_answer as session_answer_spec};
@@ -69,6 +69,7 @@ impl<S: Service> ByteSession<S> {
         ensures limits { result.input.limits ≡ limits }
         ensures most { result.most_pending ≡ most_pending }
         ensures unended { result.end ≡ None }
+        ensures frame { EndsAtFrame result }
         ensures served { HasServed result }
         ensures known { KnowsEnd result }
     {
@@ -103,14 +104,15 @@ impl<S: Service> ByteSession<S> {
     /// many bytes it took: all of them, unless the session ends or more than `most_pending` bytes are to be sent. Pass
     /// in the others again when enough of the output was sent.
     ///
-    /// The session takes no other event for bytes. It ends here at its last message, at a fault of the bytes, or because
-    /// memory ran out.
+    /// The session takes no other event for bytes. It ends here at its last message, at a fault of the bytes, or
+    /// because memory ran out. If it ends at its last message, it takes no byte after the frame of that message.
     pub fn receive(&mut self, bytes: &[u8]) -> usize
         ensures within { result ≤ length bytes.now }
         ensures goes { Goes self.old.input.limits self.old.most_pending S.behavior (standing self.old) (unread self.old)
             self.old.end (take result bytes.now) (standing self.new) (unread self.new) self.new.end }
         ensures all { (result ≡ length bytes.now) ⊎ IsOver (standing self.new).stage
             ⊎ (self.new.most_pending < length (standing self.new).pending) }
+        ensures frame { EndsAtFrame self.old → EndsAtFrame self.new }
         ensures served { HasServed self.old → HasServed self.new }
         ensures known { KnowsEnd self.old → KnowsEnd self.new }
         ensures kept { KeepsBounds self.old self.new }
@@ -130,6 +132,7 @@ impl<S: Service> ByteSession<S> {
         ensures some { (0 < length bytes.now → 0 < result) ⊎ IsOver (standing self.new).stage }
         ensures goes { Goes self.old.input.limits self.old.most_pending S.behavior (standing self.old) (unread self.old)
             self.old.end (take result bytes.now) (standing self.new) (unread self.new) self.new.end }
+        ensures frame { EndsAtFrame self.new }
         ensures served { HasServed self.new }
         ensures known { KnowsEnd self.old → KnowsEnd self.new }
         ensures kept { KeepsBounds self.old self.new }
@@ -179,10 +182,11 @@ impl<S: Service> ByteSession<S> {
     }
 
     /// Reports that no more bytes will arrive. The session ends. If a frame is not whole then, the result is the fault
-    /// that a reader has there.
+    /// that a reader has there. No memory is needed to find it.
     pub fn closed(&mut self)
         ensures comes { Comes S.behavior (standing self.old) closed (standing self.new) }
         ensures unread { unread self.new ≡ unread self.old }
+        ensures end { (IsOver (standing self.old).stage → ⊥) → IsSomeAnd self.new.end (IsEndOf self.old.input.limits (unread self.old)) }
         ensures over { IsOver (standing self.new).stage }
         ensures known { KnowsEnd self.old → KnowsEnd self.new }
         ensures kept { KeepsBounds self.old self.new }

@@ -1,10 +1,11 @@
 // The frame of one message, gathered from bytes that come in pieces.
-ghost use Rattle.std.specs.Prelude.{◌≡◌, ◌⊎◌, ◌<◌, ◌≤◌, ◌+◌, ◌++◌, [], ℕ, Option, length, drop as drop_front, take, Ok, Some, None, IfOk, IfErr, IsTrue, MatchOption};
+ghost use Rattle.std.specs.Prelude.{◌≡◌, ◌≢◌, ◌⊎◌, ◌<◌, ◌≤◌, ◌+◌, ◌++◌, [], ℕ, Option, length, drop as drop_front, take, Ok, Some, None, IfOk, IfErr, IsTrue, MatchOption};
 ghost use Rattle.lsp_message.specs.Frame.{reading_within};
 ghost use Rattle.lsp_message.specs.View.{message_view};
-ghost use Rattle.lsp_session.specs.ByteSession.{AwaitsMore, BeginsWithFault, IsEndOf, ReadsOne};
+ghost use Rattle.lsp_session.specs.ByteSession.{AwaitsMore, IsEndOf, ReadsOne};
 ghost use Rattle.lsp_session.specs.FramePlace.{AreFields, HasNoFeed, InContent, InHeader, IsFaultOf, IsLine, IsPlaceOf};
 ghost use Rattle.lsp_message.specs.declared.frame.ReadFault.{ReadFault};
+ghost use Rattle.lsp_message.specs.declared.frame.ReadFault.TheVariants.{Memory};
 ghost use Rattle.lsp_session.specs.declared.loops.frame_input.Place.TheVariants.{Content, Fault, Header};
 
 use crate::loops::ReadEnd;
@@ -20,7 +21,7 @@ pub(crate) enum Place {
     Header(usize, Option<u64>),
     /// In the content part. It begins at the first number, and the second is its length.
     Content(usize, usize),
-    /// The bytes begin with this fault, or memory ran out.
+    /// The bytes begin with this fault.
     Fault(ReadFault),
 }
 
@@ -134,8 +135,8 @@ impl FrameInput {
         ensures awaits { IfOk result.1 (λ _. AwaitsMore self.new.limits self.new.bytes.items) }
         ensures limits { self.new.limits ≡ self.old.limits }
     {
-        let held = self.bytes.as_slice();
-        let missing = size - (held.len() - start);
+        let length = self.bytes.len();
+        let missing = size - (length - start);
         let count = piece.len().min(missing);
         if self.bytes.extend_from_slice(&piece[..count]).is_err() {
             return (0, Err(ReadFault::Memory));
@@ -149,6 +150,10 @@ impl FrameInput {
                 self.bytes.clear();
                 self.place = Place::Header(0, None);
                 (count, Ok(Some(message)))
+            }
+            Err(fault) if is_memory(fault) => {
+                self.bytes.truncate(length);
+                (0, Err(fault))
             }
             Err(fault) => {
                 self.place = Place::Fault(fault);
@@ -172,7 +177,7 @@ impl FrameInput {
     /// header part.
     fn fault_at_end(&self) -> Option<ReadFault>
         ensures { MatchOption result ((reading_within self.now.limits self.now.bytes.items).outcome ≡ Ok None)
-            (BeginsWithFault self.now.limits self.now.bytes.items) }
+            (IsFaultOf self.now.limits self.now.bytes.items) }
     {
         match self.place {
             Place::Header(line, _) => {
@@ -211,7 +216,7 @@ fn place_in_header(
     requires fields { AreFields given (take line bytes.now) }
     requires line { HasNoFeed (drop_front line bytes.now) ⊎ IsLine (drop_front line bytes.now) }
     ensures place { IfOk result (IsPlaceOf limits bytes.now) }
-    ensures fault { IfErr result (BeginsWithFault limits bytes.now) }
+    ensures fault { IfErr result (IsFaultOf limits bytes.now) }
 {
     if is_above(limits.header, bytes.len()) {
         return Err(ReadFault::HeaderTooLong);
@@ -231,6 +236,14 @@ fn place_in_header(
         },
         Err(fault) => Err(fault),
     }
+}
+
+/// Returns whether the fault is a want of memory, which is no fault of the bytes.
+fn is_memory(fault: ReadFault) -> bool
+    ensures memory { IsTrue result → fault ≡ Memory }
+    ensures bytes { (IsTrue result → ⊥) → fault ≢ Memory }
+{
+    matches!(fault, ReadFault::Memory)
 }
 
 /// Returns whether the count is above the bound, if there is one.

@@ -1,18 +1,18 @@
-use Rattle.std.proofs.Common.{◌≡◌, refl, sym, ap, ◌∙◌, ◌≤◌, ℕ, eqb, true, true≢false, arith, List, [], ◌∷◌, length}
-use Rattle.std.proofs.Common.{drop, take, Ok, Err, Some}
+use Rattle.std.proofs.Common.{◌≡◌, refl, sym, ap, ◌∙◌, eqb, true≢false, arith, [], ◌∷◌}
+use Rattle.std.proofs.Common.{drop, Ok, Err, Some}
 use Rattle.std.specs.List.{ends_with}
 use Rattle.lsp_message.specs.HeaderPart.{header_line}
-use Rattle.lsp_message.specs.declared.frame.header.HeaderLine.TheVariants.{Blank, Length, Other}
-use Rattle.lsp_session.proofs.FramePlaces.{above_bound, begins_with, blank_empty, blank_long, blank_place}
+use Rattle.lsp_message.specs.declared.frame.header.HeaderLine.TheVariants.{Length, Other}
+use Rattle.lsp_session.proofs.FramePlaces.{above_bound, blank_empty, blank_long, blank_place, fault_kept}
 use Rattle.lsp_session.proofs.FramePlaces.{blank_unsized}
-use Rattle.lsp_session.proofs.FramePlaces.{ended_fault, line_ended, line_goes_on, more_fields, next_line, tail_of}
+use Rattle.lsp_session.proofs.FramePlaces.{ended_fault, line_ended, more_fields, next_line, tail_of}
 use Rattle.lsp_session.proofs.loops.frame_input.place_in_header.Goals as goal
 
 pub returns-then-is_above-clause-fault : goal.returns-then-is_above-clause-fault
 returns-then-is_above-clause-fault c =
     let above = c.if-is_above.ensures.above refl in
-    above_bound c.args.limits c.args.bytes.now c.args.line c.args.given c.requires.fields c.requires.line above.0
-    above.1 above.2
+    fault_kept c.args.limits c.args.bytes.now _ (above_bound c.args.limits c.args.bytes.now c.args.line c.args.given c.requires.fields c.requires.line above.0
+    above.1 above.2)
 
 pub returns-in-Err-clause-fault : goal.returns-in-Err-clause-fault
 returns-in-Err-clause-fault c =
@@ -22,9 +22,8 @@ returns-in-Err-clause-fault c =
     ∙ c.if-not-ends_with.false in
     let whole = line_ended tail ends c.requires.line in
     let is = ap header_line (sym (tail_of c.args.line text)) ∙ sym c.header_line.ensures ∙ c.in-Err.is in
-    begins_with c.args.limits text c.in-Err.fault (ended_fault c.args.limits text c.args.line c.args.given
-    c.requires.fields whole (Err c.in-Err.fault) is c.in-Err.fault refl
-    (c.if-is_above.ensures.fits (λ e. true≢false (sym e))) refl)
+    fault_kept c.args.limits c.args.bytes.now _ (ended_fault c.args.limits text c.args.line c.args.given c.requires.fields whole (Err c.in-Err.fault) is
+    c.in-Err.fault refl (c.if-is_above.ensures.fits (λ e. true≢false (sym e))) refl)
 
 pub returns-in-Ok-Length-clause-place : goal.returns-in-Ok-Length-clause-place
 returns-in-Ok-Length-clause-place c =
@@ -62,7 +61,7 @@ returns-in-None-clause-fault c =
     let is = ap header_line (sym (tail_of c.args.line text)) ∙ sym c.header_line.ensures ∙ c.in-Ok-Blank.is
     ∙ ap Ok c.in-Ok-Blank.field-0-is in
     let fits = c.if-is_above.ensures.fits (λ e. true≢false (sym e)) in
-    blank_unsized limits text c.args.line c.args.given c.requires.fields whole is fits c.in-None.is
+    fault_kept c.args.limits c.args.bytes.now _ (blank_unsized limits text c.args.line c.args.given c.requires.fields whole is fits c.in-None.is)
 
 pub returns-in-Some-clause-fault : goal.returns-in-Some-clause-fault
 returns-in-Some-clause-fault c =
@@ -75,8 +74,8 @@ returns-in-Some-clause-fault c =
     let is = ap header_line (sym (tail_of c.args.line text)) ∙ sym c.header_line.ensures ∙ c.in-Ok-Blank.is
     ∙ ap Ok c.in-Ok-Blank.field-0-is in
     let fits = c.if-is_above.ensures.fits (λ e. true≢false (sym e)) in
-    blank_long limits text c.args.line c.args.given c.requires.fields whole is fits c.in-Some.size c.in-Some.is
-    (omega (arith, c.if-size-limits.true))
+    fault_kept c.args.limits c.args.bytes.now _ (blank_long limits text c.args.line c.args.given c.requires.fields whole is fits c.in-Some.size c.in-Some.is
+    (omega (arith, c.if-size-limits.true)))
 
 pub returns-in-Some-eq0-clause-fault : goal.returns-in-Some-eq0-clause-fault
 returns-in-Some-eq0-clause-fault c =
@@ -89,11 +88,11 @@ returns-in-Some-eq0-clause-fault c =
     let is = ap header_line (sym (tail_of c.args.line text)) ∙ sym c.header_line.ensures ∙ c.in-Ok-Blank.is
     ∙ ap Ok c.in-Ok-Blank.field-0-is in
     let fits = c.if-is_above.ensures.fits (λ e. true≢false (sym e)) in
-    blank_empty limits text c.args.line c.args.given c.requires.fields whole is fits
+    fault_kept c.args.limits c.args.bytes.now _ (blank_empty limits text c.args.line c.args.given c.requires.fields whole is fits
     (let none : c.in-Some-eq0.field-0 ≡ 0 = cc (
       c.in-Some-eq0.field-0-is,
       c.in-Some-eq0.field-0-test,
-    ) in c.in-Some-eq0.is ∙ ap Some none)
+    ) in c.in-Some-eq0.is ∙ ap Some none))
 
 pub returns-in-Some-2-clause-place : goal.returns-in-Some-2-clause-place
 returns-in-Some-2-clause-place c =

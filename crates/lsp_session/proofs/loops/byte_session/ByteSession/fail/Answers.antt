@@ -1,6 +1,6 @@
 use Rattle.std.proofs.Common.{ap}
 use Rattle.lsp_session.proofs.ByteHistory.{goes_closed, closed_over}
-use Rattle.lsp_session.proofs.MessagesEnd.{known_now}
+use Rattle.lsp_session.proofs.MessagesEnd.{begun_end, known_now}
 use Rattle.lsp_session.specs.ByteSessions.{standing, unread}
 use Rattle.lsp_session.specs.declared.loops.ReadEnd.TheVariants.{Fault}
 use Rattle.lsp_session.specs.declared.loops.frame_input.FrameInput.{FrameInput}
@@ -19,4 +19,5 @@ returns-clause-over g c = closed_over c.args.self.now.input.limits c.args.self.n
 pub returns-clause-known : goal.returns-clause-known
 returns-clause-known g c = known_now c.come.new.self (Fault c.args.fault) c.args.self.now.input c.come.ensures.end
     c.come.ensures.input (closed_over c.args.self.now.input.limits c.args.self.now.most_pending g.S.Service.behavior
-    (standing c.args.self.now) (standing c.come.new.self) c.come.ensures.comes) c.requires.begins
+    (standing c.args.self.now) (standing c.come.new.self) c.come.ensures.comes) (begun_end c.args.self.now.input.limits
+    (unread c.args.self.now) c.args.fault c.requires.begins)

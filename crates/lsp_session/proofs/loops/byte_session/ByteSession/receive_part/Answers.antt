@@ -1,4 +1,5 @@
 use Rattle.std.proofs.Common.{refl, sym, ap, subst, ◌∙◌, inl, inr, ℕ, List, ◌++◌, ◌<◌, [], take, length, Option}
+use Rattle.std.proofs.Common.{append-nil}
 use Rattle.std.proofs.Common.{Result, Ok}
 use Rattle.std.proofs.Common.{IfOk}
 use Rattle.lsp_message.specs.View.{message_view}
@@ -6,11 +7,12 @@ use Rattle.lsp_message.specs.declared.frame.ReadFault.{ReadFault}
 use Rattle.lsp_message.specs.declared.frame.limits.Limits.{Limits}
 use Rattle.lsp_message.specs.declared.msg.Message as msg
 use Rattle.lsp_session.proofs.ByteHistory.{goes_on, goes_kept, goes_message, goes_same, goes_still}
-use Rattle.lsp_session.proofs.MessagesEnd.{known_open, knows_still}
+use Rattle.lsp_session.proofs.MessagesEnd.{ends_at_frame, ends_otherwise, known_open, knows_still}
 use Rattle.lsp_session.proofs.Served.{served_after}
 use Rattle.lsp_session.specs.ByteSession.{AwaitsMore, BeginsWithFault, ReadsOne}
 use Rattle.lsp_session.specs.Event.{message}
 use Rattle.lsp_session.specs.ByteSessions.{standing, unread}
+use Rattle.lsp_session.specs.declared.loops.ReadEnd.TheVariants.{Fault}
 use Rattle.lsp_session.specs.declared.loops.frame_input.FrameInput.{FrameInput}
 use Rattle.lsp_session.proofs.loops.byte_session.ByteSession.receive_part.Goals as goal
 
@@ -34,9 +36,19 @@ returns-in-Ok-Some-clause-goes g c =
     (c.in-Ok-Some.is ∙ ap Ok c.in-Ok-Some.field-0-is) c.receive-count.ensures.read in
     goes_on limits start.most_pending may (standing start) (standing new) (unread start) text (unread new) start.end
     new.end part refl (goes_message limits start.most_pending may (standing start) (standing new)
-    (message_view c.in-Ok-Some.message) read.0 text left (unread new) start.end new.end read.1 read.2
+    (message_view c.in-Ok-Some.message) text text left (unread new) start.end new.end read.0 (sym (append-nil text)
+    ∙ ap (λ l. text ++ l) (sym read.1))
     (ap (λ (i : FrameInput). i.bytes.items) c.come.ensures.input) c.come.ensures.end c.requires.room c.requires.waits
     c.come.ensures.comes)
+
+pub returns-in-Ok-Some-clause-frame : goal.returns-in-Ok-Some-clause-frame
+returns-in-Ok-Some-clause-frame g c =
+    let start = c.args.self.now in
+    let input = c.receive-count.new.self in
+    let text = unread start ++ take c.receive-count.result.0 c.args.bytes.now in
+    let read = subst (λ (r : Result (Option msg.Message) ReadFault). ReadsOne start.input.limits text r
+    input.bytes.items) (c.in-Ok-Some.is ∙ ap Ok c.in-Ok-Some.field-0-is) c.receive-count.ensures.read in
+    ends_at_frame c.come.new.self input c.come.ensures.input read.1
 
 pub returns-in-Ok-Some-clause-served : goal.returns-in-Ok-Some-clause-served
 returns-in-Ok-Some-clause-served g c =
@@ -64,6 +76,9 @@ returns-in-Ok-None-clause-goes g c =
     goes_on limits start.most_pending may (standing start) (standing start) (unread start) text left start.end
     start.end part refl (goes_still limits start.most_pending may (standing start) text start.end left read)
 
+pub returns-in-Ok-None-clause-frame : goal.returns-in-Ok-None-clause-frame
+returns-in-Ok-None-clause-frame g c = λ over. absurd (c.requires.waits over)
+
 pub returns-in-Ok-None-clause-served : goal.returns-in-Ok-None-clause-served
 returns-in-Ok-None-clause-served g c =
     let input = c.receive-count.new.self in
@@ -90,6 +105,9 @@ returns-in-Err-clause-goes g c =
     (unread new) new.end read.0 (goes_same limits input.limits start.most_pending start.most_pending may
     (standing start) (standing new) left start.end [] (unread new) new.end c.receive-count.ensures.limits refl
     c.fail.ensures.goes))
+
+pub returns-in-Err-clause-frame : goal.returns-in-Err-clause-frame
+returns-in-Err-clause-frame g c = ends_otherwise c.fail.new.self (Fault c.in-Err.fault) c.fail.ensures.ends
 
 pub returns-in-Err-clause-served : goal.returns-in-Err-clause-served
 returns-in-Err-clause-served g c = inl c.fail.ensures.over

@@ -4,7 +4,7 @@ use Rattle.std.specs.Result.{result_err}
 use Rattle.lsp_message.specs.Frame.{reading_within}
 use Rattle.lsp_message.specs.HeaderPart.{header_line}
 use Rattle.lsp_message.specs.declared.frame.ReadFault.{ReadFault}
-use Rattle.lsp_session.specs.ByteSession.{BeginsWithFault}
+use Rattle.lsp_session.specs.FramePlace.{IsFaultOf}
 use Rattle.lsp_session.proofs.FramePlaces.{end_in_content, end_in_line, end_of_line, tail_of}
 use Rattle.lsp_session.proofs.loops.frame_input.FrameInput.fault_at_end.Goals as goal
 
@@ -24,7 +24,7 @@ returns-else-line-bytes c =
     ∙ ap (λ (l : List ℕ). header_line (take (length l - line) (drop line l))) c.as_slice-bytes.ensures.value
     ∙ ap header_line (tail_of line text)) in
     subst (λ (o : Option ReadFault). MatchOption o ((reading_within self.limits text).outcome ≡ Ok None)
-    (BeginsWithFault self.limits text)) (sym same) (end_in_line self.limits text line c.in-Header.field-1
+    (IsFaultOf self.limits text)) (sym same) (end_in_line self.limits text line c.in-Header.field-1
     (self.header line c.in-Header.field-1 c.in-Header.is) (λ e. c.if-line-bytes.false (e
     ∙ sym (ap (λ (l : List ℕ). length l) c.as_slice-bytes.ensures.value))))
 

@@ -1,15 +1,18 @@
-use Rattle.std.proofs.Common.{◌≡◌, sym, ap, subst, ◌∙◌, ◌++◌, ◌+◌, ◌-◌, ◌<◌, arith, List, ℕ, drop, take, length}
+use Rattle.std.proofs.Common.{◌≡◌, ◌≢◌, refl, sym, ap, subst, ◌∙◌, ◌++◌, ◌+◌, ◌-◌, ◌<◌, arith, true≢false, List, []}
+use Rattle.std.proofs.Common.{ℕ, drop, take, length}
 use Rattle.std.proofs.Common.{append-nil}
 use Rattle.std.proofs.Common.{length-append, length-take-le, None, Ok, Err}
 use Rattle.lsp_message.specs.Frame.{body_means}
 use Rattle.lsp_message.specs.ReadingSteps.{Decodes}
 use Rattle.lsp_message.specs.View.{message_view}
-use Rattle.lsp_session.specs.ByteSession.{AwaitsMore, BeginsWithFault}
-use Rattle.lsp_session.specs.FramePlace.{IsPlaceOf}
+use Rattle.lsp_message.specs.declared.frame.ReadFault.TheVariants.{Memory}
+use Rattle.lsp_session.specs.ByteSession.{BeginsWithFault, IsFrameRead}
+use Rattle.lsp_session.specs.FramePlace.{InContent, InHeader, IsFaultOf, IsPlaceOf}
 use Rattle.lsp_session.specs.declared.loops.frame_input.Place.TheVariants.{Header, Content}
-use Rattle.lsp_session.proofs.FramePlaces.{added, at_no_fault, at_start, awaits_at, fault_content, fault_fault}
+use Rattle.lsp_session.proofs.FramePlaces.{added, at_no_fault, at_start, awaits_at, begins_with, fault_content}
+use Rattle.lsp_session.proofs.FramePlaces.{fault_fault}
 use Rattle.lsp_session.proofs.FramePlaces.{fault_header, in_content, in_header, longer, read_fault, read_message}
-use Rattle.lsp_session.proofs.FramePlaces.{tail_of}
+use Rattle.lsp_session.proofs.FramePlaces.{put_back, tail_of}
 use Rattle.lsp_session.proofs.loops.frame_input.FrameInput.receive_content.Goals as goal
 
 pub invariant_of-self-then-count-missing : goal.invariant_of-self-then-count-missing
@@ -23,12 +26,11 @@ invariant_of-self-then-count-missing c =
     c.extend_from_slice.ensures.items in
     let grown = ap length now ∙ length-append old more ∙ ap (λ n. length old + n) (length-take-le c.min-count.result
     c.args.piece.now (omega (arith, c.min-count.ensures))) in
-    let held = ap (λ (l : List ℕ). length l) c.as_slice-held.ensures.value in
     let short : length new < c.args.start + c.args.size = omega (
       arith,
       here.begun,
       here.short,
-      held,
+      c.len-length.ensures,
       c.min-count.ensures,
       c.if-count-missing.true,
       grown,
@@ -52,12 +54,11 @@ returns-then-count-missing-clause-awaits c =
     c.extend_from_slice.ensures.items in
     let grown = ap length now ∙ length-append old more ∙ ap (λ n. length old + n) (length-take-le c.min-count.result
     c.args.piece.now (omega (arith, c.min-count.ensures))) in
-    let held = ap (λ (l : List ℕ). length l) c.as_slice-held.ensures.value in
     let short : length new < c.args.start + c.args.size = omega (
       arith,
       here.begun,
       here.short,
-      held,
+      c.len-length.ensures,
       c.min-count.ensures,
       c.if-count-missing.true,
       grown,
@@ -91,26 +92,51 @@ returns-in-Ok-clause-read c =
     c.extend_from_slice.ensures.items in
     let grown = ap length now ∙ length-append old more ∙ ap (λ n. length old + n) (length-take-le c.min-count.result
     c.args.piece.now (omega (arith, c.min-count.ensures))) in
-    let held = ap (λ (l : List ℕ). length l) c.as_slice-held.ensures.value in
     let all : length new ≡ c.args.start + c.args.size = omega (
       arith,
       here.begun,
       here.short,
-      held,
+      c.len-length.ensures,
       c.min-count.ensures,
       c.if-count-missing.false,
       grown,
     ) in
     let part = ap (λ (l : List ℕ). take (length l - c.args.start) (drop c.args.start l)) c.as_slice-bytes.ensures.value
     ∙ tail_of c.args.start new in (
-      new,
-      read_message self.limits old more new c.args.start c.args.size here now all (message_view c.in-Ok.message)
-          (subst (λ (l : List ℕ). body_means l ≡ Ok (message_view c.in-Ok.message)) part c.in-Ok.ensures),
-      sym now ∙ sym (append-nil new) ∙ ap (λ l. new ++ l) (sym c.clear.ensures.items),
+      subst (IsFrameRead self.limits (message_view c.in-Ok.message)) now
+          (read_message self.limits old more new c.args.start c.args.size here now all (message_view c.in-Ok.message)
+          (subst (λ (l : List ℕ). body_means l ≡ Ok (message_view c.in-Ok.message)) part c.in-Ok.ensures)),
+      c.clear.ensures.items,
     )
 
 pub invariant_of-self-in-Err : goal.invariant_of-self-in-Err
 invariant_of-self-in-Err c =
+    let self = c.args.self.now in
+    let limits = self.limits in
+    let old = self.bytes.items in
+    let more = take c.min-count.result c.args.piece.now in
+    let now = added c.extend_from_slice.result c.is_err.result old more c.extend_from_slice.new.self.items
+    c.is_err.ensures.value c.if-is_err.false c.extend_from_slice.ensures.items in
+    let same = put_back old more _ _ _ now (omega (arith, c.len-length.ensures)) c.truncate.ensures.items in
+    record {
+      header = λ line given is. subst (λ l. InHeader limits l line given) (sym same) (self.header line given is);
+      content = λ start size is. subst (λ l. InContent limits l start size) (sym same) (self.content start size is);
+      fault = λ kind is. subst (λ l. IsFaultOf limits l kind) (sym same) (self.fault kind is);
+    }
+
+pub returns-in-Err-clause-read : goal.returns-in-Err-clause-read
+returns-in-Err-clause-read c =
+    let self = c.args.self.now in
+    let old = self.bytes.items in
+    let more = take c.min-count.result c.args.piece.now in
+    let now = added c.extend_from_slice.result c.is_err.result old more c.extend_from_slice.new.self.items
+    c.is_err.ensures.value c.if-is_err.false c.extend_from_slice.ensures.items in (
+      put_back old more _ _ _ now (omega (arith, c.len-length.ensures)) c.truncate.ensures.items ∙ sym (append-nil old),
+      subst (BeginsWithFault self.limits (old ++ [])) (sym (c.if-is_memory.ensures.memory refl)) tt,
+    )
+
+pub invariant_of-self-in-Err-2 : goal.invariant_of-self-in-Err-2
+invariant_of-self-in-Err-2 c =
     let self = c.args.self.now in
     let old = self.bytes.items in
     let new = c.extend_from_slice.new.self.items in
@@ -121,19 +147,19 @@ invariant_of-self-in-Err c =
     c.extend_from_slice.ensures.items in
     let grown = ap length now ∙ length-append old more ∙ ap (λ n. length old + n) (length-take-le c.min-count.result
     c.args.piece.now (omega (arith, c.min-count.ensures))) in
-    let held = ap (λ (l : List ℕ). length l) c.as_slice-held.ensures.value in
     let all : length new ≡ c.args.start + c.args.size = omega (
       arith,
       here.begun,
       here.short,
-      held,
+      c.len-length.ensures,
       c.min-count.ensures,
       c.if-count-missing.false,
       grown,
     ) in
     let part = ap (λ (l : List ℕ). take (length l - c.args.start) (drop c.args.start l)) c.as_slice-bytes.ensures.value
     ∙ tail_of c.args.start new in
-    let begins = read_fault self.limits old more new c.args.start c.args.size here now all fault
+    let other : fault ≢ Memory = c.if-is_memory.ensures.bytes (λ e. true≢false (sym e)) in
+    let begins = read_fault self.limits old more new c.args.start c.args.size here now all fault other
     (subst (λ (l : List ℕ). Decodes message_view (Err fault) (body_means l)) part c.in-Err.ensures) in
     record {
       header = fault_header self.limits new fault;
@@ -141,8 +167,8 @@ invariant_of-self-in-Err c =
       fault = fault_fault self.limits new fault begins;
     }
 
-pub returns-in-Err-clause-read : goal.returns-in-Err-clause-read
-returns-in-Err-clause-read c =
+pub returns-in-Err-2-clause-read : goal.returns-in-Err-2-clause-read
+returns-in-Err-2-clause-read c =
     let self = c.args.self.now in
     let old = self.bytes.items in
     let new = c.extend_from_slice.new.self.items in
@@ -153,18 +179,18 @@ returns-in-Err-clause-read c =
     c.extend_from_slice.ensures.items in
     let grown = ap length now ∙ length-append old more ∙ ap (λ n. length old + n) (length-take-le c.min-count.result
     c.args.piece.now (omega (arith, c.min-count.ensures))) in
-    let held = ap (λ (l : List ℕ). length l) c.as_slice-held.ensures.value in
     let all : length new ≡ c.args.start + c.args.size = omega (
       arith,
       here.begun,
       here.short,
-      held,
+      c.len-length.ensures,
       c.min-count.ensures,
       c.if-count-missing.false,
       grown,
     ) in
     let part = ap (λ (l : List ℕ). take (length l - c.args.start) (drop c.args.start l)) c.as_slice-bytes.ensures.value
     ∙ tail_of c.args.start new in
-    let begins = read_fault self.limits old more new c.args.start c.args.size here now all fault
+    let other : fault ≢ Memory = c.if-is_memory.ensures.bytes (λ e. true≢false (sym e)) in
+    let begins = read_fault self.limits old more new c.args.start c.args.size here now all fault other
     (subst (λ (l : List ℕ). Decodes message_view (Err fault) (body_means l)) part c.in-Err.ensures) in
-    (now, subst (λ (l : List ℕ). BeginsWithFault self.limits l fault) now begins)
+    (now, subst (λ (l : List ℕ). BeginsWithFault self.limits l fault) now (begins_with self.limits new fault begins))
