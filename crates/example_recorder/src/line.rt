@@ -13,11 +13,11 @@ const NO_BLANK: u8 = 0x0b;
 /// Writes a content part as a line.
 pub fn write_line<W: Write>(
     log: &mut W,
-    way: Direction,
+    direction: Direction,
     content: &[u8],
     is_json: bool,
 ) -> io::Result<()> {
-    write!(log, "{way} ")?;
+    write!(log, "{direction} ")?;
     write_body(log, content, if is_json { b' ' } else { NO_BLANK })?;
     if content.iter().all(|it| it.is_ascii_whitespace()) {
         log.write_all(&[NO_BLANK])?;

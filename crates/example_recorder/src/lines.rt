@@ -89,16 +89,17 @@ impl Lines {
         log: &mut W,
     ) -> Result<()> {
         match heard {
-            Heard::Piece(way, _) | Heard::End(way) if self.side(*way).is_broken => Ok(()),
-            Heard::Piece(way, bytes) => {
-                self.side(*way).contents.push(bytes.as_slice())?;
-                self.write_contents(rt, *way, log)
+            Heard::Piece(direction, _) | Heard::End(direction) if self.side(*direction).is_broken =>
+                Ok(()),
+            Heard::Piece(direction, bytes) => {
+                self.side(*direction).contents.push(bytes.as_slice())?;
+                self.write_contents(rt, *direction, log)
             }
-            Heard::End(way) => {
-                if self.side(*way).contents.is_empty() {
+            Heard::End(direction) => {
+                if self.side(*direction).contents.is_empty() {
                     return Ok(());
                 }
-                self.break_off(rt, *way, "the bytes end in a frame")
+                self.break_off(rt, *direction, "the bytes end in a frame")
             }
             Heard::Lost => Err(AllocError.into()),
         }
@@ -108,11 +109,11 @@ impl Lines {
     fn write_contents<R: AllocGlobal + Eprint, W: Write>(
         &mut self,
         rt: &R,
-        way: Direction,
+        direction: Direction,
         log: &mut W,
     ) -> Result<()> {
         for _ in 0..u64::MAX {
-            if !self.write_content(rt, way, log)? {
+            if !self.write_content(rt, direction, log)? {
                 return Ok(());
             }
         }
@@ -123,20 +124,20 @@ impl Lines {
     fn write_content<R: AllocGlobal + Eprint, W: Write>(
         &mut self,
         rt: &R,
-        way: Direction,
+        direction: Direction,
         log: &mut W,
     ) -> Result<bool> {
-        let side = self.side(way);
+        let side = self.side(direction);
         let message = match side.contents.next() {
-            Next::Content(content) => logged(rt.alloc(), way, content, log)?,
+            Next::Content(content) => logged(rt.alloc(), direction, content, log)?,
             Next::More => return Ok(false),
             Next::Bad(why) => {
-                self.break_off(rt, way, why)?;
+                self.break_off(rt, direction, why)?;
                 return Ok(false);
             }
         };
         side.contents.pass();
-        let told = self.tell_breaches(rt, way, &message);
+        let told = self.tell_breaches(rt, direction, &message);
         drop(message);
         told?;
         Ok(true)
@@ -146,26 +147,26 @@ impl Lines {
     fn tell_breaches<R: Eprint>(
         &mut self,
         rt: &R,
-        way: Direction,
+        direction: Direction,
         message: &LoggedMessage,
     ) -> Result<()> {
         self.number = self.number.saturating_add(1);
         let number = self.number;
-        let found = self.watch.observe(number, way, message)?;
+        let found = self.watch.observe(number, direction, message)?;
         for breach in found.iter() {
-            eprintln!(rt; "{number}: {way} {breach}")?;
+            eprintln!(rt; "{number}: {direction} {breach}")?;
         }
         Ok(())
     }
 
     /// Reports why nothing more of a direction is written.
-    fn break_off<R: Eprint>(&mut self, rt: &R, way: Direction, why: &str) -> Result<()> {
-        self.side(way).is_broken = true;
-        Ok(eprintln!(rt; "{way} {why}: the rest is not recorded")?)
+    fn break_off<R: Eprint>(&mut self, rt: &R, direction: Direction, why: &str) -> Result<()> {
+        self.side(direction).is_broken = true;
+        Ok(eprintln!(rt; "{direction} {why}: the rest is not recorded")?)
     }
 
-    fn side(&mut self, way: Direction) -> &mut Side {
-        match way {
+    fn side(&mut self, direction: Direction) -> &mut Side {
+        match direction {
             Direction::ToServer => &mut self.client,
             Direction::ToClient => &mut self.server,
         }
@@ -183,12 +184,12 @@ fn is_end(heard: &Heard, until: Until) -> bool {
 /// Writes the line of a content part, and gives its message.
 fn logged<W: Write>(
     alloc: Global,
-    way: Direction,
+    direction: Direction,
     content: &[u8],
     log: &mut W,
 ) -> Result<LoggedMessage> {
     let message = LoggedMessage::from_content(alloc, content)?;
-    match write_line(log, way, content, is_json(&message)) {
+    match write_line(log, direction, content, is_json(&message)) {
         Ok(()) => Ok(message),
         Err(error) => {
             drop(message);

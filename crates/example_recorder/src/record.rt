@@ -62,11 +62,11 @@ where
     F: Read + Drop + Send + 'static,
     T: Write + Drop + Send + 'static,
 {
-    Builder::new().spawn(rt, move || pass_way(tell, from, to))
+    Builder::new().spawn(rt, move || pass_direction(tell, from, to))
 }
 
 /// Passes on the bytes of one side, up to their end. If the other side is gone, the rest is only logged.
-fn pass_way<R, F, T>(tell: Teller<R>, from: F, to: T)
+fn pass_direction<R, F, T>(tell: Teller<R>, from: F, to: T)
 where
     R: Wait + AllocGlobal + Drop,
     F: Read + Drop,

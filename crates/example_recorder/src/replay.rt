@@ -91,7 +91,7 @@ impl Replay {
         let mut line = Vec::new(rt.alloc());
         for _ in 0..u64::MAX {
             match read_line(rt.alloc(), recording, &mut line)? {
-                Some((way, body)) => self.play_line(rt, way, body, connection, report)?,
+                Some((direction, body)) => self.play_line(rt, direction, body, connection, report)?,
                 None => break,
             }
         }
@@ -101,13 +101,13 @@ impl Replay {
     fn play_line<R: Wait + Clock + AllocGlobal, W: Write>(
         &mut self,
         rt: &R,
-        way: Direction,
+        direction: Direction,
         body: &[u8],
         connection: &Connection,
         report: &mut W,
     ) -> Result<()> {
         let message = message_of(rt.alloc(), body)?;
-        match way {
+        match direction {
             Direction::ToServer => self.send(rt, &connection.sender, message),
             Direction::ToClient => {
                 let met = self.meet(rt, &connection.receiver, &message, report);

@@ -74,22 +74,22 @@ client_capabilities (p ∷ before) = if is_initialize p then capabilities_in (pa
 
 -- the server asked the client to register something
 abbrev pub is_registration : Direction → Message → Bool
-is_registration way m = not (from_client way) && asks (codes "client/registerCapability") m
+is_registration direction m = not (from_client direction) && asks (codes "client/registerCapability") m
 
 -- the server registered this method
 abbrev pub is_registered : List ℕ → Log → Bool
 is_registered method [] = false
 is_registered method (p ∷ before) =
-    is_registered method before || (is_registration p.way p.message && registers method (params_in p.message))
+    is_registered method before || (is_registration p.direction p.message && registers method (params_in p.message))
 
 -- the client opens a document
 abbrev pub opens : Direction → Message → Bool
-opens way m = from_client way && tells (codes "textDocument/didOpen") m
+opens direction m = from_client direction && tells (codes "textDocument/didOpen") m
 
 -- the client opened the document of this URI
 abbrev pub was_opened : List ℕ → Log → Bool
 was_opened uri [] = false
-was_opened uri (p ∷ before) = if opens p.way p.message && is_text uri (uri_in (params_in p.message)) then true
+was_opened uri (p ∷ before) = if opens p.direction p.message && is_text uri (uri_in (params_in p.message)) then true
     else was_opened uri before
 
 -- the server announced or registered the method, whose member of its capabilities this is
@@ -134,4 +134,5 @@ capability_finding before ToClient (response i outcome) d =
 
 -- Before the first `initialize` it is not known what was announced, so nothing goes against it.
 abbrev pub known_finding : Log → Direction → Message → Data → Option Finding
-known_finding before way m d = if list_any is_initialize before then capability_finding before way m d else None
+known_finding before direction m d = if list_any is_initialize before then capability_finding before direction m d
+    else None

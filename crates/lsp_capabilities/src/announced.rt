@@ -54,14 +54,14 @@ impl Announced {
     pub fn breaks(
         &self,
         watch: &Watch,
-        way: Direction,
+        direction: Direction,
         message: &Entry,
     ) -> Option<(Rule, Option<u64>)>
         ensures { (log : Log) → Saw watch.now log → Knows self.now log
-            → result ≡ known_finding log way (entry_view message.now) (view message.now.tree) }
+            → result ≡ known_finding log direction (entry_view message.now) (view message.now.tree) }
     {
         if self.is_known {
-            self.known_breaks(watch, way, message)
+            self.known_breaks(watch, direction, message)
         } else {
             None
         }
@@ -70,13 +70,13 @@ impl Announced {
     fn known_breaks(
         &self,
         watch: &Watch,
-        way: Direction,
+        direction: Direction,
         message: &Entry,
     ) -> Option<(Rule, Option<u64>)>
         ensures { (log : Log) → Saw watch.now log → Knows self.now log
-            → result ≡ capability_finding log way (entry_view message.now) (view message.now.tree) }
+            → result ≡ capability_finding log direction (entry_view message.now) (view message.now.tree) }
     {
-        match (way, message.kind()) {
+        match (direction, message.kind()) {
             (Direction::ToServer, _) => None,
             (Direction::ToClient, Kind::Request(_)) => self.request_breaks(message.method()),
             (Direction::ToClient, Kind::Notification) => self.diagnostics_break(message),
@@ -141,59 +141,65 @@ impl Announced {
     /// Keeps what a message announces. The watch saw the messages before it.
     ///
     /// The error means that an allocation failed. Do not use the value after that: it may be incomplete.
-    pub fn keep(&mut self, watch: &Watch, way: Direction, message: &Entry) -> Result<(), AllocError>
+    pub fn keep(
+        &mut self,
+        watch: &Watch,
+        direction: Direction,
+        message: &Entry,
+    ) -> Result<(), AllocError>
         ensures { (log : Log) (place : ℕ) → Saw watch.now log → Knows self.old log
-            → OnOk result (Knows self.new (passed way place (entry_view message.now) ∷ log)) }
+            → OnOk result (Knows self.new (passed direction place (entry_view message.now) ∷ log)) }
     {
-        self.keep_server(watch, way, message)?;
-        self.keep_client(way, message)?;
-        self.keep_registration(way, message)?;
-        self.keep_opened(way, message)?;
+        self.keep_server(watch, direction, message)?;
+        self.keep_client(direction, message)?;
+        self.keep_registration(direction, message)?;
+        self.keep_opened(direction, message)?;
         Ok(())
     }
 
     fn keep_server(
         &mut self,
         watch: &Watch,
-        way: Direction,
+        direction: Direction,
         message: &Entry,
     ) -> Result<(), AllocError>
         ensures server { (log : Log) (place : ℕ) → Saw watch.now log → OnOk result (view self.new.server
-            ≡ (if replies_to_it log (passed way place (entry_view message.now)) && has_result (entry_view message.now)
+            ≡ (if replies_to_it log (passed direction place (entry_view message.now))
+            && has_result (entry_view message.now)
             then capabilities_of (result_in (entry_view message.now)) else view self.old.server)) }
         ensures same { (self.new.client ≡ self.old.client) × (self.new.registered ≡ self.old.registered)
             × (self.new.opened ≡ self.old.opened) × (self.new.is_known ≡ self.old.is_known) }
     {
-        if answers_initialize(watch, way, message) {
+        if answers_initialize(watch, direction, message) {
             self.server = capabilities_in(message.tree().get("result"))?;
         }
         Ok(())
     }
 
-    fn keep_client(&mut self, way: Direction, message: &Entry) -> Result<(), AllocError>
+    fn keep_client(&mut self, direction: Direction, message: &Entry) -> Result<(), AllocError>
         ensures client { (place : ℕ) → OnOk result (view self.new.client
-            ≡ (if begins (passed way place (entry_view message.now))
+            ≡ (if begins (passed direction place (entry_view message.now))
             then capabilities_of (params_in (entry_view message.now)) else view self.old.client)) }
         ensures known { (place : ℕ) → OnOk result (self.new.is_known
-            ≡ (begins (passed way place (entry_view message.now)) || self.old.is_known)) }
+            ≡ (begins (passed direction place (entry_view message.now)) || self.old.is_known)) }
         ensures same { (self.new.server ≡ self.old.server) × (self.new.registered ≡ self.old.registered)
             × (self.new.opened ≡ self.old.opened) }
     {
-        if way.is_from_client() && asks(message, "initialize") {
+        if direction.is_from_client() && asks(message, "initialize") {
             self.client = capabilities_in(message.params())?;
             self.is_known = true;
         }
         Ok(())
     }
 
-    fn keep_registration(&mut self, way: Direction, message: &Entry) -> Result<(), AllocError>
+    fn keep_registration(&mut self, direction: Direction, message: &Entry) -> Result<(), AllocError>
         ensures registered { (method : List ℕ) → OnOk result (list_any (λ params. registers_it method (view params)) self.new.registered.items
             ≡ (list_any (λ params. registers_it method (view params)) self.old.registered.items
-            || (is_registration way (entry_view message.now) && registers_it method (params_in (entry_view message.now))))) }
+            || (is_registration direction (entry_view message.now) && registers_it method (params_in (entry_view message.now))))) }
         ensures same { (self.new.server ≡ self.old.server) × (self.new.client ≡ self.old.client)
             × (self.new.opened ≡ self.old.opened) × (self.new.is_known ≡ self.old.is_known) }
     {
-        if way.is_from_client() || !asks(message, "client/registerCapability") {
+        if direction.is_from_client() || !asks(message, "client/registerCapability") {
             return Ok(());
         }
         if let Some(params) = message.params() {
@@ -203,14 +209,14 @@ impl Announced {
         Ok(())
     }
 
-    fn keep_opened(&mut self, way: Direction, message: &Entry) -> Result<(), AllocError>
+    fn keep_opened(&mut self, direction: Direction, message: &Entry) -> Result<(), AllocError>
         ensures opened { OnOk result ((uri : List ℕ) → contains_text self.new.opened uri
-            ≡ (if opens way (entry_view message.now) && is_text uri (uri_in (params_in (entry_view message.now)))
+            ≡ (if opens direction (entry_view message.now) && is_text uri (uri_in (params_in (entry_view message.now)))
             then true else contains_text self.old.opened uri)) }
         ensures same { (self.new.server ≡ self.old.server) × (self.new.client ≡ self.old.client)
             × (self.new.registered ≡ self.old.registered) × (self.new.is_known ≡ self.old.is_known) }
     {
-        if !way.is_from_client() || !tells(message, "textDocument/didOpen") {
+        if !direction.is_from_client() || !tells(message, "textDocument/didOpen") {
             return Ok(());
         }
         match document_uri(message) {
@@ -232,14 +238,14 @@ impl Announced {
 }
 
 /// Returns whether a message is a result of `initialize`.
-fn answers_initialize(watch: &Watch, way: Direction, message: &Entry) -> bool
+fn answers_initialize(watch: &Watch, direction: Direction, message: &Entry) -> bool
     ensures { (log : Log) (place : ℕ) → Saw watch.now log
-        → result ≡ (replies_to_it log (passed way place (entry_view message.now)) && has_result (entry_view message.now)) }
+        → result ≡ (replies_to_it log (passed direction place (entry_view message.now)) && has_result (entry_view message.now)) }
 {
     let Kind::Reply(id, succeeds) = message.kind() else {
         return false;
     };
-    match watch.waiting(way.other(), id) {
+    match watch.waiting(direction.other(), id) {
         Some(asked) => asked.opens_session() && *succeeds,
         None => false,
     }

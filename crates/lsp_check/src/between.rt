@@ -67,12 +67,12 @@ where
     R: Threads + Wait + AllocGlobal + Copy + Drop + Send + 'static,
     S: OpenStream + Read + Write + Drop + Send + 'static,
 {
-    Builder::new().spawn(rt, move || pass_way(tell, from, to))
+    Builder::new().spawn(rt, move || pass_direction(tell, from, to))
 }
 
 /// Passes on what one side sends. At its end the other side reads the end. If the other side is gone, the rest is only judged. If the server
 /// is gone, nothing more is read from its client.
-fn pass_way<R, S>(tell: Teller<R>, from: S, to: S)
+fn pass_direction<R, S>(tell: Teller<R>, from: S, to: S)
 where
     R: Wait + AllocGlobal + Drop,
     S: OpenStream + Read + Write + Drop,
@@ -85,16 +85,16 @@ where
     }
     // The judgement depends on which side ended first. So this end is reported before the other side can answer it by its own.
     tell.end();
-    let how = match tell.way() {
+    let how = match tell.direction() {
         Direction::ToServer => Shutdown::Write,
         Direction::ToClient => Shutdown::Both,
     };
     drop(to.shutdown(how));
 }
 
-/// What is judged of the two ways.
+/// What is judged of the two directions.
 #[derive(Drop)]
-struct Ways {
+struct BothDirections {
     judged: FullJudgement,
     client: Frames,
     server: Frames,
@@ -106,7 +106,7 @@ struct Ways {
     is_over: bool,
 }
 
-/// Judges what passes, up to the end of both ways, and returns the outcome.
+/// Judges what passes, up to the end of both directions, and returns the outcome.
 fn judge_heard<R: Wait, W: Write>(
     rt: &R,
     heard: &Receiver<Heard>,
@@ -115,7 +115,7 @@ fn judge_heard<R: Wait, W: Write>(
 ) -> Result<Outcome> {
     let alloc = report.alloc;
     let model = report.choice.model(alloc)?;
-    let mut ways = Ways {
+    let mut directions = BothDirections {
         judged: FullJudgement::new(alloc, report.choice.capabilities, model),
         client: Frames::new(alloc),
         server: Frames::new(alloc),
@@ -123,12 +123,12 @@ fn judge_heard<R: Wait, W: Write>(
         is_client_over: false,
         is_over: false,
     };
-    let judged = ways.judge(rt, heard, report, out);
-    drop(ways);
+    let judged = directions.judge(rt, heard, report, out);
+    drop(directions);
     judged
 }
 
-impl Ways {
+impl BothDirections {
     fn judge<R: Wait, W: Write>(
         &mut self,
         rt: &R,
@@ -158,37 +158,37 @@ impl Ways {
         if self.is_over {
             return Ok(());
         }
-        let way = match heard {
-            Heard::Piece(way, bytes) => {
-                self.see(*way, bytes.as_slice(), report, out)?;
-                *way
+        let direction = match heard {
+            Heard::Piece(direction, bytes) => {
+                self.see(*direction, bytes.as_slice(), report, out)?;
+                *direction
             }
-            Heard::End(way) => {
-                self.end(*way);
-                *way
+            Heard::End(direction) => {
+                self.end(*direction);
+                *direction
             }
             Heard::Lost => return Err(AllocError.into()),
         };
-        self.stop(way, report, out)?;
+        self.stop(direction, report, out)?;
         Ok(out.flush()?)
     }
 
     /// Judges the messages that a piece ends.
     fn see<W: Write>(
         &mut self,
-        way: Direction,
+        direction: Direction,
         piece: &[u8],
         report: &Report<'_>,
         out: &mut W,
     ) -> Result<()> {
-        self.side(way).push(piece)?;
+        self.side(direction).push(piece)?;
         for _ in 0..u64::MAX {
-            self.side(way).look()?;
-            let Some((place, message)) = self.side(way).take() else {
+            self.side(direction).look()?;
+            let Some((place, message)) = self.side(direction).take() else {
                 return Ok(());
             };
-            let passing = Passing::new(way, message);
-            let place = begin_of(way).saturating_add(place);
+            let passing = Passing::new(direction, message);
+            let place = begin_of(direction).saturating_add(place);
             let seen = self.judged.see(place, &passing, report, out);
             drop(passing);
             seen?;
@@ -197,33 +197,38 @@ impl Ways {
     }
 
     /// Tells what is wrong with the frame that comes next, if it is bad. Then nothing more is judged.
-    fn stop<W: Write>(&mut self, way: Direction, report: &Report<'_>, out: &mut W) -> Result<()> {
-        if !tell_stop(self.side(way), begin_of(way), report, out)? {
+    fn stop<W: Write>(
+        &mut self,
+        direction: Direction,
+        report: &Report<'_>,
+        out: &mut W,
+    ) -> Result<()> {
+        if !tell_stop(self.side(direction), begin_of(direction), report, out)? {
             self.is_over = true;
         }
         Ok(())
     }
 
     /// A side has closed.
-    fn end(&mut self, way: Direction) {
-        match way {
+    fn end(&mut self, direction: Direction) {
+        match direction {
             Direction::ToServer => self.is_client_over = true,
             Direction::ToClient => self.is_server_first = !self.is_client_over,
         }
-        self.side(way).end();
+        self.side(direction).end();
     }
 
-    fn side(&mut self, way: Direction) -> &mut Frames {
-        match way {
+    fn side(&mut self, direction: Direction) -> &mut Frames {
+        match direction {
             Direction::ToServer => &mut self.client,
             Direction::ToClient => &mut self.server,
         }
     }
 }
 
-/// Where the places of a way begin.
-fn begin_of(way: Direction) -> u64 {
-    match way {
+/// Where the places of a direction begin.
+fn begin_of(direction: Direction) -> u64 {
+    match direction {
         Direction::ToServer => 0,
         Direction::ToClient => SECOND,
     }

@@ -1,4 +1,4 @@
-// The frames of one way (LSP 3.17, "Base Protocol"), which arrive in pieces.
+// The frames of one direction (LSP 3.17, "Base Protocol"), which arrive in pieces.
 use lsp_proxy::{self as proxy, Contents};
 use lsp_watch::LoggedMessage;
 use std::alloc::{AllocError, Global};

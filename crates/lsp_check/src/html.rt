@@ -122,7 +122,7 @@ impl Page {
             drop(message);
             return Ok(());
         }
-        let mut passing = Passing::new(found.way, message);
+        let mut passing = Passing::new(found.direction, message);
         passing.time = found.time;
         passing.took = found.took;
         let seen = sessions.see(log.name(), found.line, &passing, report, &mut self.told);
@@ -154,7 +154,7 @@ impl Page {
         if self.bars.len() < MOST_BARS {
             return Ok(self.bars.push(pair)?);
         }
-        let name = format!(in self.alloc; "{} {}", pair.way, pair.method);
+        let name = format!(in self.alloc; "{} {}", pair.direction, pair.method);
         drop(pair);
         let name = name?;
         if self.others.len() < MOST_BARS || self.others.contains_key(name.as_str()) {
@@ -237,7 +237,7 @@ impl Page {
 
     fn write_bar<W: Write>(&self, bar: &Pair, out: &mut W) -> Result<()> {
         let (begin, end) = self.ends_of(bar);
-        let class = match bar.way {
+        let class = match bar.direction {
             _ if bar.end.is_none() => "b o",
             _ if bar.is_cancelled => "b c",
             _ if bar.is_error => "b e",

@@ -1,4 +1,4 @@
-// The judgement of two files of frames, one of each way, which do not say what passed first.
+// The judgement of two files of frames, one of each direction, which do not say what passed first.
 use crate::frames::{Frames, Next};
 use anyhow::Result;
 use lsp_judge::judgement::{Ends, Judgement};
@@ -43,7 +43,7 @@ fn judge_all<C: BufRead, S: BufRead, W: Write>(
     client.frames.look_on(&mut client.reader)?;
     server.frames.look_on(&mut server.reader)?;
     for _ in 0..u64::MAX {
-        match next_way(judged, &client.frames.next, &server.frames.next)? {
+        match next_direction(judged, &client.frames.next, &server.frames.next)? {
             Some(Direction::ToServer) => {
                 let order = order_beside(&server.frames.next);
                 pass(judged, Direction::ToServer, order, client, report, out)?;
@@ -87,7 +87,7 @@ fn order_beside(other: &Next) -> Order {
 
 /// The direction of the next message. No message is judged that breaks a rule where the other file ends too early: the lost
 /// part may have had the message that it needs.
-fn next_way(judged: &Judgement, client: &Next, server: &Next) -> Result<Option<Direction>> {
+fn next_direction(judged: &Judgement, client: &Next, server: &Next) -> Result<Option<Direction>> {
     if fits(judged, Direction::ToClient, server)? {
         return Ok(Some(Direction::ToClient));
     }
@@ -102,9 +102,9 @@ fn next_way(judged: &Judgement, client: &Next, server: &Next) -> Result<Option<D
 }
 
 /// Whether there is a message that breaks no rule.
-fn fits(judged: &Judgement, way: Direction, next: &Next) -> Result<bool> {
+fn fits(judged: &Judgement, direction: Direction, next: &Next) -> Result<bool> {
     match next {
-        Next::Message(message) => Ok(judged.fits(way, message)?),
+        Next::Message(message) => Ok(judged.fits(direction, message)?),
         Next::More | Next::End | Next::Cut | Next::Bad(_) => Ok(false),
     }
 }
@@ -112,7 +112,7 @@ fn fits(judged: &Judgement, way: Direction, next: &Next) -> Result<bool> {
 /// Judges the next message of a file, and looks for the one after it.
 fn pass<R: BufRead, W: Write>(
     judged: &mut Judgement,
-    way: Direction,
+    direction: Direction,
     order: Order,
     side: &mut Side<R>,
     report: &Report<'_>,
@@ -121,7 +121,7 @@ fn pass<R: BufRead, W: Write>(
     let Some((place, message)) = side.frames.take() else {
         return Ok(());
     };
-    let mut passing = Passing::new(way, message);
+    let mut passing = Passing::new(direction, message);
     passing.order = order;
     let seen = judged.see(side.begin.saturating_add(place), &passing, report, out);
     drop(passing);
@@ -129,7 +129,7 @@ fn pass<R: BufRead, W: Write>(
     Ok(side.frames.look_on(&mut side.reader)?)
 }
 
-/// Tells why the frames of a way end too early, and says whether none is bad.
+/// Tells why the frames of a direction end too early, and says whether none is bad.
 pub fn tell_stop<W: Write>(
     frames: &Frames,
     begin: u64,

@@ -15,7 +15,7 @@ const CANCELLED: [i64; 2] = [-32800, -32802];
 /// A request, and its reply if there is one.
 #[derive(Drop)]
 pub struct Pair {
-    pub way: Direction,
+    pub direction: Direction,
     pub method: String,
     /// The line of the request, and of the reply.
     pub line: u64,
@@ -86,7 +86,7 @@ impl Pairs {
         let bytes = log.body().len() as u64;
         match entry.kind() {
             Kind::Request(_) => {
-                let key = self.key(found.way, log, entry.tree().get("id"))?;
+                let key = self.key(found.direction, log, entry.tree().get("id"))?;
                 if self.open.len() < MOST_OPEN {
                     let pair = asked(self.alloc, found, entry.method(), bytes)?;
                     self.open.insert(key, pair)?;
@@ -94,14 +94,14 @@ impl Pairs {
                 Ok(None)
             }
             Kind::Reply(_, _) => {
-                let key = self.key(found.way.other(), log, entry.tree().get("id"))?;
+                let key = self.key(found.direction.other(), log, entry.tree().get("id"))?;
                 let pair = self.open.remove(key.as_str());
                 Ok(pair.map(|it| replied(it, found, entry.tree(), bytes)))
             }
             Kind::Notification => {
                 if entry.method() == "$/cancelRequest" {
                     let id = entry.params().and_then(|it| it.get("id"));
-                    let key = self.key(found.way, log, id)?;
+                    let key = self.key(found.direction, log, id)?;
                     if let Some(pair) = self.open.get_mut(key.as_str()) {
                         pair.is_cancelled = true;
                     }
@@ -111,22 +111,27 @@ impl Pairs {
         }
     }
 
-    /// The key of a request: its way, the server and the id.
-    fn key(&self, way: Direction, log: &Log, id: Option<&Value>) -> Result<String, AllocError> {
+    /// The key of a request: its direction, the server and the id.
+    fn key(
+        &self,
+        direction: Direction,
+        log: &Log,
+        id: Option<&Value>,
+    ) -> Result<String, AllocError> {
         let name = std::str::from_utf8(log.name()).unwrap_or("");
         match id {
             Some(id) => {
                 let id = id.to_string(self.alloc)?;
-                format!(in self.alloc; "{way} {id} {name}")
+                format!(in self.alloc; "{direction} {id} {name}")
             }
-            None => format!(in self.alloc; "{way}  {name}"),
+            None => format!(in self.alloc; "{direction}  {name}"),
         }
     }
 }
 
 fn asked(alloc: Global, found: &Found, method: &str, bytes: u64) -> Result<Pair, AllocError> {
     Ok(Pair {
-        way: found.way,
+        direction: found.direction,
         method: String::from_str(alloc, method)?,
         line: found.line,
         end: None,

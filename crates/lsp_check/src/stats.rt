@@ -18,7 +18,7 @@ const OTHERS: &str = "(others)";
 /// What is counted of the requests of a method.
 #[derive(Drop)]
 struct Row {
-    way: Direction,
+    direction: Direction,
     count: u64,
     cancelled: u64,
     open: u64,
@@ -87,13 +87,13 @@ impl Stats {
     }
 
     fn add_to_row(&mut self, pair: &Pair) -> Result<(), AllocError> {
-        let mut name = format!(in self.alloc; "{} {}", pair.way, pair.method)?;
+        let mut name = format!(in self.alloc; "{} {}", pair.direction, pair.method)?;
         if self.rows.len() >= MOST && !self.rows.contains_key(name.as_str()) {
-            name = format!(in self.alloc; "{} {OTHERS}", pair.way)?;
+            name = format!(in self.alloc; "{} {OTHERS}", pair.direction)?;
         }
         if !self.rows.contains_key(name.as_str()) {
             let key = name.clone()?;
-            self.rows.insert(key, Row::new(self.alloc, pair.way))?;
+            self.rows.insert(key, Row::new(self.alloc, pair.direction))?;
         }
         match self.rows.get_mut(name.as_str()) {
             Some(row) => row.add(pair),
@@ -121,9 +121,9 @@ impl Stats {
 }
 
 impl Row {
-    fn new(alloc: Global, way: Direction) -> Row {
+    fn new(alloc: Global, direction: Direction) -> Row {
         Row {
-            way,
+            direction,
             count: 0,
             cancelled: 0,
             open: 0,
@@ -185,7 +185,7 @@ impl Row {
     fn put<W: Write>(&self, alloc: Global, name: &str, out: &mut W) -> Result<()> {
         let method = name.split_once(" ").map_or(name, |it| it.1);
         let method = quoted(alloc, method)?;
-        let sender = side_name(self.way);
+        let sender = side_name(self.direction);
         write!(
             out,
             "{{\"kind\":\"stats\",\"sender\":\"{sender}\",\"method\":{method},\"count\":{},\"open\":{}",

@@ -66,17 +66,17 @@ abbrev tail-of : Log → Log
 tail-of [] = []
 tail-of (p ∷ log) = log
 
-empty_is_clean : (later before : Log) (p : Passed) → [] ≡ later ++ p ∷ before → session_finding before p.way
+empty_is_clean : (later before : Log) (p : Passed) → [] ≡ later ++ p ∷ before → session_finding before p.direction
     p.message ≡ None
 empty_is_clean [] before p e = cc
 empty_is_clean (q ∷ later) before p e = cc
 
-more_is_clean : (p : Passed) (log : Log) → IsClean log → session_finding log p.way p.message ≡ None →
+more_is_clean : (p : Passed) (log : Log) → IsClean log → session_finding log p.direction p.message ≡ None →
     (later before : Log) (q : Passed)
-    → p ∷ log ≡ later ++ q ∷ before → session_finding before q.way q.message ≡ None
+    → p ∷ log ≡ later ++ q ∷ before → session_finding before q.direction q.message ≡ None
 more_is_clean p log clean none [] before q e =
-    subst (λ b. session_finding b q.way q.message ≡ None) (ap tail-of e)
-    (subst (λ x. session_finding log x.way x.message ≡ None) (ap (head-or p) e) none)
+    subst (λ b. session_finding b q.direction q.message ≡ None) (ap tail-of e)
+    (subst (λ x. session_finding log x.direction x.message ≡ None) (ap (head-or p) e) none)
 more_is_clean p log clean none (x ∷ later) before q e = clean later before q (ap tail-of e)
 
 clean_if : (t : Bool) (log : Log) → IsClean log → IsClean (cond t [] log)
@@ -91,32 +91,36 @@ at_least Should = refl
 at_least Implied = refl
 
 module _ (choice : Choice) (strict : IsStrict choice) where
-  all_count : (rule : Rule) (way : Direction) → counts choice rule way ≡ true
-  all_count rule way = ap (λ s. is_of s (culprit (side_of rule) way) && is_at_least (level_of rule) choice.level)
+  all_count : (rule : Rule) (direction : Direction) → counts choice rule direction ≡ true
+  all_count rule direction = ap (λ s. is_of s (culprit (side_of rule) direction)
+      && is_at_least (level_of rule) choice.level)
       strict.side
       ∙ ap (λ l. is_at_least (level_of rule) l) strict.level ∙ at_least (level_of rule)
 
-  first_counts : (way : Direction) (o : Option Finding) (rest : List Finding)
-      → list_any (fails choice Known way) (map (as_breach true) (option_to_list o ++ rest)) ≡ false → o ≡ None
-  first_counts way None rest e = refl
-  first_counts way (Some f) rest e =
-      let counted : counts choice f.0 way ≡ true = all_count f.0 way in
-      let quiet : counts choice f.0 way ≡ false = or-left _ (list_any (fails choice Known way)
+  first_counts : (direction : Direction) (o : Option Finding) (rest : List Finding)
+      → list_any (fails choice Known direction) (map (as_breach true) (option_to_list o ++ rest)) ≡ false → o ≡ None
+  first_counts direction None rest e = refl
+  first_counts direction (Some f) rest e =
+      let counted : counts choice f.0 direction ≡ true = all_count f.0 direction in
+      let quiet : counts choice f.0 direction ≡ false = or-left _ (list_any (fails choice Known direction)
       (map (as_breach true) rest)) e in
       cc
 
-  fits : (log : Log) (way : Direction) (faults : List Rule) (m : Message)
-      → list_any (fails choice Known way) (breaches_of true log way faults (Some m)) ≡ false → session_finding log
-      way m ≡ None
-  fits log way faults m e = first_counts way (session_finding log way m)
-      (option_to_list (document_finding log way m) ++ option_to_list (progress_finding log way m))
-      (any-behind (fails choice Known way) (map shape_breach faults) (map (as_breach true) (findings_of log way m)) e)
+  fits : (log : Log) (direction : Direction) (faults : List Rule) (m : Message)
+      → list_any (fails choice Known direction) (breaches_of true log direction faults (Some m)) ≡ false
+      → session_finding log
+      direction m ≡ None
+  fits log direction faults m e = first_counts direction (session_finding log direction m)
+      (option_to_list (document_finding log direction m) ++ option_to_list (progress_finding log direction m))
+      (any-behind (fails choice Known direction) (map shape_breach faults)
+      (map (as_breach true) (findings_of log direction m)) e)
 
-  entered_is_clean : (n : ℕ) (log : Log) (way : Direction) (faults : List Rule) (m : Option Message) → IsClean log
-      → list_any (fails choice Known way) (breaches_of true log way faults m) ≡ false → IsClean (entered way n m log)
-  entered_is_clean n log way faults None clean e = clean
-  entered_is_clean n log way faults (Some m) clean e = more_is_clean (passed way n m) log clean
-      (fits log way faults m e)
+  entered_is_clean : (n : ℕ) (log : Log) (direction : Direction) (faults : List Rule) (m : Option Message) → IsClean log
+      → list_any (fails choice Known direction) (breaches_of true log direction faults m) ≡ false
+      → IsClean (entered direction n m log)
+  entered_is_clean n log direction faults None clean e = clean
+  entered_is_clean n log direction faults (Some m) clean e = more_is_clean (passed direction n m) log clean
+      (fits log direction faults m e)
 
   -- ---- one line
 
@@ -129,7 +133,7 @@ module _ (choice : Choice) (strict : IsStrict choice) where
 
   -- the parts of `begun`
   abbrev is_part : Judged → Direction → Option Message → Bool
-  is_part j way m = not j.is_begun && (false && not (opens way m))
+  is_part j direction m = not j.is_begun && (false && not (opens direction m))
 
   abbrev part : Judged → Judged
   part j = begins false j.is_broken j.is_matched j
@@ -164,42 +168,46 @@ module _ (choice : Choice) (strict : IsStrict choice) where
   begun_whole true y z ey ez = ey
   begun_whole false y z ey ez = ez
 
-  begun_stands : (j : Judged) (way : Direction) (m : Option Message) (log : Log) → Stands j log
-      → Stands (begun choice false Known j way m) (cond (begins_in true log way m) [] log)
-  begun_stands j way m log s =
-      let b : Bool = begins_in j.is_whole j.log way m in
-      let is : begun choice false Known j way m ≡ cond b (fresh j) (goes_on j) =
-      ap (λ t. cond t (part j) (cond b (fresh j) (goes_on j))) (never (not j.is_begun) (not (opens way m))) in
-      let begins : b ≡ begins_in true log way m = ap (λ w. begins_in w j.log way m) s.whole ∙ ap
-      (λ l. begins_in true l way m) s.log_is in
+  begun_stands : (j : Judged) (direction : Direction) (m : Option Message) (log : Log) → Stands j log
+      → Stands (begun choice false Known j direction m) (cond (begins_in true log direction m) [] log)
+  begun_stands j direction m log s =
+      let b : Bool = begins_in j.is_whole j.log direction m in
+      let is : begun choice false Known j direction m ≡ cond b (fresh j) (goes_on j) =
+      ap (λ t. cond t (part j) (cond b (fresh j) (goes_on j))) (never (not j.is_begun) (not (opens direction m))) in
+      let begins : b ≡ begins_in true log direction m = ap (λ w. begins_in w j.log direction m) s.whole ∙ ap
+      (λ l. begins_in true l direction m) s.log_is in
       record {
         log_is = ap (λ r. r.log) is ∙ begun_log b (fresh j) (goes_on j) log refl s.log_is
             ∙ ap (λ t. cond t [] log) begins;
         whole = ap (λ r. r.is_whole) is ∙ begun_whole b (fresh j) (goes_on j) refl s.whole;
-        clean = clean_if (begins_in true log way m) log s.clean;
+        clean = clean_if (begins_in true log direction m) log s.clean;
       }
 
   line_stands : (n : ℕ) (j : Judged) (log : Log) (m : Option (Direction × Data)) → Stands j log
       → (with_line choice false n j m).is_broken ≡ false → Stands (with_line choice false n j m) (with_message n log m)
   line_stands n j log None s e = s
   line_stands n j log (Some m) s e =
-      let way : Direction = m.0 in
-      let before : Log = cond (begins_in true log way (entry_in m.1)) [] log in
-      let at : Judged = begun choice false Known j way (entry_in m.1) in
-      let b : Stands at before = begun_stands j way (entry_in m.1) log s in
-      let quiet : list_any (fails choice Known way) (breaches_of true before way (faults_of m.1) (entry_in m.1)) ≡
+      let direction : Direction = m.0 in
+      let before : Log = cond (begins_in true log direction (entry_in m.1)) [] log in
+      let at : Judged = begun choice false Known j direction (entry_in m.1) in
+      let b : Stands at before = begun_stands j direction (entry_in m.1) log s in
+      let quiet : list_any (fails choice Known direction)
+      (breaches_of true before direction (faults_of m.1) (entry_in m.1)) ≡
       false =
-      ap (λ l. list_any (fails choice Known way) (breaches_of true l way (faults_of m.1) (entry_in m.1))) (sym b.log_is)
-      ∙ ap (λ w. list_any (fails choice Known way) (breaches_of w at.log way (faults_of m.1) (entry_in m.1)))
+      ap (λ l. list_any (fails choice Known direction) (breaches_of true l direction (faults_of m.1) (entry_in m.1)))
+      (sym b.log_is)
+      ∙ ap (λ w. list_any (fails choice Known direction)
+      (breaches_of w at.log direction (faults_of m.1) (entry_in m.1)))
       (sym b.whole)
-      ∙ any-front (fails choice Known way) (breaches_of at.is_whole at.log way (faults_of m.1) (entry_in m.1)) _
-      (or-left _ (list_any (fails_shown choice Known (Some Breach) way)
-      (unfit at.model choice (Some Breach) at.log way (entry_in m.1) (option_map (λ x. m.1) (entry_in m.1))))
+      ∙ any-front (fails choice Known direction)
+      (breaches_of at.is_whole at.log direction (faults_of m.1) (entry_in m.1)) _
+      (or-left _ (list_any (fails_shown choice Known (Some Breach) direction)
+      (unfit at.model choice (Some Breach) at.log direction (entry_in m.1) (option_map (λ x. m.1) (entry_in m.1))))
       (or-right at.is_broken _ e)) in
       record {
-        log_is = ap (λ l. entered way n (entry_in m.1) l) b.log_is;
+        log_is = ap (λ l. entered direction n (entry_in m.1) l) b.log_is;
         whole = b.whole;
-        clean = entered_is_clean n before way (faults_of m.1) (entry_in m.1) b.clean quiet;
+        clean = entered_is_clean n before direction (faults_of m.1) (entry_in m.1) b.clean quiet;
       }
 
   -- ---- all lines

@@ -89,7 +89,7 @@ shaped_reply : (o : Option Open) → Shaped (reply_finding o) → ⊥
 shaped_reply None e = cc
 shaped_reply (Some asked) e = cc
 
-shaped_session : (before : Log) (way : Direction) (m : Message) → Shaped (session_finding before way m) → ⊥
+shaped_session : (before : Log) (direction : Direction) (m : Message) → Shaped (session_finding before direction m) → ⊥
 shaped_session before ToServer (request i method params) e = shaped_or _ _
     (shaped_client (lifecycle_of before) (initializing before) (request i method params))
     (shaped_id (waiting ToServer i before)) e
@@ -101,7 +101,7 @@ shaped_session before ToServer (notification method params) e = shaped_or _ _
 shaped_session before ToClient (notification method params) e = shaped_or _ _
     (shaped_server (lifecycle_of before) (initializing before) (tells_opening before (notification method params))
     (notification method params)) nothing_shaped e
-shaped_session before way (response i outcome) e = shaped_reply (waiting (other way) i before) e
+shaped_session before direction (response i outcome) e = shaped_reply (waiting (other direction) i before) e
 
 shaped_deed : (deed : Deed) (version : _) (d : Option Document) → Shaped (deed_finding deed version d) → ⊥
 shaped_deed Opens version None e = cc
@@ -112,8 +112,9 @@ shaped_deed Closes version (Some d) e = cc
 shaped_deed Changes version (Some d) e = shaped_cond (is_not_higher version d.version)
     (Some (VersionNotHigher, Some d.told)) None (some_shaped VersionNotHigher (Some d.told) refl) nothing_shaped e
 
-shaped_document : (before : Log) (way : Direction) (m : Message) → Shaped (document_finding before way m) → ⊥
-shaped_document before way m e = by (deed_in way m) e
+shaped_document : (before : Log) (direction : Direction) (m : Message) → Shaped (document_finding before direction m)
+    → ⊥
+shaped_document before direction m e = by (deed_in direction m) e
   where
     at : (deed : Deed) (uri : Option (List ℕ)) → Shaped (option_and_then (λ uri.
         deed_finding deed (version_in (params_in m)) (document_of uri before)) uri) → ⊥
@@ -125,21 +126,23 @@ shaped_document before way m e = by (deed_in way m) e
     by None e = cc
     by (Some deed) e = at deed (uri_in (params_in m)) e
 
-shaped_created : (b : Bool) (way : Direction) (token : Option Token)
-    → Shaped (cond b None (created_finding way token)) → ⊥
-shaped_created true way token e = cc
+shaped_created : (b : Bool) (direction : Direction) (token : Option Token)
+    → Shaped (cond b None (created_finding direction token)) → ⊥
+shaped_created true direction token e = cc
 shaped_created false ToServer token e = cc
 shaped_created false ToClient None e = cc
 shaped_created false ToClient (Some Live) e = cc
 shaped_created false ToClient (Some (Ended place)) e = cc
 
-shaped_progress : (before : Log) (way : Direction) (m : Message) → Shaped (progress_finding before way m) → ⊥
-shaped_progress before way m e = by (progress_token m) e
+shaped_progress : (before : Log) (direction : Direction) (m : Message) → Shaped (progress_finding before direction m)
+    → ⊥
+shaped_progress before direction m e = by (progress_token m) e
   where
     by : (name : Option Id) → Shaped (option_and_then (λ name.
-        token_finding (open_of before) (token_of name before) way name) name) → ⊥
+        token_finding (open_of before) (token_of name before) direction name) name) → ⊥
     by None e = cc
-    by (Some name) e = shaped_created (list_any (gives way name) (open_of before)) way (token_of name before) e
+    by (Some name) e = shaped_created (list_any (gives direction name) (open_of before)) direction
+        (token_of name before) e
 
 any_of : (o : Option Finding) (more : List Finding) → (Shaped o → ⊥) → (list_any shaped more ≡ true → ⊥)
     → list_any shaped (option_to_list o ++ more) ≡ true → ⊥
@@ -158,10 +161,11 @@ any_last (Some found) f e = at (shaped found) refl e
     at true is e = f is
     at false is e = cc
 
-none_shaped : (before : Log) (way : Direction) (m : Message) → list_any shaped (findings_of before way m) ≡ true → ⊥
-none_shaped before way m = any_of (session_finding before way m) _ (shaped_session before way m)
-    (any_of (document_finding before way m) _ (shaped_document before way m)
-    (any_last (progress_finding before way m) (shaped_progress before way m)))
+none_shaped : (before : Log) (direction : Direction) (m : Message) → list_any shaped (findings_of before direction m)
+    ≡ true → ⊥
+none_shaped before direction m = any_of (session_finding before direction m) _ (shaped_session before direction m)
+    (any_of (document_finding before direction m) _ (shaped_document before direction m)
+    (any_last (progress_finding before direction m) (shaped_progress before direction m)))
 
 -- ---- what is decided
 
@@ -188,13 +192,13 @@ either p q (x ∷ xs) e = ⊎_elim
     second false b e = e
 
 breaks_here : (such : Finding → Bool) (after before : Log) (p : Passed)
-    → list_any such (findings_of before p.way p.message) ≡ true → breaks such (after ++ p ∷ before) ≡ true
-breaks_here such [] before p e = at (list_any such (findings_of before p.way p.message)) e
+    → list_any such (findings_of before p.direction p.message) ≡ true → breaks such (after ++ p ∷ before) ≡ true
+breaks_here such [] before p e = at (list_any such (findings_of before p.direction p.message)) e
   where
     at : (a : Bool) → a ≡ true → (a || breaks such before) ≡ true
     at true e = refl
     at false e = cc
-breaks_here such (q ∷ after) before p e = at (list_any such (findings_of (after ++ p ∷ before) q.way q.message))
+breaks_here such (q ∷ after) before p e = at (list_any such (findings_of (after ++ p ∷ before) q.direction q.message))
     (breaks_here such after before p e)
   where
     at : (a : Bool) → breaks such (after ++ p ∷ before) ≡ true → (a || breaks such (after ++ p ∷ before)) ≡ true
@@ -203,20 +207,20 @@ breaks_here such (q ∷ after) before p e = at (list_any such (findings_of (afte
 
 module _ (sure : (log other : Log) → AreOrders log other → breaks is_sure log ≡ true → breaks any_finding other ≡ true)
     (late : (after before other : Log) (p : Passed) → IsBehindAll after p before → AreOrders (after ++ p ∷ before) other
-    → list_any is_late (findings_of before p.way p.message) ≡ true → breaks any_finding other ≡ true) where
+    → list_any is_late (findings_of before p.direction p.message) ≡ true → breaks any_finding other ≡ true) where
   pub decided : (known : Order) → is_known known ≡ false → (after before other : Log) (p : Passed)
       → (known ≡ BehindAll → IsBehindAll after p before) → AreOrders (after ++ p ∷ before) other
-      → list_any (λ found. decides known found.0) (findings_of before p.way p.message) ≡ true
+      → list_any (λ found. decides known found.0) (findings_of before p.direction p.message) ≡ true
       → breaks any_finding other ≡ true
   decided Known unknown after before other p behind orders e = cc
   decided Unknown unknown after before other p behind orders e = ⊎_elim
       (λ is. sure (after ++ p ∷ before) other orders (breaks_here is_sure after before p is))
-      (λ is. absurd (none_shaped before p.way p.message is))
-      (either is_sure shaped (findings_of before p.way p.message) e)
+      (λ is. absurd (none_shaped before p.direction p.message is))
+      (either is_sure shaped (findings_of before p.direction p.message) e)
   decided BehindAll unknown after before other p behind orders e = ⊎_elim
       (λ is. ⊎_elim
       (λ is. sure (after ++ p ∷ before) other orders (breaks_here is_sure after before p is))
       (λ is. late after before other p (behind refl) orders is)
-      (either is_sure is_late (findings_of before p.way p.message) is))
-      (λ is. absurd (none_shaped before p.way p.message is))
-      (either (λ found. is_sure found || is_late found) shaped (findings_of before p.way p.message) e)
+      (either is_sure is_late (findings_of before p.direction p.message) is))
+      (λ is. absurd (none_shaped before p.direction p.message is))
+      (either (λ found. is_sure found || is_late found) shaped (findings_of before p.direction p.message) e)

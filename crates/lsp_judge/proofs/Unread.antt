@@ -26,7 +26,7 @@ use Rattle.lsp_watch.specs.declared.rule.Rule.TheVariants.{NoOutcome, BadError}
 use Rattle.lsp_watch.specs.declared.rule.Rule.TheVariants.{NeedsId, TakesNoId, NotJson, Unreadable}
 use Rattle.lsp_watch.specs.declared.rule.Rule.{Rule}
 use Rattle.lsp_judge.specs.Judged.{Judged, Judges, seen}
-use Rattle.lsp_judge.specs.Recording.{says_unread, way_of, tree_in, line_tree, is_read, is_empty_line, with_line}
+use Rattle.lsp_judge.specs.Recording.{says_unread, direction_of, tree_in, line_tree, is_read, is_empty_line, with_line}
 use Rattle.lsp_judge.specs.declared.choice.Choice.{Choice}
 use Rattle.lsp_judge.specs.declared.judgement.Judgement.{Judgement}
 use Rattle.lsp_judge.specs.declared.passed.Order.TheVariants.{Known}
@@ -132,45 +132,48 @@ abbrev told : Choice → Bool → ℕ → Judged → Order → Option Verdict �
 told choice late n j o v w x = seen choice late o v j n w x.faults.items (option_map entry_view x.entry)
     (option_map (λ e. view e.tree) x.entry)
 
-module _ (line content : List ℕ) (way : Direction) (m : LoggedMessage) (t : Bool) (marked : way_of line ≡ Some way)
+module _ (line content : List ℕ) (direction : Direction) (m : LoggedMessage) (t : Bool) (marked : direction_of line
+    ≡ Some direction)
     (content_is : content ≡ drop 3 line) (reads : Reads m t (tree_in content)) where
   abbrev of_tree : Option Data → Option (Direction × Data)
-  of_tree o = option_map (λ tree. (way, tree)) o
+  of_tree o = option_map (λ tree. (direction, tree)) o
 
   tree_is : line_tree line ≡ of_tree (tree_in content)
-  tree_is = ap (λ w. option_and_then (λ way. option_map (λ tree. (way, tree)) (tree_in (drop 3 line))) w) marked
+  tree_is = ap (λ w. option_and_then (λ direction. option_map (λ tree. (direction, tree)) (tree_in (drop 3 line))) w)
+      marked
       ∙ ap (λ bytes. of_tree (tree_in bytes)) (sym content_is)
 
   pub line_read : t ≡ is_read line
-  line_read = at (tree_in content) reads ∙ sym (ap (λ o. is_some o || is_empty_line (way_of line) line) tree_is
+  line_read = at (tree_in content) reads ∙ sym (ap (λ o. is_some o || is_empty_line (direction_of line) line) tree_is
       ∙ ap (λ w. is_some (of_tree (tree_in content)) || is_empty_line w line) marked)
     where
       at : (o : Option Data) → Reads m t o → t ≡ (is_some (of_tree o) || false)
       at None r = r
       at (Some d) r = r.0
 
-  pub line_sees : (choice : Choice) (late : Bool) (n : ℕ) (j : Judged) (k : Judgement) (p : Passing) → p.way ≡ way →
+  pub line_sees : (choice : Choice) (late : Bool) (n : ℕ) (j : Judged) (k : Judgement) (p : Passing) → p.direction
+      ≡ direction →
       p.message ≡ m
       → p.order ≡ Known → p.types ≡ Some Breach → t ≡ true
-      → Judges k (seen choice late p.order p.types j n p.way p.message.faults.items
+      → Judges k (seen choice late p.order p.types j n p.direction p.message.faults.items
       (option_map entry_view p.message.entry)
       (option_map (λ e. view e.tree) p.message.entry))
       → Judges k (with_line choice late n j (line_tree line))
-  line_sees choice late n j k p way_is message_is order_is types_are is_true sees =
+  line_sees choice late n j k p direction_is message_is order_is types_are is_true sees =
       subst (λ o. Judges k (with_line choice late n j o)) (sym tree_is) (at (tree_in content) reads)
     where
-      plain : Judges k (told choice late n j Known (Some Breach) way m)
-      plain = subst (λ x. Judges k (told choice late n j Known (Some Breach) way x)) message_is
-          (subst (λ w. Judges k (told choice late n j Known (Some Breach) w p.message)) way_is
-          (subst (λ v. Judges k (told choice late n j Known v p.way p.message)) types_are
-          (subst (λ o. Judges k (told choice late n j o p.types p.way p.message)) order_is sees)))
+      plain : Judges k (told choice late n j Known (Some Breach) direction m)
+      plain = subst (λ x. Judges k (told choice late n j Known (Some Breach) direction x)) message_is
+          (subst (λ w. Judges k (told choice late n j Known (Some Breach) w p.message)) direction_is
+          (subst (λ v. Judges k (told choice late n j Known v p.direction p.message)) types_are
+          (subst (λ o. Judges k (told choice late n j o p.types p.direction p.message)) order_is sees)))
 
       at : (o : Option Data) → Reads m t o → Judges k (with_line choice late n j (of_tree o))
       at None r = absurd (true≢false (sym is_true ∙ r))
       at (Some d) r =
-          subst (λ it. Judges k (seen choice late Known (Some Breach) j n way (faults_of d) (entry_in d) it))
+          subst (λ it. Judges k (seen choice late Known (Some Breach) j n direction (faults_of d) (entry_in d) it))
           r.1.tree_is
-          (subst (λ fs. Judges k (seen choice late Known (Some Breach) j n way fs (entry_in d)
+          (subst (λ fs. Judges k (seen choice late Known (Some Breach) j n direction fs (entry_in d)
           (option_map (λ e. view e.tree) m.entry))) r.1.faults_are
-          (subst (λ e. Judges k (seen choice late Known (Some Breach) j n way m.faults.items e
+          (subst (λ e. Judges k (seen choice late Known (Some Breach) j n direction m.faults.items e
           (option_map (λ e. view e.tree) m.entry))) r.1.entry_is plain))

@@ -23,16 +23,16 @@ use Rattle.lsp_judge.specs.declared.choice.FailOn.{FailOn}
 use Rattle.lsp_judge.specs.declared.passed.Order.TheVariants.{Known, BehindAll, Unknown}
 use Rattle.lsp_judge.specs.declared.passed.Order.{Order}
 
--- the way in which that side sends which breaks a rule by a message of this way
+-- the direction in which that side sends which breaks a rule by a message of this direction
 abbrev pub culprit : Side → Direction → Direction
-culprit Sender way = way
-culprit Receiver way = other way
-culprit Client way = ToServer
+culprit Sender direction = direction
+culprit Receiver direction = other direction
+culprit Client direction = ToServer
 
 abbrev pub is_of : FailOn → Direction → Bool
-is_of Servers way = not (from_client way)
-is_of Clients way = from_client way
-is_of Both way = true
+is_of Servers direction = not (from_client direction)
+is_of Clients direction = from_client direction
+is_of Both direction = true
 
 abbrev pub is_at_least : Level → Level → Bool
 is_at_least Must wanted = true
@@ -41,10 +41,10 @@ is_at_least Should wanted = true
 is_at_least Implied Implied = true
 is_at_least Implied wanted = false
 
--- breaches of a rule by messages of a way are of the chosen side and level
+-- breaches of a rule by messages of a direction are of the chosen side and level
 abbrev pub counts : Choice → Rule → Direction → Bool
-counts choice rule way =
-    is_of choice.fail_on (culprit (side_of rule) way) && is_at_least (level_of rule) choice.level
+counts choice rule direction =
+    is_of choice.fail_on (culprit (side_of rule) direction) && is_at_least (level_of rule) choice.level
 
 -- the rules of the shape of one message: the order does not matter
 abbrev pub is_of_shape : Rule → Bool
@@ -87,13 +87,14 @@ is_sure verdict = true
 
 -- a breach that makes the status 1
 abbrev pub fails : Choice → Order → Direction → Breach → Bool
-fails choice order way b = (is_sure b.verdict && decides order b.rule) && counts choice b.rule way
+fails choice order direction b = (is_sure b.verdict && decides order b.rule) && counts choice b.rule direction
 
 -- a breach of a rule of types or texts that does so, by how sure that is
 abbrev pub fails_shown : Choice → Order → Option Verdict → Direction → Rule → Bool
-fails_shown choice order None way rule = false
-fails_shown choice order (Some verdict) way rule = (is_sure verdict && decides order rule) && counts choice rule way
+fails_shown choice order None direction rule = false
+fails_shown choice order (Some verdict) direction rule = (is_sure verdict && decides order rule)
+    && counts choice rule direction
 
 -- a request without a reply that does so
 abbrev pub leaves : Choice → Unanswered → Bool
-leaves choice u = is_sure u.verdict && counts choice NoReply u.way
+leaves choice u = is_sure u.verdict && counts choice NoReply u.direction

@@ -45,25 +45,26 @@ nothing announces model = record {
 }
 
 abbrev pub is_initialize : Direction → Option Message → Bool
-is_initialize way None = false
-is_initialize way (Some m) = from_client way && asks (codes "initialize") m
+is_initialize direction None = false
+is_initialize direction (Some m) = from_client direction && asks (codes "initialize") m
 
 -- what a message goes against, of what both sides announced; with the whole message
 abbrev pub against_known : Log → Direction → Option Message → Option Data → List Finding
-against_known log way None d = []
-against_known log way (Some m) None = []
-against_known log way (Some m) (Some d) = option_to_list (known_finding log way m d)
+against_known log direction None d = []
+against_known log direction (Some m) None = []
+against_known log direction (Some m) (Some d) = option_to_list (known_finding log direction m d)
 
 abbrev pub against : Bool → Log → Direction → Option Message → Option Data → List Breach
-against announces log way m d = map (as_breach true) (if announces then against_known log way m d else [])
+against announces log direction m d = map (as_breach true) (if announces then against_known log direction m d else [])
 
 -- all that a message breaks
 abbrev pub broken_of : Judged → Direction → List Rule → Option Message → Option Data → List Breach
-broken_of j way faults m d = breaches_of j.is_whole j.log way faults m ++ against j.announces j.log way m d
+broken_of j direction faults m d = breaches_of j.is_whole j.log direction faults m
+    ++ against j.announces j.log direction m d
 
 -- the session after the message
 abbrev pub goes_in : Judged → ℕ → Direction → Option Message → Judged
-goes_in j place way m = record j { log = entered way place m j.log }
+goes_in j place direction m = record j { log = entered direction place m j.log }
 
 abbrev pub is_unasked : Breach → Bool
 is_unasked b = says_unasked b.rule
@@ -85,7 +86,7 @@ goes_on j = record j { is_begun = true }
 
 -- a message is the first one of a session that is seen from its middle on
 abbrev pub begins_late : Bool → Judged → Direction → Option Message → Bool
-begins_late may_begin_late j way m = not j.is_begun && (may_begin_late && not (is_initialize way m))
+begins_late may_begin_late j direction m = not j.is_begun && (may_begin_late && not (is_initialize direction m))
 
 module _ (choice : Choice) where
   -- the requests that are left without a reply break a rule
@@ -95,24 +96,25 @@ module _ (choice : Choice) where
 
   -- A message begins the judgement of a session that is seen from its middle on, or that of a new one, or it goes on.
   abbrev pub begun : Bool → Order → Judged → Direction → Option Message → Judged
-  begun may_begin_late order j way m =
-      if begins_late may_begin_late j way m then begins false j.is_broken j.is_matched j
-      else if begins_in j.is_whole j.log way m
+  begun may_begin_late order j direction m =
+      if begins_late may_begin_late j direction m then begins false j.is_broken j.is_matched j
+      else if begins_in j.is_whole j.log direction m
       then begins true (left true true j) (j.is_matched && is_known order) j
       else goes_on j
 
   -- the session after a message, by how sure its breaches of the rules of types are
   abbrev pub passed_on : Order → Option Verdict → Judged → ℕ → Direction → List Rule → Option Message → Option Data
       → Judged
-  passed_on order types j place way faults m d = record {
-    log = entered way place m j.log;
+  passed_on order types j place direction faults m d = record {
+    log = entered direction place m j.log;
     is_whole = j.is_whole;
     is_begun = true;
     is_broken =
-        j.is_broken || (list_any (fails choice (narrowed order j.is_matched) way) (broken_of j way faults m d)
-        || list_any (fails_shown choice (narrowed order j.is_matched) types way)
-        (unfit j.model choice types j.log way m d));
-    is_matched = j.is_matched && (is_known order || not (list_any is_unasked (broken_of j way faults m d)));
+        j.is_broken || (list_any (fails choice (narrowed order j.is_matched) direction)
+        (broken_of j direction faults m d)
+        || list_any (fails_shown choice (narrowed order j.is_matched) types direction)
+        (unfit j.model choice types j.log direction m d));
+    is_matched = j.is_matched && (is_known order || not (list_any is_unasked (broken_of j direction faults m d)));
     announces = j.announces;
     model = j.model;
   }
@@ -120,8 +122,8 @@ module _ (choice : Choice) where
   -- one more message
   abbrev pub seen : Bool → Order → Option Verdict → Judged → ℕ → Direction → List Rule → Option Message → Option Data
       → Judged
-  seen may_begin_late order types j place way faults m d =
-      passed_on order types (begun may_begin_late order j way m) place way faults m d
+  seen may_begin_late order types j place direction faults m d =
+      passed_on order types (begun may_begin_late order j direction m) place direction faults m d
 
 -- a judgement that saw this
 pub record Judges (judgement : Judgement) (j : Judged) : Type 0 where

@@ -22,8 +22,8 @@ use Rattle.lsp_judge.specs.declared.choice.FailOn.TheVariants.{Both}
 use Rattle.lsp_judge.specs.declared.passed.Order.TheVariants.{Known}
 
 -- the direction of a line that begins with `-> ` or `<- `
-abbrev pub way_of : List ℕ → Option Direction
-way_of line = if bytes_eq (take 3 line) (codes "-> ") then Some ToServer
+abbrev pub direction_of : List ℕ → Option Direction
+direction_of line = if bytes_eq (take 3 line) (codes "-> ") then Some ToServer
     else if bytes_eq (take 3 line) (codes "<- ") then Some ToClient else None
 
 -- the JSON of a content part, which is UTF-8
@@ -39,7 +39,8 @@ says_unread rule = false
 
 -- the message of a line: its direction, and its JSON
 abbrev pub line_tree : List ℕ → Option (Direction × Data)
-line_tree line = option_and_then (λ way. option_map (λ tree. (way, tree)) (tree_in (drop 3 line))) (way_of line)
+line_tree line = option_and_then (λ direction. option_map (λ tree. (direction, tree)) (tree_in (drop 3 line)))
+    (direction_of line)
 
 abbrev pub is_blank : ℕ → Bool
 is_blank byte = byte == 32 || byte == 9 || byte == 13 || byte == 10
@@ -47,11 +48,11 @@ is_blank byte = byte == 32 || byte == 9 || byte == 13 || byte == 10
 -- a line with no direction has blanks alone
 abbrev pub is_empty_line : Option Direction → List ℕ → Bool
 is_empty_line None line = list_all is_blank line
-is_empty_line (Some way) line = false
+is_empty_line (Some direction) line = false
 
 -- a line has a message, or nothing
 abbrev pub is_read : List ℕ → Bool
-is_read line = is_some (line_tree line) || is_empty_line (way_of line) line
+is_read line = is_some (line_tree line) || is_empty_line (direction_of line) line
 
 -- the first line, counted from n on, that is not read; 0 if each is
 abbrev pub first_unread : ℕ → List (List ℕ) → ℕ

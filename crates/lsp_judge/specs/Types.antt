@@ -26,16 +26,16 @@ mode_of rule = None
 
 -- A message breaks a rule of types or texts. The tree is the whole message.
 abbrev pub breaks_type : Model → Log → Direction → Message → Data → Rule → Bool
-breaks_type model log way m d rule = any_if (λ mode. is_unfit_message model mode log way m d) (mode_of rule)
+breaks_type model log direction m d rule = any_if (λ mode. is_unfit_message model mode log direction m d) (mode_of rule)
 
 abbrev pub unfit_known : Model → Choice → Log → Direction → Option Message → Option Data → List Rule
-unfit_known model choice log way None d = []
-unfit_known model choice log way (Some m) None = []
-unfit_known model choice log way (Some m) (Some d) =
-    filter (λ rule. breaks_type model log way m d rule) choice.types.items
+unfit_known model choice log direction None d = []
+unfit_known model choice log direction (Some m) None = []
+unfit_known model choice log direction (Some m) (Some d) =
+    filter (λ rule. breaks_type model log direction m d rule) choice.types.items
 
 -- the judged rules of types and texts that a message breaks: none without a model, or where the log does not show them
 abbrev pub unfit : Option Model → Choice → Option Verdict → Log → Direction → Option Message → Option Data → List Rule
-unfit None choice verdict log way m d = []
-unfit (Some model) choice None log way m d = []
-unfit (Some model) choice (Some verdict) log way m d = unfit_known model choice log way m d
+unfit None choice verdict log direction m d = []
+unfit (Some model) choice None log direction m d = []
+unfit (Some model) choice (Some verdict) log direction m d = unfit_known model choice log direction m d

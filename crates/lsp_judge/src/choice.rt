@@ -49,24 +49,24 @@ impl Choice {
         self.ignored.iter().any(|it| it.is_for(rule, method))
     }
 
-    /// Whether a breach counts that a message of this way has.
-    pub fn counts(&self, rule: Rule, way: Direction) -> bool
-        ensures { result ≡ counts_for self.now rule way }
+    /// Whether a breach counts that a message of this direction has.
+    pub fn counts(&self, rule: Rule, direction: Direction) -> bool
+        ensures { result ≡ counts_for self.now rule direction }
     {
         let is_of_side = match self.fail_on {
-            FailOn::Servers => !culprit(rule, way).is_from_client(),
-            FailOn::Clients => culprit(rule, way).is_from_client(),
+            FailOn::Servers => !culprit(rule, direction).is_from_client(),
+            FailOn::Clients => culprit(rule, direction).is_from_client(),
             FailOn::Both => true,
         };
         is_of_side && is_at_least(rule.level(), self.level)
     }
 
-    /// Whether a breach makes the status 1 that a message of this way has.
-    pub fn fails(&self, order: Order, way: Direction, breach: &Breach) -> bool
-        ensures { result ≡ fails_for self.now order way breach.now }
+    /// Whether a breach makes the status 1 that a message of this direction has.
+    pub fn fails(&self, order: Order, direction: Direction, breach: &Breach) -> bool
+        ensures { result ≡ fails_for self.now order direction breach.now }
     {
         match breach.verdict {
-            Verdict::Breach => order.decides(breach.rule) && self.counts(breach.rule, way),
+            Verdict::Breach => order.decides(breach.rule) && self.counts(breach.rule, direction),
             Verdict::CannotTell => false,
         }
     }
@@ -76,13 +76,13 @@ impl Choice {
         &self,
         order: Order,
         verdict: Option<Verdict>,
-        way: Direction,
+        direction: Direction,
         rule: Rule,
     ) -> bool
-        ensures { result ≡ fails_if_shown self.now order verdict way rule }
+        ensures { result ≡ fails_if_shown self.now order verdict direction rule }
     {
         match verdict {
-            Some(Verdict::Breach) => order.decides(rule) && self.counts(rule, way),
+            Some(Verdict::Breach) => order.decides(rule) && self.counts(rule, direction),
             Some(Verdict::CannotTell) | None => false,
         }
     }
@@ -92,7 +92,7 @@ impl Choice {
         ensures { result ≡ leaves_for self.now unanswered.now }
     {
         match unanswered.verdict {
-            Verdict::Breach => self.counts(Rule::NoReply, unanswered.way),
+            Verdict::Breach => self.counts(Rule::NoReply, unanswered.direction),
             Verdict::CannotTell => false,
         }
     }
@@ -108,13 +108,13 @@ impl Ignored {
     }
 }
 
-/// The way in which that side sends which breaks a rule by a message of this way.
-pub fn culprit(rule: Rule, way: Direction) -> Direction
-    ensures { result ≡ culprit_of (side_of rule) way }
+/// The direction in which that side sends which breaks a rule by a message of this direction.
+pub fn culprit(rule: Rule, direction: Direction) -> Direction
+    ensures { result ≡ culprit_of (side_of rule) direction }
 {
     match rule.side() {
-        Side::Sender => way,
-        Side::Receiver => way.other(),
+        Side::Sender => direction,
+        Side::Receiver => direction.other(),
         Side::Client => Direction::ToServer,
     }
 }

@@ -16,7 +16,7 @@ const MOST_OPEN: usize = 10_000;
 /// What a line says of a message.
 #[derive(Clone, Copy)]
 struct Head<'l> {
-    way: Direction,
+    direction: Direction,
     /// The method and, in square brackets, the id. Older ones have none.
     name: &'l [u8],
     /// The message in JSON.
@@ -32,7 +32,7 @@ pub struct Emacs {
     name: Vec<u8>,
     lisp: Vec<u8>,
     message: MessageText,
-    /// Where there are no bodies: the method of each open request, by its way and id.
+    /// Where there are no bodies: the method of each open request, by its direction and id.
     open: BTreeMap<Vec<u8>, Vec<u8>>,
     /// Whether a message had no body.
     pub is_short: bool,
@@ -69,7 +69,7 @@ impl Emacs {
             return Ok(ended);
         };
         let found = Found {
-            way: head.way,
+            direction: head.direction,
             line: number,
             time: head.time,
             took: None,
@@ -98,7 +98,7 @@ impl Emacs {
             [] if self.name.is_empty() => Ok(Taken::Unread(found.line)),
             [] => {
                 self.is_short = true;
-                self.put_short(found.way, out)?;
+                self.put_short(found.direction, out)?;
                 Ok(Taken::Found(found))
             }
             [b'{', ..] => {
@@ -119,10 +119,11 @@ impl Emacs {
         Ok(Taken::Found(*found))
     }
 
-    /// The text of a message of which there are only its method and its id. It is a reply, if such a request is open the other way.
-    fn put_short(&mut self, way: Direction, out: &mut Vec<u8>) -> Result<(), AllocError> {
+    /// The text of a message of which there are only its method and its id. It is a reply, if such a request is open in
+    /// the other direction.
+    fn put_short(&mut self, direction: Direction, out: &mut Vec<u8>) -> Result<(), AllocError> {
         out.extend_from_slice(b"{\"jsonrpc\":\"2.0\"")?;
-        let key = key_of(self.alloc, way.other(), id_in(self.name.as_slice()))?;
+        let key = key_of(self.alloc, direction.other(), id_in(self.name.as_slice()))?;
         let asked = self.open.get(&key);
         let is_reply = asked.is_some_and(|it| it.as_slice() == method_in(self.name.as_slice()));
         if is_reply {
@@ -133,19 +134,19 @@ impl Emacs {
         if is_reply {
             return out.extend_from_slice(b",\"result\":null}");
         }
-        self.keep_open(way)?;
+        self.keep_open(direction)?;
         out.extend_from_slice(b",\"method\":")?;
         push_quoted(out, method_in(self.name.as_slice()))?;
         Ok(out.push(b'}')?)
     }
 
     /// Keeps a request, so that its reply is known.
-    fn keep_open(&mut self, way: Direction) -> Result<(), AllocError> {
+    fn keep_open(&mut self, direction: Direction) -> Result<(), AllocError> {
         let id = id_in(self.name.as_slice());
         if id.is_empty() || self.open.len() >= MOST_OPEN {
             return Ok(());
         }
-        let key = key_of(self.alloc, way, id)?;
+        let key = key_of(self.alloc, direction, id)?;
         let method = Vec::from_slice(self.alloc, method_in(self.name.as_slice()));
         match method {
             Ok(method) => {
@@ -182,9 +183,13 @@ fn put_id(out: &mut Vec<u8>, id: &[u8]) -> Result<(), AllocError> {
 }
 
 /// The key of a request.
-fn key_of(alloc: Global, way: Direction, id: &[u8]) -> Result<Vec<u8>, AllocError> {
+fn key_of(alloc: Global, direction: Direction, id: &[u8]) -> Result<Vec<u8>, AllocError> {
     let mut key = Vec::new(alloc);
-    key.push(if way.is_from_client() { b'>' } else { b'<' })?;
+    key.push(if direction.is_from_client() {
+        b'>'
+    } else {
+        b'<'
+    })?;
     key.extend_from_slice(id)?;
     Ok(key)
 }
@@ -198,13 +203,13 @@ fn head_of(line: &[u8]) -> Option<Head<'_>> {
     if let Some(rest) = line.strip_prefix(b"[jsonrpc] e[") {
         return named(rest);
     }
-    let (way, rest) = match line.strip_prefix(b"[client-") {
+    let (direction, rest) = match line.strip_prefix(b"[client-") {
         Some(rest) => (Direction::ToServer, rest),
         None => (Direction::ToClient, line.strip_prefix(b"[server-")?),
     };
     let (kind, _) = cut(rest, b"] ")?;
     matches!(kind, b"request" | b"notification" | b"reply").then_some(Head {
-        way,
+        direction,
         name: b"",
         json: None,
         time: None,
@@ -215,14 +220,14 @@ fn head_of(line: &[u8]) -> Option<Head<'_>> {
 fn named(rest: &[u8]) -> Option<Head<'_>> {
     let (time, rest) = cut(rest, b"] ")?;
     let rest = trim_start(rest);
-    let (way, rest) = match rest.strip_prefix(b"--> ") {
+    let (direction, rest) = match rest.strip_prefix(b"--> ") {
         Some(rest) => (Direction::ToServer, rest),
         None => (Direction::ToClient, rest.strip_prefix(b"<-- ")?),
     };
     let (name, json) = while_first(trim_end(rest), |it| it != b' ');
     let json = trim_start(json);
     Some(Head {
-        way,
+        direction,
         name,
         json: json.starts_with(b"{").then_some(json),
         time: time_in(time),

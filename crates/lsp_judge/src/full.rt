@@ -87,7 +87,9 @@ impl FullJudgement {
         out: &mut W,
     ) -> Result<()> {
         let breach = &outside.breach;
-        let fails = report.choice.fails(passing.order, passing.way, breach);
+        let fails = report
+            .choice
+            .fails(passing.order, passing.direction, breach);
         self.is_outside = self.is_outside || fails;
         let text = match &outside.misfit {
             Some(misfit) => {
@@ -112,16 +114,16 @@ impl FullJudgement {
         let Some(model) = self.judged.model() else {
             return Ok(None);
         };
-        let (watch, way) = (self.judged.watch(), passing.way);
+        let (watch, direction) = (self.judged.watch(), passing.direction);
         let is_ignored = report.choice.ignores(Rule::LineOutside, passing.method());
         if is_ignored
             || !self
                 .lines
-                .is_outside(report.alloc, model, watch, way, entry)
+                .is_outside(report.alloc, model, watch, direction, entry)
         {
             return Ok(None);
         }
-        let misfit = self.lines.misfit(report.alloc, watch, way, entry)?;
+        let misfit = self.lines.misfit(report.alloc, watch, direction, entry)?;
         let breach = Breach {
             rule: Rule::LineOutside,
             verdict,
@@ -134,10 +136,10 @@ impl FullJudgement {
     /// any.
     fn count_lines(&mut self, place: u64, passing: &Passing) -> Result<(), AllocError> {
         let watch = self.judged.watch();
-        let begins = watch.begins_session(passing.way, &passing.message);
+        let begins = watch.begins_session(passing.direction, &passing.message);
         match &passing.message.entry {
-            Some(entry) if !begins => self.lines.keep(place, watch, passing.way, entry),
-            None if !passing.way.is_from_client() => Ok(()),
+            Some(entry) if !begins => self.lines.keep(place, watch, passing.direction, entry),
+            None if !passing.direction.is_from_client() => Ok(()),
             _ => {
                 self.lines = LineCounts::new(self.alloc);
                 Ok(())

@@ -12,8 +12,8 @@ use std::io::Write;
 pub fn tell<W: Write>(report: &Report<'_>, told: &Told<'_>, out: &mut W) -> Result<()> {
     write!(out, "{{\"kind\":\"{}\",", told.kind.name())?;
     put_place(report, told.place, out)?;
-    if let Some(way) = told.way {
-        write!(out, ",\"way\":\"{way}\"")?;
+    if let Some(direction) = told.direction {
+        write!(out, ",\"way\":\"{direction}\"")?;
     }
     put_rule(told, out)?;
     if let Some(method) = told.method {
@@ -36,12 +36,12 @@ pub fn tell<W: Write>(report: &Report<'_>, told: &Told<'_>, out: &mut W) -> Resu
 
 /// The rule, its level, whose breach it is, and whether that makes the status 1.
 fn put_rule<W: Write>(told: &Told<'_>, out: &mut W) -> Result<()> {
-    let (Some(rule), Some(way)) = (told.rule, told.way) else {
+    let (Some(rule), Some(direction)) = (told.rule, told.direction) else {
         return Ok(());
     };
     let name = rule.name();
     let level = rule.level();
-    let side = side_name(culprit(rule, way));
+    let side = side_name(culprit(rule, direction));
     let fails = told.fails;
     Ok(write!(
         out,
@@ -49,9 +49,9 @@ fn put_rule<W: Write>(told: &Told<'_>, out: &mut W) -> Result<()> {
     )?)
 }
 
-/// The side that sends this way.
-pub fn side_name(way: Direction) -> &'static str {
-    match way {
+/// The side that sends in this direction.
+pub fn side_name(direction: Direction) -> &'static str {
+    match direction {
         Direction::ToServer => "client",
         Direction::ToClient => "server",
     }

@@ -87,11 +87,11 @@ impl Judgement {
     }
 
     /// Whether a message would break no rule if it passed now.
-    pub fn fits(&self, way: Direction, message: &LoggedMessage) -> Result<bool, AllocError>
+    pub fn fits(&self, direction: Direction, message: &LoggedMessage) -> Result<bool, AllocError>
         ensures { (j : Judged) → Judges self.now j → IfOk result (λ fits. fits ≡ (length
-            (breaches_of j.is_whole j.log way message.now.faults.items (option_map entry_view message.now.entry)) == 0)) }
+            (breaches_of j.is_whole j.log direction message.now.faults.items (option_map entry_view message.now.entry)) == 0)) }
     {
-        let breaches = self.watch.breaches(way, message)?;
+        let breaches = self.watch.breaches(direction, message)?;
         Ok(breaches.is_empty())
     }
 
@@ -105,7 +105,7 @@ impl Judgement {
         out: &mut W,
     ) -> Result<()>
         ensures { (j : Judged) → Judges self.old j → report.now.choice.now.ignored.items ≡ [] → OnOk result (Judges self.new
-            (seen report.now.choice.now report.now.may_begin_late passing.now.order passing.now.types j place passing.now.way
+            (seen report.now.choice.now report.now.may_begin_late passing.now.order passing.now.types j place passing.now.direction
             passing.now.message.faults.items (option_map entry_view passing.now.message.entry)
             (option_map (λ e. view e.tree) passing.now.message.entry))) }
     {
@@ -118,14 +118,17 @@ impl Judgement {
     /// Begins the judgement of a session, if the message does.
     fn begin<W: Write>(&mut self, passing: &Passing, report: &Report<'_>, out: &mut W) -> Result<()>
         ensures { (j : Judged) → Judges self.old j → report.now.choice.now.ignored.items ≡ [] → OnOk result (Judges self.new
-            (begun report.now.choice.now report.now.may_begin_late passing.now.order j passing.now.way
+            (begun report.now.choice.now report.now.may_begin_late passing.now.order j passing.now.direction
             (option_map entry_view passing.now.message.entry))) }
     {
         if self.begins_late(passing, report) {
             self.begin_late();
             return Ok(());
         }
-        if self.watch.begins_session(passing.way, &passing.message) {
+        if self
+            .watch
+            .begins_session(passing.direction, &passing.message)
+        {
             return self.begin_next(passing.order, report, out);
         }
         self.is_begun = true;
@@ -134,7 +137,8 @@ impl Judgement {
 
     /// Whether a message is the first one of a session that is seen from its middle on.
     fn begins_late(&self, passing: &Passing, report: &Report<'_>) -> bool
-        ensures { (j : Judged) → Judges self.now j → result ≡ begins_late_in report.now.may_begin_late j passing.now.way
+        ensures { (j : Judged) → Judges self.now j → result
+            ≡ begins_late_in report.now.may_begin_late j passing.now.direction
             (option_map entry_view passing.now.message.entry) }
     {
         !self.is_begun && report.may_begin_late && !is_initialize(passing)
@@ -174,7 +178,7 @@ impl Judgement {
         out: &mut W,
     ) -> Result<()>
         ensures { (j : Judged) → Judges self.old j → report.now.choice.now.ignored.items ≡ [] → OnOk result (Judges self.new
-            (passed_on report.now.choice.now passing.now.order passing.now.types j place passing.now.way
+            (passed_on report.now.choice.now passing.now.order passing.now.types j place passing.now.direction
             passing.now.message.faults.items (option_map entry_view passing.now.message.entry)
             (option_map (λ e. view e.tree) passing.now.message.entry))) }
     {
@@ -194,10 +198,11 @@ impl Judgement {
         out: &mut W,
     ) -> Result<()>
         ensures { (j : Judged) → Judges self.old j → report.now.choice.now.ignored.items ≡ []
-            → unfit.now.rules.items ≡ unfit_of j.model report.now.choice.now passing.now.types j.log passing.now.way
+            → unfit.now.rules.items
+            ≡ unfit_of j.model report.now.choice.now passing.now.types j.log passing.now.direction
             (option_map entry_view passing.now.message.entry) (option_map (λ e. view e.tree) passing.now.message.entry)
             → OnOk result (Judges self.new
-            (passed_on report.now.choice.now passing.now.order passing.now.types j place passing.now.way
+            (passed_on report.now.choice.now passing.now.order passing.now.types j place passing.now.direction
             passing.now.message.faults.items (option_map entry_view passing.now.message.entry)
             (option_map (λ e. view e.tree) passing.now.message.entry))) }
     {
@@ -230,22 +235,25 @@ impl Judgement {
     /// Sees a message, and returns what it breaks: the rules of the watch, and then what it goes against of what was announced.
     fn observe(&mut self, place: u64, passing: &Passing) -> Result<Vec<Breach>, AllocError>
         ensures { (j : Judged) → Judges self.old j → IfOk result (λ found.
-            (found.items ≡ broken_of j passing.now.way passing.now.message.faults.items
+            (found.items ≡ broken_of j passing.now.direction passing.now.message.faults.items
             (option_map entry_view passing.now.message.entry) (option_map (λ e. view e.tree) passing.now.message.entry))
-            × Judges self.new (goes_in j place passing.now.way (option_map entry_view passing.now.message.entry))) }
+            × Judges self.new
+            (goes_in j place passing.now.direction (option_map entry_view passing.now.message.entry))) }
     {
         let against = self.announce(passing)?;
-        let breaches = self.watch.observe(place, passing.way, &passing.message)?;
+        let breaches = self
+            .watch
+            .observe(place, passing.direction, &passing.message)?;
         with_breach(breaches, against)
     }
 
     /// Returns what a message goes against, of what was announced before it, and keeps what it announces.
     fn announce(&mut self, passing: &Passing) -> Result<Option<(Rule, Option<u64>)>, AllocError>
         ensures found { (j : Judged) → Judges self.old j → IfOk result (λ found. map (as_breach true) (option_to_list found)
-            ≡ against j.announces j.log passing.now.way (option_map entry_view passing.now.message.entry)
+            ≡ against j.announces j.log passing.now.direction (option_map entry_view passing.now.message.entry)
             (option_map (λ e. view e.tree) passing.now.message.entry)) }
         ensures knows { (j : Judged) (place : ℕ) → Judges self.old j → OnOk result (j.announces ≡ true → Knows self.new.announced
-            (entered passing.now.way place (option_map entry_view passing.now.message.entry) j.log)) }
+            (entered passing.now.direction place (option_map entry_view passing.now.message.entry) j.log)) }
         ensures same { (self.new.watch ≡ self.old.watch) × (self.new.is_begun ≡ self.old.is_begun)
             × (self.new.is_broken ≡ self.old.is_broken) × (self.new.is_matched ≡ self.old.is_matched)
             × (self.new.announces ≡ self.old.announces) × (self.new.model ≡ self.old.model) }
@@ -256,8 +264,8 @@ impl Judgement {
         let Some(entry) = &passing.message.entry else {
             return Ok(None);
         };
-        let found = self.announced.breaks(&self.watch, passing.way, entry);
-        self.announced.keep(&self.watch, passing.way, entry)?;
+        let found = self.announced.breaks(&self.watch, passing.direction, entry);
+        self.announced.keep(&self.watch, passing.direction, entry)?;
         Ok(found)
     }
 
@@ -401,19 +409,19 @@ fn breaks_by(
     breaches: &[Breach],
     unfit: &Unfit,
 ) -> bool
-    ensures { result ≡ (is_broken || (list_any (fails_for choice.now order passing.now.way) breaches.now
-        || list_any (fails_if_shown choice.now order passing.now.types passing.now.way) unfit.now.rules.items)) }
+    ensures { result ≡ (is_broken || (list_any (fails_for choice.now order passing.now.direction) breaches.now
+        || list_any (fails_if_shown choice.now order passing.now.types passing.now.direction) unfit.now.rules.items)) }
 {
     is_broken
-        || any_fails(choice, order, passing.way, breaches)
+        || any_fails(choice, order, passing.direction, breaches)
         || unfit.fails(order, passing, choice)
 }
 
-/// Whether one of the breaches makes the status 1 that a message of this way has.
-fn any_fails(choice: &Choice, order: Order, way: Direction, breaches: &[Breach]) -> bool
-    ensures { result ≡ list_any (fails_for choice.now order way) breaches.now }
+/// Whether one of the breaches makes the status 1 that a message of this direction has.
+fn any_fails(choice: &Choice, order: Order, direction: Direction, breaches: &[Breach]) -> bool
+    ensures { result ≡ list_any (fails_for choice.now order direction) breaches.now }
 {
-    breaches.iter().any(|it| choice.fails(order, way, it))
+    breaches.iter().any(|it| choice.fails(order, direction, it))
 }
 
 /// Whether one of the requests without a reply makes the status 1, and is not ignored.
@@ -451,10 +459,11 @@ fn any_told(asked: Values<'_, u64, Asked>, unanswered: &[Unanswered], choice: &C
 /// What is said of a request where the session is over, if it is over for it: both lists are in the same order.
 fn over_of(asked: &Asked, rest: &mut &[Unanswered]) -> Option<Unanswered> {
     match *rest {
-        [first, others @ ..] if first.place == asked.place && first.way == asked.way => {
-            *rest = others;
-            Some(*first)
-        }
+        [first, others @ ..] if first.place == asked.place && first.direction == asked.direction =>
+            {
+                *rest = others;
+                Some(*first)
+            }
         _ => None,
     }
 }
@@ -501,7 +510,7 @@ impl Tally {
 
     /// Takes the time of a reply, before the watch sees it.
     fn time_reply(&mut self, watch: &Watch, id: &LoggedId, passing: &Passing) {
-        let Some(asked) = watch.waiting(passing.way.other(), id) else {
+        let Some(asked) = watch.waiting(passing.direction.other(), id) else {
             return;
         };
         let request = asked.place;
@@ -538,7 +547,7 @@ impl Tally {
             self.counts.open = self.counts.open.saturating_add(1);
             if tell_asked(asked, over, report, out)? {
                 self.counts.breaches = self.counts.breaches.saturating_add(1);
-                if report.choice.counts(Rule::NoReply, asked.way) {
+                if report.choice.counts(Rule::NoReply, asked.direction) {
                     self.counts.failing = self.counts.failing.saturating_add(1);
                 }
             }
@@ -607,7 +616,7 @@ impl Tally {
         out: &mut W,
     ) -> Result<()> {
         let is_sure = breach.verdict == Verdict::Breach && order.decides(breach.rule);
-        let fails = report.choice.fails(order, passing.way, breach);
+        let fails = report.choice.fails(order, passing.direction, breach);
         if is_sure {
             self.counts.breaches = self.counts.breaches.saturating_add(1);
         }
@@ -622,7 +631,7 @@ impl Tally {
                 Kind::CannotTell
             },
             place,
-            way: Some(passing.way),
+            direction: Some(passing.direction),
             rule: Some(breach.rule),
             fails,
             method: Some(passing.method()),
@@ -635,10 +644,10 @@ impl Tally {
 }
 
 fn is_initialize(passing: &Passing) -> bool
-    ensures { result ≡ opens passing.now.way (option_map entry_view passing.now.message.entry) }
+    ensures { result ≡ opens passing.now.direction (option_map entry_view passing.now.message.entry) }
 {
     match &passing.message.entry {
-        Some(entry) => passing.way.is_from_client() && asks(entry, "initialize"),
+        Some(entry) => passing.direction.is_from_client() && asks(entry, "initialize"),
         None => false,
     }
 }
@@ -677,9 +686,9 @@ fn tell_asked<W: Write>(
     let told = Told {
         kind,
         place: asked.place,
-        way: Some(asked.way),
+        direction: Some(asked.direction),
         rule,
-        fails: kind == Kind::Breach && report.choice.counts(Rule::NoReply, asked.way),
+        fails: kind == Kind::Breach && report.choice.counts(Rule::NoReply, asked.direction),
         method: Some(asked.method.as_str()),
         about: About::Id(id.as_str()),
         text: text.as_str(),

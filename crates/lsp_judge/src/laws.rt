@@ -18,8 +18,8 @@ use lsp_watch::laws::{
 /// If each breach counts, and the judgement of a recording from its first message on finds none, then for the session that goes on after
 /// each of its lines:
 ///
-/// - Each reply answers one request that passed before it the other way, and each request has at most one reply (JSON-RPC 2.0, section
-///   5).
+/// - Each reply answers one request that passed before it in the other direction, and each request has at most one
+///   reply (JSON-RPC 2.0, section 5).
 /// - The requests and notifications of both sides keep the order of the lifecycle (LSP 3.17, "Server lifecycle").
 pub fn a_clean_recording_keeps_order()
     ensures replies { (choice : Choice) → IsStrict choice → (text : List ℕ) → (judged_of choice false text).is_broken ≡ false
@@ -38,7 +38,7 @@ pub fn a_clean_recording_keeps_order()
 pub fn a_decided_breach_is_in_each_order()
     ensures { (known : Order) → is_known known ≡ false → (after before other : Log) (p : Passed)
         → (known ≡ BehindAll → IsBehindAll after p before) → AreOrders (after ++ p ∷ before) other
-        → list_any (λ found. decides known found.0) (findings_of before p.way p.message) ≡ true → breaks any_finding other ≡ true }
+        → list_any (λ found. decides known found.0) (findings_of before p.direction p.message) ≡ true → breaks any_finding other ≡ true }
 {
     a_sure_breach_is_in_each_order();
     a_late_breach_is_in_each_order();

@@ -68,7 +68,7 @@ impl Lines {
             let step = self.log.unread(found.line);
             return self.skip(step, report, out);
         }
-        let mut passing = Passing::new(found.way, message);
+        let mut passing = Passing::new(found.direction, message);
         passing.time = found.time;
         passing.took = found.took;
         passing.types = self.log.shows_types();

@@ -11,7 +11,7 @@ const CUT: &str = "the file is cut here";
 
 const UNREAD: &str = "a message stands here, and can't be read";
 
-const NO_WAY: &str = "neither `-> ` nor `<- ` begins the line";
+const NO_DIRECTION: &str = "neither `-> ` nor `<- ` begins the line";
 
 /// What comes next in a log.
 #[derive(Clone, Copy)]
@@ -95,7 +95,7 @@ impl Log {
             };
             if let Some(line) = self.log.take_unknown() {
                 self.pending = Some(taken);
-                return Ok(Step::Skipped(line, NO_WAY));
+                return Ok(Step::Skipped(line, NO_DIRECTION));
             }
             if let Some(step) = self.step_of(taken)? {
                 return Ok(step);
@@ -119,11 +119,11 @@ impl Log {
         match taken {
             Taken::Nothing => Ok(None),
             Taken::Found(found) => Ok(Some(Step::Found(found))),
-            Taken::Unread(line) | Taken::NoWay(line) if self.is_cut() => {
+            Taken::Unread(line) | Taken::NoDirection(line) if self.is_cut() => {
                 Ok(Some(Step::Cut(line, CUT)))
             }
             Taken::Unread(line) => Ok(Some(Step::Skipped(line, UNREAD))),
-            Taken::NoWay(line) => Ok(Some(Step::Skipped(line, NO_WAY))),
+            Taken::NoDirection(line) => Ok(Some(Step::Skipped(line, NO_DIRECTION))),
             Taken::Frames => Err(Error::msg(ONE_DIRECTION)),
         }
     }

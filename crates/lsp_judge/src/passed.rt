@@ -4,12 +4,12 @@ ghost use Rattle.lsp_judge.specs.Choice.{decides as decides_for, is_known as is_
 
 use lsp_watch::{Direction, LoggedMessage, Rule, Verdict};
 
-/// What is known of the order in which two ways passed.
+/// What is known of the order in which two directions passed.
 #[derive(Clone, Copy, Debug, PartialEq, Eq)]
 pub enum Order {
     /// All of it.
     Known,
-    /// Nothing, but all of the other way has passed.
+    /// Nothing, but all of the other direction has passed.
     BehindAll,
     /// Nothing.
     Unknown,
@@ -19,8 +19,8 @@ impl Order {
     /// Whether a breach of this rule is one in each order that there may have been.
     ///
     /// It is so if the rule looks at what one side sends alone. A reply that nobody asked for, an id in use and what needs the result of
-    /// `initialize` are decided once all of the other way has passed: there is no more request, reply or result that could have come
-    /// before. The rules of tokens look at both ways, and so do those of what both sides announce.
+    /// `initialize` are decided once all of the other direction has passed: there is no more request, reply or result that could have come
+    /// before. The rules of tokens look at both directions, and so do those of what both sides announce.
     pub fn decides(self, rule: Rule) -> bool
         ensures { result ≡ decides_for self rule }
     {
@@ -72,10 +72,10 @@ impl Order {
     }
 }
 
-/// A message with its way, and when it passed, in milliseconds from some time on.
+/// A message with its direction, and when it passed, in milliseconds from some time on.
 #[derive(Debug, Drop)]
 pub struct Passing {
-    pub way: Direction,
+    pub direction: Direction,
     pub message: LoggedMessage,
     pub time: Option<u64>,
     /// How many milliseconds a reply took, if that is known.
@@ -87,14 +87,14 @@ pub struct Passing {
 
 impl Passing {
     /// A message of which no time is known, in its place.
-    pub fn new(way: Direction, message: LoggedMessage) -> Passing
-        ensures way { result.way ≡ way }
+    pub fn new(direction: Direction, message: LoggedMessage) -> Passing
+        ensures direction { result.direction ≡ direction }
         ensures message { result.message ≡ message }
         ensures order { result.order ≡ Order.Known }
         ensures types { result.types ≡ Some Verdict.Breach }
     {
         Passing {
-            way,
+            direction,
             message,
             time: None,
             took: None,

@@ -16,7 +16,7 @@ const MOST_UNKNOWN: usize = 1000;
 /// A message that stands in a log.
 #[derive(Clone, Copy, Debug)]
 pub struct Found {
-    pub way: Direction,
+    pub direction: Direction,
     /// The line of it, from 1 on.
     pub line: u64,
     /// When it passed, in milliseconds from some time on.
@@ -32,8 +32,8 @@ pub enum Taken {
     Found(Found),
     /// A message stands at this line, and can't be read.
     Unread(u64),
-    /// This line has no mark of a way, and needs one.
-    NoWay(u64),
+    /// This line has no mark of a direction, and needs one.
+    NoDirection(u64),
     /// The file has frames.
     Frames,
 }
@@ -145,18 +145,18 @@ impl LogReader {
     /// `-> ` or `<- `, and the body.
     fn recorded(&mut self, number: u64, line: &[u8]) -> Result<Taken, AllocError> {
         let line = trim_end(line);
-        let (way, body) = match line {
+        let (direction, body) = match line {
             [b'-', b'>', b' ', body @ ..] => (Direction::ToServer, body),
             [b'<', b'-', b' ', body @ ..] => (Direction::ToClient, body),
             [] => return Ok(Taken::Nothing),
-            _ => return Ok(Taken::NoWay(number)),
+            _ => return Ok(Taken::NoDirection(number)),
         };
-        self.put(found_at(way, number, None), body)
+        self.put(found_at(direction, number, None), body)
     }
 
     /// `"rpc.send"` or `"rpc.receive"`, and a table as Lua has it.
     fn neovim(&mut self, number: u64, line: &[u8]) -> Result<Taken, AllocError> {
-        let (way, table) = match cut(line, b"\t\"rpc.send\"\t") {
+        let (direction, table) = match cut(line, b"\t\"rpc.send\"\t") {
             Some((_, table)) => (Direction::ToServer, table),
             None => match cut(line, b"\t\"rpc.receive\"\t") {
                 Some((_, table)) => (Direction::ToClient, table),
@@ -170,7 +170,7 @@ impl LogReader {
         let table = self.table.as_slice();
         self.body.clear();
         self.body.extend_from_slice(table)?;
-        Ok(Taken::Found(found_at(way, number, None)))
+        Ok(Taken::Found(found_at(direction, number, None)))
     }
 
     /// `TIME helix_lsp::transport [INFO] NAME -> {..}`.
@@ -178,16 +178,16 @@ impl LogReader {
         let Some((time, rest)) = cut(line, b"helix_lsp::transport [") else {
             return Ok(Taken::Nothing);
         };
-        let Some((way, name, body)) = helix_parts(rest) else {
+        let Some((direction, name, body)) = helix_parts(rest) else {
             return Ok(Taken::Nothing);
         };
         // Helix writes each result a second time, alone, after the reply that had it.
-        if way == Direction::ToClient && cut(body, b"\"jsonrpc\"").is_none() {
+        if direction == Direction::ToClient && cut(body, b"\"jsonrpc\"").is_none() {
             return Ok(Taken::Nothing);
         }
         self.name.clear();
         self.name.extend_from_slice(name)?;
-        self.put(found_at(way, number, time_in(time)), body)
+        self.put(found_at(direction, number, time_in(time)), body)
     }
 
     fn put(&mut self, found: Found, body: &[u8]) -> Result<Taken, AllocError> {
@@ -197,9 +197,9 @@ impl LogReader {
     }
 }
 
-pub fn found_at(way: Direction, line: u64, time: Option<u64>) -> Found {
+pub fn found_at(direction: Direction, line: u64, time: Option<u64>) -> Found {
     Found {
-        way,
+        direction,
         line,
         time,
         took: None,
@@ -221,7 +221,7 @@ pub fn is_of_helix(line: &[u8]) -> bool {
     }
 }
 
-/// The way, the server's name and the body, after `helix_lsp::transport [`. A line of the server's standard error has none, nor has an error
+/// The direction, the server's name and the body, after `helix_lsp::transport [`. A line of the server's standard error has none, nor has an error
 /// that Helix prints.
 fn helix_parts(rest: &[u8]) -> Option<(Direction, &[u8], &[u8])> {
     let (level, rest) = cut(rest, b"] ")?;
@@ -233,9 +233,9 @@ fn helix_parts(rest: &[u8]) -> Option<(Direction, &[u8], &[u8])> {
         None => (rest, rest.get(..0)?),
     };
     let head = trim_end(head);
-    let (way, name) = match head.strip_suffix(b"->") {
+    let (direction, name) = match head.strip_suffix(b"->") {
         Some(name) => (Direction::ToServer, name),
         None => (Direction::ToClient, cut(head, b"<-")?.0),
     };
-    Some((way, trim_end(name), trim_end(trim_start(body))))
+    Some((direction, trim_end(name), trim_end(trim_start(body))))
 }

@@ -3,7 +3,7 @@ ghost use Rattle.std.specs.List.{list_all, list_any};
 ghost use Rattle.std.specs.Prelude.{◌≡◌, ◌+◌, ◌∷◌, [], drop, IfOk, OnOk, MatchOption, is_some, true, false};
 ghost use Rattle.lsp_message.specs.HeaderPart.{lines};
 ghost use Rattle.lsp_judge.specs.Judged.{Judged, Judges, nothing};
-ghost use Rattle.lsp_judge.specs.Recording.{way_of, line_tree, tree_in, is_read as is_read_in, is_blank as is_blank_in, first_unread, with_line, judged_of, says_unread as says_unread_in};
+ghost use Rattle.lsp_judge.specs.Recording.{direction_of, line_tree, tree_in, is_read as is_read_in, is_blank as is_blank_in, first_unread, with_line, judged_of, says_unread as says_unread_in};
 
 use crate::judgement::Judgement;
 use crate::passed::Passing;
@@ -79,7 +79,7 @@ fn see_line<W: Write>(
     ensures seen { (j : Judged) → Judges judged.old j → report.now.choice.now.ignored.items ≡ [] → IfOk result (λ is_read. is_read ≡ true
         → Judges judged.new (with_line report.now.choice.now report.now.may_begin_late number j (line_tree line.now))) }
 {
-    let Some((way, content)) = marked(line) else {
+    let Some((direction, content)) = marked(line) else {
         let is_read = is_blank_line(line);
         if !is_read {
             report.stop(number, NO_DIRECTION, out)?;
@@ -88,7 +88,7 @@ fn see_line<W: Write>(
     };
     let message = LoggedMessage::from_content(report.alloc, content)?;
     let is_read = !is_unread(&message);
-    let passing = Passing::new(way, message);
+    let passing = Passing::new(direction, message);
     let seen = judged.see(number, &passing, report, out);
     drop(passing);
     seen?;
@@ -97,7 +97,7 @@ fn see_line<W: Write>(
 
 /// The direction that the mark of a line shows, and the content after the mark.
 fn marked(line: &[u8]) -> Option<(Direction, &[u8])>
-    ensures { MatchOption result (way_of line.now ≡ None) (λ it. (way_of line.now ≡ Some it.0) × (it.1.now ≡ drop 3 line.now)) }
+    ensures { MatchOption result (direction_of line.now ≡ None) (λ it. (direction_of line.now ≡ Some it.0) × (it.1.now ≡ drop 3 line.now)) }
 {
     if let Some(content) = line.strip_prefix(b"-> ") {
         return Some((Direction::ToServer, content));

@@ -4,7 +4,7 @@ use crate::told::{About, Counts, Kind, Told};
 use anyhow::Result;
 use std::io::Write;
 
-/// `file:line: way method id: rule; see line N`.
+/// `file:line: direction method id: rule; see line N`.
 pub fn tell<W: Write>(report: &Report<'_>, told: &Told<'_>, out: &mut W) -> Result<()> {
     print(report, told, out)?;
     Ok(writeln!(out)?)
@@ -14,8 +14,8 @@ pub fn tell<W: Write>(report: &Report<'_>, told: &Told<'_>, out: &mut W) -> Resu
 pub fn print<W: Write>(report: &Report<'_>, told: &Told<'_>, out: &mut W) -> Result<()> {
     let (file, at) = report.places.at(told.place);
     write!(out, "{file}:{at}: ")?;
-    if let Some(way) = told.way {
-        write!(out, "{way}")?;
+    if let Some(direction) = told.direction {
+        write!(out, "{direction}")?;
         if let Some(method) = told.method {
             write!(out, " {method}")?;
         }

@@ -44,8 +44,8 @@ pub struct Told<'t> {
     pub kind: Kind,
     /// Where it is.
     pub place: u64,
-    /// Of a message, which way it goes.
-    pub way: Option<Direction>,
+    /// The direction of a message.
+    pub direction: Option<Direction>,
     /// The rule that it breaks.
     pub rule: Option<Rule>,
     /// Whether that makes the status 1.
@@ -65,7 +65,7 @@ impl<'t> Told<'t> {
         Told {
             kind: Kind::Stop,
             place,
-            way: None,
+            direction: None,
             rule: None,
             fails: false,
             method: None,

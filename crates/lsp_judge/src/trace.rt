@@ -17,7 +17,7 @@ enum Kind {
 /// What a line says of the message whose body stands below it.
 #[derive(Clone, Copy)]
 struct Head<'l> {
-    way: Direction,
+    direction: Direction,
     kind: Kind,
     method: Option<&'l [u8]>,
     id: Option<&'l [u8]>,
@@ -97,7 +97,7 @@ impl Trace {
             Kind::Call => {}
             Kind::Reply if held.has_body => {}
             // A refusal without data is traced without a body, and every result has one, where bodies are traced.
-            Kind::Reply if self.is_verbose && held.found.way == Direction::ToServer => {
+            Kind::Reply if self.is_verbose && held.found.direction == Direction::ToServer => {
                 out.extend_from_slice(b",\"error\":{\"code\":0,\"message\":\"\"}")?;
             }
             Kind::Reply => out.extend_from_slice(b",\"result\":null")?,
@@ -125,7 +125,7 @@ impl Trace {
         }
         push_error(&mut self.error, head.error)?;
         let found = Found {
-            way: head.way,
+            direction: head.direction,
             line: number,
             time: head.time,
             took: head.took,
@@ -207,7 +207,7 @@ fn head_of(line: &[u8]) -> Option<Head<'_>> {
     if let [b'[', b'E', ..] = line {
         return refusal_of(line);
     }
-    let (before, way, rest) = way_of(line)?;
+    let (before, direction, rest) = direction_of(line)?;
     let time = time_in(before);
     let (kind, quoted) = match rest.strip_prefix(b"response ") {
         Some(quoted) => (Kind::Reply, quoted),
@@ -215,7 +215,7 @@ fn head_of(line: &[u8]) -> Option<Head<'_>> {
     };
     if kind == Kind::Reply && !quoted.starts_with(b"'") {
         let (id, _) = while_first(quoted, |it| it != b' ');
-        return Some(reply(way, id, time));
+        return Some(reply(direction, id, time));
     }
     let quoted = quoted.strip_prefix(b"'")?;
     if rest.starts_with(b"notification ") {
@@ -223,7 +223,7 @@ fn head_of(line: &[u8]) -> Option<Head<'_>> {
         return Some(Head {
             method: Some(method),
             id: None,
-            ..call(way, time)
+            ..call(direction, time)
         });
     }
     let (named, tail) = cut(quoted, b")'")?;
@@ -232,10 +232,10 @@ fn head_of(line: &[u8]) -> Option<Head<'_>> {
         return Some(Head {
             method: Some(method),
             id: Some(id),
-            ..call(way, time)
+            ..call(direction, time)
         });
     }
-    Some(with_tail(reply(way, id, time), tail))
+    Some(with_tail(reply(direction, id, time), tail))
 }
 
 /// What stands after the word of a call.
@@ -244,9 +244,9 @@ fn call_of(rest: &[u8]) -> Option<&[u8]> {
         .or(rest.strip_prefix(b"notification "))
 }
 
-fn call<'l>(way: Direction, time: Option<u64>) -> Head<'l> {
+fn call<'l>(direction: Direction, time: Option<u64>) -> Head<'l> {
     Head {
-        way,
+        direction,
         kind: Kind::Call,
         method: None,
         id: None,
@@ -256,9 +256,9 @@ fn call<'l>(way: Direction, time: Option<u64>) -> Head<'l> {
     }
 }
 
-fn reply(way: Direction, id: &[u8], time: Option<u64>) -> Head<'_> {
+fn reply(direction: Direction, id: &[u8], time: Option<u64>) -> Head<'_> {
     Head {
-        way,
+        direction,
         kind: Kind::Reply,
         method: None,
         id: Some(id),
@@ -295,8 +295,8 @@ fn milliseconds_of(text: &[u8]) -> Option<u64> {
     std::str::from_utf8(digits).ok()?.parse::<u64>().ok()
 }
 
-/// What stands before the way, the way, and what stands after it.
-fn way_of(line: &[u8]) -> Option<(&[u8], Direction, &[u8])> {
+/// What stands before the direction, the direction, and what stands after it.
+fn direction_of(line: &[u8]) -> Option<(&[u8], Direction, &[u8])> {
     let (before, rest) = match line {
         [b'[', ..] => cut(line, b"] ")?,
         _ => (line.get(..0)?, line),
@@ -313,7 +313,7 @@ fn way_of(line: &[u8]) -> Option<(&[u8], Direction, &[u8])> {
 
 /// gopls: `[Error - Received] 06:58:46.617 AM #5 message`.
 fn refusal_of(line: &[u8]) -> Option<Head<'_>> {
-    let (way, rest) = match line.strip_prefix(b"[Error - Received] ") {
+    let (direction, rest) = match line.strip_prefix(b"[Error - Received] ") {
         Some(rest) => (Direction::ToClient, rest),
         None => (Direction::ToServer, line.strip_prefix(b"[Error - Sent] ")?),
     };
@@ -322,7 +322,7 @@ fn refusal_of(line: &[u8]) -> Option<Head<'_>> {
     Some(Head {
         kind: Kind::Refusal,
         error,
-        ..reply(way, id, time_in(before))
+        ..reply(direction, id, time_in(before))
     })
 }
 

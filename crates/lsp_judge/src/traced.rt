@@ -5,7 +5,8 @@ use lsp_watch::Direction;
 use serde_json::Value;
 use std::alloc::{AllocError, Global};
 
-/// The message of a line, or nothing if the line has none: the type says which way the message went, and the timestamp is in milliseconds.
+/// The message of a line, or nothing if the line has none: the type says in which direction the message went, and the
+/// timestamp is in milliseconds.
 pub fn traced(
     alloc: Global,
     number: u64,
@@ -19,10 +20,10 @@ pub fn traced(
         return Ok(Taken::Nothing);
     };
     out.clear();
-    if let Some((way, body, time)) = parts_of(trim_end(object)) {
+    if let Some((direction, body, time)) = parts_of(trim_end(object)) {
         out.extend_from_slice(body)?;
         return Ok(Taken::Found(Found {
-            way,
+            direction,
             line: number,
             time,
             took: None,
@@ -35,13 +36,13 @@ pub fn traced(
 fn parts_of(object: &[u8]) -> Option<(Direction, &[u8], Option<u64>)> {
     let rest = object.strip_prefix(b"{\"isLSPMessage\":true,\"type\":\"")?;
     let (kind, rest) = cut(rest, b"\",\"message\":")?;
-    let way = way_of(kind)?;
+    let direction = direction_of(kind)?;
     let (body, time) = cut_last(rest.strip_suffix(b"}")?, b",\"timestamp\":")?;
     let time = std::str::from_utf8(time).ok()?.parse::<u64>().ok()?;
-    Some((way, body, Some(time)))
+    Some((direction, body, Some(time)))
 }
 
-fn way_of(kind: &[u8]) -> Option<Direction> {
+fn direction_of(kind: &[u8]) -> Option<Direction> {
     if kind.starts_with(b"send-") {
         Some(Direction::ToServer)
     } else if kind.starts_with(b"receive-") {
@@ -78,13 +79,14 @@ fn of_object(
     out: &mut Vec<u8>,
 ) -> Result<Taken, AllocError> {
     let kind = trace.get("type").and_then(Value::as_str).unwrap_or("");
-    let (Some(way), Some(message)) = (way_of(kind.as_bytes()), trace.get("message")) else {
+    let (Some(direction), Some(message)) = (direction_of(kind.as_bytes()), trace.get("message"))
+    else {
         return Ok(Taken::Unread(number));
     };
     let text = message.to_string(alloc)?;
     out.extend_from_slice(text.as_str().as_bytes())?;
     Ok(Taken::Found(Found {
-        way,
+        direction,
         line: number,
         time: trace.get("timestamp").and_then(Value::as_u64),
         took: None,

@@ -36,7 +36,7 @@ impl Unfit {
         report: &Report<'_>,
     ) -> Result<Unfit, AllocError>
         ensures { (log : Log) → Saw watch.now log → report.now.choice.now.ignored.items ≡ []
-            → IfOk result (λ found. found.rules.items ≡ unfit_of model.now report.now.choice.now passing.now.types log passing.now.way
+            → IfOk result (λ found. found.rules.items ≡ unfit_of model.now report.now.choice.now passing.now.types log passing.now.direction
             (option_map entry_view passing.now.message.entry) (option_map (λ e. view e.tree) passing.now.message.entry)) }
     {
         let rules = unfit_rules(model, watch, passing, report)?;
@@ -55,9 +55,9 @@ impl Unfit {
 
     /// Whether one of the rules makes the status 1.
     pub fn fails(&self, order: Order, passing: &Passing, choice: &Choice) -> bool
-        ensures { result ≡ list_any (fails_if_shown choice.now order passing.now.types passing.now.way) self.now.rules.items }
+        ensures { result ≡ list_any (fails_if_shown choice.now order passing.now.types passing.now.direction) self.now.rules.items }
     {
-        self.rules.iter().any(|it| choice.fails_shown(order, passing.types, passing.way, *it))
+        self.rules.iter().any(|it| choice.fails_shown(order, passing.types, passing.direction, *it))
     }
 
     /// How many rules are broken.
@@ -95,7 +95,7 @@ fn unfit_rules(
     report: &Report<'_>,
 ) -> Result<Vec<Rule>, AllocError>
     ensures { (log : Log) → Saw watch.now log → report.now.choice.now.ignored.items ≡ []
-        → IfOk result (λ found. found.items ≡ unfit_of model.now report.now.choice.now passing.now.types log passing.now.way
+        → IfOk result (λ found. found.items ≡ unfit_of model.now report.now.choice.now passing.now.types log passing.now.direction
         (option_map entry_view passing.now.message.entry) (option_map (λ e. view e.tree) passing.now.message.entry)) }
 {
     let Some(model) = model else {
@@ -105,7 +105,14 @@ fn unfit_rules(
         return Ok(Vec::new(report.alloc));
     };
     let mut rules = Vec::from_slice(report.alloc, report.choice.types.as_slice())?;
-    keep_broken(model, report.alloc, watch, passing.way, entry, &mut rules);
+    keep_broken(
+        model,
+        report.alloc,
+        watch,
+        passing.direction,
+        entry,
+        &mut rules,
+    );
     remove_ignored(report.choice, passing, &mut rules);
     Ok(rules)
 }
@@ -115,14 +122,15 @@ fn keep_broken(
     model: &Model,
     alloc: Global,
     watch: &Watch,
-    way: Direction,
+    direction: Direction,
     entry: &Entry,
     rules: &mut Vec<Rule>,
 )
     ensures { (log : Log) → Saw watch.now log → rules.new.items ≡ filter
-        (λ rule. breaks_type_in model.now log way (entry_view entry.now) (view entry.now.tree) rule) rules.old.items }
+        (λ rule. breaks_type_in model.now log direction (entry_view entry.now) (view entry.now.tree) rule)
+        rules.old.items }
 {
-    rules.retain(|it| breaks_type(model, alloc, watch, way, entry, *it));
+    rules.retain(|it| breaks_type(model, alloc, watch, direction, entry, *it));
 }
 
 /// Removes the rules that are ignored.
@@ -139,15 +147,15 @@ fn breaks_type(
     model: &Model,
     alloc: Global,
     watch: &Watch,
-    way: Direction,
+    direction: Direction,
     entry: &Entry,
     rule: Rule,
 ) -> bool
-    ensures { (log : Log) → Saw watch.now log → result ≡ breaks_type_in model.now log way
+    ensures { (log : Log) → Saw watch.now log → result ≡ breaks_type_in model.now log direction
         (entry_view entry.now) (view entry.now.tree) rule }
 {
     match mode_of(rule) {
-        Some(mode) => model.is_unfit(alloc, mode, watch, way, entry),
+        Some(mode) => model.is_unfit(alloc, mode, watch, direction, entry),
         None => false,
     }
 }
@@ -177,7 +185,7 @@ fn misfit(
 ) -> Result<Option<Misfit>, AllocError> {
     match (model, &passing.message.entry, mode_of(rule)) {
         (Some(model), Some(entry), Some(mode)) => {
-            model.misfit(alloc, mode, watch, passing.way, entry)
+            model.misfit(alloc, mode, watch, passing.direction, entry)
         }
         _ => Ok(None),
     }
@@ -186,7 +194,7 @@ fn misfit(
 /// The place of the request that a reply answers.
 pub fn asked_at(watch: &Watch, passing: &Passing) -> Option<u64> {
     match passing.message.entry.as_ref()?.kind() {
-        Kind::Reply(id, _) => Some(watch.waiting(passing.way.other(), id)?.place),
+        Kind::Reply(id, _) => Some(watch.waiting(passing.direction.other(), id)?.place),
         Kind::Request(_) | Kind::Notification => None,
     }
 }

@@ -5,7 +5,7 @@ use Rattle.std.specs.Prelude.{drop, is_some, option_map, option_and_then}
 use Rattle.serde_json.specs.Data.{Data}
 use Rattle.lsp_watch.specs.declared.direction.Direction.{Direction}
 use Rattle.lsp_judge.specs.Judged.{Judged, Judges}
-use Rattle.lsp_judge.specs.Recording.{way_of, tree_in, line_tree, is_read, is_empty_line, first_unread, with_line}
+use Rattle.lsp_judge.specs.Recording.{direction_of, tree_in, line_tree, is_read, is_empty_line, first_unread, with_line}
 use Rattle.lsp_judge.specs.Recording.{after_lines}
 use Rattle.lsp_judge.specs.declared.choice.Choice.{Choice}
 use Rattle.lsp_judge_c.specs.Messages.{Passes, SawNext, PassesLine, PassEach, last_of}
@@ -13,8 +13,8 @@ use Rattle.lsp_judge_c.specs.Statuses.{is_late}
 use Rattle.lsp_judge_c.specs.declared.session.Session.{Session}
 
 -- the message of a line of this direction, with the JSON of its content
-abbrev of_way : Direction → Option Data → Option (Direction × Data)
-of_way way o = option_map (λ tree. (way, tree)) o
+abbrev of_direction : Direction → Option Data → Option (Direction × Data)
+of_direction direction o = option_map (λ tree. (direction, tree)) o
 
 module _ (choice : Choice) (late : Bool) (none : choice.ignored.items ≡ []) where
   -- the choice and the options stay
@@ -25,36 +25,39 @@ module _ (choice : Choice) (late : Bool) (none : choice.ignored.items ≡ []) wh
   module _ (n : ℕ) (line : List ℕ) (s t : Session) (keeps : Keeps s) where
     keeps_on : (w : Option Direction) → PassesLine w n line s t → Keeps t
     keeps_on None same = subst Keeps (sym same) keeps
-    keeps_on (Some way) passes = record {
+    keeps_on (Some direction) passes = record {
       choice_is = passes.choice ∙ keeps.choice_is;
       late_is = ap is_late passes.options ∙ keeps.late_is;
     }
 
     module _ (j : Judged) (judges : Judges s.judgement j) where
-      by_way : (way : Direction) → Passes s t way n (drop 3 line)
-          → (is_some (of_way way (tree_in (drop 3 line))) || false) ≡ true
-          → Judges t.judgement (with_line choice late n j (of_way way (tree_in (drop 3 line))))
-      by_way way passes read = at (tree_in (drop 3 line)) saw read
+      by_direction : (direction : Direction) → Passes s t direction n (drop 3 line)
+          → (is_some (of_direction direction (tree_in (drop 3 line))) || false) ≡ true
+          → Judges t.judgement (with_line choice late n j (of_direction direction (tree_in (drop 3 line))))
+      by_direction direction passes read = at (tree_in (drop 3 line)) saw read
         where
           content : List ℕ
           content = drop 3 line
 
-          saw : SawNext choice late n j way content (tree_in content) t.judgement
-          saw = subst (λ l. SawNext choice l n j way content (tree_in content) t.judgement) keeps.late_is
-              (subst (λ c. SawNext c (is_late s.options) n j way content (tree_in content) t.judgement) keeps.choice_is
+          saw : SawNext choice late n j direction content (tree_in content) t.judgement
+          saw = subst (λ l. SawNext choice l n j direction content (tree_in content) t.judgement) keeps.late_is
+              (subst (λ c. SawNext c (is_late s.options) n j direction content (tree_in content) t.judgement)
+              keeps.choice_is
               (passes.judges j judges (ap (λ c. c.ignored.items) keeps.choice_is ∙ none)))
 
-          at : (o : Option Data) → SawNext choice late n j way content o t.judgement
-              → (is_some (of_way way o) || false) ≡ true → Judges t.judgement (with_line choice late n j (of_way way o))
+          at : (o : Option Data) → SawNext choice late n j direction content o t.judgement
+              → (is_some (of_direction direction o) || false) ≡ true
+              → Judges t.judgement (with_line choice late n j (of_direction direction o))
           at None it read = absurd (true≢false (sym read))
           at (Some tree) it read = it
 
       by_line : (w : Option Direction) → PassesLine w n line s t
-          → (is_some (option_and_then (λ way. of_way way (tree_in (drop 3 line))) w) || is_empty_line w line) ≡ true
+          → (is_some (option_and_then (λ direction. of_direction direction (tree_in (drop 3 line))) w)
+          || is_empty_line w line) ≡ true
           → Judges t.judgement
-          (with_line choice late n j (option_and_then (λ way. of_way way (tree_in (drop 3 line))) w))
+          (with_line choice late n j (option_and_then (λ direction. of_direction direction (tree_in (drop 3 line))) w))
       by_line None same read = subst (λ it. Judges it.judgement j) (sym same) judges
-      by_line (Some way) passes read = by_way way passes read
+      by_line (Some direction) passes read = by_direction direction passes read
 
   pub one_by_one : (n : ℕ) → n ≢ 0 → (j : Judged) (s : Session) (ls : List (List ℕ)) (later : List Session) → Keeps s
       → Judges s.judgement j → PassEach n s ls later → first_unread n ls ≡ 0
@@ -64,8 +67,8 @@ module _ (choice : Choice) (late : Bool) (none : choice.ignored.items ≡ []) wh
   one_by_one n some j s (line ∷ more) [] keeps judges passes read = absurd passes
   one_by_one n some j s (line ∷ more) (t ∷ later) keeps judges passes read = at (is_read line) refl read
       (λ is r. one_by_one (n + 1) (omega arith) (with_line choice late n j (line_tree line)) t more later
-      (keeps_on n line s t keeps (way_of line) passes.0)
-      (by_line n line s t keeps j judges (way_of line) passes.0 is) passes.1 r)
+      (keeps_on n line s t keeps (direction_of line) passes.0)
+      (by_line n line s t keeps j judges (direction_of line) passes.0 is) passes.1 r)
     where
       at : (b : Bool) → is_read line ≡ b → cond b (first_unread (n + 1) more) n ≡ 0
           → (is_read line ≡ true → first_unread (n + 1) more ≡ 0 → Judges (last_of t later).judgement

@@ -168,34 +168,36 @@ module _ (m : LoggedMessage) where
       told choice late n j o v w x = seen choice late o v j n w x.faults.items (option_map entry_view x.entry)
           (option_map (λ e. view e.tree) x.entry)
 
-      pub sees : (choice : Choice) (late : Bool) (n : ℕ) (j : Judged) (way : Direction) (k : Judgement) (p : Passing)
-          → p.way ≡ way → p.message ≡ m → p.order ≡ Known → p.types ≡ Some Breach
-          → Judges k (seen choice late p.order p.types j n p.way p.message.faults.items
+      pub sees : (choice : Choice) (late : Bool) (n : ℕ) (j : Judged) (direction : Direction) (k : Judgement)
+          (p : Passing)
+          → p.direction ≡ direction → p.message ≡ m → p.order ≡ Known → p.types ≡ Some Breach
+          → Judges k (seen choice late p.order p.types j n p.direction p.message.faults.items
           (option_map entry_view p.message.entry) (option_map (λ e. view e.tree) p.message.entry))
-          → SawNext choice late n j way content (tree_in content) k
-      sees choice late n j way k p way_is message_is order_is types_are judges = at (tree_in content) reads
+          → SawNext choice late n j direction content (tree_in content) k
+      sees choice late n j direction k p direction_is message_is order_is types_are judges = at (tree_in content) reads
         where
-          plain : Judges k (told choice late n j Known (Some Breach) way m)
-          plain = subst (λ x. Judges k (told choice late n j Known (Some Breach) way x)) message_is
-              (subst (λ w. Judges k (told choice late n j Known (Some Breach) w p.message)) way_is
-              (subst (λ v. Judges k (told choice late n j Known v p.way p.message)) types_are
-              (subst (λ o. Judges k (told choice late n j o p.types p.way p.message)) order_is judges)))
+          plain : Judges k (told choice late n j Known (Some Breach) direction m)
+          plain = subst (λ x. Judges k (told choice late n j Known (Some Breach) direction x)) message_is
+              (subst (λ w. Judges k (told choice late n j Known (Some Breach) w p.message)) direction_is
+              (subst (λ v. Judges k (told choice late n j Known v p.direction p.message)) types_are
+              (subst (λ o. Judges k (told choice late n j o p.types p.direction p.message)) order_is judges)))
 
-          unread : NotRead (is_utf8 content) m → SawUnread choice late n j way content k
+          unread : NotRead (is_utf8 content) m → SawUnread choice late n j direction content k
           unread r = record {
             rule = r.rule;
             why = r.why;
-            judges = subst (λ fs. Judges k (seen choice late Known (Some Breach) j n way fs None None)) r.faults_are
-                (subst (λ e. Judges k (seen choice late Known (Some Breach) j n way m.faults.items
+            judges = subst (λ fs. Judges k (seen choice late Known (Some Breach) j n direction fs None None))
+                r.faults_are
+                (subst (λ e. Judges k (seen choice late Known (Some Breach) j n direction m.faults.items
                 (option_map entry_view e) (option_map (λ e. view e.tree) e))) r.no_entry plain);
           }
 
-          at : (o : Option Data) → Reads (is_utf8 content) m o → SawNext choice late n j way content o k
+          at : (o : Option Data) → Reads (is_utf8 content) m o → SawNext choice late n j direction content o k
           at None r = unread r
           at (Some d) r =
-              subst (λ it. Judges k (seen choice late Known (Some Breach) j n way (faults_of d) (entry_in d) it))
+              subst (λ it. Judges k (seen choice late Known (Some Breach) j n direction (faults_of d) (entry_in d) it))
               r.tree_is
-              (subst (λ fs. Judges k (seen choice late Known (Some Breach) j n way fs (entry_in d)
+              (subst (λ fs. Judges k (seen choice late Known (Some Breach) j n direction fs (entry_in d)
               (option_map (λ e. view e.tree) m.entry))) r.faults_are
-              (subst (λ e. Judges k (seen choice late Known (Some Breach) j n way m.faults.items e
+              (subst (λ e. Judges k (seen choice late Known (Some Breach) j n direction m.faults.items e
               (option_map (λ e. view e.tree) m.entry))) r.entry_is plain))

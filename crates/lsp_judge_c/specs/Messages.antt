@@ -9,7 +9,7 @@ use Rattle.lsp_watch.specs.declared.direction.Direction.{Direction}
 use Rattle.lsp_watch.specs.declared.rule.Rule.TheVariants.{NotUtf8, NotJson, Unreadable}
 use Rattle.lsp_watch.specs.declared.rule.Rule.{Rule}
 use Rattle.lsp_judge.specs.Judged.{Judged, Judges, nothing, seen, left}
-use Rattle.lsp_judge.specs.Recording.{way_of, tree_in, with_line}
+use Rattle.lsp_judge.specs.Recording.{direction_of, tree_in, with_line}
 use Rattle.lsp_judge.specs.declared.choice.Choice.{Choice}
 use Rattle.lsp_judge.specs.declared.judgement.Judgement.{Judgement}
 use Rattle.lsp_judge.specs.declared.passed.Order.TheVariants.{Known}
@@ -32,8 +32,8 @@ takes_message is_open direction place verdict =
 abbrev pub takes_end : Bool → ℕ → LspJudgeVerdict → Bool
 takes_end is_open ended verdict = verdict.size == 32 && nat_le ended 3 && is_open
 
-abbrev pub way_named : ℕ → Direction
-way_named n = if n == 0 then ToServer else ToClient
+abbrev pub direction_named : ℕ → Direction
+direction_named n = if n == 0 then ToServer else ToClient
 
 -- 1: the server has ended, 2: the client, 3: both
 abbrev pub server_ended : ℕ → Bool
@@ -61,38 +61,38 @@ SaysUnread false rule = rule ≡ NotUtf8
 SaysUnread true rule = (rule ≡ NotJson) ⊎ (rule ≡ Unreadable)
 
 -- a judgement that saw a content which could not be read: it is no message, and breaks this rule alone
-pub record SawUnread (choice : Choice) (late : Bool) (place : ℕ) (j : Judged) (way : Direction) (content : List ℕ)
+pub record SawUnread (choice : Choice) (late : Bool) (place : ℕ) (j : Judged) (direction : Direction) (content : List ℕ)
     (judgement : Judgement) : Type 0 where
   pub rule : Rule
   pub why : SaysUnread (is_utf8 content) rule
-  pub judges : Judges judgement (seen choice late Known (Some Breach) j place way (rule ∷ []) None None)
+  pub judges : Judges judgement (seen choice late Known (Some Breach) j place direction (rule ∷ []) None None)
 
 -- a judgement that saw a content after all of `j`: the same as a line of a recording does
 abbrev pub SawNext : Choice → Bool → ℕ → Judged → Direction → List ℕ → Option Data → Judgement → Type 0
-SawNext choice late place j way content None judgement = SawUnread choice late place j way content judgement
-SawNext choice late place j way content (Some tree) judgement =
-    Judges judgement (with_line choice late place j (Some (way, tree)))
+SawNext choice late place j direction content None judgement = SawUnread choice late place j direction content judgement
+SawNext choice late place j direction content (Some tree) judgement =
+    Judges judgement (with_line choice late place j (Some (direction, tree)))
 
 -- the session after one more message
-pub record Passes (before after : Session) (way : Direction) (place : ℕ) (content : List ℕ) : Type 0 where
+pub record Passes (before after : Session) (direction : Direction) (place : ℕ) (content : List ℕ) : Type 0 where
   pub options : after.options ≡ before.options
   pub choice : after.choice ≡ before.choice
   pub unread : after.unread ≡ unread_after before.unread place content
   pub judges : (j : Judged) → Judges before.judgement j → before.choice.ignored.items ≡ []
-      → SawNext before.choice (is_late before.options) place j way content (tree_in content) after.judgement
+      → SawNext before.choice (is_late before.options) place j direction content (tree_in content) after.judgement
 
 -- ---- the messages of a recording
 
 -- the message of a line passes, by its direction; a line without a direction has none
 abbrev pub PassesLine : Option Direction → ℕ → List ℕ → Session → Session → Type 0
 PassesLine None n line before after = after ≡ before
-PassesLine (Some way) n line before after = Passes before after way n (drop 3 line)
+PassesLine (Some direction) n line before after = Passes before after direction n (drop 3 line)
 
 -- the messages of these lines, which are counted from n on, pass one after another; with the sessions after each line
 abbrev pub PassEach : ℕ → Session → List (List ℕ) → List Session → Type 0
 PassEach n s [] later = later ≡ []
 PassEach n s (line ∷ more) [] = ⊥
-PassEach n s (line ∷ more) (t ∷ later) = PassesLine (way_of line) n line s t × PassEach (n + 1) t more later
+PassEach n s (line ∷ more) (t ∷ later) = PassesLine (direction_of line) n line s t × PassEach (n + 1) t more later
 
 abbrev pub last_of : Session → List Session → Session
 last_of s [] = s

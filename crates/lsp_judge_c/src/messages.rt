@@ -1,6 +1,6 @@
 // What C calls to judge a session one message at a time.
 ghost use Rattle.std.specs.Prelude.{◌≡◌, ◌≢◌, ◌<◌, ◌≤◌, length, take, is_some, true, false, None, MatchOption};
-ghost use Rattle.lsp_judge_c.specs.Messages.{may_open as may_open_in, takes_message as takes_message_in, takes_end as takes_end_in, way_named, server_ended, client_ended, Begins, Passes, IsEndOf, status_after};
+ghost use Rattle.lsp_judge_c.specs.Messages.{may_open as may_open_in, takes_message as takes_message_in, takes_end as takes_end_in, direction_named, server_ended, client_ended, Begins, Passes, IsEndOf, status_after};
 
 use crate::handle::LspJudgeSession;
 use crate::session::Session;
@@ -60,7 +60,7 @@ pub extern "C" fn lsp_judge_message(
     ensures failed { result ≡ FAILED → session.new.value ≡ None }
     ensures unsaid { FAILED ≤ result → verdict.new ≡ verdict.old }
     ensures seen { result < FAILED → MatchOption session.old.value ⊥ (λ before. MatchOption session.new.value ⊥
-        (λ after. Passes before after (way_named direction) place content.now)) }
+        (λ after. Passes before after (direction_named direction) place content.now)) }
     ensures status { result < FAILED → MatchOption session.new.value ⊥ (λ after. result ≡ status_after after) }
     ensures unread { result < FAILED → MatchOption session.new.value ⊥ (λ after. verdict.new.unread ≡ after.unread) }
     ensures within { result < FAILED → verdict.new.written ≤ length report.old }
@@ -72,7 +72,7 @@ pub extern "C" fn lsp_judge_message(
     let Some(mut kept) = replace(session, LspJudgeSession::closed()).into_box(alloc) else {
         return REFUSED;
     };
-    match kept.see(alloc, way_of(direction), place, content) {
+    match kept.see(alloc, direction_of(direction), place, content) {
         Ok(told) => {
             *verdict = put(told.report.as_slice(), kept.unread, report);
             free(alloc, replace(session, LspJudgeSession::of_box(kept)));
@@ -200,8 +200,8 @@ fn takes_end(ended: u8, verdict: &LspJudgeVerdict) -> bool
 }
 
 /// Returns the direction of a number.
-fn way_of(direction: u8) -> Direction
-    ensures { result ≡ way_named direction }
+fn direction_of(direction: u8) -> Direction
+    ensures { result ≡ direction_named direction }
 {
     match direction {
         0 => Direction::ToServer,

@@ -54,14 +54,20 @@ impl Session {
     /// Judges one more message, and tells the rules that it breaks.
     ///
     /// The error means that an allocation failed. It is not known then what was judged.
-    pub fn see(&mut self, alloc: Global, way: Direction, place: u64, content: &[u8]) -> Result<Told>
-        ensures seen { OnOk result (Passes self.old self.new way place content.now) }
+    pub fn see(
+        &mut self,
+        alloc: Global,
+        direction: Direction,
+        place: u64,
+        content: &[u8],
+    ) -> Result<Told>
+        ensures seen { OnOk result (Passes self.old self.new direction place content.now) }
         ensures status { IfOk result (λ it. it.status ≡ status_after self.new) }
         ensures known { IfOk result (λ it. it.status < FAILED) }
     {
         let message = LoggedMessage::from_content(alloc, content)?;
         self.unread = first_unread(self.unread, place, &message);
-        let passing = Passing::new(way, message);
+        let passing = Passing::new(direction, message);
         let report = self.pass(alloc, place, &passing);
         drop(passing);
         let report = report?;
@@ -75,7 +81,7 @@ impl Session {
     fn pass(&mut self, alloc: Global, place: u64, passing: &Passing) -> Result<Vec<u8>>
         ensures seen { (j : JudgedSoFar) → Judges self.old.judgement j → self.old.choice.ignored.items ≡ [] → OnOk result
             (Judges self.new.judgement (seen_in self.old.choice (may_lack_its_start self.old.options) passing.now.order
-            passing.now.types j place passing.now.way passing.now.message.faults.items
+            passing.now.types j place passing.now.direction passing.now.message.faults.items
             (option_map entry_view passing.now.message.entry) (option_map (λ e. view e.tree) passing.now.message.entry))) }
         ensures choice { self.new.choice ≡ self.old.choice }
         ensures options { self.new.options ≡ self.old.options }

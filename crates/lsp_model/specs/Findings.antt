@@ -33,19 +33,20 @@ judged_params null = Some (object no_members)
 judged_params (object ms) = Some (object ms)
 judged_params d = None
 
--- a request or a notification that goes this way
+-- a request or a notification that goes in this direction
 abbrev pub unfit_call : Model → Mode → Direction → List ℕ → Data → Bool
-unfit_call model mode way name params = any_if (λ method.
-    any_if (is_unfit model mode method.params) (judged_params params)) (method_named way name model)
+unfit_call model mode direction name params = any_if (λ method.
+    any_if (is_unfit model mode method.params) (judged_params params)) (method_named direction name model)
 
--- a reply to this request, which went this way
+-- a reply to this request, which went in this direction
 abbrev pub unfit_reply : Model → Mode → Direction → Bool → Data → Open → Bool
-unfit_reply model mode way succeeds d o = succeeds && any_if (λ method.
-    is_unfit model mode method.result (unwrap_or (get (codes "result") d) null)) (method_named way o.method model)
+unfit_reply model mode direction succeeds d o = succeeds && any_if (λ method.
+    is_unfit model mode method.result (unwrap_or (get (codes "result") d) null)) (method_named direction o.method model)
 
 -- The params or the result of a message are unfit. The tree is the whole message.
 abbrev pub is_unfit_message : Model → Mode → Log → Direction → Message → Data → Bool
-is_unfit_message model mode before way (request i name params) d = unfit_call model mode way name params
-is_unfit_message model mode before way (notification name params) d = unfit_call model mode way name params
-is_unfit_message model mode before way (response i outcome) d =
-    any_if (unfit_reply model mode (other way) (is_success (response i outcome)) d) (waiting (other way) i before)
+is_unfit_message model mode before direction (request i name params) d = unfit_call model mode direction name params
+is_unfit_message model mode before direction (notification name params) d = unfit_call model mode direction name params
+is_unfit_message model mode before direction (response i outcome) d =
+    any_if (unfit_reply model mode (other direction) (is_success (response i outcome)) d)
+    (waiting (other direction) i before)

@@ -40,7 +40,7 @@ counted_after uri deed place params before =
 abbrev pub counted_of : List ℕ → Log → Option Counted
 counted_of uri [] = None
 counted_of uri (p ∷ before) =
-    counted_after uri (deed_in p.way p.message) p.place (params_in p.message) (counted_of uri before)
+    counted_after uri (deed_in p.direction p.message) p.place (params_in p.message) (counted_of uri before)
 
 abbrev pub counted_in : LineCounts → List ℕ → Option Counted
 counted_in c uri = get_by_text c.documents uri

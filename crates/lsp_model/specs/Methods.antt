@@ -8,17 +8,17 @@ use Rattle.lsp_model.specs.declared.model.Model.{Model}
 use Rattle.lsp_model.specs.declared.model.Receiver.{Receiver}
 use Rattle.lsp_model.specs.declared.model.Receiver.TheVariants.{Server, Client, Both}
 
--- who receives what goes this way
+-- who receives what goes in this direction
 abbrev pub takes : Receiver → Direction → Bool
-takes Both way = true
+takes Both direction = true
 takes Server ToServer = true
 takes Server ToClient = false
 takes Client ToServer = false
 takes Client ToClient = true
 
 abbrev pub is_method : Direction → List ℕ → Method → Bool
-is_method way name method = bytes_eq method.name.now name && takes method.receiver way
+is_method direction name method = bytes_eq method.name.now name && takes method.receiver direction
 
--- the method of this name that may go this way
+-- the method of this name that may go in this direction
 abbrev pub method_named : Direction → List ℕ → Model → Option Method
-method_named way name model = find (is_method way name) model.methods.items
+method_named direction name model = find (is_method direction name) model.methods.items

@@ -22,25 +22,25 @@ impl Model {
     /// before it.
     ///
     /// Params that are missing count as an object without members. Params that are a list are not judged, and neither is a method that
-    /// the model does not have, or one that goes the other way.
+    /// the model does not have, or one that goes in the other direction.
     pub fn is_unfit(
         &self,
         alloc: Global,
         mode: Mode,
         watch: &Watch,
-        way: Direction,
+        direction: Direction,
         message: &Entry,
     ) -> bool
         ensures { (log : Log) → Saw watch.now log
-            → result ≡ is_unfit_message self.now mode log way (entry_view message.now) (view message.now.tree) }
+            → result ≡ is_unfit_message self.now mode log direction (entry_view message.now) (view message.now.tree) }
     {
         match message.kind() {
             Kind::Request(_) | Kind::Notification => {
-                self.is_unfit_call(alloc, mode, way, message.method(), message.params())
+                self.is_unfit_call(alloc, mode, direction, message.method(), message.params())
             }
-            Kind::Reply(id, succeeds) => match watch.waiting(way.other(), id) {
+            Kind::Reply(id, succeeds) => match watch.waiting(direction.other(), id) {
                 Some(asked) => {
-                    self.is_unfit_reply(mode, way.other(), *succeeds, message.tree(), asked)
+                    self.is_unfit_reply(mode, direction.other(), *succeeds, message.tree(), asked)
                 }
                 None => false,
             },
@@ -51,14 +51,14 @@ impl Model {
         &self,
         alloc: Global,
         mode: Mode,
-        way: Direction,
+        direction: Direction,
         name: &str,
         params: Option<&Value>,
     ) -> bool
-        ensures { result ≡ unfit_call self.now mode way name.now
+        ensures { result ≡ unfit_call self.now mode direction name.now
             (unwrap_or (option_map (λ v. view v.now) params.entry) null) }
     {
-        let Some(method) = self.method(way, name) else {
+        let Some(method) = self.method(direction, name) else {
             return false;
         };
         match params {
@@ -70,17 +70,17 @@ impl Model {
     fn is_unfit_reply(
         &self,
         mode: Mode,
-        way: Direction,
+        direction: Direction,
         succeeds: bool,
         reply: &Value,
         asked: &Asked,
     ) -> bool
-        ensures { result ≡ unfit_reply self.now mode way succeeds (view reply.now) asked.now }
+        ensures { result ≡ unfit_reply self.now mode direction succeeds (view reply.now) asked.now }
     {
         if !succeeds {
             return false;
         }
-        let Some(method) = self.method(way, asked.method.as_str()) else {
+        let Some(method) = self.method(direction, asked.method.as_str()) else {
             return false;
         };
         match reply.get("result") {

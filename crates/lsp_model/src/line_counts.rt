@@ -73,16 +73,16 @@ impl LineCounts {
         alloc: Global,
         model: &Model,
         watch: &Watch,
-        way: Direction,
+        direction: Direction,
         message: &Entry,
     ) -> bool {
-        let Some(lines) = self.lines_for(watch, way, message) else {
+        let Some(lines) = self.lines_for(watch, direction, message) else {
             return false;
         };
         match message.tree().get("result") {
             Some(result) => {
                 is_outside(lines, result)
-                    && !model.is_unfit(alloc, Mode::Loose, watch, way, message)
+                    && !model.is_unfit(alloc, Mode::Loose, watch, direction, message)
             }
             None => false,
         }
@@ -95,10 +95,10 @@ impl LineCounts {
         &self,
         alloc: Global,
         watch: &Watch,
-        way: Direction,
+        direction: Direction,
         message: &Entry,
     ) -> Result<Option<Misfit>, AllocError> {
-        let Some(lines) = self.lines_for(watch, way, message) else {
+        let Some(lines) = self.lines_for(watch, direction, message) else {
             return Ok(None);
         };
         match message.tree().get("result").and_then(Value::as_array) {
@@ -108,11 +108,13 @@ impl LineCounts {
     }
 
     /// Returns the number of lines of the document whose folding ranges a reply has.
-    fn lines_for(&self, watch: &Watch, way: Direction, message: &Entry) -> Option<u64> {
+    fn lines_for(&self, watch: &Watch, direction: Direction, message: &Entry) -> Option<u64> {
         let Kind::Reply(id, true) = message.kind() else {
             return None;
         };
-        let request = self.requests.get(&watch.waiting(way.other(), id)?.place)?;
+        let request = self
+            .requests
+            .get(&watch.waiting(direction.other(), id)?.place)?;
         let counted = self.documents.get(request.uri.as_str())?;
         if self.is_synced && counted.changed == request.changed {
             counted.lines
@@ -128,22 +130,27 @@ impl LineCounts {
         &mut self,
         place: u64,
         watch: &Watch,
-        way: Direction,
+        direction: Direction,
         message: &Entry,
     ) -> Result<(), AllocError>
         ensures { (log : Log) → Counts self.old log
-            → OnOk result (Counts self.new (passed way place (entry_view message.now) ∷ log)) }
+            → OnOk result (Counts self.new (passed direction place (entry_view message.now) ∷ log)) }
     {
-        self.keep_request(place, way, message)?;
-        self.keep_reply(watch, way, message);
-        self.keep_change(place, way, message)
+        self.keep_request(place, direction, message)?;
+        self.keep_reply(watch, direction, message);
+        self.keep_change(place, direction, message)
     }
 
-    fn keep_change(&mut self, place: u64, way: Direction, message: &Entry) -> Result<(), AllocError>
+    fn keep_change(
+        &mut self,
+        place: u64,
+        direction: Direction,
+        message: &Entry,
+    ) -> Result<(), AllocError>
         ensures { (log : Log) → Counts self.old log
-            → OnOk result (Counts self.new (passed way place (entry_view message.now) ∷ log)) }
+            → OnOk result (Counts self.new (passed direction place (entry_view message.now) ∷ log)) }
     {
-        let Some(method) = notified(way, message) else {
+        let Some(method) = notified(direction, message) else {
             return Ok(());
         };
         let Some(params) = message.params() else {
@@ -217,12 +224,12 @@ impl LineCounts {
     fn keep_request(
         &mut self,
         place: u64,
-        way: Direction,
+        direction: Direction,
         message: &Entry,
     ) -> Result<(), AllocError>
         ensures { self.new.documents ≡ self.old.documents }
     {
-        if !asks_for_folds(way, message) {
+        if !asks_for_folds(direction, message) {
             return Ok(());
         }
         let Some(uri) = document_uri(message) else {
@@ -239,13 +246,13 @@ impl LineCounts {
         Ok(())
     }
 
-    fn keep_reply(&mut self, watch: &Watch, way: Direction, message: &Entry)
+    fn keep_reply(&mut self, watch: &Watch, direction: Direction, message: &Entry)
         ensures { self.new.documents ≡ self.old.documents }
     {
         let Kind::Reply(id, _) = message.kind() else {
             return;
         };
-        let Some(asked) = watch.waiting(way.other(), id) else {
+        let Some(asked) = watch.waiting(direction.other(), id) else {
             return;
         };
         if asked.opens_session() {
@@ -256,17 +263,17 @@ impl LineCounts {
 }
 
 /// Returns the method of a client's notification.
-fn notified(way: Direction, message: &Entry) -> Option<&str>
-    ensures { option_and_then deed_named (option_map (λ s. s.now) result) ≡ deed_in way (entry_view message.now) }
+fn notified(direction: Direction, message: &Entry) -> Option<&str>
+    ensures { option_and_then deed_named (option_map (λ s. s.now) result) ≡ deed_in direction (entry_view message.now) }
 {
-    match (way, message.kind()) {
+    match (direction, message.kind()) {
         (Direction::ToServer, Kind::Notification) => Some(message.method()),
         _ => None,
     }
 }
 
-fn asks_for_folds(way: Direction, message: &Entry) -> bool {
-    match (way, message.kind()) {
+fn asks_for_folds(direction: Direction, message: &Entry) -> bool {
+    match (direction, message.kind()) {
         (Direction::ToServer, Kind::Request(_)) => {
             message.method() == "textDocument/foldingRange"
         }

@@ -80,10 +80,10 @@ impl Model {
         alloc: Global,
         mode: Mode,
         watch: &Watch,
-        way: Direction,
+        direction: Direction,
         message: &Entry,
     ) -> Result<Option<Misfit>, AllocError> {
-        let Some(at) = self.type_in(watch, way, message) else {
+        let Some(at) = self.type_in(watch, direction, message) else {
             return Ok(None);
         };
         let (path, value) = match message.kind() {
@@ -107,14 +107,17 @@ impl Model {
     }
 
     /// Returns the place of the type of what a message carries.
-    fn type_in(&self, watch: &Watch, way: Direction, message: &Entry) -> Option<usize> {
+    fn type_in(&self, watch: &Watch, direction: Direction, message: &Entry) -> Option<usize> {
         match message.kind() {
             Kind::Reply(id, _) => {
-                let asked = watch.waiting(way.other(), id)?;
-                Some(self.method(way.other(), asked.method.as_str())?.result)
+                let asked = watch.waiting(direction.other(), id)?;
+                Some(
+                    self.method(direction.other(), asked.method.as_str())?
+                        .result,
+                )
             }
             Kind::Request(_) | Kind::Notification => Some(
-                self.method(way, message.method())?.params,
+                self.method(direction, message.method())?.params,
             ),
         }
     }

@@ -1,7 +1,7 @@
 // The methods of LSP, and the types of their params and results.
 ghost use Rattle.std.specs.Prelude.{◌≡◌, find, option_map, option_and_then};
 ghost use Rattle.std.specs.Str.{bytes_eq};
-ghost use Rattle.lsp_model.specs.Methods.{takes as takes_way, is_method, method_named};
+ghost use Rattle.lsp_model.specs.Methods.{takes as takes_direction, is_method, method_named};
 
 use crate::form::Form;
 use lsp_watch::Direction;
@@ -19,11 +19,11 @@ pub enum Receiver {
 }
 
 impl Receiver {
-    /// Returns whether it receives messages that go this way.
-    pub fn takes(self, way: Direction) -> bool
-        ensures { result ≡ takes_way self way }
+    /// Returns whether it receives messages that go in this direction.
+    pub fn takes(self, direction: Direction) -> bool
+        ensures { result ≡ takes_direction self direction }
     {
-        match (self, way) {
+        match (self, direction) {
             (Receiver::Both, _)
             | (Receiver::Server, Direction::ToServer)
             | (Receiver::Client, Direction::ToClient) => true,
@@ -47,10 +47,10 @@ pub struct Method {
 }
 
 impl Method {
-    fn is(&self, way: Direction, name: &str) -> bool
-        ensures { result ≡ is_method way name.now self.now }
+    fn is(&self, direction: Direction, name: &str) -> bool
+        ensures { result ≡ is_method direction name.now self.now }
     {
-        self.name == name && self.receiver.takes(way)
+        self.name == name && self.receiver.takes(direction)
     }
 }
 
@@ -64,11 +64,14 @@ pub struct Model {
 }
 
 impl Model {
-    /// Returns the method of this name that may go this way, if the model has it.
-    pub fn method(&self, way: Direction, name: &str) -> Option<Method>
-        ensures { result ≡ method_named way name.now self.now }
+    /// Returns the method of this name that may go in this direction, if the model has it.
+    pub fn method(&self, direction: Direction, name: &str) -> Option<Method>
+        ensures { result ≡ method_named direction name.now self.now }
     {
-        self.methods.iter().copied().find(|it| it.is(way, name))
+        self.methods
+            .iter()
+            .copied()
+            .find(|it| it.is(direction, name))
     }
 }
 

@@ -10,7 +10,7 @@ use std::sync::Wait;
 pub enum Heard {
     /// This was read, and is written next.
     Piece(Direction, Vec<u8>),
-    /// The side that sends this way has closed.
+    /// The side that sends in this direction has closed.
     End(Direction),
     /// There was no memory to report bytes that passed.
     Lost,
@@ -20,30 +20,34 @@ pub enum Heard {
 #[derive(Drop)]
 pub struct Teller<R> {
     rt: R,
-    way: Direction,
+    direction: Direction,
     sender: Sender<Heard>,
 }
 
 impl<R: Wait + AllocGlobal> Teller<R> {
     /// Makes one that sends its reports about this direction into the channel.
-    pub fn new(rt: R, way: Direction, sender: Sender<Heard>) -> Teller<R> {
-        Teller { rt, way, sender }
+    pub fn new(rt: R, direction: Direction, sender: Sender<Heard>) -> Teller<R> {
+        Teller {
+            rt,
+            direction,
+            sender,
+        }
     }
 
     /// Returns the direction that it reports about.
-    pub fn way(&self) -> Direction {
-        self.way
+    pub fn direction(&self) -> Direction {
+        self.direction
     }
 
     /// Reports that no more bytes pass.
     pub fn end(&self) {
-        drop(self.sender.send(&self.rt, Heard::End(self.way)));
+        drop(self.sender.send(&self.rt, Heard::End(self.direction)));
     }
 
     fn heard(&self, piece: &[u8]) -> Result<Heard, AllocError> {
         let mut bytes = Vec::new(self.rt.alloc());
         bytes.extend_from_slice(piece)?;
-        Ok(Heard::Piece(self.way, bytes))
+        Ok(Heard::Piece(self.direction, bytes))
     }
 }
 

@@ -93,24 +93,25 @@ swap_or true b e = or_right b true refl
 swap_or false true e = refl
 swap_or false false e = cc
 
-opened_by : (way : Direction) (place : ℕ) (m : Message) (before : Log)
+opened_by : (direction : Direction) (place : ℕ) (m : Message) (before : Log)
     → (list_any opens_session (open_of before) ≡ true → list_any is_initialize before ≡ true)
-    → list_any opens_session (open_after way place m (open_of before)) ≡ true
-    → (is_initialize (record { way = way; place = place; message = m }) || list_any is_initialize before) ≡ true
-opened_by way place (request i method params) before more e = or_more
-    (from_client way && bytes_eq method (codes "initialize"))
+    → list_any opens_session (open_after direction place m (open_of before)) ≡ true
+    → (is_initialize (record { direction = direction; place = place; message = m }) || list_any is_initialize before)
+    ≡ true
+opened_by direction place (request i method params) before more e = or_more
+    (from_client direction && bytes_eq method (codes "initialize"))
     (list_any opens_session (open_of before)) (list_any is_initialize before) more
-    (swap_or (list_any opens_session (open_of before)) (from_client way && bytes_eq method (codes "initialize"))
+    (swap_or (list_any opens_session (open_of before)) (from_client direction && bytes_eq method (codes "initialize"))
     (any_push opens_session (open_of before) _ e))
-opened_by way place (notification method params) before more e =
-    or_right (from_client way && false) (list_any is_initialize before) (more e)
-opened_by way place (response i outcome) before more e =
-    or_right (from_client way && false) (list_any is_initialize before)
-    (more (without_any opens_session (is_for (other way) i) (open_of before) e))
+opened_by direction place (notification method params) before more e =
+    or_right (from_client direction && false) (list_any is_initialize before) (more e)
+opened_by direction place (response i outcome) before more e =
+    or_right (from_client direction && false) (list_any is_initialize before)
+    (more (without_any opens_session (is_for (other direction) i) (open_of before) e))
 
 open_initialize : (log : Log) → list_any opens_session (open_of log) ≡ true → list_any is_initialize log ≡ true
 open_initialize [] e = e
-open_initialize (p ∷ before) e = opened_by p.way p.place p.message before (open_initialize before) e
+open_initialize (p ∷ before) e = opened_by p.direction p.place p.message before (open_initialize before) e
 
 one_initialize : (log : Log) → is_some (initializing log) ≡ true → list_any is_initialize log ≡ true
 one_initialize log e = open_initialize log (find_any opens_session (open_of log) e)
@@ -306,14 +307,15 @@ server_order before m fits = by (is_some (initialize_result before)) (is_some (i
     by false true false at waits early fits = cc
     by false false e at waits early fits = cc
 
-call_order : (before : Log) (way : Direction) (m : Message) → lifecycle_finding before way m ≡ None → is_call m ≡ true
-    → MatchBool (from_client way) (ClientKeepsOrder before m) (ServerKeepsOrder before m)
+call_order : (before : Log) (direction : Direction) (m : Message) → lifecycle_finding before direction m ≡ None
+    → is_call m ≡ true
+    → MatchBool (from_client direction) (ClientKeepsOrder before m) (ServerKeepsOrder before m)
 call_order before ToServer (request i method params) fits is = client_order before (request i method params) fits
 call_order before ToServer (notification method params) fits is = client_order before (notification method params) fits
 call_order before ToClient (request i method params) fits is = server_order before (request i method params) fits
 call_order before ToClient (notification method params) fits is = server_order before (notification method params) fits
-call_order before way (response i outcome) fits is = cc
+call_order before direction (response i outcome) fits is = cc
 
 pub keeps_order : (log : Log) → IsClean log → KeepsOrder log
 keeps_order log clean = λ later before p is call.
-    call_order before p.way p.message (lifecycle_fits before p.way p.message (clean later before p is)) call
+    call_order before p.direction p.message (lifecycle_fits before p.direction p.message (clean later before p is)) call

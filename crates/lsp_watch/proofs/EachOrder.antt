@@ -27,9 +27,10 @@ use Rattle.lsp_watch.specs.declared.rule.Rule.TheVariants.{AfterShutdown, IdStil
 
 -- ---- what depends on the client's messages alone
 
-document_step : (uri : List ℕ) (way : Direction) (place : ℕ) (m : Message) (before : Log)
+document_step : (uri : List ℕ) (direction : Direction) (place : ℕ) (m : Message) (before : Log)
     → document_of uri before ≡ document_of uri (sent ToServer before)
-    → document_of uri (passed way place m ∷ before) ≡ document_of uri (sent ToServer (passed way place m ∷ before))
+    → document_of uri (passed direction place m ∷ before)
+    ≡ document_of uri (sent ToServer (passed direction place m ∷ before))
 document_step uri ToServer place m before is = ap (document_after uri (deed_in ToServer m) place (params_in m)) is
 document_step uri ToClient place (request i method params) before is = is
 document_step uri ToClient place (notification method params) before is = is
@@ -37,31 +38,31 @@ document_step uri ToClient place (response i outcome) before is = is
 
 document_same : (uri : List ℕ) (log : Log) → document_of uri log ≡ document_of uri (sent ToServer log)
 document_same uri [] = refl
-document_same uri (p ∷ before) = document_step uri p.way p.place p.message before (document_same uri before)
+document_same uri (p ∷ before) = document_step uri p.direction p.place p.message before (document_same uri before)
 
-tells_step : (method : List ℕ) (way : Direction) (place : ℕ) (m : Message) (before : Log)
+tells_step : (method : List ℕ) (direction : Direction) (place : ℕ) (m : Message) (before : Log)
     → place_of (client_tells method) before ≡ place_of (client_tells method) (sent ToServer before)
-    → place_of (client_tells method) (passed way place m ∷ before)
-    ≡ place_of (client_tells method) (sent ToServer (passed way place m ∷ before))
+    → place_of (client_tells method) (passed direction place m ∷ before)
+    ≡ place_of (client_tells method) (sent ToServer (passed direction place m ∷ before))
 tells_step method ToServer place m before is = ap (cond (tells method m) (Some place)) is
 tells_step method ToClient place m before is = is
 
 pub tells_same : (method : List ℕ) (log : Log)
     → place_of (client_tells method) log ≡ place_of (client_tells method) (sent ToServer log)
 tells_same method [] = refl
-tells_same method (p ∷ before) = tells_step method p.way p.place p.message before (tells_same method before)
+tells_same method (p ∷ before) = tells_step method p.direction p.place p.message before (tells_same method before)
 
-asks_step : (method : List ℕ) (way : Direction) (place : ℕ) (m : Message) (before : Log)
+asks_step : (method : List ℕ) (direction : Direction) (place : ℕ) (m : Message) (before : Log)
     → place_of (client_asks method) before ≡ place_of (client_asks method) (sent ToServer before)
-    → place_of (client_asks method) (passed way place m ∷ before)
-    ≡ place_of (client_asks method) (sent ToServer (passed way place m ∷ before))
+    → place_of (client_asks method) (passed direction place m ∷ before)
+    ≡ place_of (client_asks method) (sent ToServer (passed direction place m ∷ before))
 asks_step method ToServer place m before is = ap (cond (asks method m) (Some place)) is
 asks_step method ToClient place m before is = is
 
 asks_same : (method : List ℕ) (log : Log)
     → place_of (client_asks method) log ≡ place_of (client_asks method) (sent ToServer log)
 asks_same method [] = refl
-asks_same method (p ∷ before) = asks_step method p.way p.place p.message before (asks_same method before)
+asks_same method (p ∷ before) = asks_step method p.direction p.place p.message before (asks_same method before)
 
 -- ---- findings
 
@@ -307,9 +308,9 @@ record Placed (order c : Log) (p : Passed) : Type 0 where
   more : list_any any_finding (findings_of rest ToServer p.message) || breaks any_finding rest ≡ true
       → breaks any_finding order ≡ true
 
-place_step : (way : Direction) (place : ℕ) (m : Message) (before c : Log) (p : Passed)
+place_step : (direction : Direction) (place : ℕ) (m : Message) (before c : Log) (p : Passed)
     → (sent ToServer before ≡ p ∷ c → Placed before c p)
-    → sent ToServer (passed way place m ∷ before) ≡ p ∷ c → Placed (passed way place m ∷ before) c p
+    → sent ToServer (passed direction place m ∷ before) ≡ p ∷ c → Placed (passed direction place m ∷ before) c p
 place_step ToServer place m before c p more is = record {
   rest = before;
   behind = cc;
@@ -328,13 +329,13 @@ place_step ToClient place m before c p more is =
 
 placed : (order c : Log) (p : Passed) → sent ToServer order ≡ p ∷ c → Placed order c p
 placed [] c p is = cc
-placed (q ∷ before) c p is = place_step q.way q.place q.message before c p (placed before c p) is
+placed (q ∷ before) c p is = place_step q.direction q.place q.message before c p (placed before c p) is
 
-each_step : (way : Direction) (place : ℕ) (m : Message) (before order : Log)
+each_step : (direction : Direction) (place : ℕ) (m : Message) (before order : Log)
     → ((order : Log) → sent ToServer before ≡ sent ToServer order → breaks is_sure before ≡ true
     → breaks any_finding order ≡ true)
-    → sent ToServer (passed way place m ∷ before) ≡ sent ToServer order
-    → breaks is_sure (passed way place m ∷ before) ≡ true → breaks any_finding order ≡ true
+    → sent ToServer (passed direction place m ∷ before) ≡ sent ToServer order
+    → breaks is_sure (passed direction place m ∷ before) ≡ true → breaks any_finding order ≡ true
 each_step ToServer place m before order more same is =
     let at = placed order (sent ToServer before) (passed ToServer place m) (sym same) in
     at.more (⊎_elim
@@ -350,7 +351,7 @@ each_order : (log order : Log) → sent ToServer log ≡ sent ToServer order →
     → breaks any_finding order ≡ true
 each_order [] order same is = cc
 each_order (p ∷ before) order same is =
-    each_step p.way p.place p.message before order (each_order before) same is
+    each_step p.direction p.place p.message before order (each_order before) same is
 
 pub in_each_order : (log order : Log) → AreOrders log order → breaks is_sure log ≡ true → breaks any_finding order ≡
     true

@@ -10,7 +10,7 @@ use Rattle.lsp_message.specs.Id.{Id}
 use Rattle.lsp_watch.proofs.Numbered as numbered
 use Rattle.lsp_watch.specs.Indexed.{Use, by_id, by_work, by_part, by_created, is_found, numbers, numbers_of, asked_in}
 use Rattle.lsp_watch.specs.Indexed.{IsIndexed, IsFresh, RisesTo, first_of, added, removed}
-use Rattle.lsp_watch.specs.Log.{Open, is_for, is_id, other, same_way, without_first}
+use Rattle.lsp_watch.specs.Log.{Open, is_for, is_id, other, same_direction, without_first}
 use Rattle.lsp_watch.specs.Progress.{gives}
 use Rattle.lsp_watch.specs.declared.direction.Direction.{Direction}
 use Rattle.lsp_watch.specs.declared.direction.Direction.TheVariants.{ToServer, ToClient}
@@ -30,17 +30,18 @@ any_found o by h = numbered.any_first (is_found by) o.requests.entries
 
 -- ---- who gives a token
 
-gives_is : (way : Direction) (name : Id) (o : Open) → gives way name o
-    ≡ (is_found (by_created way name) o
-    || (is_found (by_work (other way) name) o || is_found (by_part (other way) name) o))
-gives_is way name o = by way o.way (is_id name o.created) (is_id name o.work) (is_id name o.part)
+gives_is : (direction : Direction) (name : Id) (o : Open) → gives direction name o
+    ≡ (is_found (by_created direction name) o
+    || (is_found (by_work (other direction) name) o || is_found (by_part (other direction) name) o))
+gives_is direction name o = by direction o.direction (is_id name o.created) (is_id name o.work) (is_id name o.part)
   where
     none : (b : Bool) → b ≡ (b || false)
     none true = refl
     none false = refl
 
-    by : (way own : Direction) (c w p : Bool) → cond (same_way own way) c (w || p)
-        ≡ ((same_way way own && c) || ((same_way (other way) own && w) || (same_way (other way) own && p)))
+    by : (direction own : Direction) (c w p : Bool) → cond (same_direction own direction) c (w || p)
+        ≡ ((same_direction direction own && c)
+        || ((same_direction (other direction) own && w) || (same_direction (other direction) own && p)))
     by ToServer ToServer c w p = none c
     by ToServer ToClient c w p = refl
     by ToClient ToServer c w p = refl
@@ -61,19 +62,22 @@ module _ (f g h k : Open → Bool) (is : (o : Open) → f o ≡ (g o || (h o || 
   any_of (o ∷ os) = ap (λ b. b || list_any f os) (is o) ∙ ap (λ b. (g o || (h o || k o)) || b) (any_of os)
       ∙ mix (g o) (h o) (k o) (list_any g os) (list_any h os) (list_any k os)
 
-pub given : (o : OpenRequests) (way : Direction) (name : Id) → IsIndexed o → list_any (gives way name) (asked_in o)
-    ≡ (is_some (first_of (numbers o.numbers (by_created way name)))
-    || (is_some (first_of (numbers o.numbers (by_work (other way) name)))
-    || is_some (first_of (numbers o.numbers (by_part (other way) name)))))
-given o way name h = any_of (gives way name) (is_found (by_created way name)) (is_found (by_work (other way) name))
-    (is_found (by_part (other way) name)) (gives_is way name) (asked_in o)
-    ∙ ap (λ b. b || (list_any (is_found (by_work (other way) name)) (asked_in o)
-    || list_any (is_found (by_part (other way) name)) (asked_in o))) (any_found o (by_created way name) h)
-    ∙ ap (λ b. is_some (first_of (numbers o.numbers (by_created way name)))
-    || (b || list_any (is_found (by_part (other way) name)) (asked_in o))) (any_found o (by_work (other way) name) h)
-    ∙ ap (λ b. is_some (first_of (numbers o.numbers (by_created way name)))
-    || (is_some (first_of (numbers o.numbers (by_work (other way) name))) || b))
-    (any_found o (by_part (other way) name) h)
+pub given : (o : OpenRequests) (direction : Direction) (name : Id) → IsIndexed o
+    → list_any (gives direction name) (asked_in o)
+    ≡ (is_some (first_of (numbers o.numbers (by_created direction name)))
+    || (is_some (first_of (numbers o.numbers (by_work (other direction) name)))
+    || is_some (first_of (numbers o.numbers (by_part (other direction) name)))))
+given o direction name h = any_of (gives direction name) (is_found (by_created direction name))
+    (is_found (by_work (other direction) name))
+    (is_found (by_part (other direction) name)) (gives_is direction name) (asked_in o)
+    ∙ ap (λ b. b || (list_any (is_found (by_work (other direction) name)) (asked_in o)
+    || list_any (is_found (by_part (other direction) name)) (asked_in o))) (any_found o (by_created direction name) h)
+    ∙ ap (λ b. is_some (first_of (numbers o.numbers (by_created direction name)))
+    || (b || list_any (is_found (by_part (other direction) name)) (asked_in o)))
+    (any_found o (by_work (other direction) name) h)
+    ∙ ap (λ b. is_some (first_of (numbers o.numbers (by_created direction name)))
+    || (is_some (first_of (numbers o.numbers (by_work (other direction) name))) || b))
+    (any_found o (by_part (other direction) name) h)
 
 -- ---- one more
 
@@ -100,16 +104,18 @@ pushed o n asked h is noted next = record {
 
 -- ---- one less
 
-module _ (o : OpenRequests) (way : Direction) (id : Id) where
+module _ (o : OpenRequests) (direction : Direction) (id : Id) where
   pub nobody : IsIndexed o
-      → None ≡ option_and_then (λ n. get nat_cmp o.requests n) (first_of (numbers o.numbers (by_id way id)))
-      → asked_in o ≡ without_first (is_for way id) (asked_in o)
-  nobody h none = sym (numbered.none_goes (is_for way id) (asked_in o) (found_first o (by_id way id) h ∙ sym none))
+      → None ≡ option_and_then (λ n. get nat_cmp o.requests n) (first_of (numbers o.numbers (by_id direction id)))
+      → asked_in o ≡ without_first (is_for direction id) (asked_in o)
+  nobody h none = sym (numbered.none_goes (is_for direction id) (asked_in o) (found_first o (by_id direction id) h
+      ∙ sym none))
 
-  pub first_leaves : (n : ℕ) → IsIndexed o → Some n ≡ first_of (numbers o.numbers (by_id way id))
-      → values_of (remove_entry (is_at (nat_cmp n)) o.requests.entries) ≡ without_first (is_for way id) (asked_in o)
-  first_leaves n h is = numbered.first_goes (is_for way id) 0 o.next n o.requests.entries h.rises
-      (ap first_of (sym (h.lists (by_id way id))) ∙ sym is)
+  pub first_leaves : (n : ℕ) → IsIndexed o → Some n ≡ first_of (numbers o.numbers (by_id direction id))
+      → values_of (remove_entry (is_at (nat_cmp n)) o.requests.entries)
+      ≡ without_first (is_for direction id) (asked_in o)
+  first_leaves n h is = numbered.first_goes (is_for direction id) 0 o.next n o.requests.entries h.rises
+      (ap first_of (sym (h.lists (by_id direction id))) ∙ sym is)
 
 pub left : (o n : OpenRequests) (k : ℕ) (asked : Open) → IsIndexed o → Some asked ≡ get nat_cmp o.requests k
     → n.requests.entries ≡ remove_entry (is_at (nat_cmp k)) o.requests.entries

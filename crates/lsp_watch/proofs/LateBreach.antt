@@ -15,10 +15,22 @@ use Rattle.lsp_watch.proofs.Matched.{or_parts, or_right, Matched, matched_before
 use Rattle.lsp_watch.proofs.Matched.{Found, find_place, same_end}
 use Rattle.lsp_watch.proofs.Matched.{asked_in, replied_in, asked_append, replied_append, asked_own, replied_own}
 use Rattle.lsp_watch.proofs.Matched.{asked_before, kept, some_first, reply_fits, at_place, still_waits}
-use Rattle.lsp_watch.proofs.Queues.{first, rest as others_of, queue, waiting_is, both, and_true, same_way_own}
+use Rattle.lsp_watch.proofs.Queues.{first, rest as others_of, queue, waiting_is, both, and_true, same_direction_own}
 use Rattle.lsp_watch.specs.Documents.{deed_in, params_in, uri_in, version_in, document_of, deed_finding, is_not_higher}
 use Rattle.lsp_watch.specs.Documents.{document_finding}
-use Rattle.lsp_watch.specs.Log.{Log, Passed, Open, Finding, passed, asks, tells, from_client, other, same_way, is_for}
+use Rattle.lsp_watch.specs.Log.{
+  Log,
+  Passed,
+  Open,
+  Finding,
+  passed,
+  asks,
+  tells,
+  from_client,
+  other,
+  same_direction,
+  is_for,
+}
 use Rattle.lsp_watch.specs.Log.{is_reply, reply_id, is_success, is_some_such, open_of, waiting, opens_session}
 use Rattle.lsp_watch.specs.Log.{answers_initialize, progress_token, is_id}
 use Rattle.lsp_watch.specs.Orders.{AreOrders, IsBehindAll, sent, is_late, is_unasked, any_finding, breaks}
@@ -93,7 +105,7 @@ from_queue such p (x ∷ xs) e = by (p x) (such x) (from_queue such p xs) e
         left false more e = more e
     by false s more e = or_right (such x) (list_any such xs) (more e)
 
-module _ (such : Open → Bool) (client : (o : Open) → such o ≡ true → from_client o.way ≡ true) where
+module _ (such : Open → Bool) (client : (o : Open) → such o ≡ true → from_client o.direction ≡ true) where
   in_queue : (xs : List Open) → list_any such xs ≡ true
       → (id : Id) × (list_any such (filter (is_for ToServer id) xs) ≡ true)
   in_queue [] e = cc
@@ -111,7 +123,7 @@ module _ (such : Open → Bool) (client : (o : Open) → such o ≡ true → fro
       by true is more e = (
         x.id,
         ap (λ b. list_any such (cond b (x ∷ filter (is_for ToServer x.id) xs) (filter (is_for ToServer x.id) xs)))
-            (and_true (from_client x.way) (same_id x.id x.id) (client x is) (same_own x.id))
+            (and_true (from_client x.direction) (same_id x.id x.id) (client x is) (same_own x.id))
             ∙ ap (λ b. b || list_any such (filter (is_for ToServer x.id) xs)) is,
       )
       by false is more e = let found = more e in (found.0, put found.0 (is_for ToServer found.0 x) found.1)
@@ -133,7 +145,7 @@ record AnswersIt (log : Log) (r : Passed) : Type 0 where
   id : Id
   asked : Open
   names : reply_id r.message ≡ Some id
-  way : r.way ≡ ToClient
+  direction : r.direction ≡ ToClient
   waits : waiting ToServer id log ≡ Some asked
   opens : opens_session asked ≡ true
 
@@ -143,23 +155,23 @@ some_open None e = cc
 some_open (Some asked) e = (asked, refl, e)
 
 of_server : (o : Open) → is_for ToClient o.id o ≡ true → opens_session o ≡ true → ⊥
-of_server o e is = apart o.way (both (same_way ToClient o.way) (same_id o.id o.id) e).0
-    (both (from_client o.way) _ is).0
+of_server o e is = apart o.direction (both (same_direction ToClient o.direction) (same_id o.id o.id) e).0
+    (both (from_client o.direction) _ is).0
   where
-    apart : (way : Direction) → same_way ToClient way ≡ true → from_client way ≡ true → ⊥
+    apart : (direction : Direction) → same_direction ToClient direction ≡ true → from_client direction ≡ true → ⊥
     apart ToServer e is = cc
     apart ToClient e is = cc
 
-answers_it : (log : Log) (way : Direction) (place : ℕ) (m : Message)
-    → answers_initialize log (passed way place m) ≡ true
-    → AnswersIt log (passed way place m)
-answers_it log way place (request i method params) e = cc
-answers_it log way place (notification method params) e = cc
+answers_it : (log : Log) (direction : Direction) (place : ℕ) (m : Message)
+    → answers_initialize log (passed direction place m) ≡ true
+    → AnswersIt log (passed direction place m)
+answers_it log direction place (request i method params) e = cc
+answers_it log direction place (notification method params) e = cc
 answers_it log ToClient place (response i outcome) e = let found = some_open (waiting ToServer i log) e in record {
   id = i;
   asked = found.0;
   names = refl;
-  way = refl;
+  direction = refl;
   waits = found.1;
   opens = found.2;
 }
@@ -167,19 +179,21 @@ answers_it log ToServer place (response i outcome) e =
     let found = some_open (waiting ToClient i log) e in
     let for_it = find_such (is_for ToClient i) (open_of log) found.0 found.1 in
     absurd (of_server found.0
-    (and_true (same_way ToClient found.0.way) (same_id found.0.id found.0.id)
-    (both (same_way ToClient found.0.way) (same_id i found.0.id) for_it).0 (same_own found.0.id)) found.2)
+    (and_true (same_direction ToClient found.0.direction) (same_id found.0.id found.0.id)
+    (both (same_direction ToClient found.0.direction) (same_id i found.0.id) for_it).0 (same_own found.0.id)) found.2)
 
-it_answers : (log : Log) (r : Passed) (id : Id) (o : Open) → reply_id r.message ≡ Some id → r.way ≡ ToClient
+it_answers : (log : Log) (r : Passed) (id : Id) (o : Open) → reply_id r.message ≡ Some id → r.direction ≡ ToClient
     → waiting ToServer id log ≡ Some o → opens_session o ≡ true → answers_initialize log r ≡ true
-it_answers log r id o names way waits opens =
-    ap (λ w. is_some_such opens_session (option_and_then (λ i. waiting (other w) i log) (reply_id r.message))) way
+it_answers log r id o names direction waits opens =
+    ap (λ w. is_some_such opens_session (option_and_then (λ i. waiting (other w) i log) (reply_id r.message))) direction
     ∙ ap (λ i. is_some_such opens_session (option_and_then (λ i. waiting ToServer i log) i)) names
     ∙ ap (is_some_such opens_session) waits ∙ opens
 
-sent_here : (way : Direction) (p : Passed) (earlier : Log) → p.way ≡ way → sent way (p ∷ earlier) ≡ p ∷ sent way earlier
-sent_here way p earlier is = ap (λ w. cond (same_way way w) (p ∷ sent way earlier) (sent way earlier)) is
-    ∙ ap (λ b. cond b (p ∷ sent way earlier) (sent way earlier)) (same_way_own way)
+sent_here : (direction : Direction) (p : Passed) (earlier : Log) → p.direction ≡ direction
+    → sent direction (p ∷ earlier) ≡ p ∷ sent direction earlier
+sent_here direction p earlier is = ap (λ w. cond (same_direction direction w) (p ∷ sent direction earlier)
+    (sent direction earlier)) is
+    ∙ ap (λ b. cond b (p ∷ sent direction earlier) (sent direction earlier)) (same_direction_own direction)
 
 -- two lists of requests with a common front
 abbrev Common : Log → Log → Id → Type 0
@@ -189,16 +203,16 @@ Common one two id = (m : List Open) × (n : List Open) × (asked_in ToServer id 
 module _ (earlier : Log) (r : Passed) (answers : answers_initialize earlier r ≡ true)
     (succeeds : is_success r.message ≡ true) (matched : Matched earlier) where
   abbrev it : AnswersIt earlier r
-  it = answers_it earlier r.way r.place r.message answers
+  it = answers_it earlier r.direction r.place r.message answers
 
   at_it : (two since found : Log) → Matched two → two ≡ since ++ r ∷ found → sent ToClient found ≡ sent ToClient earlier
       → Common earlier two it.id → is_some (initialize_result two) ≡ true
   at_it two since found fits place behind common =
       let here : Matched (r ∷ found) = matched_before since (r ∷ found) (subst Matched place fits) in
-      let replies : is_reply ToServer it.id r ≡ true = and_true (same_way ToClient r.way)
-      (is_id it.id (reply_id r.message)) (ap (same_way ToClient) it.way)
+      let replies : is_reply ToServer it.id r ≡ true = and_true (same_direction ToClient r.direction)
+      (is_id it.id (reply_id r.message)) (ap (same_direction ToClient) it.direction)
       (ap (is_id it.id) it.names ∙ same_own it.id) in
-      let waits = one_waits found ToServer it.id r.way r.place r.message replies
+      let waits = one_waits found ToServer it.id r.direction r.place r.message replies
       (reply_fits found r it.id it.names here) in
       let a = kept ToServer it.id earlier matched in
       let b = kept ToServer it.id found (matched_before (r ∷ []) found here) in
@@ -225,7 +239,7 @@ module _ (earlier : Log) (r : Passed) (answers : answers_initialize earlier r �
       ∙ sym (replied_own ToServer it.id found) ∙ sym b.count) in
       ap (λ l. is_some (initialize_result l)) place
       ∙ result_kept since found r
-      (it_answers found r it.id waits.0 it.names it.way waits.1 (ap opens_session (sym same) ∙ it.opens)) succeeds
+      (it_answers found r it.id waits.0 it.names it.direction waits.1 (ap opens_session (sym same) ∙ it.opens)) succeeds
 
   too : (two : Log) (later : List Passed) → Matched two → sent ToClient two ≡ later ++ r ∷ sent ToClient earlier
       → Common earlier two it.id → is_some (initialize_result two) ≡ true
@@ -259,13 +273,13 @@ module _ (before rest : Log) (whole : Matched before) (part : Matched rest) wher
         let h = has_result rest e in
         let fits : Matched (h.reply ∷ h.earlier) =
         matched_before h.since (h.reply ∷ h.earlier) (subst Matched h.place part) in
-        let it = answers_it h.earlier h.reply.way h.reply.place h.reply.message h.answers in
+        let it = answers_it h.earlier h.reply.direction h.reply.place h.reply.message h.answers in
         let tail = asked_before ToServer it.id h.since h.reply h.earlier in
         let more = more_asked it.id in
         too h.earlier h.reply h.answers h.succeeds (matched_before (h.reply ∷ []) h.earlier fits) before
         (ns ++ sent ToClient h.since) whole
         (servers ∙ ap (λ zs. ns ++ zs) (ap (sent ToClient) h.place ∙ sent_append ToClient h.since (h.reply ∷ h.earlier)
-        ∙ ap (λ zs. sent ToClient h.since ++ zs) (sent_here ToClient h.reply h.earlier it.way))
+        ∙ ap (λ zs. sent ToClient h.since ++ zs) (sent_here ToClient h.reply h.earlier it.direction))
         ∙ sym (append_assoc ns (sent ToClient h.since) (h.reply ∷ sent ToClient h.earlier))) (
           tail.0 ++ more.0,
           [],
@@ -276,27 +290,32 @@ module _ (before rest : Log) (whole : Matched before) (part : Matched rest) wher
 
 -- ---- what was asked and replied, by what each side sent
 
-asked_from : (way : Direction) (id : Id) (one two : Log) (more : List Passed) → sent way two ≡ more ++ sent way one
-    → asked_in way id two ≡ asked_in way id one ++ asked_in way id more
-asked_from way id one two more e = asked_own way id two ∙ ap (asked_in way id) e
-    ∙ asked_append way id more (sent way one) ∙ ap (λ zs. zs ++ asked_in way id more) (sym (asked_own way id one))
+asked_from : (direction : Direction) (id : Id) (one two : Log) (more : List Passed) → sent direction two ≡ more
+    ++ sent direction one
+    → asked_in direction id two ≡ asked_in direction id one ++ asked_in direction id more
+asked_from direction id one two more e = asked_own direction id two ∙ ap (asked_in direction id) e
+    ∙ asked_append direction id more (sent direction one)
+    ∙ ap (λ zs. zs ++ asked_in direction id more) (sym (asked_own direction id one))
 
-replied_from : (way : Direction) (id : Id) (one two : Log) (more : List Passed)
-    → sent (other way) one ≡ more ++ sent (other way) two → replied_in way id two ≤ replied_in way id one
-replied_from way id one two more e = fewer _ _ _ _ (replied_own way id two)
-    (replied_own way id one ∙ ap (replied_in way id) e) (replied_append way id more (sent (other way) two))
+replied_from : (direction : Direction) (id : Id) (one two : Log) (more : List Passed)
+    → sent (other direction) one ≡ more ++ sent (other direction) two
+    → replied_in direction id two ≤ replied_in direction id one
+replied_from direction id one two more e = fewer _ _ _ _ (replied_own direction id two)
+    (replied_own direction id one ∙ ap (replied_in direction id) e)
+    (replied_append direction id more (sent (other direction) two))
   where
     fewer : (a b c d : ℕ) → a ≡ c → b ≡ d → c ≤ d → a ≤ b
     fewer a b c d e f g = omega (arith, e, f, g)
 
 -- a request that waits in one log cannot be missing in another one, in which as much or more was asked
-no_longer : (way : Direction) (id : Id) (one two : Log) → Matched one → Matched two → (more : List Open)
-    → asked_in way id two ≡ asked_in way id one ++ more → replied_in way id two ≤ replied_in way id one
-    → (o : Open) → waiting way id one ≡ Some o → waiting way id two ≡ None → ⊥
-no_longer way id one two first second more asks replies o is none =
-    first_any (queue way id two) (sym (waiting_is way id two) ∙ none)
-    (still_waits way id one two (λ o. true) first second more asks replies
-    (any_first (queue way id one) o (sym (waiting_is way id one) ∙ is)))
+no_longer : (direction : Direction) (id : Id) (one two : Log) → Matched one → Matched two → (more : List Open)
+    → asked_in direction id two ≡ asked_in direction id one ++ more
+    → replied_in direction id two ≤ replied_in direction id one
+    → (o : Open) → waiting direction id one ≡ Some o → waiting direction id two ≡ None → ⊥
+no_longer direction id one two first second more asks replies o is none =
+    first_any (queue direction id two) (sym (waiting_is direction id two) ∙ none)
+    (still_waits direction id one two (λ o. true) first second more asks replies
+    (any_first (queue direction id one) o (sym (waiting_is direction id one) ∙ is)))
 
 -- ---- findings
 
@@ -388,8 +407,8 @@ late_deed Closes version None e = cc
 late_deed Closes version (Some d) e = cc
 late_deed Changes version (Some d) e = late_version (is_not_higher version d.version) d.told e
 
-late_document : (before : Log) (way : Direction) (m : Message) → Late (document_finding before way m) → ⊥
-late_document before way m e = by (deed_in way m) e
+late_document : (before : Log) (direction : Direction) (m : Message) → Late (document_finding before direction m) → ⊥
+late_document before direction m e = by (deed_in direction m) e
   where
     at : (deed : Deed) (uri : Option (List ℕ)) → Late (option_and_then (λ uri.
         deed_finding deed (version_in (params_in m)) (document_of uri before)) uri) → ⊥
@@ -401,20 +420,22 @@ late_document before way m e = by (deed_in way m) e
     by None e = cc
     by (Some deed) e = at deed (uri_in (params_in m)) e
 
-late_created : (b : Bool) (way : Direction) (token : Option Token) → Late (cond b None (created_finding way token)) → ⊥
-late_created true way token e = cc
+late_created : (b : Bool) (direction : Direction) (token : Option Token)
+    → Late (cond b None (created_finding direction token)) → ⊥
+late_created true direction token e = cc
 late_created false ToServer token e = cc
 late_created false ToClient None e = cc
 late_created false ToClient (Some Live) e = cc
 late_created false ToClient (Some (Ended place)) e = cc
 
-late_progress : (before : Log) (way : Direction) (m : Message) → Late (progress_finding before way m) → ⊥
-late_progress before way m e = by (progress_token m) e
+late_progress : (before : Log) (direction : Direction) (m : Message) → Late (progress_finding before direction m) → ⊥
+late_progress before direction m e = by (progress_token m) e
   where
     by : (name : Option Id) → Late (option_and_then (λ name.
-        token_finding (open_of before) (token_of name before) way name) name) → ⊥
+        token_finding (open_of before) (token_of name before) direction name) name) → ⊥
     by None e = cc
-    by (Some name) e = late_created (list_any (gives way name) (open_of before)) way (token_of name before) e
+    by (Some name) e = late_created (list_any (gives direction name) (open_of before)) direction (token_of name before)
+        e
 
 or_end : (a : Bool) → (a || false) ≡ true → a ≡ true
 or_end true e = refl
@@ -438,18 +459,20 @@ late_one : (a b c : Option Finding)
 late_one None b c e = inr (late_two b c e)
 late_one (Some a) b c e = ⊎_elim (λ at. inl at) (λ at. inr (late_two b c at)) (or_cases (is_late a) _ e)
 
-late_session : (before : Log) (way : Direction) (m : Message) → list_any is_late (findings_of before way m) ≡ true
-    → Late (session_finding before way m)
-late_session before way m e = ⊎_elim (λ at. at)
-    (λ more. absurd (⊎_elim (late_document before way m) (late_progress before way m) more))
-    (late_one (session_finding before way m) (document_finding before way m) (progress_finding before way m) e)
+late_session : (before : Log) (direction : Direction) (m : Message) → list_any is_late (findings_of before direction m)
+    ≡ true
+    → Late (session_finding before direction m)
+late_session before direction m e = ⊎_elim (λ at. at)
+    (λ more. absurd (⊎_elim (late_document before direction m) (late_progress before direction m) more))
+    (late_one (session_finding before direction m) (document_finding before direction m)
+    (progress_finding before direction m) e)
 
 -- ---- one message
 
-opens_client : (o : Open) → opens_session o ≡ true → from_client o.way ≡ true
-opens_client o e = (both (from_client o.way) _ e).0
+opens_client : (o : Open) → opens_session o ≡ true → from_client o.direction ≡ true
+opens_client o e = (both (from_client o.direction) _ e).0
 
-under_client : (name : Id) (o : Open) → opens_under name o ≡ true → from_client o.way ≡ true
+under_client : (name : Id) (o : Open) → opens_under name o ≡ true → from_client o.direction ≡ true
 under_client name o e = opens_client o (both (opens_session o) _ e).0
 
 module _ (before rest : Log) (whole : Matched before) (part : Matched rest) (newer : List Passed) where
@@ -484,11 +507,11 @@ module _ (before rest : Log) (whole : Matched before) (part : Matched rest) (new
           earlier_fits = matched_before (h.reply ∷ []) h.earlier fits
 
           it : AnswersIt h.earlier h.reply
-          it = answers_it h.earlier h.reply.way h.reply.place h.reply.message h.answers
+          it = answers_it h.earlier h.reply.direction h.reply.place h.reply.message h.answers
 
           stands : sent ToClient before ≡ sent ToClient h.since ++ h.reply ∷ sent ToClient h.earlier
           stands = ap (sent ToClient) h.place ∙ sent_append ToClient h.since (h.reply ∷ h.earlier)
-              ∙ ap (λ zs. sent ToClient h.since ++ zs) (sent_here ToClient h.reply h.earlier it.way)
+              ∙ ap (λ zs. sent ToClient h.since ++ zs) (sent_here ToClient h.reply h.earlier it.direction)
 
           all : (id : Id) → (more : List Open) × (asked_in ToServer id rest ≡ asked_in ToServer id h.earlier ++ more)
           all id = let tail = asked_before ToServer id h.since h.reply h.earlier in (
@@ -606,29 +629,32 @@ module _ (before rest : Log) (whole : Matched before) (part : Matched rest) (new
           (asked_from ToServer i rest before newer others)
           (replied_from ToServer i rest before [] own) asked.0 asked.1 (late_reply (waiting ToServer i before) e)
 
-one_message : (way : Direction) (m : Message) (before rest : Log) → Matched before → Matched rest
+one_message : (direction : Direction) (m : Message) (before rest : Log) → Matched before → Matched rest
     → (newer : List Passed)
-    → sent way rest ≡ sent way before → sent (other way) before ≡ newer ++ sent (other way) rest
-    → Late (session_finding before way m) → session_finding rest way m ≡ None → ⊥
+    → sent direction rest ≡ sent direction before → sent (other direction) before ≡ newer ++ sent (other direction) rest
+    → Late (session_finding before direction m) → session_finding rest direction m ≡ None → ⊥
 one_message ToServer m before rest whole part newer own others = of_client before rest whole part newer own others m
 one_message ToClient m before rest whole part newer own others =
     of_server_side before rest whole part newer own others m
 
 -- ---- whole logs
 
-by_way : (log order : Log) → AreOrders log order → (way : Direction) → sent way log ≡ sent way order
-by_way log order orders ToServer = orders.client
-by_way log order orders ToClient = orders.server
+by_direction : (log order : Log) → AreOrders log order → (direction : Direction) → sent direction log
+    ≡ sent direction order
+by_direction log order orders ToServer = orders.client
+by_direction log order orders ToClient = orders.server
 
-not_other : (way : Direction) → same_way (other way) way ≡ false
+not_other : (direction : Direction) → same_direction (other direction) direction ≡ false
 not_other ToServer = refl
 not_other ToClient = refl
 
 sent_past : (p : Passed) (since earlier : Log)
-    → sent (other p.way) (since ++ p ∷ earlier) ≡ sent (other p.way) since ++ sent (other p.way) earlier
-sent_past p since earlier = sent_append (other p.way) since (p ∷ earlier)
-    ∙ ap (λ b. sent (other p.way) since ++ cond b (p ∷ sent (other p.way) earlier) (sent (other p.way) earlier))
-    (not_other p.way)
+    → sent (other p.direction) (since ++ p ∷ earlier) ≡ sent (other p.direction) since
+    ++ sent (other p.direction) earlier
+sent_past p since earlier = sent_append (other p.direction) since (p ∷ earlier)
+    ∙ ap (λ b. sent (other p.direction) since
+    ++ cond b (p ∷ sent (other p.direction) earlier) (sent (other p.direction) earlier))
+    (not_other p.direction)
 
 no_first : (a : Option Finding) (more : List Finding) → list_any any_finding (option_to_list a ++ more) ≡ false
     → a ≡ None
@@ -638,31 +664,31 @@ no_first (Some a) more e = cc
 clean_end : (since earlier : Log) → breaks any_finding (since ++ earlier) ≡ false → breaks any_finding earlier ≡ false
 clean_end [] earlier e = e
 clean_end (p ∷ since) earlier e = clean_end since earlier
-    (or_parts (list_any any_finding (findings_of (since ++ earlier) p.way p.message)) _ e).1
+    (or_parts (list_any any_finding (findings_of (since ++ earlier) p.direction p.message)) _ e).1
 
 pub late_in_each_order : (after before order : Log) (p : Passed) → IsBehindAll after p before
-    → AreOrders (after ++ p ∷ before) order → list_any is_late (findings_of before p.way p.message) ≡ true
+    → AreOrders (after ++ p ∷ before) order → list_any is_late (findings_of before p.direction p.message) ≡ true
     → breaks any_finding order ≡ true
 late_in_each_order after before order p last orders e = by (breaks any_finding order) refl
   where
-    at : Found p.way order (sent p.way before) p
-    at = find_place p.way order (sent p.way after) (sent p.way before) p
-        (sym (by_way (after ++ p ∷ before) order orders p.way) ∙ sent_append p.way after (p ∷ before)
-        ∙ ap (λ zs. sent p.way after ++ zs) (sent_here p.way p before refl))
+    at : Found p.direction order (sent p.direction before) p
+    at = find_place p.direction order (sent p.direction after) (sent p.direction before) p
+        (sym (by_direction (after ++ p ∷ before) order orders p.direction) ∙ sent_append p.direction after (p ∷ before)
+        ∙ ap (λ zs. sent p.direction after ++ zs) (sent_here p.direction p before refl))
 
-    others : sent (other p.way) before ≡ sent (other p.way) at.since ++ sent (other p.way) at.earlier
-    others = ap (λ zs. zs ++ sent (other p.way) before) (sym last.last) ∙ sym (sent_past p after before)
-        ∙ by_way (after ++ p ∷ before) order orders (other p.way) ∙ ap (sent (other p.way)) at.place
+    others : sent (other p.direction) before ≡ sent (other p.direction) at.since ++ sent (other p.direction) at.earlier
+    others = ap (λ zs. zs ++ sent (other p.direction) before) (sym last.last) ∙ sym (sent_past p after before)
+        ∙ by_direction (after ++ p ∷ before) order orders (other p.direction) ∙ ap (sent (other p.direction)) at.place
         ∙ sent_past p at.since at.earlier
 
     none : breaks any_finding order ≡ false → ⊥
     none clean =
         let rest = clean_end at.since (p ∷ at.earlier) (subst (λ l. breaks any_finding l ≡ false) at.place clean) in
-        let parts = or_parts (list_any any_finding (findings_of at.earlier p.way p.message)) _ rest in
-        one_message p.way p.message before at.earlier last.matched
-        (breaks_less is_unasked at.earlier parts.1) (sent (other p.way) at.since) at.behind others
-        (late_session before p.way p.message e)
-        (no_first (session_finding at.earlier p.way p.message) _ parts.0)
+        let parts = or_parts (list_any any_finding (findings_of at.earlier p.direction p.message)) _ rest in
+        one_message p.direction p.message before at.earlier last.matched
+        (breaks_less is_unasked at.earlier parts.1) (sent (other p.direction) at.since) at.behind others
+        (late_session before p.direction p.message e)
+        (no_first (session_finding at.earlier p.direction p.message) _ parts.0)
 
     by : (b : Bool) → breaks any_finding order ≡ b → breaks any_finding order ≡ true
     by true is = is
@@ -670,12 +696,13 @@ late_in_each_order after before order p last orders e = by (breaks any_finding o
 
 -- the same requests are left without a reply
 pub same_left : (log order : Log) → AreOrders log order → Matched log → breaks any_finding order ≡ false
-    → (way : Direction) (id : Id) → queue way id log ≡ queue way id order
-same_left log order orders fits clean way id =
-    let a = kept way id log fits in
-    let b = kept way id order (breaks_less is_unasked order clean) in
-    same_end a.done b.done (queue way id log) (queue way id order)
-    (sym a.is ∙ asked_own way id log ∙ ap (asked_in way id) (by_way log order orders way)
-    ∙ sym (asked_own way id order) ∙ b.is)
-    (a.count ∙ replied_own way id log ∙ ap (replied_in way id) (by_way log order orders (other way))
-    ∙ sym (replied_own way id order) ∙ sym b.count)
+    → (direction : Direction) (id : Id) → queue direction id log ≡ queue direction id order
+same_left log order orders fits clean direction id =
+    let a = kept direction id log fits in
+    let b = kept direction id order (breaks_less is_unasked order clean) in
+    same_end a.done b.done (queue direction id log) (queue direction id order)
+    (sym a.is ∙ asked_own direction id log ∙ ap (asked_in direction id) (by_direction log order orders direction)
+    ∙ sym (asked_own direction id order) ∙ b.is)
+    (a.count ∙ replied_own direction id log
+    ∙ ap (replied_in direction id) (by_direction log order orders (other direction))
+    ∙ sym (replied_own direction id order) ∙ sym b.count)

@@ -9,8 +9,8 @@ use Rattle.lsp_message.specs.Id.{Id, same_id}
 use Rattle.lsp_message.specs.Message.{Message, request, notification, response}
 use Rattle.lsp_watch.proofs.CleanReplies.{one_waits, never}
 use Rattle.lsp_watch.proofs.Queues.{first, rest, queue, waiting_is, queue_request, queue_notification, queue_reply}
-use Rattle.lsp_watch.proofs.Queues.{other_ways}
-use Rattle.lsp_watch.specs.Log.{Log, Passed, Open, Finding, passed, other, same_way, is_reply, reply_id, waiting}
+use Rattle.lsp_watch.proofs.Queues.{other_directions}
+use Rattle.lsp_watch.specs.Log.{Log, Passed, Open, Finding, passed, other, same_direction, is_reply, reply_id, waiting}
 use Rattle.lsp_watch.specs.Log.{request_of}
 use Rattle.lsp_watch.specs.Orders.{sent, is_unasked, any_finding, breaks}
 use Rattle.lsp_watch.specs.Rules.{reply_finding, id_finding}
@@ -34,7 +34,7 @@ Matched log = breaks is_unasked log ≡ false
 pub matched_before : (later before : Log) → Matched (later ++ before) → Matched before
 matched_before [] before e = e
 matched_before (p ∷ later) before e = matched_before later before
-    ((or_parts (list_any is_unasked (findings_of (later ++ before) p.way p.message)) _ e).1)
+    ((or_parts (list_any is_unasked (findings_of (later ++ before) p.direction p.message)) _ e).1)
 
 -- a log in which nothing breaks a rule
 module _ (such : Finding → Bool) where
@@ -49,35 +49,38 @@ module _ (such : Finding → Bool) where
   pub breaks_less : (log : Log) → breaks any_finding log ≡ false → breaks such log ≡ false
   breaks_less [] e = refl
   breaks_less (p ∷ before) e =
-      let parts = or_parts (list_any any_finding (findings_of before p.way p.message)) (breaks any_finding before) e in
-      none_such _ _ (less (findings_of before p.way p.message) parts.0) (breaks_less before parts.1)
+      let parts = or_parts (list_any any_finding (findings_of before p.direction p.message)) (breaks any_finding before)
+      e in
+      none_such _ _ (less (findings_of before p.direction p.message) parts.0) (breaks_less before parts.1)
 
 -- ---- what one side sent
 
-pub sent_append : (way : Direction) (xs ys : Log) → sent way (xs ++ ys) ≡ sent way xs ++ sent way ys
-sent_append way [] ys = refl
-sent_append way (p ∷ xs) ys = by (same_way way p.way) (sent_append way xs ys)
+pub sent_append : (direction : Direction) (xs ys : Log) → sent direction (xs ++ ys) ≡ sent direction xs
+    ++ sent direction ys
+sent_append direction [] ys = refl
+sent_append direction (p ∷ xs) ys = by (same_direction direction p.direction) (sent_append direction xs ys)
   where
-    by : (b : Bool) → sent way (xs ++ ys) ≡ sent way xs ++ sent way ys
-        → cond b (p ∷ sent way (xs ++ ys)) (sent way (xs ++ ys)) ≡ cond b (p ∷ sent way xs) (sent way xs) ++ sent way ys
+    by : (b : Bool) → sent direction (xs ++ ys) ≡ sent direction xs ++ sent direction ys
+        → cond b (p ∷ sent direction (xs ++ ys)) (sent direction (xs ++ ys))
+        ≡ cond b (p ∷ sent direction xs) (sent direction xs) ++ sent direction ys
     by true e = ap (λ zs. p ∷ zs) e
     by false e = e
 
--- a place of a log where a message of this way stands, after these of its side
-pub record Found (way : Direction) (log : Log) (c : List Passed) (p : Passed) : Type 0 where
+-- a place of a log where a message of this direction stands, after these of its side
+pub record Found (direction : Direction) (log : Log) (c : List Passed) (p : Passed) : Type 0 where
   pub since : Log
   pub earlier : Log
   pub place : log ≡ since ++ p ∷ earlier
-  pub behind : sent way earlier ≡ c
+  pub behind : sent direction earlier ≡ c
 
-pub find_place : (way : Direction) (log : Log) (later c : List Passed) (p : Passed)
-    → sent way log ≡ later ++ p ∷ c → Found way log c p
-find_place way [] [] c p e = cc
-find_place way [] (q ∷ later) c p e = cc
-find_place way (q ∷ before) later c p e = by (same_way way q.way) later e
-    (λ l f. find_place way before l c p f)
+pub find_place : (direction : Direction) (log : Log) (later c : List Passed) (p : Passed)
+    → sent direction log ≡ later ++ p ∷ c → Found direction log c p
+find_place direction [] [] c p e = cc
+find_place direction [] (q ∷ later) c p e = cc
+find_place direction (q ∷ before) later c p e = by (same_direction direction q.direction) later e
+    (λ l f. find_place direction before l c p f)
   where
-    more : Found way before c p → Found way (q ∷ before) c p
+    more : Found direction before c p → Found direction (q ∷ before) c p
     more f = record {
       since = q ∷ f.since;
       earlier = f.earlier;
@@ -85,7 +88,7 @@ find_place way (q ∷ before) later c p e = by (same_way way q.way) later e
       behind = f.behind;
     }
 
-    here : q ≡ p → sent way before ≡ c → Found way (q ∷ before) c p
+    here : q ≡ p → sent direction before ≡ c → Found direction (q ∷ before) c p
     here is behind = record {
       since = [];
       earlier = before;
@@ -93,42 +96,43 @@ find_place way (q ∷ before) later c p e = by (same_way way q.way) later e
       behind = behind;
     }
 
-    by : (b : Bool) (later : List Passed) → cond b (q ∷ sent way before) (sent way before) ≡ later ++ p ∷ c
-        → ((l : List Passed) → sent way before ≡ l ++ p ∷ c → Found way before c p) → Found way (q ∷ before) c p
+    by : (b : Bool) (later : List Passed) → cond b (q ∷ sent direction before) (sent direction before) ≡ later ++ p ∷ c
+        → ((l : List Passed) → sent direction before ≡ l ++ p ∷ c → Found direction before c p)
+        → Found direction (q ∷ before) c p
     by true [] e step =
         let same : q ≡ p = cc in
-        let behind : sent way before ≡ c = cc in
+        let behind : sent direction before ≡ c = cc in
         here same behind
-    by true (r ∷ later) e step = let tail : sent way before ≡ later ++ p ∷ c = cc in more (step later tail)
+    by true (r ∷ later) e step = let tail : sent direction before ≡ later ++ p ∷ c = cc in more (step later tail)
     by false later e step = more (step later e)
 
--- ---- requests and replies of one way and id
+-- ---- requests and replies of one direction and id
 
-module _ (way : Direction) (id : Id) where
+module _ (direction : Direction) (id : Id) where
   abbrev asked_by : Direction → ℕ → Message → List Open
   asked_by went place (request i method params) =
-      cond (same_way way went && same_id id i) (request_of went place i method params ∷ []) []
+      cond (same_direction direction went && same_id id i) (request_of went place i method params ∷ []) []
   asked_by went place (notification method params) = []
   asked_by went place (response i outcome) = []
 
   -- the requests, the first first
   abbrev pub asked_in : Log → List Open
   asked_in [] = []
-  asked_in (p ∷ before) = asked_in before ++ asked_by p.way p.place p.message
+  asked_in (p ∷ before) = asked_in before ++ asked_by p.direction p.place p.message
 
   -- how many replies
   abbrev pub replied_in : Log → ℕ
   replied_in [] = 0
-  replied_in (p ∷ before) = cond (is_reply way id p) (suc (replied_in before)) (replied_in before)
+  replied_in (p ∷ before) = cond (is_reply direction id p) (suc (replied_in before)) (replied_in before)
 
   pub asked_append : (xs ys : Log) → asked_in (xs ++ ys) ≡ asked_in ys ++ asked_in xs
   asked_append [] ys = sym (append-nil (asked_in ys))
-  asked_append (p ∷ xs) ys = ap (λ zs. zs ++ asked_by p.way p.place p.message) (asked_append xs ys)
-      ∙ append_assoc (asked_in ys) (asked_in xs) (asked_by p.way p.place p.message)
+  asked_append (p ∷ xs) ys = ap (λ zs. zs ++ asked_by p.direction p.place p.message) (asked_append xs ys)
+      ∙ append_assoc (asked_in ys) (asked_in xs) (asked_by p.direction p.place p.message)
 
   pub replied_append : (xs ys : Log) → replied_in ys ≤ replied_in (xs ++ ys)
   replied_append [] ys = omega arith
-  replied_append (p ∷ xs) ys = by (is_reply way id p) (replied_append xs ys)
+  replied_append (p ∷ xs) ys = by (is_reply direction id p) (replied_append xs ys)
     where
       by : (b : Bool) → replied_in ys ≤ replied_in (xs ++ ys)
           → replied_in ys ≤ cond b (suc (replied_in (xs ++ ys))) (replied_in (xs ++ ys))
@@ -136,49 +140,51 @@ module _ (way : Direction) (id : Id) where
       by false e = e
 
   -- only its own side asks, and only the other side replies
-  nothing_asked : (went : Direction) (place : ℕ) (m : Message) → same_way way went ≡ false
+  nothing_asked : (went : Direction) (place : ℕ) (m : Message) → same_direction direction went ≡ false
       → asked_by went place m ≡ []
   nothing_asked went place (request i method params) e =
       ap (λ b. cond (b && same_id id i) (request_of went place i method params ∷ []) []) e
   nothing_asked went place (notification method params) e = refl
   nothing_asked went place (response i outcome) e = refl
 
-  pub asked_own : (log : Log) → asked_in log ≡ asked_in (sent way log)
+  pub asked_own : (log : Log) → asked_in log ≡ asked_in (sent direction log)
   asked_own [] = refl
-  asked_own (p ∷ before) = by (same_way way p.way) refl (asked_own before)
+  asked_own (p ∷ before) = by (same_direction direction p.direction) refl (asked_own before)
     where
-      by : (b : Bool) → same_way way p.way ≡ b → asked_in before ≡ asked_in (sent way before)
-          → asked_in before ++ asked_by p.way p.place p.message
-          ≡ asked_in (cond b (p ∷ sent way before) (sent way before))
-      by true is e = ap (λ zs. zs ++ asked_by p.way p.place p.message) e
-      by false is e = ap (λ zs. asked_in before ++ zs) (nothing_asked p.way p.place p.message is)
+      by : (b : Bool) → same_direction direction p.direction ≡ b → asked_in before ≡ asked_in (sent direction before)
+          → asked_in before ++ asked_by p.direction p.place p.message
+          ≡ asked_in (cond b (p ∷ sent direction before) (sent direction before))
+      by true is e = ap (λ zs. zs ++ asked_by p.direction p.place p.message) e
+      by false is e = ap (λ zs. asked_in before ++ zs) (nothing_asked p.direction p.place p.message is)
           ∙ append-nil (asked_in before) ∙ e
 
-  pub replied_own : (log : Log) → replied_in log ≡ replied_in (sent (other way) log)
+  pub replied_own : (log : Log) → replied_in log ≡ replied_in (sent (other direction) log)
   replied_own [] = refl
-  replied_own (p ∷ before) = by (same_way (other way) p.way) refl (replied_own before)
+  replied_own (p ∷ before) = by (same_direction (other direction) p.direction) refl (replied_own before)
     where
-      by : (b : Bool) → same_way (other way) p.way ≡ b → replied_in before ≡ replied_in (sent (other way) before)
-          → replied_in (p ∷ before) ≡ replied_in (cond b (p ∷ sent (other way) before) (sent (other way) before))
-      by true is e = ap (λ n. cond (is_reply way id p) (suc n) n) e
+      by : (b : Bool) → same_direction (other direction) p.direction ≡ b → replied_in before
+          ≡ replied_in (sent (other direction) before)
+          → replied_in (p ∷ before) ≡ replied_in
+          (cond b (p ∷ sent (other direction) before) (sent (other direction) before))
+      by true is e = ap (λ n. cond (is_reply direction id p) (suc n) n) e
       by false is e = no_reply is ∙ e
         where
-          no_reply : same_way (other way) p.way ≡ false → replied_in (p ∷ before) ≡ replied_in before
+          no_reply : same_direction (other direction) p.direction ≡ false → replied_in (p ∷ before) ≡ replied_in before
           no_reply is = search (is)
 
   pub asked_before : (since : Log) (p : Passed) (earlier : Log)
       → (more : List Open) × (asked_in (since ++ p ∷ earlier) ≡ asked_in earlier ++ more)
   asked_before since p earlier = (
-    asked_by p.way p.place p.message ++ asked_in since,
+    asked_by p.direction p.place p.message ++ asked_in since,
     asked_append since (p ∷ earlier)
-        ∙ append_assoc (asked_in earlier) (asked_by p.way p.place p.message) (asked_in since),
+        ∙ append_assoc (asked_in earlier) (asked_by p.direction p.place p.message) (asked_in since),
   )
 
   -- ---- what waits
 
   pub record Kept (log : Log) : Type 0 where
     pub done : List Open
-    pub is : asked_in log ≡ done ++ queue way id log
+    pub is : asked_in log ≡ done ++ queue direction id log
     pub count : length done ≡ replied_in log
 
   asked_none : (o : Option Open) (more : List Finding)
@@ -194,24 +200,25 @@ module _ (way : Direction) (id : Id) where
   -- a message that is no reply to such a request
   put_on : (went : Direction) (place : ℕ) (m : Message) (before : Log) (new : List Open)
       → replied_in (passed went place m ∷ before) ≡ replied_in before → asked_by went place m ≡ new
-      → queue way id (passed went place m ∷ before) ≡ queue way id before ++ new → Kept before
+      → queue direction id (passed went place m ∷ before) ≡ queue direction id before ++ new → Kept before
       → Kept (passed went place m ∷ before)
   put_on went place m before new none asks waits kept = record {
     done = kept.done;
-    is = ap (λ zs. zs ++ asked_by went place m) kept.is ∙ append_assoc kept.done (queue way id before) _
-        ∙ ap (λ zs. kept.done ++ zs) (ap (λ zs. queue way id before ++ zs) asks ∙ sym waits);
+    is = ap (λ zs. zs ++ asked_by went place m) kept.is ∙ append_assoc kept.done (queue direction id before) _
+        ∙ ap (λ zs. kept.done ++ zs) (ap (λ zs. queue direction id before ++ zs) asks ∙ sym waits);
     count = kept.count ∙ sym none;
   }
 
   take_off : (went : Direction) (place : ℕ) (i : Id) (outcome : _) (before : Log) (o : Open)
-      → is_reply way id (passed went place (response i outcome)) ≡ true
-      → queue way id before ≡ o ∷ rest (queue way id before)
-      → queue way id (passed went place (response i outcome) ∷ before) ≡ rest (queue way id before) → Kept before
+      → is_reply direction id (passed went place (response i outcome)) ≡ true
+      → queue direction id before ≡ o ∷ rest (queue direction id before)
+      → queue direction id (passed went place (response i outcome) ∷ before) ≡ rest (queue direction id before)
+      → Kept before
       → Kept (passed went place (response i outcome) ∷ before)
   take_off went place i outcome before o replies waits left kept = record {
     done = kept.done ++ o ∷ [];
     is = append-nil (asked_in before) ∙ kept.is ∙ ap (λ zs. kept.done ++ zs) waits
-        ∙ sym (append_assoc kept.done (o ∷ []) (rest (queue way id before)))
+        ∙ sym (append_assoc kept.done (o ∷ []) (rest (queue direction id before)))
         ∙ ap (λ zs. (kept.done ++ o ∷ []) ++ zs) (sym left);
     count = length-append kept.done (o ∷ []) ∙ more kept.count
         ∙ ap (λ b. cond b (suc (replied_in before)) (replied_in before)) (sym replies);
@@ -225,50 +232,57 @@ module _ (way : Direction) (id : Id) where
       → list_any is_unasked (findings_of before went m) ≡ false → Kept before → Kept (passed went place m ∷ before)
   step went place (request i method params) before fits kept =
       put_on went place (request i method params) before
-      (cond (same_way way went && same_id id i) (request_of went place i method params ∷ []) [])
-      (ap (λ b. cond b (suc (replied_in before)) (replied_in before)) (never (same_way (other way) went))) refl
-      (queue_request way id went place before i method params) kept
+      (cond (same_direction direction went && same_id id i) (request_of went place i method params ∷ []) [])
+      (ap (λ b. cond b (suc (replied_in before)) (replied_in before)) (never (same_direction (other direction) went)))
+      refl
+      (queue_request direction id went place before i method params) kept
   step went place (notification method params) before fits kept =
       put_on went place (notification method params) before []
-      (ap (λ b. cond b (suc (replied_in before)) (replied_in before)) (never (same_way (other way) went))) refl
-      (queue_notification way id went place before method params ∙ sym (append-nil (queue way id before))) kept
-  step went place (response i outcome) before fits kept = by (same_way (other way) went && same_id id i) refl
+      (ap (λ b. cond b (suc (replied_in before)) (replied_in before)) (never (same_direction (other direction) went)))
+      refl
+      (queue_notification direction id went place before method params ∙ sym (append-nil (queue direction id before)))
+      kept
+  step went place (response i outcome) before fits kept = by (same_direction (other direction) went && same_id id i)
+      refl
     where
-      left : (b : Bool) → (same_way (other way) went && same_id id i) ≡ b
-          → queue way id (passed went place (response i outcome) ∷ before)
-          ≡ cond b (rest (queue way id before)) (queue way id before)
-      left b is = queue_reply way id went place before i outcome
-          ∙ ap (λ b. cond (b && same_id id i) (rest (queue way id before)) (queue way id before)) (other_ways way went)
-          ∙ ap (λ b. cond b (rest (queue way id before)) (queue way id before)) is
+      left : (b : Bool) → (same_direction (other direction) went && same_id id i) ≡ b
+          → queue direction id (passed went place (response i outcome) ∷ before)
+          ≡ cond b (rest (queue direction id before)) (queue direction id before)
+      left b is = queue_reply direction id went place before i outcome
+          ∙ ap (λ b. cond (b && same_id id i) (rest (queue direction id before)) (queue direction id before))
+          (other_directions direction went)
+          ∙ ap (λ b. cond b (rest (queue direction id before)) (queue direction id before)) is
 
-      by : (b : Bool) → (same_way (other way) went && same_id id i) ≡ b
+      by : (b : Bool) → (same_direction (other direction) went && same_id id i) ≡ b
           → Kept (passed went place (response i outcome) ∷ before)
       by true is =
-          let found = one_waits before way id went place (response i outcome) is
+          let found = one_waits before direction id went place (response i outcome) is
           (asked_none (waiting (other went) i before) _ fits) in
           take_off went place i outcome before found.0 is
-          (some_first (queue way id before) found.0 (sym (waiting_is way id before) ∙ found.1)) (left true is) kept
+          (some_first (queue direction id before) found.0 (sym (waiting_is direction id before) ∙ found.1))
+          (left true is) kept
       by false is = put_on went place (response i outcome) before []
           (ap (λ b. cond b (suc (replied_in before)) (replied_in before)) is) refl
-          (left false is ∙ sym (append-nil (queue way id before))) kept
+          (left false is ∙ sym (append-nil (queue direction id before))) kept
 
   pub kept : (log : Log) → Matched log → Kept log
   kept [] e = record { done = []; is = refl; count = refl }
   kept (p ∷ before) e =
-      let parts = or_parts (list_any is_unasked (findings_of before p.way p.message)) (breaks is_unasked before) e in
-      step p.way p.place p.message before parts.0 (kept before parts.1)
+      let parts = or_parts (list_any is_unasked (findings_of before p.direction p.message)) (breaks is_unasked before) e
+      in
+      step p.direction p.place p.message before parts.0 (kept before parts.1)
 
 -- a reply fits where each reply has its request
 pub reply_fits : (before : Log) (p : Passed) (id : Id) → reply_id p.message ≡ Some id → Matched (p ∷ before)
-    → id_finding before p.way p.message ≡ None
-reply_fits before p id names e = by p.way p.message names
-    (or_parts (list_any is_unasked (findings_of before p.way p.message)) (breaks is_unasked before) e).0
+    → id_finding before p.direction p.message ≡ None
+reply_fits before p id names e = by p.direction p.message names
+    (or_parts (list_any is_unasked (findings_of before p.direction p.message)) (breaks is_unasked before) e).0
   where
-    by : (way : Direction) (m : Message) → reply_id m ≡ Some id
-        → list_any is_unasked (findings_of before way m) ≡ false → id_finding before way m ≡ None
-    by way (request i method params) names e = cc
-    by way (notification method params) names e = cc
-    by way (response i outcome) names e = asked_none way i (waiting (other way) i before) _ e
+    by : (direction : Direction) (m : Message) → reply_id m ≡ Some id
+        → list_any is_unasked (findings_of before direction m) ≡ false → id_finding before direction m ≡ None
+    by direction (request i method params) names e = cc
+    by direction (notification method params) names e = cc
+    by direction (response i outcome) names e = asked_none direction i (waiting (other direction) i before) _ e
 
 -- ---- two logs
 
@@ -320,16 +334,16 @@ module _ {A : Type 0} (such : A → Bool) where
 
 -- A request that waits in one log waits in another one, in which as much or more was asked, and as much or less
 -- replied.
-pub still_waits : (way : Direction) (id : Id) (one two : Log) (such : Open → Bool) → Matched one → Matched two
-    → (more : List Open) → asked_in way id two ≡ asked_in way id one ++ more
-    → replied_in way id two ≤ replied_in way id one
-    → list_any such (queue way id one) ≡ true → list_any such (queue way id two) ≡ true
-still_waits way id one two such first second more asks replies is =
-    let a = kept way id one first in
-    let b = kept way id two second in
-    later_has such b.done a.done (queue way id two) (queue way id one ++ more)
-    (sym b.is ∙ asks ∙ ap (λ zs. zs ++ more) a.is ∙ append_assoc a.done (queue way id one) more)
-    (shorter (length b.done) (length a.done) b.count a.count) (any_left such (queue way id one) more is)
+pub still_waits : (direction : Direction) (id : Id) (one two : Log) (such : Open → Bool) → Matched one → Matched two
+    → (more : List Open) → asked_in direction id two ≡ asked_in direction id one ++ more
+    → replied_in direction id two ≤ replied_in direction id one
+    → list_any such (queue direction id one) ≡ true → list_any such (queue direction id two) ≡ true
+still_waits direction id one two such first second more asks replies is =
+    let a = kept direction id one first in
+    let b = kept direction id two second in
+    later_has such b.done a.done (queue direction id two) (queue direction id one ++ more)
+    (sym b.is ∙ asks ∙ ap (λ zs. zs ++ more) a.is ∙ append_assoc a.done (queue direction id one) more)
+    (shorter (length b.done) (length a.done) b.count a.count) (any_left such (queue direction id one) more is)
   where
-    shorter : (m n : ℕ) → m ≡ replied_in way id two → n ≡ replied_in way id one → m ≤ n
+    shorter : (m n : ℕ) → m ≡ replied_in direction id two → n ≡ replied_in direction id one → m ≤ n
     shorter m n e f = omega (arith, replies)

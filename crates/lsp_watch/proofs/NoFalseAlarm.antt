@@ -6,10 +6,21 @@ use Rattle.std.specs.Prelude.{find, option_and_then}
 use Rattle.lsp_message.proofs.Ids.{same_own, same_is}
 use Rattle.lsp_message.specs.Id.{Id, same_id}
 use Rattle.lsp_message.specs.Message.{Message, request, notification, response}
-use Rattle.lsp_watch.proofs.Queues.{same_way_is, both}
+use Rattle.lsp_watch.proofs.Queues.{same_direction_is, both}
 use Rattle.lsp_watch.specs.CleanLog.{AtEach}
 use Rattle.lsp_watch.specs.Lawful.{IsGiven, IsAccepted, MayTell, MayPass, IsLawful, BreaksNone, without, with}
-use Rattle.lsp_watch.specs.Log.{Log, Passed, Open, Finding, passed, other, same_way, is_for, request_of, without_first}
+use Rattle.lsp_watch.specs.Log.{
+  Log,
+  Passed,
+  Open,
+  Finding,
+  passed,
+  other,
+  same_direction,
+  is_for,
+  request_of,
+  without_first,
+}
 use Rattle.lsp_watch.specs.Log.{open_of, progress_token, is_success}
 use Rattle.lsp_watch.specs.Progress.{gives, token_finding, created_finding, progress_finding, token_of}
 use Rattle.lsp_watch.specs.Progress.{after_end, after_accept, once_ended, ended_by}
@@ -71,63 +82,68 @@ module _ {A : Type 0} (p : A → Bool) where
 
 abbrev Distinct : List Open → Type 0
 Distinct [] = Unit {0}
-Distinct (x ∷ xs) = AllNot (is_for x.way x.id) xs × Distinct xs
+Distinct (x ∷ xs) = AllNot (is_for x.direction x.id) xs × Distinct xs
 
 -- if one of these has the id, the other has not
-not_both : (way : Direction) (id : Id) (x o : Open) → is_for way id o ≡ true → is_for x.way x.id o ≡ false
-    → is_for way id x ≡ false
-not_both way id x o is other = by (is_for way id x) refl
+not_both : (direction : Direction) (id : Id) (x o : Open) → is_for direction id o ≡ true → is_for x.direction x.id o
+    ≡ false
+    → is_for direction id x ≡ false
+not_both direction id x o is other = by (is_for direction id x) refl
   where
-    by : (b : Bool) → is_for way id x ≡ b → is_for way id x ≡ false
+    by : (b : Bool) → is_for direction id x ≡ b → is_for direction id x ≡ false
     by false e = e
     by true e =
-        let parts = both (same_way way x.way) (same_id id x.id) e in
-        let same : is_for x.way x.id o ≡ is_for way id o =
-        ap (λ w. is_for w x.id o) (same_way_is way x.way parts.0)
-        ∙ ap (λ k. is_for way k o) (sym (same_is id x.id parts.1)) in
+        let parts = both (same_direction direction x.direction) (same_id id x.id) e in
+        let same : is_for x.direction x.id o ≡ is_for direction id o =
+        ap (λ w. is_for w x.id o) (same_direction_is direction x.direction parts.0)
+        ∙ ap (λ k. is_for direction k o) (sym (same_is id x.id parts.1)) in
         absurd (true≢false (sym is ∙ sym same ∙ other))
 
-own_way : (w : Direction) → same_way w w ≡ true
-own_way ToServer = refl
-own_way ToClient = refl
+own_direction : (w : Direction) → same_direction w w ≡ true
+own_direction ToServer = refl
+own_direction ToClient = refl
 
 and_true : (a b : Bool) → a ≡ true → b ≡ true → (a && b) ≡ true
 and_true true b e f = f
 and_true false b e f = cc
 
-own_for : (o : Open) → is_for o.way o.id o ≡ true
-own_for o = and_true (same_way o.way o.way) (same_id o.id o.id) (own_way o.way) (same_own o.id)
+own_for : (o : Open) → is_for o.direction o.id o ≡ true
+own_for o = and_true (same_direction o.direction o.direction) (same_id o.id o.id) (own_direction o.direction)
+    (same_own o.id)
 
 -- the other way round
-not_back : (x r : Open) → is_for r.way r.id x ≡ false → is_for x.way x.id r ≡ false
-not_back x r none = not_both x.way x.id r x (own_for x) none
+not_back : (x r : Open) → is_for r.direction r.id x ≡ false → is_for x.direction x.id r ≡ false
+not_back x r none = not_both x.direction x.id r x (own_for x) none
 
-distinct_push : (xs : List Open) (r : Open) → AllNot (is_for r.way r.id) xs → Distinct xs → Distinct (xs ++ r ∷ [])
+distinct_push : (xs : List Open) (r : Open) → AllNot (is_for r.direction r.id) xs → Distinct xs
+    → Distinct (xs ++ r ∷ [])
 distinct_push [] r free apart = (tt, tt)
 distinct_push (x ∷ xs) r free apart = (
-  not_push (is_for x.way x.id) xs r apart.0 (not_back x r free.0),
+  not_push (is_for x.direction x.id) xs r apart.0 (not_back x r free.0),
   distinct_push xs r free.1 apart.1,
 )
 
 distinct_without : (xs : List Open) (o : Open) (ys : List Open) → Distinct (xs ++ o ∷ ys) → Distinct (xs ++ ys)
 distinct_without [] o ys apart = apart.1
 distinct_without (x ∷ xs) o ys apart = (
-  not_without (is_for x.way x.id) xs o ys apart.0,
+  not_without (is_for x.direction x.id) xs o ys apart.0,
   distinct_without xs o ys apart.1,
 )
 
-none_before : (way : Direction) (id : Id) (xs : List Open) (o : Open) (ys : List Open) → is_for way id o ≡ true
-    → Distinct (xs ++ o ∷ ys) → AllNot (is_for way id) xs
-none_before way id [] o ys is apart = tt
-none_before way id (x ∷ xs) o ys is apart = (
-  not_both way id x o is (not_at (is_for x.way x.id) xs o ys apart.0),
-  none_before way id xs o ys is apart.1,
+none_before : (direction : Direction) (id : Id) (xs : List Open) (o : Open) (ys : List Open) → is_for direction id o
+    ≡ true
+    → Distinct (xs ++ o ∷ ys) → AllNot (is_for direction id) xs
+none_before direction id [] o ys is apart = tt
+none_before direction id (x ∷ xs) o ys is apart = (
+  not_both direction id x o is (not_at (is_for x.direction x.id) xs o ys apart.0),
+  none_before direction id xs o ys is apart.1,
 )
 
 -- ---- message by message
 
 abbrev Fine : Log → Passed → Type 0
-Fine before p = (id_finding before p.way p.message ≡ None) × (progress_finding before p.way p.message ≡ None)
+Fine before p = (id_finding before p.direction p.message ≡ None)
+    × (progress_finding before p.direction p.message ≡ None)
 
 each_none : AtEach Fine []
 each_none [] before p is = cc
@@ -205,58 +221,62 @@ fine_if_given : (b : Bool) (found : Option Finding) → (b ≡ true) ⊎ (found 
 fine_if_given true found is = refl
 fine_if_given false found is = ⊎_elim (λ e. absurd (true≢false (sym e))) (λ e. e) is
 
-accepted_fine : (way : Direction) (before : Log) (live : List Id) → Lives before live → (name : Id)
-    → IsAccepted way name live → created_finding way (token_of name before) ≡ None
+accepted_fine : (direction : Direction) (before : Log) (live : List Id) → Lives before live → (name : Id)
+    → IsAccepted direction name live → created_finding direction (token_of name before) ≡ None
 accepted_fine ToServer before live lives name may = absurd may
 accepted_fine ToClient before live lives name may = ap (created_finding ToClient) (lives name
     (ap (list_any (same_id name)) may.2 ∙ one_any (same_id name) may.0 name may.1 (same_own name)))
 
-told : (way : Direction) (before : Log) (asked : List Open) (live : List Id) → Keeps before asked live
-    → (name : Option Id) → MayTell way name asked live
-    → option_and_then (λ name. token_finding (open_of before) (token_of name before) way name) name ≡ None
-told way before asked live keeps None may = refl
-told way before asked live keeps (Some name) may = fine_if_given (list_any (gives way name) (open_of before))
-    (created_finding way (token_of name before)) (⊎_elim given accepted may)
+told : (direction : Direction) (before : Log) (asked : List Open) (live : List Id) → Keeps before asked live
+    → (name : Option Id) → MayTell direction name asked live
+    → option_and_then (λ name. token_finding (open_of before) (token_of name before) direction name) name ≡ None
+told direction before asked live keeps None may = refl
+told direction before asked live keeps (Some name) may = fine_if_given
+    (list_any (gives direction name) (open_of before))
+    (created_finding direction (token_of name before)) (⊎_elim given accepted may)
   where
-    given : IsGiven way name asked
-        → (list_any (gives way name) (open_of before) ≡ true) ⊎ (created_finding way (token_of name before) ≡ None)
-    given may = inl (ap (list_any (gives way name)) (keeps.0 ∙ may.3) ∙ one_any (gives way name) may.1 may.0 may.2
+    given : IsGiven direction name asked
+        → (list_any (gives direction name) (open_of before) ≡ true)
+        ⊎ (created_finding direction (token_of name before) ≡ None)
+    given may = inl (ap (list_any (gives direction name)) (keeps.0 ∙ may.3)
+        ∙ one_any (gives direction name) may.1 may.0 may.2
         may.4)
 
-    accepted : IsAccepted way name live
-        → (list_any (gives way name) (open_of before) ≡ true) ⊎ (created_finding way (token_of name before) ≡ None)
-    accepted may = inr (accepted_fine way before live keeps.2 name may)
+    accepted : IsAccepted direction name live
+        → (list_any (gives direction name) (open_of before) ≡ true)
+        ⊎ (created_finding direction (token_of name before) ≡ None)
+    accepted may = inr (accepted_fine direction before live keeps.2 name may)
 
-step : (way : Direction) (place : ℕ) (m : Message) (before : Log) (old new : List Open) (was live : List Id)
-    → Keeps before old was → MayPass way place m old new was live
-    → Keeps (passed way place m ∷ before) new live × Fine before (passed way place m)
-step way place (request i method params) before old new was live keeps may =
-    let none : AllNot (is_for way i) old = all_not (is_for way i) old may.0 in (
+step : (direction : Direction) (place : ℕ) (m : Message) (before : Log) (old new : List Open) (was live : List Id)
+    → Keeps before old was → MayPass direction place m old new was live
+    → Keeps (passed direction place m ∷ before) new live × Fine before (passed direction place m)
+step direction place (request i method params) before old new was live keeps may =
+    let none : AllNot (is_for direction i) old = all_not (is_for direction i) old may.0 in (
       (
-        ap (λ l. l ++ request_of way place i method params ∷ []) keeps.0 ∙ sym may.1,
-        subst Distinct (sym may.1) (distinct_push old (request_of way place i method params) none keeps.1),
-        subst (Lives (passed way place (request i method params) ∷ before)) (sym may.2) keeps.2,
+        ap (λ l. l ++ request_of direction place i method params ∷ []) keeps.0 ∙ sym may.1,
+        subst Distinct (sym may.1) (distinct_push old (request_of direction place i method params) none keeps.1),
+        subst (Lives (passed direction place (request i method params) ∷ before)) (sym may.2) keeps.2,
       ),
-      (ap (option_map _) (ap (find (is_for way i)) keeps.0 ∙ none_found (is_for way i) old none), refl),
+      (ap (option_map _) (ap (find (is_for direction i)) keeps.0 ∙ none_found (is_for direction i) old none), refl),
     )
-step way place (notification method params) before old new was live keeps may = (
+step direction place (notification method params) before old new was live keeps may = (
   (
     keeps.0 ∙ sym may.1,
     subst Distinct (sym may.1) keeps.1,
-    λ name is. lives_end name place (ended_by way (notification method params)) was (token_of name before)
+    λ name is. lives_end name place (ended_by direction (notification method params)) was (token_of name before)
         (keeps.2 name) (ap (list_any (same_id name)) (sym may.2) ∙ is),
   ),
-  (refl, told way before old was keeps (progress_token (notification method params)) may.0),
+  (refl, told direction before old was keeps (progress_token (notification method params)) may.0),
 )
-step way place (response i outcome) before old new was live keeps may =
+step direction place (response i outcome) before old new was live keeps may =
     let at : open_of before ≡ may.1 ++ may.0 ∷ may.2 = keeps.0 ∙ may.3 in
     let apart : Distinct (may.1 ++ may.0 ∷ may.2) = subst Distinct may.3 keeps.1 in
-    let none = none_before (other way) i may.1 may.0 may.2 may.4 apart in
-    let found : find (is_for (other way) i) (open_of before) ≡ Some may.0 =
-    ap (find (is_for (other way) i)) at ∙ one_found (is_for (other way) i) may.1 may.0 may.2 none may.4 in (
+    let none = none_before (other direction) i may.1 may.0 may.2 may.4 apart in
+    let found : find (is_for (other direction) i) (open_of before) ≡ Some may.0 =
+    ap (find (is_for (other direction) i)) at ∙ one_found (is_for (other direction) i) may.1 may.0 may.2 none may.4 in (
       (
-        ap (without_first (is_for (other way) i)) at
-            ∙ one_goes (is_for (other way) i) may.1 may.0 may.2 none may.4 ∙ sym may.5,
+        ap (without_first (is_for (other direction) i)) at
+            ∙ one_goes (is_for (other direction) i) may.1 may.0 may.2 none may.4 ∙ sym may.5,
         subst Distinct (sym may.5) (distinct_without may.1 may.0 may.2 apart),
         λ name is. ap (λ f. after_accept name (cond (is_success (response i outcome))
             (option_and_then (λ o. o.created) f)
@@ -275,7 +295,7 @@ lawful [] asked live is = (
 )
 lawful (p ∷ before) asked live is =
     let more = lawful before is.0 is.1 is.2 in
-    let one = step p.way p.place p.message before is.0 asked is.1 live more.0 is.3 in
+    let one = step p.direction p.place p.message before is.0 asked is.1 live more.0 is.3 in
     (one.0, each_more p before one.1 more.1)
 
 pub breaks_none : (log : Log) (asked : List Open) (live : List Id) → IsLawful log asked live → BreaksNone log

@@ -1,11 +1,11 @@
--- The requests of one way and id that have no reply, message by message.
+-- The requests of one direction and id that have no reply, message by message.
 use Rattle.std.proofs.Common.{◌≡◌, Bool, true, false, cond, ◌&&◌, List, [], ◌∷◌, ◌++◌, Option, Some, None, refl, sym}
 use Rattle.std.proofs.Common.{ap, ◌∙◌, ℕ}
 use Rattle.std.specs.Prelude.{filter, find}
 use Rattle.lsp_message.proofs.Ids.{same_is}
 use Rattle.lsp_message.specs.Id.{Id, same_id}
 use Rattle.lsp_message.specs.Message.{request, notification, response}
-use Rattle.lsp_watch.specs.Log.{Log, Open, passed, other, same_way, is_for, request_of, without_first}
+use Rattle.lsp_watch.specs.Log.{Log, Open, passed, other, same_direction, is_for, request_of, without_first}
 use Rattle.lsp_watch.specs.Log.{open_of, waiting}
 use Rattle.lsp_watch.specs.declared.direction.Direction.{Direction}
 use Rattle.lsp_watch.specs.declared.direction.Direction.TheVariants.{ToServer, ToClient}
@@ -82,23 +82,23 @@ module _ {A : Type 0} (p : A → Bool) where
       by true e more = cc
       by false e more = ap (λ zs. x ∷ zs) (more e is)
 
--- ---- ways and ids
+-- ---- directions and ids
 
-pub same_way_is : (a b : Direction) → same_way a b ≡ true → b ≡ a
-same_way_is ToServer ToServer e = refl
-same_way_is ToServer ToClient e = cc
-same_way_is ToClient ToServer e = cc
-same_way_is ToClient ToClient e = refl
+pub same_direction_is : (a b : Direction) → same_direction a b ≡ true → b ≡ a
+same_direction_is ToServer ToServer e = refl
+same_direction_is ToServer ToClient e = cc
+same_direction_is ToClient ToServer e = cc
+same_direction_is ToClient ToClient e = refl
 
-pub same_way_own : (a : Direction) → same_way a a ≡ true
-same_way_own ToServer = refl
-same_way_own ToClient = refl
+pub same_direction_own : (a : Direction) → same_direction a a ≡ true
+same_direction_own ToServer = refl
+same_direction_own ToClient = refl
 
-pub other_ways : (a b : Direction) → same_way a (other b) ≡ same_way (other a) b
-other_ways ToServer ToServer = refl
-other_ways ToServer ToClient = refl
-other_ways ToClient ToServer = refl
-other_ways ToClient ToClient = refl
+pub other_directions : (a b : Direction) → same_direction a (other b) ≡ same_direction (other a) b
+other_directions ToServer ToServer = refl
+other_directions ToServer ToClient = refl
+other_directions ToClient ToServer = refl
+other_directions ToClient ToClient = refl
 
 pub both : (a b : Bool) → (a && b) ≡ true → (a ≡ true) × (b ≡ true)
 both true b e = (refl, e)
@@ -108,46 +108,49 @@ pub and_true : (a b : Bool) → a ≡ true → b ≡ true → (a && b) ≡ true
 and_true true b e f = f
 and_true false b e f = cc
 
--- the requests of this way and id that have no reply, the first first
+-- the requests of this direction and id that have no reply, the first first
 abbrev pub queue : Direction → Id → Log → List Open
-queue way id log = filter (is_for way id) (open_of log)
+queue direction id log = filter (is_for direction id) (open_of log)
 
-pub waiting_is : (way : Direction) (id : Id) (log : Log) → waiting way id log ≡ first (queue way id log)
-waiting_is way id log = find_is (is_for way id) (open_of log)
+pub waiting_is : (direction : Direction) (id : Id) (log : Log) → waiting direction id log
+    ≡ first (queue direction id log)
+waiting_is direction id log = find_is (is_for direction id) (open_of log)
 
-module _ (way : Direction) (id : Id) (went : Direction) (place : ℕ) (before : Log) where
+module _ (direction : Direction) (id : Id) (went : Direction) (place : ℕ) (before : Log) where
   pub queue_request : (i : Id) (method : List ℕ) (params : _)
-      → queue way id (passed went place (request i method params) ∷ before)
-      ≡ queue way id before ++ cond (same_way way went && same_id id i) (request_of went place i method params ∷ []) []
-  queue_request i method params = filter_push (is_for way id) (open_of before)
+      → queue direction id (passed went place (request i method params) ∷ before)
+      ≡ queue direction id before ++ cond (same_direction direction went && same_id id i)
+      (request_of went place i method params ∷ []) []
+  queue_request i method params = filter_push (is_for direction id) (open_of before)
       (request_of went place i method params)
 
   pub queue_notification : (method : List ℕ) (params : _)
-      → queue way id (passed went place (notification method params) ∷ before) ≡ queue way id before
+      → queue direction id (passed went place (notification method params) ∷ before) ≡ queue direction id before
   queue_notification method params = refl
 
-  -- a reply to a request of this way and id, and to another
+  -- a reply to a request of this direction and id, and to another
   pub queue_reply : (i : Id) (outcome : _)
-      → queue way id (passed went place (response i outcome) ∷ before)
-      ≡ cond (same_way way (other went) && same_id id i) (rest (queue way id before)) (queue way id before)
-  queue_reply i outcome = by (same_way way (other went) && same_id id i) refl
+      → queue direction id (passed went place (response i outcome) ∷ before)
+      ≡ cond (same_direction direction (other went) && same_id id i) (rest (queue direction id before))
+      (queue direction id before)
+  queue_reply i outcome = by (same_direction direction (other went) && same_id id i) refl
     where
-      by : (b : Bool) → (same_way way (other went) && same_id id i) ≡ b
-          → filter (is_for way id) (without_first (is_for (other went) i) (open_of before))
-          ≡ cond b (rest (queue way id before)) (queue way id before)
+      by : (b : Bool) → (same_direction direction (other went) && same_id id i) ≡ b
+          → filter (is_for direction id) (without_first (is_for (other went) i) (open_of before))
+          ≡ cond b (rest (queue direction id before)) (queue direction id before)
       by true is =
-          let parts = both (same_way way (other went)) (same_id id i) is in
-          let way_is : other went ≡ way = same_way_is way (other went) parts.0 in
+          let parts = both (same_direction direction (other went)) (same_id id i) is in
+          let direction_is : other went ≡ direction = same_direction_is direction (other went) parts.0 in
           let id_is : id ≡ i = same_is id i parts.1 in
-          ap (λ w. filter (is_for way id) (without_first (is_for w i) (open_of before))) way_is
-          ∙ ap (λ k. filter (is_for way id) (without_first (is_for way k) (open_of before))) (sym id_is)
-          ∙ filter_own (is_for way id) (open_of before)
-      by false is = filter_other (is_for way id) (is_for (other went) i) apart (open_of before)
+          ap (λ w. filter (is_for direction id) (without_first (is_for w i) (open_of before))) direction_is
+          ∙ ap (λ k. filter (is_for direction id) (without_first (is_for direction k) (open_of before))) (sym id_is)
+          ∙ filter_own (is_for direction id) (open_of before)
+      by false is = filter_other (is_for direction id) (is_for (other went) i) apart (open_of before)
         where
-          apart : (o : Open) → is_for (other went) i o ≡ true → is_for way id o ≡ false
+          apart : (o : Open) → is_for (other went) i o ≡ true → is_for direction id o ≡ false
           apart o at =
-              let parts = both (same_way (other went) o.way) (same_id i o.id) at in
-              let way_is : o.way ≡ other went = same_way_is (other went) o.way parts.0 in
+              let parts = both (same_direction (other went) o.direction) (same_id i o.id) at in
+              let direction_is : o.direction ≡ other went = same_direction_is (other went) o.direction parts.0 in
               let id_is : i ≡ o.id = same_is i o.id parts.1 in
-              ap (λ w. same_way way w && same_id id o.id) way_is
-              ∙ ap (λ k. same_way way (other went) && same_id id k) (sym id_is) ∙ is
+              ap (λ w. same_direction direction w && same_id id o.id) direction_is
+              ∙ ap (λ k. same_direction direction (other went) && same_id id k) (sym id_is) ∙ is

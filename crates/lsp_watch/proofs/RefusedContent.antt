@@ -15,7 +15,7 @@ use Rattle.lsp_watch.specs.declared.rule.Rule.TheVariants.{NoSuchToken, TokenEnd
 
 -- the rule that a message breaks, and against the message at which place
 abbrev broken : Log → Direction → Message → Option Finding
-broken log way m = option_or (document_finding log way m) (progress_finding log way m)
+broken log direction m = option_or (document_finding log direction m) (progress_finding log direction m)
 
 -- ---- documents
 

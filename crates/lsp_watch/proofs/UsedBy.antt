@@ -9,7 +9,7 @@ use Rattle.lsp_message.specs.Id.{Id, id_cmp, same_id}
 use Rattle.lsp_watch.specs.Indexed.{numbers_at, numbers_by, without_number}
 use Rattle.lsp_watch.specs.declared.direction.Direction.{Direction}
 use Rattle.lsp_watch.specs.declared.direction.Direction.TheVariants.{ToServer, ToClient}
-use Rattle.lsp_watch.specs.declared.uses.ByWay.{ByWay}
+use Rattle.lsp_watch.specs.declared.uses.ByDirection.{ByDirection}
 
 -- ---- results
 
@@ -86,10 +86,10 @@ absent m k n none q = by (same_id q k) refl
         is ∙ sym (ap (without_number n) is)
     by false at = refl
 
--- ---- ways
+-- ---- directions
 
-pub by_ways : (u v : ByWay) → ((q : Id) → numbers_at v.to_server q ≡ numbers_at u.to_server q)
+pub by_directions : (u v : ByDirection) → ((q : Id) → numbers_at v.to_server q ≡ numbers_at u.to_server q)
     → ((q : Id) → numbers_at v.to_client q ≡ numbers_at u.to_client q)
     → (w : Direction) (q : Id) → numbers_by v w q ≡ numbers_by u w q
-by_ways u v server client ToServer q = server q
-by_ways u v server client ToClient q = client q
+by_directions u v server client ToServer q = server q
+by_directions u v server client ToClient q = client q

@@ -14,22 +14,23 @@ AtEach P log = (later before : Log) (p : Passed) → log ≡ later ++ p ∷ befo
 
 -- no message breaks a rule of the lifecycle or of ids
 abbrev pub IsClean : Log → Type 0
-IsClean log = AtEach (λ before p. session_finding before p.way p.message ≡ None) log
+IsClean log = AtEach (λ before p. session_finding before p.direction p.message ≡ None) log
 
--- A request of this way and id passed, and since then no reply to the id and no other request under it.
-pub record IsAsked (before : Log) (way : Direction) (id : Id) : Type 0 where
+-- A request of this direction and id passed, and since then no reply to the id and no other request under it.
+pub record IsAsked (before : Log) (direction : Direction) (id : Id) : Type 0 where
   pub earlier : Log
   pub asked : Passed
   pub since : Log
   pub place : before ≡ since ++ asked ∷ earlier
-  pub asks : is_request way id asked ≡ true
-  pub unanswered : list_any (is_reply way id) since ≡ false
-  pub alone : list_any (is_request way id) since ≡ false
+  pub asks : is_request direction id asked ≡ true
+  pub unanswered : list_any (is_reply direction id) since ≡ false
+  pub alone : list_any (is_request direction id) since ≡ false
 
--- Each reply answers one request that passed before it the other way. That one has no other reply before it, so each
--- request has at most one.
+-- Each reply answers one request that passed before it in the other direction. That one has no other reply before it,
+-- so each request has at most one.
 abbrev pub RepliesOnce : Log → Type 0
-RepliesOnce log = (way : Direction) (id : Id) → AtEach (λ before p. is_reply way id p ≡ true → IsAsked before way id)
+RepliesOnce log = (direction : Direction) (id : Id)
+    → AtEach (λ before p. is_reply direction id p ≡ true → IsAsked before direction id)
     log
 
 -- `initialize` got its result in these messages
@@ -67,4 +68,4 @@ ServerKeepsOrder before m = HasResult before
 
 abbrev pub KeepsOrder : Log → Type 0
 KeepsOrder log = AtEach (λ before p. is_call p.message ≡ true
-    → MatchBool (from_client p.way) (ClientKeepsOrder before p.message) (ServerKeepsOrder before p.message)) log
+    → MatchBool (from_client p.direction) (ClientKeepsOrder before p.message) (ServerKeepsOrder before p.message)) log

@@ -36,9 +36,9 @@ deed_named method = if bytes_eq method (codes "textDocument/didOpen") then Some 
 
 -- what the client does with a document by a message, if it does so with one
 abbrev pub deed_in : Direction → Message → Option Deed
-deed_in way (notification method params) = if from_client way then deed_named method else None
-deed_in way (request i method params) = None
-deed_in way (response i outcome) = None
+deed_in direction (notification method params) = if from_client direction then deed_named method else None
+deed_in direction (request i method params) = None
+deed_in direction (response i outcome) = None
 
 abbrev pub params_in : Message → Data
 params_in (request i method params) = params
@@ -72,7 +72,7 @@ document_after uri (Some deed) place params before = if is_text uri (uri_in para
 abbrev pub document_of : List ℕ → Log → Option Document
 document_of uri [] = None
 document_of uri (p ∷ before) =
-    document_after uri (deed_in p.way p.message) p.place (params_in p.message) (document_of uri before)
+    document_after uri (deed_in p.direction p.message) p.place (params_in p.message) (document_of uri before)
 
 -- ---- the rules
 
@@ -91,7 +91,7 @@ deed_finding Changes version (Some d) = if is_not_higher version d.version
 
 -- what a message breaks of the rules of documents
 abbrev pub document_finding : Log → Direction → Message → Option Finding
-document_finding before way m =
+document_finding before direction m =
     option_and_then (λ deed.
     option_and_then (λ uri. deed_finding deed (version_in (params_in m)) (document_of uri before))
-    (uri_in (params_in m))) (deed_in way m)
+    (uri_in (params_in m))) (deed_in direction m)

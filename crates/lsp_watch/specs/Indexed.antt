@@ -6,13 +6,13 @@ use Rattle.std.specs.Prelude.{◌≡◌, ◌≤◌, ◌⊎◌, ℕ, ◌+◌, Boo
 use Rattle.std.specs.Prelude.{option_map, unwrap_or, if◌then◌else◌}
 use Rattle.std.specs.Set.{remove_key}
 use Rattle.lsp_message.specs.Id.{Id, id_cmp}
-use Rattle.lsp_watch.specs.Log.{Open, is_for, is_id, same_way, opens_session}
+use Rattle.lsp_watch.specs.Log.{Open, is_for, is_id, same_direction, opens_session}
 use Rattle.lsp_watch.specs.Rules.{opens_under}
 use Rattle.lsp_watch.specs.declared.direction.Direction.{Direction}
 use Rattle.lsp_watch.specs.declared.direction.Direction.TheVariants.{ToServer, ToClient}
 use Rattle.lsp_watch.specs.declared.requests.Numbers.{Numbers}
 use Rattle.lsp_watch.specs.declared.requests.OpenRequests.{OpenRequests}
-use Rattle.lsp_watch.specs.declared.uses.ByWay.{ByWay}
+use Rattle.lsp_watch.specs.declared.uses.ByDirection.{ByDirection}
 use Rattle.lsp_watch.specs.declared.uses.Uses.{Uses}
 
 -- ---- numbers
@@ -49,14 +49,14 @@ IsFresh n ks = (without_number n ks ≡ ks) × (without_number n (with_number n 
 abbrev pub numbers_at : Uses → Id → List ℕ
 numbers_at u id = unwrap_or (option_map (λ s. s.keys) (get id_cmp u.numbers id)) []
 
--- the numbers of those that go this way
-abbrev pub numbers_by : ByWay → Direction → Id → List ℕ
+-- the numbers of those that go in this direction
+abbrev pub numbers_by : ByDirection → Direction → Id → List ℕ
 numbers_by u ToServer id = numbers_at u.to_server id
 numbers_by u ToClient id = numbers_at u.to_client id
 
 -- ---- what a request may be found by
 
--- its id, its `workDoneToken`, its `partialResultToken` and the token that it creates, each with its way; the
+-- its id, its `workDoneToken`, its `partialResultToken` and the token that it creates, each with its direction; the
 -- `workDoneToken` of an `initialize`; and that it is an `initialize`
 pub data Use : Type 0 where
   by_id : Direction → Id → Use
@@ -68,19 +68,19 @@ pub data Use : Type 0 where
 
 -- the request is found by it
 abbrev pub is_found : Use → Open → Bool
-is_found (by_id way id) o = is_for way id o
-is_found (by_work way id) o = same_way way o.way && is_id id o.work
-is_found (by_part way id) o = same_way way o.way && is_id id o.part
-is_found (by_created way id) o = same_way way o.way && is_id id o.created
+is_found (by_id direction id) o = is_for direction id o
+is_found (by_work direction id) o = same_direction direction o.direction && is_id id o.work
+is_found (by_part direction id) o = same_direction direction o.direction && is_id id o.part
+is_found (by_created direction id) o = same_direction direction o.direction && is_id id o.created
 is_found (opens_by id) o = opens_under id o
 is_found opens o = opens_session o
 
 -- the numbers that are kept of it
 abbrev pub numbers : Numbers → Use → List ℕ
-numbers n (by_id way id) = numbers_by n.ids way id
-numbers n (by_work way id) = numbers_by n.work way id
-numbers n (by_part way id) = numbers_by n.part way id
-numbers n (by_created way id) = numbers_by n.created way id
+numbers n (by_id direction id) = numbers_by n.ids direction id
+numbers n (by_work direction id) = numbers_by n.work direction id
+numbers n (by_part direction id) = numbers_by n.part direction id
+numbers n (by_created direction id) = numbers_by n.created direction id
 numbers n (opens_by id) = numbers_at n.opening_tokens id
 numbers n opens = n.openings.keys
 

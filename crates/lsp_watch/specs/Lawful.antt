@@ -10,14 +10,14 @@ use Rattle.lsp_watch.specs.Rules.{id_finding}
 use Rattle.lsp_watch.specs.declared.direction.Direction.{Direction}
 use Rattle.lsp_watch.specs.declared.direction.Direction.TheVariants.{ToServer, ToClient}
 
--- no open request of this way has this id
+-- no open request of this direction has this id
 abbrev pub IsFree : Direction → Id → List Open → Type 0
-IsFree way id asked = (o : Open) (xs ys : List Open) → asked ≡ xs ++ o ∷ ys → is_for way id o ≡ false
+IsFree direction id asked = (o : Open) (xs ys : List Open) → asked ≡ xs ++ o ∷ ys → is_for direction id o ≡ false
 
 -- some open request gives this token
 abbrev pub IsGiven : Direction → Id → List Open → Type 0
-IsGiven way name asked = (o : Open) × (xs : List Open) × (ys : List Open)
-    × (asked ≡ xs ++ o ∷ ys) × (gives way name o ≡ true)
+IsGiven direction name asked = (o : Open) × (xs : List Open) × (ys : List Open)
+    × (asked ≡ xs ++ o ∷ ys) × (gives direction name o ≡ true)
 
 -- the client accepted this token of the server, and it has not ended
 abbrev pub IsAccepted : Direction → Id → List Id → Type 0
@@ -25,8 +25,8 @@ IsAccepted ToServer name live = ⊥
 IsAccepted ToClient name live = (xs : List Id) × (ys : List Id) × (live ≡ xs ++ name ∷ ys)
 
 abbrev pub MayTell : Direction → Option Id → List Open → List Id → Type 0
-MayTell way None asked live = Unit {0}
-MayTell way (Some name) asked live = IsGiven way name asked ⊎ IsAccepted way name live
+MayTell direction None asked live = Unit {0}
+MayTell direction (Some name) asked live = IsGiven direction name asked ⊎ IsAccepted direction name live
 
 -- the live tokens without one that ends
 abbrev pub without : Option Id → List Id → List Id
@@ -41,25 +41,25 @@ with false created live = live
 
 -- A message may pass when these requests are open and these created tokens are live, and then those are.
 -- A request has an id that is free. Progress has a token that an open request gives, or that the client accepted, and
--- the server's may end it. A reply answers some open request of the other way, by its id; a result accepts the token
--- that the request creates.
+-- the server's may end it. A reply answers some open request of the other direction, by its id; a result accepts the
+-- token that the request creates.
 abbrev pub MayPass : Direction → ℕ → Message → List Open → List Open → List Id → List Id → Type 0
-MayPass way place (request i method params) old new was live = IsFree way i old
-    × (new ≡ old ++ request_of way place i method params ∷ []) × (live ≡ was)
-MayPass way place (notification method params) old new was live =
-    MayTell way (progress_token (notification method params)) old was
-    × (new ≡ old) × (live ≡ without (ended_by way (notification method params)) was)
-MayPass way place (response i outcome) old new was live = (o : Open) × (xs : List Open) × (ys : List Open)
-    × (old ≡ xs ++ o ∷ ys) × (is_for (other way) i o ≡ true) × (new ≡ xs ++ ys)
+MayPass direction place (request i method params) old new was live = IsFree direction i old
+    × (new ≡ old ++ request_of direction place i method params ∷ []) × (live ≡ was)
+MayPass direction place (notification method params) old new was live =
+    MayTell direction (progress_token (notification method params)) old was
+    × (new ≡ old) × (live ≡ without (ended_by direction (notification method params)) was)
+MayPass direction place (response i outcome) old new was live = (o : Open) × (xs : List Open) × (ys : List Open)
+    × (old ≡ xs ++ o ∷ ys) × (is_for (other direction) i o ≡ true) × (new ≡ xs ++ ys)
     × (live ≡ with (is_success (response i outcome)) o.created was)
 
 -- each message of the log may pass, and after the last one these requests are open and these created tokens are live
 abbrev pub IsLawful : Log → List Open → List Id → Type 0
 IsLawful [] asked live = (asked ≡ []) × (live ≡ [])
 IsLawful (p ∷ before) asked live = (old : List Open) × (was : List Id) × IsLawful before old was
-    × MayPass p.way p.place p.message old asked was live
+    × MayPass p.direction p.place p.message old asked was live
 
 -- no message breaks a rule of ids or of progress
 abbrev pub BreaksNone : Log → Type 0
-BreaksNone log = AtEach (λ before p. (id_finding before p.way p.message ≡ None)
-    × (progress_finding before p.way p.message ≡ None)) log
+BreaksNone log = AtEach (λ before p. (id_finding before p.direction p.message ≡ None)
+    × (progress_finding before p.direction p.message ≡ None)) log

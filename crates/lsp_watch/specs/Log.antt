@@ -11,14 +11,14 @@ use Rattle.lsp_watch.specs.declared.rule.Rule.{Rule}
 use Rattle.lsp_watch.specs.declared.direction.Direction.{Direction}
 use Rattle.lsp_watch.specs.declared.direction.Direction.TheVariants.{ToServer, ToClient}
 
--- a message that passed, which way it went, and its place: the number by which a person finds it again
+-- a message that passed, its direction, and its place: the number by which a person finds it again
 pub record Passed : Type 0 where
-  pub way : Direction
+  pub direction : Direction
   pub place : ℕ
   pub message : Message
 
 abbrev pub passed : Direction → ℕ → Message → Passed
-passed way place message = record { way = way; place = place; message = message }
+passed direction place message = record { direction = direction; place = place; message = message }
 
 -- What passed, the last message first: behind each message in the list stand those that passed before it.
 abbrev pub Log : Type 0
@@ -57,21 +57,21 @@ abbrev pub other : Direction → Direction
 other ToServer = ToClient
 other ToClient = ToServer
 
-abbrev pub same_way : Direction → Direction → Bool
-same_way ToServer way = from_client way
-same_way ToClient way = from_client (other way)
+abbrev pub same_direction : Direction → Direction → Bool
+same_direction ToServer direction = from_client direction
+same_direction ToClient direction = from_client (other direction)
 
 abbrev pub is_id : Id → Option Id → Bool
 is_id id None = false
 is_id id (Some i) = same_id id i
 
--- a request under this id that goes this way
+-- a request under this id that goes in this direction
 abbrev pub is_request : Direction → Id → Passed → Bool
-is_request way id p = same_way way p.way && is_id id (request_id p.message)
+is_request direction id p = same_direction direction p.direction && is_id id (request_id p.message)
 
--- a reply to such a request: it goes the other way
+-- a reply to such a request: it goes in the other direction
 abbrev pub is_reply : Direction → Id → Passed → Bool
-is_reply way id p = same_way (other way) p.way && is_id id (reply_id p.message)
+is_reply direction id p = same_direction (other direction) p.direction && is_id id (reply_id p.message)
 
 -- the token under which a message tells progress
 abbrev pub progress_token : Message → Option Id
@@ -86,10 +86,10 @@ Finding = Rule × Option ℕ
 
 -- ---- what is open
 
--- A request that has no reply yet: which way it went, its place, its id and its method; the tokens of its params under
+-- A request that has no reply yet: its direction, its place, its id and its method; the tokens of its params under
 -- which progress may be told; and the one that it creates.
 pub record Open : Type 0 where
-  pub way : Direction
+  pub direction : Direction
   pub place : ℕ
   pub id : Id
   pub method : List ℕ
@@ -104,54 +104,54 @@ created_name ToClient method params = if bytes_eq method (codes "window/workDone
     then key_in (codes "token") params else None
 
 abbrev pub request_of : Direction → ℕ → Id → List ℕ → Data → Open
-request_of way place i method params = record {
-  way = way;
+request_of direction place i method params = record {
+  direction = direction;
   place = place;
   id = i;
   method = method;
   work = key_in (codes "workDoneToken") params;
   part = key_in (codes "partialResultToken") params;
-  created = created_name way method params;
+  created = created_name direction method params;
 }
 
 abbrev pub is_for : Direction → Id → Open → Bool
-is_for way id o = same_way way o.way && same_id id o.id
+is_for direction id o = same_direction direction o.direction && same_id id o.id
 
 -- without the first that is such
 abbrev pub without_first : {A : Type 0} → (A → Bool) → List A → List A
 without_first such [] = []
 without_first such (x ∷ xs) = if such x then xs else x ∷ without_first such xs
 
--- a reply answers the first request of the other way that has its id and no reply yet
+-- a reply answers the first request of the other direction that has its id and no reply yet
 abbrev pub answered : Direction → Id → List Open → List Open
-answered way id asked = without_first (is_for (other way) id) asked
+answered direction id asked = without_first (is_for (other direction) id) asked
 
 -- the requests that have no reply, after one more message
 abbrev pub open_after : Direction → ℕ → Message → List Open → List Open
-open_after way place (request i method params) asked = asked ++ request_of way place i method params ∷ []
-open_after way place (notification method params) asked = asked
-open_after way place (response i outcome) asked = answered way i asked
+open_after direction place (request i method params) asked = asked ++ request_of direction place i method params ∷ []
+open_after direction place (notification method params) asked = asked
+open_after direction place (response i outcome) asked = answered direction i asked
 
 -- the requests that have no reply, in the order in which they passed
 abbrev pub open_of : Log → List Open
 open_of [] = []
-open_of (p ∷ before) = open_after p.way p.place p.message (open_of before)
+open_of (p ∷ before) = open_after p.direction p.place p.message (open_of before)
 
--- the request of this way and id that the next reply to it answers
+-- the request of this direction and id that the next reply to it answers
 abbrev pub waiting : Direction → Id → Log → Option Open
-waiting way id log = find (is_for way id) (open_of log)
+waiting direction id log = find (is_for direction id) (open_of log)
 
 -- the request that a message replies to
 abbrev pub answered_by : Log → Passed → Option Open
-answered_by before p = option_and_then (λ id. waiting (other p.way) id before) (reply_id p.message)
+answered_by before p = option_and_then (λ id. waiting (other p.direction) id before) (reply_id p.message)
 
 -- the client sends `initialize`
 abbrev pub is_initialize : Passed → Bool
-is_initialize p = from_client p.way && asks (codes "initialize") p.message
+is_initialize p = from_client p.direction && asks (codes "initialize") p.message
 
 -- an `initialize` that has no reply
 abbrev pub opens_session : Open → Bool
-opens_session o = from_client o.way && bytes_eq o.method (codes "initialize")
+opens_session o = from_client o.direction && bytes_eq o.method (codes "initialize")
 
 abbrev pub is_some_such : {A : Type 0} → (A → Bool) → Option A → Bool
 is_some_such such None = false

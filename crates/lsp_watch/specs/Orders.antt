@@ -3,7 +3,7 @@
 use Rattle.std.specs.List.{list_any}
 use Rattle.std.specs.Prelude.{◌≡◌, Bool, true, false, ◌||◌, List, [], ◌∷◌, filter, if◌then◌else◌}
 use Rattle.lsp_message.specs.Id.{Id}
-use Rattle.lsp_watch.specs.Log.{Log, Passed, Finding, Open, same_way, other, is_for, open_of}
+use Rattle.lsp_watch.specs.Log.{Log, Passed, Finding, Open, same_direction, other, is_for, open_of}
 use Rattle.lsp_watch.specs.Verdicts.{findings_of}
 use Rattle.lsp_watch.specs.declared.direction.Direction.{Direction}
 use Rattle.lsp_watch.specs.declared.direction.Direction.TheVariants.{ToServer, ToClient}
@@ -12,10 +12,11 @@ use Rattle.lsp_watch.specs.declared.rule.Rule.TheVariants.{BeforeInitialized, Af
 use Rattle.lsp_watch.specs.declared.rule.Rule.TheVariants.{NotOpen, VersionNotHigher, NobodyAsked, IdStillOpen}
 use Rattle.lsp_watch.specs.declared.rule.Rule.TheVariants.{BeforeResult, SentAgain}
 
--- what went this way, in its order
+-- what went in this direction, in its order
 abbrev pub sent : Direction → Log → List Passed
-sent way [] = []
-sent way (p ∷ before) = if same_way way p.way then p ∷ sent way before else sent way before
+sent direction [] = []
+sent direction (p ∷ before) = if same_direction direction p.direction then p ∷ sent direction before
+    else sent direction before
 
 -- Two orders of the same messages: each side sent the same in both, in the same order.
 pub record AreOrders (log other : Log) : Type 0 where
@@ -60,13 +61,13 @@ is_unasked found = says_unasked found.0
 -- some message breaks a rule of which this test says so
 abbrev pub breaks : (Finding → Bool) → Log → Bool
 breaks such [] = false
-breaks such (p ∷ before) = list_any such (findings_of before p.way p.message) || breaks such before
+breaks such (p ∷ before) = list_any such (findings_of before p.direction p.message) || breaks such before
 
 -- In this log, nothing of the other side passed after a message. Each reply before the message had its request.
 pub record IsBehindAll (after : Log) (p : Passed) (before : Log) : Type 0 where
-  pub last : sent (other p.way) after ≡ []
+  pub last : sent (other p.direction) after ≡ []
   pub matched : breaks is_unasked before ≡ false
 
--- the requests of this way and id that have no reply, in the order in which they passed
+-- the requests of this direction and id that have no reply, in the order in which they passed
 abbrev pub open_under : Direction → Id → Log → List Open
-open_under way id log = filter (is_for way id) (open_of log)
+open_under direction id log = filter (is_for direction id) (open_of log)

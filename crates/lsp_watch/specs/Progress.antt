@@ -7,7 +7,7 @@ use Rattle.serde_json.specs.Find.{get}
 use Rattle.lsp_message.specs.Id.{Id, same_id}
 use Rattle.lsp_message.specs.Message.{Message, request, notification, response}
 use Rattle.lsp_watch.specs.Documents.{text_in, is_text, params_in}
-use Rattle.lsp_watch.specs.Log.{Log, Passed, Open, Finding, is_success, from_client, same_way, is_id, open_of}
+use Rattle.lsp_watch.specs.Log.{Log, Passed, Open, Finding, is_success, from_client, same_direction, is_id, open_of}
 use Rattle.lsp_watch.specs.Log.{is_for, other, reply_id, progress_token}
 use Rattle.lsp_watch.specs.declared.progress.Token.{Token}
 use Rattle.lsp_watch.specs.declared.progress.Token.TheVariants.{Live, Ended}
@@ -28,17 +28,17 @@ ended_name (response i outcome) = None
 
 -- the created token whose progress a message of the server ends
 abbrev pub ended_by : Direction → Message → Option Id
-ended_by way m = option_and_then (λ name. if from_client way then None else Some name) (ended_name m)
+ended_by direction m = option_and_then (λ name. if from_client direction then None else Some name) (ended_name m)
 
--- the token that a reply lets be created, which goes this way: that of the request that it answers
+-- the token that a reply lets be created, which goes in this direction: that of the request that it answers
 abbrev pub accepted_in : Bool → Direction → Id → List Open → Option Id
-accepted_in succeeds way id asked = if succeeds
-    then option_and_then (λ o. o.created) (find (is_for (other way) id) asked) else None
+accepted_in succeeds direction id asked = if succeeds
+    then option_and_then (λ o. o.created) (find (is_for (other direction) id) asked) else None
 
 -- the token that the server may use from this message on: the client accepts that it is created
 abbrev pub accepted_by : Log → Passed → Option Id
 accepted_by before p =
-    option_and_then (λ id. accepted_in (is_success p.message) p.way id (open_of before)) (reply_id p.message)
+    option_and_then (λ id. accepted_in (is_success p.message) p.direction id (open_of before)) (reply_id p.message)
 
 -- ---- the tokens that were created
 
@@ -61,14 +61,15 @@ after_end name place (Some ended) before = if same_id ended name then once_ended
 abbrev pub token_of : Id → Log → Option Token
 token_of name [] = None
 token_of name (p ∷ before) = after_accept name (accepted_by before p)
-    (after_end name p.place (ended_by p.way p.message) (token_of name before))
+    (after_end name p.place (ended_by p.direction p.message) (token_of name before))
 
 -- ---- the rule
 
--- A request that waits lets progress be told this way under a token: its receiver's under those of its params, and its
--- sender's under the one that it creates.
+-- A request that waits lets progress be told in this direction under a token: its receiver's under those of its params,
+-- and its sender's under the one that it creates.
 abbrev pub gives : Direction → Id → Open → Bool
-gives way name o = if same_way o.way way then is_id name o.created else (is_id name o.work || is_id name o.part)
+gives direction name o = if same_direction o.direction direction then is_id name o.created
+    else (is_id name o.work || is_id name o.part)
 
 -- progress under a token that no request gives
 abbrev pub created_finding : Direction → Option Token → Option Finding
@@ -78,9 +79,10 @@ created_finding ToClient (Some Live) = None
 created_finding ToClient (Some (Ended place)) = Some (TokenEnded, Some place)
 
 abbrev pub token_finding : List Open → Option Token → Direction → Id → Option Finding
-token_finding asked token way name = if list_any (gives way name) asked then None else created_finding way token
+token_finding asked token direction name = if list_any (gives direction name) asked then None
+    else created_finding direction token
 
 -- what a message breaks of the rules of progress
 abbrev pub progress_finding : Log → Direction → Message → Option Finding
-progress_finding before way m =
-    option_and_then (λ name. token_finding (open_of before) (token_of name before) way name) (progress_token m)
+progress_finding before direction m =
+    option_and_then (λ name. token_finding (open_of before) (token_of name before) direction name) (progress_token m)

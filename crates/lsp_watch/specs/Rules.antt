@@ -21,10 +21,10 @@ place_of such [] = None
 place_of such (p ∷ before) = if such p then Some p.place else place_of such before
 
 abbrev pub client_tells : List ℕ → Passed → Bool
-client_tells method p = from_client p.way && tells method p.message
+client_tells method p = from_client p.direction && tells method p.message
 
 abbrev pub client_asks : List ℕ → Passed → Bool
-client_asks method p = from_client p.way && asks method p.message
+client_asks method p = from_client p.direction && asks method p.message
 
 -- the first `initialize` that has no reply
 abbrev pub initializing : Log → Option ℕ
@@ -89,7 +89,7 @@ module _ (stands : Lifecycle) (waits : Option ℕ) where
       (opening_finding m)
 
 abbrev pub lifecycle_finding : Log → Direction → Message → Option Finding
-lifecycle_finding before way (response i outcome) = None
+lifecycle_finding before direction (response i outcome) = None
 lifecycle_finding before ToServer m = client_finding (lifecycle_of before) (initializing before) m
 lifecycle_finding before ToClient m =
     server_finding (lifecycle_of before) (initializing before) (tells_opening before m) m
@@ -103,13 +103,13 @@ reply_finding (Some asked) = None
 
 -- a request needs an id under which none waits
 abbrev pub id_finding : Log → Direction → Message → Option Finding
-id_finding before way (request i method params) =
-    option_map (λ asked. (IdStillOpen, Some asked.place)) (waiting way i before)
-id_finding before way (notification method params) = None
-id_finding before way (response i outcome) = reply_finding (waiting (other way) i before)
+id_finding before direction (request i method params) =
+    option_map (λ asked. (IdStillOpen, Some asked.place)) (waiting direction i before)
+id_finding before direction (notification method params) = None
+id_finding before direction (response i outcome) = reply_finding (waiting (other direction) i before)
 
 -- ---- what a message breaks
 
 -- the rule of the lifecycle or of ids that a message breaks
 abbrev pub session_finding : Log → Direction → Message → Option Finding
-session_finding before way m = option_or (lifecycle_finding before way m) (id_finding before way m)
+session_finding before direction m = option_or (lifecycle_finding before direction m) (id_finding before direction m)

@@ -24,8 +24,8 @@ as_breach is_whole found =
 
 -- the rules that a message breaks, by all that passed before it
 abbrev pub findings_of : Log → Direction → Message → List Finding
-findings_of before way m = option_to_list (session_finding before way m)
-    ++ (option_to_list (document_finding before way m) ++ option_to_list (progress_finding before way m))
+findings_of before direction m = option_to_list (session_finding before direction m)
+    ++ (option_to_list (document_finding before direction m) ++ option_to_list (progress_finding before direction m))
 
 -- what cannot be read may be right
 abbrev pub shape_verdict : Rule → Verdict
@@ -36,39 +36,39 @@ abbrev pub shape_breach : Rule → Breach
 shape_breach rule = record { rule = rule; verdict = shape_verdict rule; against = None }
 
 abbrev pub entry_findings : Log → Direction → Option Message → List Finding
-entry_findings before way None = []
-entry_findings before way (Some m) = findings_of before way m
+entry_findings before direction None = []
+entry_findings before direction (Some m) = findings_of before direction m
 
 -- What is said of a message, which may be one that cannot be placed in a session: the rules of its shape, and then
 -- those of the session.
 abbrev pub breaches_of : Bool → Log → Direction → List Rule → Option Message → List Breach
-breaches_of is_whole before way faults m =
-    map shape_breach faults ++ map (as_breach is_whole) (entry_findings before way m)
+breaches_of is_whole before direction faults m =
+    map shape_breach faults ++ map (as_breach is_whole) (entry_findings before direction m)
 
 -- the log after the message
 abbrev pub entered : Direction → ℕ → Option Message → Log → Log
-entered way place None log = log
-entered way place (Some m) log = passed way place m ∷ log
+entered direction place None log = log
+entered direction place (Some m) log = passed direction place m ∷ log
 
 -- A message begins a new session: `initialize` behind `exit`, or any in a log that began in the middle of a session.
 abbrev pub begins_in : Bool → Log → Direction → Option Message → Bool
-begins_in is_whole before way None = false
-begins_in is_whole before way (Some m) =
-    from_client way && (asks (codes "initialize") m && (not is_whole || is_some ((lifecycle_of before).exit)))
+begins_in is_whole before direction None = false
+begins_in is_whole before direction (Some m) =
+    from_client direction && (asks (codes "initialize") m && (not is_whole || is_some ((lifecycle_of before).exit)))
 
 -- ---- the end
 
 -- of a client it cannot be told: it may end before its user has answered
 abbrev pub told_of : Open → Unanswered
 told_of o = record {
-  way = o.way;
+  direction = o.direction;
   place = o.place;
-  verdict = if from_client o.way then verdict.Breach else verdict.CannotTell;
+  verdict = if from_client o.direction then verdict.Breach else verdict.CannotTell;
 }
 
 -- whether the side has ended that was asked
 abbrev pub is_over : Bool → Bool → Open → Bool
-is_over server_ended client_ended o = if from_client o.way then server_ended else client_ended
+is_over server_ended client_ended o = if from_client o.direction then server_ended else client_ended
 
 -- the requests that have no reply, where the sides have ended, each by itself or by `exit`
 abbrev pub unanswered_of : Bool → Bool → Log → List Unanswered

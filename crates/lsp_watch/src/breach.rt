@@ -30,8 +30,8 @@ pub struct Breach {
 /// A request that has no reply when the session is over: `Rule::NoReply`.
 #[derive(Clone, Copy, Debug)]
 pub struct Unanswered {
-    /// Which way the request went.
-    pub way: Direction,
+    /// The direction in which the request went.
+    pub direction: Direction,
     /// The place of the request.
     pub place: u64,
     /// A breach if the server was asked. A client may end before its user has answered, so this is not known of a client.
@@ -75,13 +75,13 @@ pub fn shape_breach(rule: Rule) -> Breach
 pub fn told_of(asked: &Asked) -> Unanswered
     ensures { result ≡ told_by asked.now }
 {
-    let verdict = if asked.way.is_from_client() {
+    let verdict = if asked.direction.is_from_client() {
         Verdict::Breach
     } else {
         Verdict::CannotTell
     };
     Unanswered {
-        way: asked.way,
+        direction: asked.direction,
         place: asked.place,
         verdict,
     }
@@ -91,7 +91,7 @@ pub fn told_of(asked: &Asked) -> Unanswered
 pub fn is_over(server_ended: bool, client_ended: bool, asked: &Asked) -> bool
     ensures { result ≡ is_over_for server_ended client_ended asked.now }
 {
-    if asked.way.is_from_client() {
+    if asked.direction.is_from_client() {
         server_ended
     } else {
         client_ended

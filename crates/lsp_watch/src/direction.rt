@@ -1,7 +1,7 @@
-// Which way a message goes.
+// The direction in which a message goes.
 use std::fmt;
 
-/// Which way a message goes. It prints as `->` to the server and `<-` to the client.
+/// The direction in which a message goes. It prints as `->` to the server and `<-` to the client.
 #[derive(Clone, Copy, Debug, PartialEq, Eq)]
 pub enum Direction {
     /// From the client to the server.
@@ -12,11 +12,11 @@ pub enum Direction {
 
 impl Direction {
     ghost use Rattle.std.specs.Prelude.{◌≡◌};
-    ghost use Rattle.lsp_watch.specs.Log.{other as other_way, from_client};
+    ghost use Rattle.lsp_watch.specs.Log.{other as other_direction, from_client};
 
-    /// The way back.
+    /// The opposite direction.
     pub fn other(self) -> Direction
-        ensures { result ≡ other_way self }
+        ensures { result ≡ other_direction self }
     {
         match self {
             Direction::ToServer => Direction::ToClient,

@@ -60,23 +60,28 @@ impl Documents {
     }
 
     /// What a message breaks.
-    pub fn breaks(&self, way: Direction, message: &Entry) -> Option<(Rule, Option<u64>)>
+    pub fn breaks(&self, direction: Direction, message: &Entry) -> Option<(Rule, Option<u64>)>
         ensures { (log : Log) → Opened self.now log
-            → result ≡ document_finding log way (entry_view message.now) }
+            → result ≡ document_finding log direction (entry_view message.now) }
     {
-        let deed = deed_in(way, message)?;
+        let deed = deed_in(direction, message)?;
         let params = message.params()?;
         let uri = uri_in(params)?;
         deed_breaks(deed, version_in(params), self.get(uri))
     }
 
     /// Keeps what a message does. If the allocation fails, nothing is changed.
-    pub fn keep(&mut self, place: u64, way: Direction, message: &Entry) -> Result<(), AllocError>
+    pub fn keep(
+        &mut self,
+        place: u64,
+        direction: Direction,
+        message: &Entry,
+    ) -> Result<(), AllocError>
         ensures ok { (log : Log) → Opened self.old log
-            → OnOk result (Opened self.new (passed way place (entry_view message.now) ∷ log)) }
+            → OnOk result (Opened self.new (passed direction place (entry_view message.now) ∷ log)) }
         ensures err { OnErr result ((q : List ℕ) → held self.new q ≡ held self.old q) }
     {
-        let Some(deed) = deed_in(way, message) else {
+        let Some(deed) = deed_in(direction, message) else {
             return Ok(());
         };
         let Some(params) = message.params() else {
@@ -190,10 +195,10 @@ fn is_not_higher(version: Option<i64>, before: Option<i64>) -> bool
 }
 
 /// What the client does by a message with a document.
-fn deed_in(way: Direction, message: &Entry) -> Option<Deed>
-    ensures { result ≡ deed_of way (entry_view message.now) }
+fn deed_in(direction: Direction, message: &Entry) -> Option<Deed>
+    ensures { result ≡ deed_of direction (entry_view message.now) }
 {
-    match (way, message.kind()) {
+    match (direction, message.kind()) {
         (Direction::ToServer, Kind::Notification) => deed_named(message.method()),
         _ => None,
     }

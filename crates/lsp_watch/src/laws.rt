@@ -11,8 +11,8 @@ ghost use Rattle.std.specs.Prelude.{◌≡◌, ◌++◌, ◌∷◌, List, true, 
 
 /// In a log in which no message breaks a rule:
 ///
-/// - Each reply answers one request that passed before it the other way, and each request has at most one reply, at every beginning of
-///   the log (JSON-RPC 2.0, section 5).
+/// - Each reply answers one request that passed before it in the other direction, and each request has at most one
+///   reply, at every beginning of the log (JSON-RPC 2.0, section 5).
 /// - The requests and notifications of both sides keep the order of the lifecycle (LSP 3.17, "Server lifecycle").
 pub fn a_clean_log_keeps_order()
     ensures replies { (log : Log) → IsClean log → RepliesOnce log }
@@ -39,7 +39,7 @@ pub fn a_sure_breach_is_in_each_order()
 /// At the end of such a log, each order without a breach leaves the same requests without a reply.
 pub fn a_late_breach_is_in_each_order()
     ensures breach { (after before order : Log) (p : Passed) → IsBehindAll after p before → AreOrders (after ++ p ∷ before) order
-        → list_any is_late (findings_of before p.way p.message) ≡ true → breaks any_finding order ≡ true }
+        → list_any is_late (findings_of before p.direction p.message) ≡ true → breaks any_finding order ≡ true }
     ensures left { (log order : Log) → AreOrders log order → breaks is_unasked log ≡ false → breaks any_finding order ≡ false
-        → (way : Direction) (id : Id) → open_under way id log ≡ open_under way id order }
+        → (direction : Direction) (id : Id) → open_under direction id log ≡ open_under direction id order }
 {}

@@ -34,12 +34,18 @@ impl Lifecycle {
     }
 
     /// After one more message. `answers` says whether it is a reply to `initialize`.
-    pub fn after(self, place: u64, way: Direction, message: &Entry, answers: bool) -> Lifecycle
+    pub fn after(
+        self,
+        place: u64,
+        direction: Direction,
+        message: &Entry,
+        answers: bool,
+    ) -> Lifecycle
         ensures { (log : Log) → self ≡ lifecycle_of log
-            → answers ≡ answers_initialize log (passed way place (entry_view message.now))
-            → result ≡ lifecycle_of (passed way place (entry_view message.now) ∷ log) }
+            → answers ≡ answers_initialize log (passed direction place (entry_view message.now))
+            → result ≡ lifecycle_of (passed direction place (entry_view message.now) ∷ log) }
     {
-        let by_client = way.is_from_client();
+        let by_client = direction.is_from_client();
         Lifecycle {
             result: place_or(answers && is_success(message), place, self.result),
             initialized: place_or(

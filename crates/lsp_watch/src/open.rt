@@ -15,8 +15,8 @@ use std::marker::Model;
 /// A request that has no reply yet.
 #[derive(Debug, Drop)]
 pub struct Asked {
-    /// Which way it went.
-    pub way: Direction,
+    /// The direction in which it went.
+    pub direction: Direction,
     /// The place of the message.
     pub place: u64,
     /// Its id.
@@ -37,34 +37,34 @@ impl Model for Asked {
 
     ghost Value = { Open };
 
-    ghost view = { λ a. record { way = a.way; place = a.place; id = a.id; method = string_bytes a.method; work = a.work; part = a.part; created = a.created } };
+    ghost view = { λ a. record { direction = a.direction; place = a.place; id = a.id; method = string_bytes a.method; work = a.work; part = a.part; created = a.created } };
 }
 
 impl Asked {
-    /// Whether a reply under this id, to a request of this way, may answer it.
-    pub fn is_for(&self, way: Direction, id: &LoggedId) -> bool
-        ensures { result ≡ is_for_it way id.now self.now }
+    /// Whether a reply under this id, to a request of this direction, may answer it.
+    pub fn is_for(&self, direction: Direction, id: &LoggedId) -> bool
+        ensures { result ≡ is_for_it direction id.now self.now }
     {
-        way == self.way && id.is(&self.id)
+        direction == self.direction && id.is(&self.id)
     }
 
     /// Whether it is the client's `initialize`.
     pub fn opens_session(&self) -> bool
         ensures { result ≡ opens_session self.now }
     {
-        self.way.is_from_client() && self.method.as_str() == "initialize"
+        self.direction.is_from_client() && self.method.as_str() == "initialize"
     }
 }
 
 /// What is kept of a request.
 pub fn kept_of(
     alloc: Global,
-    way: Direction,
+    direction: Direction,
     place: u64,
     id: &LoggedId,
     message: &Entry,
 ) -> Result<Asked, AllocError>
-    ensures { IfOk result (λ a. a ≡ request_of way place id.now (unwrap_or (method_in (view message.now.tree)) [])
+    ensures { IfOk result (λ a. a ≡ request_of direction place id.now (unwrap_or (method_in (view message.now.tree)) [])
         (params_in (view message.now.tree))) }
 {
     let params = message.tree().get("params");
@@ -72,9 +72,9 @@ pub fn kept_of(
     let id = id.clone()?;
     let work = key_in(params, "workDoneToken")?;
     let part = key_in(params, "partialResultToken")?;
-    let created = created_by(way, message.method(), params)?;
+    let created = created_by(direction, message.method(), params)?;
     Ok(Asked {
-        way,
+        direction,
         place,
         id,
         method,
@@ -86,13 +86,13 @@ pub fn kept_of(
 
 /// The token under which a server asks the client to show progress.
 fn created_by(
-    way: Direction,
+    direction: Direction,
     method: &str,
     params: Option<&Value>,
 ) -> Result<Option<LoggedId>, AllocError>
-    ensures { IfOk result (λ name. name ≡ created_name_of way method.now (unwrap_or (option_map (λ v. view v.now) params.entry) null)) }
+    ensures { IfOk result (λ name. name ≡ created_name_of direction method.now (unwrap_or (option_map (λ v. view v.now) params.entry) null)) }
 {
-    if way.is_from_client() || method != "window/workDoneProgress/create" {
+    if direction.is_from_client() || method != "window/workDoneProgress/create" {
         return Ok(None);
     }
     key_in(params, "token")

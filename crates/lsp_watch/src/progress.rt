@@ -43,20 +43,20 @@ impl Created {
         }
     }
 
-    /// Returns the rule that progress of this way under a token breaks.
+    /// Returns the rule that progress of this direction under a token breaks.
     pub fn breaks(
         &self,
         asked: &OpenRequests,
-        way: Direction,
+        direction: Direction,
         name: &LoggedId,
     ) -> Option<(Rule, Option<u64>)>
         ensures { IsIndexed asked.now
-            → result ≡ token_finding (asked_in asked.now) (token_held self.now name.now) way name.now }
+            → result ≡ token_finding (asked_in asked.now) (token_held self.now name.now) direction name.now }
     {
-        if asked.is_given(way, name) {
+        if asked.is_given(direction, name) {
             return None;
         }
-        created_breaks(way, self.get(name))
+        created_breaks(direction, self.get(name))
     }
 
     fn get(&self, name: &LoggedId) -> Option<Token>
@@ -123,10 +123,10 @@ impl Created {
 }
 
 /// Returns the rule that progress breaks if no request gives its token.
-fn created_breaks(way: Direction, token: Option<Token>) -> Option<(Rule, Option<u64>)>
-    ensures { result ≡ created_finding way token }
+fn created_breaks(direction: Direction, token: Option<Token>) -> Option<(Rule, Option<u64>)>
+    ensures { result ≡ created_finding direction token }
 {
-    match (way, token) {
+    match (direction, token) {
         (Direction::ToServer, _) | (Direction::ToClient, None) => Some((Rule::NoSuchToken, None)),
         (Direction::ToClient, Some(Token::Live)) => None,
         (Direction::ToClient, Some(Token::Ended(place))) => Some((Rule::TokenEnded, Some(place))),

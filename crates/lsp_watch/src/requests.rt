@@ -12,7 +12,7 @@ ghost use Rattle.lsp_watch.specs.Rules.{opens_under};
 use crate::direction::Direction;
 use crate::logged::LoggedId;
 use crate::open::Asked;
-use crate::uses::{ByWay, Uses, first_in};
+use crate::uses::{ByDirection, Uses, first_in};
 use std::alloc::{AllocError, Global};
 use std::collections::btree_map::Values;
 use std::collections::{BTreeMap, BTreeSet};
@@ -47,11 +47,12 @@ impl OpenRequests {
         self.requests.values()
     }
 
-    /// The first request of this way and id.
-    pub fn first_for(&self, way: Direction, id: &LoggedId) -> Option<&Asked>
-        ensures { IsIndexed self.now → option_map (λ a. a.now) result ≡ find (is_for way id.now) (asked_in self.now) }
+    /// The first request of this direction and id.
+    pub fn first_for(&self, direction: Direction, id: &LoggedId) -> Option<&Asked>
+        ensures { IsIndexed self.now → option_map (λ a. a.now) result
+            ≡ find (is_for direction id.now) (asked_in self.now) }
     {
-        self.at(self.numbers.ids.first(way, id))
+        self.at(self.numbers.ids.first(direction, id))
     }
 
     fn at(&self, number: Option<u64>) -> Option<&Asked>
@@ -69,12 +70,12 @@ impl OpenRequests {
 
     /// Returns whether a request lets its receiver or its sender report progress in this direction under a token.
     #[tactic(auto, using(crate::proofs::Indexing::given))]
-    pub fn is_given(&self, way: Direction, name: &LoggedId) -> bool
-        ensures { IsIndexed self.now → result ≡ list_any (gives way name.now) (asked_in self.now) }
+    pub fn is_given(&self, direction: Direction, name: &LoggedId) -> bool
+        ensures { IsIndexed self.now → result ≡ list_any (gives direction name.now) (asked_in self.now) }
     {
-        self.numbers.created.first(way, name).is_some()
-            || self.numbers.work.first(way.other(), name).is_some()
-            || self.numbers.part.first(way.other(), name).is_some()
+        self.numbers.created.first(direction, name).is_some()
+            || self.numbers.work.first(direction.other(), name).is_some()
+            || self.numbers.part.first(direction.other(), name).is_some()
     }
 
     /// Returns whether progress under a token may be sent while an `initialize` waits (LSP 3.17, "Initialize Request"): it is that of
@@ -142,12 +143,13 @@ impl OpenRequests {
         }
     }
 
-    /// Takes out the first request of this way and id.
-    pub fn answer(&mut self, way: Direction, id: &LoggedId)
-        ensures is { IsIndexed self.old → asked_in self.new ≡ without_first (is_for way id.now) (asked_in self.old) }
+    /// Takes out the first request of this direction and id.
+    pub fn answer(&mut self, direction: Direction, id: &LoggedId)
+        ensures is { IsIndexed self.old → asked_in self.new
+            ≡ without_first (is_for direction id.now) (asked_in self.old) }
         ensures indexed { IsIndexed self.old → IsIndexed self.new }
     {
-        let Some(number) = self.numbers.ids.first(way, id) else {
+        let Some(number) = self.numbers.ids.first(direction, id) else {
             return;
         };
         let Some(asked) = self.requests.remove(&number) else {
@@ -168,13 +170,13 @@ fn place_in(asked: Option<&Asked>) -> Option<u64>
 #[derive(Debug, Drop)]
 pub struct Numbers {
     /// By their own ids.
-    ids: ByWay,
+    ids: ByDirection,
     /// By the tokens `workDoneToken`.
-    work: ByWay,
+    work: ByDirection,
     /// By the tokens `partialResultToken`.
-    part: ByWay,
+    part: ByDirection,
     /// By the tokens that they create.
-    created: ByWay,
+    created: ByDirection,
     /// Those of `initialize`, by the token `workDoneToken`.
     opening_tokens: Uses,
     /// Those of `initialize`.
@@ -186,10 +188,10 @@ impl Numbers {
         ensures { (by : Use) → numbers result by ≡ [] }
     {
         Numbers {
-            ids: ByWay::new(alloc),
-            work: ByWay::new(alloc),
-            part: ByWay::new(alloc),
-            created: ByWay::new(alloc),
+            ids: ByDirection::new(alloc),
+            work: ByDirection::new(alloc),
+            part: ByDirection::new(alloc),
+            created: ByDirection::new(alloc),
             opening_tokens: Uses::new(alloc),
             openings: BTreeSet::new(alloc),
         }
@@ -214,11 +216,11 @@ impl Numbers {
         ensures ok { OnOk result ((by : Use) → numbers self.new by ≡ added (is_found by asked.now) number (numbers self.old by)) }
         ensures err { OnErr result ((by : Use) → MayAdd (is_found by asked.now) number (numbers self.old by) (numbers self.new by)) }
     {
-        let way = asked.way;
-        self.ids.add(way, Some(&asked.id), number)?;
-        self.work.add(way, asked.work.as_ref(), number)?;
-        self.part.add(way, asked.part.as_ref(), number)?;
-        self.created.add(way, asked.created.as_ref(), number)?;
+        let direction = asked.direction;
+        self.ids.add(direction, Some(&asked.id), number)?;
+        self.work.add(direction, asked.work.as_ref(), number)?;
+        self.part.add(direction, asked.part.as_ref(), number)?;
+        self.created.add(direction, asked.created.as_ref(), number)?;
         self.add_opening(asked, number)
     }
 
@@ -244,11 +246,12 @@ impl Numbers {
     fn remove(&mut self, asked: &Asked, number: u64)
         ensures { (by : Use) → numbers self.new by ≡ removed (is_found by asked.now) number (numbers self.old by) }
     {
-        let way = asked.way;
-        self.ids.remove(way, Some(&asked.id), number);
-        self.work.remove(way, asked.work.as_ref(), number);
-        self.part.remove(way, asked.part.as_ref(), number);
-        self.created.remove(way, asked.created.as_ref(), number);
+        let direction = asked.direction;
+        self.ids.remove(direction, Some(&asked.id), number);
+        self.work.remove(direction, asked.work.as_ref(), number);
+        self.part.remove(direction, asked.part.as_ref(), number);
+        self.created
+            .remove(direction, asked.created.as_ref(), number);
         self.remove_opening(asked, number);
     }
 

@@ -2,7 +2,7 @@
 ghost use Rattle.std.specs.Prelude.{◌≡◌, ◌&&◌, [], true, false, IfOk, OnOk, OnErr, option_map};
 ghost use Rattle.lsp_message.specs.Id.{Id, same_id};
 ghost use Rattle.lsp_watch.specs.Indexed.{numbers_at, numbers_by, first_of, added, removed};
-ghost use Rattle.lsp_watch.specs.Log.{is_id, same_way};
+ghost use Rattle.lsp_watch.specs.Log.{is_id, same_direction};
 
 use crate::direction::Direction;
 use crate::logged::LoggedId;
@@ -124,57 +124,59 @@ pub fn first_in(numbers: &BTreeSet<u64>) -> Option<u64>
     numbers.first().copied()
 }
 
-/// The numbers of the requests that use an id, by the way that they go.
+/// The numbers of the requests that use an id, by the direction in which they go.
 #[derive(Debug, Drop)]
-pub struct ByWay {
+pub struct ByDirection {
     to_server: Uses,
     to_client: Uses,
 }
 
-impl ByWay {
-    pub fn new(alloc: Global) -> ByWay
-        ensures { (way : Direction) (id : Id) → numbers_by result way id ≡ [] }
+impl ByDirection {
+    pub fn new(alloc: Global) -> ByDirection
+        ensures { (direction : Direction) (id : Id) → numbers_by result direction id ≡ [] }
     {
-        ByWay {
+        ByDirection {
             to_server: Uses::new(alloc),
             to_client: Uses::new(alloc),
         }
     }
 
-    /// Returns the first number of a way and an id.
-    pub fn first(&self, way: Direction, id: &LoggedId) -> Option<u64>
-        ensures { result ≡ first_of (numbers_by self.now way id.now) }
+    /// Returns the first number of a direction and an id.
+    pub fn first(&self, direction: Direction, id: &LoggedId) -> Option<u64>
+        ensures { result ≡ first_of (numbers_by self.now direction id.now) }
     {
-        match way {
+        match direction {
             Direction::ToServer => self.to_server.first(id),
             Direction::ToClient => self.to_client.first(id),
         }
     }
 
-    /// Adds a number to those of a way and an id, if there is an id. The error means that an allocation failed, and nothing has
+    /// Adds a number to those of a direction and an id, if there is an id. The error means that an allocation failed, and nothing has
     /// changed.
     pub fn add(
         &mut self,
-        way: Direction,
+        direction: Direction,
         id: Option<&LoggedId>,
         number: u64,
     ) -> Result<(), AllocError>
         ensures ok { OnOk result ((w : Direction) (q : Id) → numbers_by self.new w q
-            ≡ added (same_way w way && is_id q (option_map (λ i. i.now) id.entry)) number (numbers_by self.old w q)) }
+            ≡ added (same_direction w direction && is_id q (option_map (λ i. i.now) id.entry)) number
+            (numbers_by self.old w q)) }
         ensures err { OnErr result ((w : Direction) (q : Id) → numbers_by self.new w q ≡ numbers_by self.old w q) }
     {
-        match way {
+        match direction {
             Direction::ToServer => self.to_server.add(id, number),
             Direction::ToClient => self.to_client.add(id, number),
         }
     }
 
-    /// Removes a number from those of a way and an id, if there is an id.
-    pub fn remove(&mut self, way: Direction, id: Option<&LoggedId>, number: u64)
+    /// Removes a number from those of a direction and an id, if there is an id.
+    pub fn remove(&mut self, direction: Direction, id: Option<&LoggedId>, number: u64)
         ensures { (w : Direction) (q : Id) → numbers_by self.new w q
-            ≡ removed (same_way w way && is_id q (option_map (λ i. i.now) id.entry)) number (numbers_by self.old w q) }
+            ≡ removed (same_direction w direction && is_id q (option_map (λ i. i.now) id.entry)) number
+            (numbers_by self.old w q) }
     {
-        match way {
+        match direction {
             Direction::ToServer => self.to_server.remove(id, number),
             Direction::ToClient => self.to_client.remove(id, number),
         }

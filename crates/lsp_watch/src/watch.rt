@@ -79,17 +79,17 @@ impl Watch {
     pub fn observe(
         &mut self,
         place: u64,
-        way: Direction,
+        direction: Direction,
         message: &LoggedMessage,
     ) -> Result<Vec<Breach>, AllocError>
         ensures ok { (log : Log) → Saw self.old log → IfOk result (λ found.
-            (found.items ≡ breaches_of self.old.is_whole log way message.now.faults.items (option_map entry_view message.now.entry))
-            × Saw self.new (entered way place (option_map entry_view message.now.entry) log)) }
+            (found.items ≡ breaches_of self.old.is_whole log direction message.now.faults.items (option_map entry_view message.now.entry))
+            × Saw self.new (entered direction place (option_map entry_view message.now.entry) log)) }
         ensures whole { self.new.is_whole ≡ self.old.is_whole }
         ensures err { OnErr result (KeepsSame self.old self.new) }
     {
-        let found = self.breaches(way, message)?;
-        let kept = self.enter(place, way, message);
+        let found = self.breaches(direction, message)?;
+        let kept = self.enter(place, direction, message);
         match kept {
             Ok(()) => Ok(found),
             Err(error) => {
@@ -102,15 +102,15 @@ impl Watch {
     /// The rules that a message would break if it passed now. The error means that an allocation failed.
     pub fn breaches(
         &self,
-        way: Direction,
+        direction: Direction,
         message: &LoggedMessage,
     ) -> Result<Vec<Breach>, AllocError>
         ensures { (log : Log) → Saw self.now log → IfOk result (λ found.
-            found.items ≡ breaches_of self.now.is_whole log way message.now.faults.items (option_map entry_view message.now.entry)) }
+            found.items ≡ breaches_of self.now.is_whole log direction message.now.faults.items (option_map entry_view message.now.entry)) }
     {
         let mut found = shape_breaches(self.alloc, &message.faults)?;
         if let Some(entry) = &message.entry {
-            self.push_breaches(&mut found, way, entry)?;
+            self.push_breaches(&mut found, direction, entry)?;
         }
         Ok(found)
     }
@@ -118,18 +118,18 @@ impl Watch {
     fn push_breaches(
         &self,
         found: &mut Vec<Breach>,
-        way: Direction,
+        direction: Direction,
         message: &Entry,
     ) -> Result<(), AllocError>
-        ensures { (log : Log) → Saw self.now log → OnOk result (found.new.items
-            ≡ found.old.items ++ map (as_breach self.now.is_whole) (findings_of log way (entry_view message.now))) }
+        ensures { (log : Log) → Saw self.now log → OnOk result (found.new.items ≡ found.old.items
+            ++ map (as_breach self.now.is_whole) (findings_of log direction (entry_view message.now))) }
     {
         let token = progress_token(message)?;
-        let session = self.session_breaks(way, message, token.as_ref());
-        let progress = self.progress_breaks(way, token.as_ref());
+        let session = self.session_breaks(direction, message, token.as_ref());
+        let progress = self.progress_breaks(direction, token.as_ref());
         drop(token);
         self.push(found, session)?;
-        self.push(found, self.documents.breaks(way, message))?;
+        self.push(found, self.documents.breaks(direction, message))?;
         self.push(found, progress)
     }
 
@@ -149,39 +149,39 @@ impl Watch {
 
     fn progress_breaks(
         &self,
-        way: Direction,
+        direction: Direction,
         token: Option<&LoggedId>,
     ) -> Option<(Rule, Option<u64>)>
         ensures { (log : Log) → Saw self.now log → (m : Message) → option_map (λ t. t.now) token.entry ≡ token_named m
-            → result ≡ progress_finding log way m }
+            → result ≡ progress_finding log direction m }
     {
-        self.created.breaks(&self.asked, way, token?)
+        self.created.breaks(&self.asked, direction, token?)
     }
 
     fn session_breaks(
         &self,
-        way: Direction,
+        direction: Direction,
         message: &Entry,
         token: Option<&LoggedId>,
     ) -> Option<(Rule, Option<u64>)>
         ensures { (log : Log) → Saw self.now log → option_map (λ t. t.now) token.entry ≡ token_named (entry_view message.now)
-            → result ≡ session_finding log way (entry_view message.now) }
+            → result ≡ session_finding log direction (entry_view message.now) }
     {
-        self.lifecycle_breaks(way, message, token)
-            .or(self.id_breaks(way, message))
+        self.lifecycle_breaks(direction, message, token)
+            .or(self.id_breaks(direction, message))
     }
 
     fn lifecycle_breaks(
         &self,
-        way: Direction,
+        direction: Direction,
         message: &Entry,
         token: Option<&LoggedId>,
     ) -> Option<(Rule, Option<u64>)>
         ensures { (log : Log) → Saw self.now log → option_map (λ t. t.now) token.entry ≡ token_named (entry_view message.now)
-            → result ≡ lifecycle_finding log way (entry_view message.now) }
+            → result ≡ lifecycle_finding log direction (entry_view message.now) }
     {
         let waiting = self.asked.place_of_opening();
-        match (way, message.kind()) {
+        match (direction, message.kind()) {
             (_, Kind::Reply(_, _)) => None,
             (Direction::ToServer, _) => self.stands.client_breaks(waiting, message),
             (Direction::ToClient, _) => {
@@ -201,17 +201,17 @@ impl Watch {
         }
     }
 
-    fn id_breaks(&self, way: Direction, message: &Entry) -> Option<(Rule, Option<u64>)>
+    fn id_breaks(&self, direction: Direction, message: &Entry) -> Option<(Rule, Option<u64>)>
         ensures { (log : Log) → Saw self.now log
-            → result ≡ id_finding log way (entry_view message.now) }
+            → result ≡ id_finding log direction (entry_view message.now) }
     {
         match message.kind() {
             Kind::Request(id) => {
-                let asked = self.waiting(way, id)?;
+                let asked = self.waiting(direction, id)?;
                 Some((Rule::IdStillOpen, Some(asked.place)))
             }
             Kind::Notification => None,
-            Kind::Reply(id, _) => match self.waiting(way.other(), id) {
+            Kind::Reply(id, _) => match self.waiting(direction.other(), id) {
                 Some(_) => None,
                 None => Some((Rule::NobodyAsked, None)),
             },
@@ -220,13 +220,13 @@ impl Watch {
 
     /// Whether the message begins a new session: an `initialize` after `exit`, or any `initialize` if the session was seen from its middle
     /// on. Call `finish` then, and go on with a new watch.
-    pub fn begins_session(&self, way: Direction, message: &LoggedMessage) -> bool
+    pub fn begins_session(&self, direction: Direction, message: &LoggedMessage) -> bool
         ensures { (log : Log) → Saw self.now log
-            → result ≡ begins_in self.now.is_whole log way (option_map entry_view message.now.entry) }
+            → result ≡ begins_in self.now.is_whole log direction (option_map entry_view message.now.entry) }
     {
         match &message.entry {
             Some(entry) => {
-                way.is_from_client()
+                direction.is_from_client()
                     && asks(entry, "initialize")
                     && (!self.is_whole || self.stands.exit.is_some())
             }
@@ -261,56 +261,56 @@ impl Watch {
         self.asked.iter()
     }
 
-    /// The request that the next reply of this id answers, if a request of this way waits under it.
-    pub fn waiting(&self, way: Direction, id: &LoggedId) -> Option<&Asked>
+    /// The request that the next reply of this id answers, if a request of this direction waits under it.
+    pub fn waiting(&self, direction: Direction, id: &LoggedId) -> Option<&Asked>
         ensures { (log : Log) → Saw self.now log
-            → option_map (λ a. a.now) result ≡ waiting way id.now log }
+            → option_map (λ a. a.now) result ≡ waiting direction id.now log }
     {
-        self.asked.first_for(way, id)
+        self.asked.first_for(direction, id)
     }
 
     fn enter(
         &mut self,
         place: u64,
-        way: Direction,
+        direction: Direction,
         message: &LoggedMessage,
     ) -> Result<(), AllocError>
         ensures ok { (log : Log) → Saw self.old log
-            → OnOk result (Saw self.new (entered way place (option_map entry_view message.now.entry) log)) }
+            → OnOk result (Saw self.new (entered direction place (option_map entry_view message.now.entry) log)) }
         ensures whole { self.new.is_whole ≡ self.old.is_whole }
         ensures err { OnErr result (KeepsSame self.old self.new) }
     {
         match &message.entry {
-            Some(entry) => self.keep(place, way, entry),
+            Some(entry) => self.keep(place, direction, entry),
             None => Ok(()),
         }
     }
 
-    fn keep(&mut self, place: u64, way: Direction, message: &Entry) -> Result<(), AllocError>
+    fn keep(&mut self, place: u64, direction: Direction, message: &Entry) -> Result<(), AllocError>
         ensures ok { (log : Log) → Saw self.old log
-            → OnOk result (Saw self.new (passed way place (entry_view message.now) ∷ log)) }
+            → OnOk result (Saw self.new (passed direction place (entry_view message.now) ∷ log)) }
         ensures whole { self.new.is_whole ≡ self.old.is_whole }
         ensures err { OnErr result (KeepsSame self.old self.new) }
     {
-        let answers = self.answers_initialize(way, message);
-        let stands = self.stands.after(place, way, message, answers);
+        let answers = self.answers_initialize(direction, message);
+        let stands = self.stands.after(place, direction, message, answers);
         match message.kind() {
-            Kind::Request(id) => self.keep_request(place, way, id, message)?,
-            Kind::Notification => self.keep_told(place, way, message)?,
-            Kind::Reply(id, succeeds) => self.keep_reply(way, id, *succeeds)?,
+            Kind::Request(id) => self.keep_request(place, direction, id, message)?,
+            Kind::Notification => self.keep_told(place, direction, message)?,
+            Kind::Reply(id, succeeds) => self.keep_reply(direction, id, *succeeds)?,
         }
         self.stands = stands;
         Ok(())
     }
 
-    fn answers_initialize(&self, way: Direction, message: &Entry) -> bool
+    fn answers_initialize(&self, direction: Direction, message: &Entry) -> bool
         ensures { (log : Log) (place : ℕ) → Saw self.now log
-            → result ≡ replies_to_it log (passed way place (entry_view message.now)) }
+            → result ≡ replies_to_it log (passed direction place (entry_view message.now)) }
     {
         let Kind::Reply(id, _) = message.kind() else {
             return false;
         };
-        match self.waiting(way.other(), id) {
+        match self.waiting(direction.other(), id) {
             Some(asked) => asked.opens_session(),
             None => false,
         }
@@ -319,34 +319,39 @@ impl Watch {
     fn keep_request(
         &mut self,
         place: u64,
-        way: Direction,
+        direction: Direction,
         id: &LoggedId,
         message: &Entry,
     ) -> Result<(), AllocError>
         ensures asked { IsIndexed self.old.asked → OnOk result (asked_in self.new.asked ≡ asked_in self.old.asked
-            ++ request_of way place id.now (unwrap_or (method_in (view message.now.tree)) []) (params_in (view message.now.tree)) ∷ []) }
+            ++ request_of direction place id.now (unwrap_or (method_in (view message.now.tree)) []) (params_in (view message.now.tree)) ∷ []) }
         ensures indexed { IsIndexed self.old.asked → IsIndexed self.new.asked }
         ensures same { (self.new.created ≡ self.old.created) × (self.new.documents ≡ self.old.documents)
             × (self.new.stands ≡ self.old.stands) × (self.new.is_whole ≡ self.old.is_whole) }
         ensures err { OnErr result (asked_in self.new.asked ≡ asked_in self.old.asked) }
     {
-        let kept = kept_of(self.alloc, way, place, id, message)?;
+        let kept = kept_of(self.alloc, direction, place, id, message)?;
         self.asked.push(kept)?;
         Ok(())
     }
 
     /// Keeps what a notification does: a client's with a document, a server's with a token.
-    fn keep_told(&mut self, place: u64, way: Direction, message: &Entry) -> Result<(), AllocError>
+    fn keep_told(
+        &mut self,
+        place: u64,
+        direction: Direction,
+        message: &Entry,
+    ) -> Result<(), AllocError>
         ensures documents { (log : Log) → Opened self.old.documents log → OnOk result (Opened self.new.documents
-            (passed way place (entry_view message.now) ∷ log)) }
+            (passed direction place (entry_view message.now) ∷ log)) }
         ensures tokens { OnOk result ((name : Id) → token_held self.new.created name
-            ≡ after_end name place (ended_by way (entry_view message.now)) (token_held self.old.created name)) }
+            ≡ after_end name place (ended_by direction (entry_view message.now)) (token_held self.old.created name)) }
         ensures same { (self.new.asked ≡ self.old.asked) × (self.new.stands ≡ self.old.stands)
             × (self.new.is_whole ≡ self.old.is_whole) }
         ensures err { OnErr result (KeepsSame self.old self.new) }
     {
-        match way {
-            Direction::ToServer => self.documents.keep(place, way, message),
+        match direction {
+            Direction::ToServer => self.documents.keep(place, direction, message),
             Direction::ToClient => self.created.end(place, message),
         }
     }
@@ -354,37 +359,37 @@ impl Watch {
     /// Keeps what a reply does: it answers a request, and may let a token be created.
     fn keep_reply(
         &mut self,
-        way: Direction,
+        direction: Direction,
         id: &LoggedId,
         succeeds: bool,
     ) -> Result<(), AllocError>
-        ensures asked { IsIndexed self.old.asked → OnOk result (asked_in self.new.asked ≡ answered way id.now (asked_in self.old.asked)) }
+        ensures asked { IsIndexed self.old.asked → OnOk result (asked_in self.new.asked ≡ answered direction id.now (asked_in self.old.asked)) }
         ensures indexed { IsIndexed self.old.asked → IsIndexed self.new.asked }
         ensures tokens { IsIndexed self.old.asked → OnOk result ((name : Id) → token_held self.new.created name
-            ≡ after_accept name (accepted_in succeeds way id.now (asked_in self.old.asked)) (token_held self.old.created name)) }
+            ≡ after_accept name (accepted_in succeeds direction id.now (asked_in self.old.asked)) (token_held self.old.created name)) }
         ensures same { (self.new.documents ≡ self.old.documents) × (self.new.stands ≡ self.old.stands)
             × (self.new.is_whole ≡ self.old.is_whole) }
         ensures err { OnErr result (KeepsSame self.old self.new) }
     {
-        let name = self.accepted(way, id, succeeds)?;
+        let name = self.accepted(direction, id, succeeds)?;
         self.created.accept(name)?;
-        self.asked.answer(way.other(), id);
+        self.asked.answer(direction.other(), id);
         Ok(())
     }
 
     /// The token that a reply lets be created.
     fn accepted(
         &self,
-        way: Direction,
+        direction: Direction,
         id: &LoggedId,
         succeeds: bool,
     ) -> Result<Option<LoggedId>, AllocError>
-        ensures { IsIndexed self.now.asked → IfOk result (λ name. name ≡ accepted_in succeeds way id.now (asked_in self.now.asked)) }
+        ensures { IsIndexed self.now.asked → IfOk result (λ name. name ≡ accepted_in succeeds direction id.now (asked_in self.now.asked)) }
     {
         if !succeeds {
             return Ok(None);
         }
-        let Some(asked) = self.asked.first_for(way.other(), id) else {
+        let Some(asked) = self.asked.first_for(direction.other(), id) else {
             return Ok(None);
         };
         match &asked.created {

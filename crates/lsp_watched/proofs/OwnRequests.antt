@@ -123,7 +123,7 @@ free_before least (x ∷ xs) m ys id all is =
 
 free_queue : (id : Id) (log : Log) → Free id (requests_in (gone ToClient log)) → queue ToClient id log ≡ []
 free_queue id [] free = refl
-free_queue id (p ∷ log) free = by p.way p.place p.message (λ f. free_queue id log f) free
+free_queue id (p ∷ log) free = by p.direction p.place p.message (λ f. free_queue id log f) free
   where
     front : (m : Message) → Free id (requests_in (gone ToClient log ++ m ∷ []))
         → Free id (requests_in (gone ToClient log)) × Free id (requests_in (m ∷ []))
@@ -134,10 +134,10 @@ free_queue id (p ∷ log) free = by p.way p.place p.message (λ f. free_queue id
     answered true xs none = ap rest none
     answered false xs none = none
 
-    by : (way : Direction) (place : ℕ) (m : Message)
+    by : (direction : Direction) (place : ℕ) (m : Message)
         → (Free id (requests_in (gone ToClient log)) → queue ToClient id log ≡ [])
-        → Free id (requests_in (gone ToClient (passed way place m ∷ log)))
-        → queue ToClient id (passed way place m ∷ log) ≡ []
+        → Free id (requests_in (gone ToClient (passed direction place m ∷ log)))
+        → queue ToClient id (passed direction place m ∷ log) ≡ []
     by ToServer place (request i method params) more f =
         queue_request ToClient id ToServer place log i method params ∙ append-nil (queue ToClient id log) ∙ more f
     by ToServer place (notification method params) more f = more f
@@ -232,17 +232,19 @@ module _ (exchanges : List Exchange) (own : Ascends 0 (requests_in (sends_of exc
       free_before 0 (requests_in (gone ToClient before)) m (requests_in later) id
       (subst (Ascends 0) (ap requests_in cut ∙ requests_append (gone ToClient before) (m ∷ later)) own) refl
 
-  clean : (before : Log) (way : Direction) (m : Message) → lifecycle_finding before way m ≡ None
-      → id_finding before way m ≡ None → session_finding before way m ≡ None
-  clean before way m keeps fits = λ k. option_or (keeps k) (fits k)
+  clean : (before : Log) (direction : Direction) (m : Message) → lifecycle_finding before direction m ≡ None
+      → id_finding before direction m ≡ None → session_finding before direction m ≡ None
+  clean before direction m keeps fits = λ k. option_or (keeps k) (fits k)
 
-  call_is_clean : (before : Log) (way : Direction) (m : Message) → from_client way ≡ false → is_call m ≡ true
-      → IsSentAt exchanges before m → lifecycle_finding before way m ≡ None → session_finding before way m ≡ None
-  call_is_clean before ToServer m way call at keeps = cc
-  call_is_clean before ToClient (response i outcome) way call at keeps = cc
-  call_is_clean before ToClient (notification method params) way call at keeps =
+  call_is_clean : (before : Log) (direction : Direction) (m : Message) → from_client direction ≡ false
+      → is_call m ≡ true
+      → IsSentAt exchanges before m → lifecycle_finding before direction m ≡ None → session_finding before direction m
+      ≡ None
+  call_is_clean before ToServer m direction call at keeps = cc
+  call_is_clean before ToClient (response i outcome) direction call at keeps = cc
+  call_is_clean before ToClient (notification method params) direction call at keeps =
       clean before ToClient (notification method params) keeps refl
-  call_is_clean before ToClient (request id method params) way call at keeps =
+  call_is_clean before ToClient (request id method params) direction call at keeps =
       clean before ToClient (request id method params) keeps (request_fits before ToClient id method params
       (free_waits id before (free_at before id method params at)))
 
@@ -251,7 +253,7 @@ pub server_is_clean : {S P : Type 0} (may : Stated S P) (first last : S) (held :
     (answer : SessionAnswer) (log : Log)
     → KeepsLaws may first last held exchanges stop answer
     → IsRecorded exchanges log → ClientKeepsIds log → ServerIsClean log
-server_is_clean may first last held exchanges stop answer log laws recorded anew later before p is way =
+server_is_clean may first last held exchanges stop answer log laws recorded anew later before p is direction =
     let lost = sent_of_all stop exchanges laws.all laws.to_send in
     let own : Ascends 0 (requests_in (sends_of exchanges)) =
     ascends_front 0 (requests_in (sends_of exchanges)) (requests_in lost.0) (subst (Ascends 0)
@@ -260,8 +262,9 @@ server_is_clean may first last held exchanges stop answer log laws recorded anew
     by own (is_call p.message) refl
   where
     by : Ascends 0 (requests_in (sends_of exchanges)) → (b : Bool) → is_call p.message ≡ b
-        → session_finding before p.way p.message ≡ None
-    by own true call = call_is_clean exchanges own before p.way p.message way call (recorded later before p is way)
+        → session_finding before p.direction p.message ≡ None
+    by own true call = call_is_clean exchanges own before p.direction p.message direction call
+        (recorded later before p is direction)
         (recorded_keeps_lifecycle true true exchanges stop answer log laws.order recorded anew
-        later before p is way)
-    by own false reply = replies_fit exchanges log laws.never_more recorded anew later before p is way reply
+        later before p is direction)
+    by own false reply = replies_fit exchanges log laws.never_more recorded anew later before p is direction reply

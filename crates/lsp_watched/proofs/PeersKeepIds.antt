@@ -23,11 +23,11 @@ use Rattle.lsp_peers.specs.declared.step.Side.{Side}
 use Rattle.lsp_peers.specs.declared.step.Side.TheVariants.{A, B}
 use Rattle.lsp_peers.specs.declared.step.Step.{Step}
 use Rattle.lsp_peers.specs.declared.step.Step.TheVariants.{Register, Tell, Answer, Refuse, Cancel}
-use Rattle.lsp_watch.specs.Log.{Log, passed, same_way, other as back}
+use Rattle.lsp_watch.specs.Log.{Log, passed, same_direction, other as back}
 use Rattle.lsp_watch.specs.Rules.{id_finding}
 use Rattle.lsp_watch.specs.declared.direction.Direction.{Direction}
 use Rattle.lsp_watched.specs.Passing.{Pass}
-use Rattle.lsp_watched.specs.Peers.{PassAll, way_from, IsLogOf, KeepsIds}
+use Rattle.lsp_watched.specs.Peers.{PassAll, direction_from, IsLogOf, KeepsIds}
 use Rattle.lsp_watched.proofs.Waits.{at_each_none, at_each_more, waits, after_request, after_notification}
 use Rattle.lsp_watched.proofs.Waits.{after_reply, none_waits, request_fits, reply_fits}
 
@@ -122,33 +122,37 @@ none_replied r false c l x known none = refl
 none_replied true true c l x known none = let bad : true ≡ false = known ∙ none in cc
 none_replied false true c l x known none = let bad : true ≡ false = known ∙ none in cc
 
--- ---- the two ways
+-- ---- the two directions
 
-same_own_way : (client side : Side) → same_way (way_from client side) (way_from client side) ≡ true
-same_own_way A A = refl
-same_own_way A B = refl
-same_own_way B A = refl
-same_own_way B B = refl
+same_own_direction : (client side : Side) → same_direction (direction_from client side) (direction_from client side)
+    ≡ true
+same_own_direction A A = refl
+same_own_direction A B = refl
+same_own_direction B A = refl
+same_own_direction B B = refl
 
-not_other_way : (client side : Side) → same_way (way_from client (other side)) (way_from client side) ≡ false
-not_other_way A A = refl
-not_other_way A B = refl
-not_other_way B A = refl
-not_other_way B B = refl
+not_other_direction : (client side : Side)
+    → same_direction (direction_from client (other side)) (direction_from client side) ≡ false
+not_other_direction A A = refl
+not_other_direction A B = refl
+not_other_direction B A = refl
+not_other_direction B B = refl
 
-way_back : (client side : Side) → back (way_from client side) ≡ way_from client (other side)
-way_back A A = refl
-way_back A B = refl
-way_back B A = refl
-way_back B B = refl
+direction_back : (client side : Side) → back (direction_from client side) ≡ direction_from client (other side)
+direction_back A A = refl
+direction_back A B = refl
+direction_back B A = refl
+direction_back B B = refl
 
-not_own_back : (client side : Side) → same_way (back (way_from client side)) (way_from client side) ≡ false
+not_own_back : (client side : Side) → same_direction (back (direction_from client side)) (direction_from client side)
+    ≡ false
 not_own_back A A = refl
 not_own_back A B = refl
 not_own_back B A = refl
 not_own_back B B = refl
 
-other_back : (client side : Side) → same_way (back (way_from client (other side))) (way_from client side) ≡ true
+other_back : (client side : Side)
+    → same_direction (back (direction_from client (other side))) (direction_from client side) ≡ true
 other_back A A = refl
 other_back A B = refl
 other_back B A = refl
@@ -189,10 +193,10 @@ replied_to true h x = refl
 replied_to false h x = refl
 
 module _ (client t : Side) (own others : List Entry) (before : Log)
-    (mine : (id : Id) → waits (way_from client t) id before ≡ open_at own others id)
-    (theirs : (id : Id) → waits (way_from client (other t)) id before ≡ open_at others own id) where
-  abbrev way : Direction
-  way = way_from client t
+    (mine : (id : Id) → waits (direction_from client t) id before ≡ open_at own others id)
+    (theirs : (id : Id) → waits (direction_from client (other t)) id before ≡ open_at others own id) where
+  abbrev direction : Direction
+  direction = direction_from client t
 
   -- a registered request is new
   abbrev IsNew : Step → Outcome → Type 0
@@ -200,34 +204,36 @@ module _ (client t : Side) (own others : List Entry) (before : Log)
       × (has key (replied others) ≡ false)
   IsNew step outcome = Unit {0}
 
-  own_same : (id : Id) → waits way id before ≡ cond (has id (replied others)) false (is_some (item_at
+  own_same : (id : Id) → waits direction id before ≡ cond (has id (replied others)) false (is_some (item_at
       (payloads own ++ []) id))
   own_same id = mine id ∙ ap (λ l. cond (has id (replied others)) false (is_some (item_at l id))) (sym (append-nil
       (payloads
       own)))
 
-  own_reply : (new : Log) (key : Id) (outcome : _) → Pass way (response key outcome ∷ []) before new → (id : Id)
-      → waits way id new ≡ cond (has id (replied others)) false (is_some (item_at (payloads own ++ []) id))
-  own_reply new key outcome passes id = ap (waits way id) passes.1 ∙ after_reply way way id passes.0 before key outcome
-      ∙ ap (λ b. cond (b && same_id id key) false (waits way id before)) (not_own_back client t) ∙ own_same id
+  own_reply : (new : Log) (key : Id) (outcome : _) → Pass direction (response key outcome ∷ []) before new → (id : Id)
+      → waits direction id new ≡ cond (has id (replied others)) false (is_some (item_at (payloads own ++ []) id))
+  own_reply new key outcome passes id = ap (waits direction id) passes.1
+      ∙ after_reply direction direction id passes.0 before key outcome
+      ∙ ap (λ b. cond (b && same_id id key) false (waits direction id before)) (not_own_back client t) ∙ own_same id
 
   own_after : (new : Log) (step : Step) (outcome : Outcome) → IsNew step outcome
-      → Pass way (written_in step outcome) before new
-      → (id : Id) → waits way id new
+      → Pass direction (written_in step outcome) before new
+      → (id : Id) → waits direction id new
       ≡ cond (has id (replied others)) false (is_some (item_at (payloads own ++ payload_in step outcome) id))
-  own_after new (Register side method params payload) (Registered key) is_new passes id = ap (waits way id) passes.1
-      ∙ after_request way way id passes.0 before key (string_bytes method) (view params)
-      ∙ (λ i. (same_own_way client t i && same_id id key) || mine id i)
+  own_after new (Register side method params payload) (Registered key) is_new passes id = ap (waits direction id)
+      passes.1
+      ∙ after_request direction direction id passes.0 before key (string_bytes method) (view params)
+      ∙ (λ i. (same_own_direction client t i && same_id id key) || mine id i)
       ∙ asked (payloads own) (replied others) key id payload is_new.0 is_new.1
-  own_after new (Tell side method params) Told is_new passes id = ap (waits way id) passes.1
-      ∙ after_notification way way id passes.0 before (string_bytes method) (view params) ∙ own_same id
+  own_after new (Tell side method params) Told is_new passes id = ap (waits direction id) passes.1
+      ∙ after_notification direction direction id passes.0 before (string_bytes method) (view params) ∙ own_same id
   own_after new (Answer side key value) (Answered label) is_new passes id = own_reply new key _ passes id
   own_after new (Refuse side key code why) (Answered label) is_new passes id = own_reply new key _ passes id
   own_after new (Cancel side key) Cancelled is_new passes id = own_reply new key _ passes id
-  own_after new step outcome is_new passes id = ap (waits way id) passes ∙ own_same id
+  own_after new step outcome is_new passes id = ap (waits direction id) passes ∙ own_same id
 
   abbrev far : Direction
-  far = way_from client (other t)
+  far = direction_from client (other t)
 
   far_same : (id : Id) → waits far id before ≡ cond (has id (replied own ++ [])) false (is_some (item_at
       (payloads others) id))
@@ -235,21 +241,23 @@ module _ (client t : Side) (own others : List Entry) (before : Log)
       (append-nil (replied
       own)))
 
-  far_reply : (new : Log) (key : Id) (outcome : _) → Pass way (response key outcome ∷ []) before new → (id : Id)
+  far_reply : (new : Log) (key : Id) (outcome : _) → Pass direction (response key outcome ∷ []) before new → (id : Id)
       → waits far id new ≡ cond (has id (replied own ++ key ∷ [])) false (is_some (item_at (payloads others) id))
-  far_reply new key outcome passes id = ap (waits far id) passes.1 ∙ after_reply far way id passes.0 before key outcome
+  far_reply new key outcome passes id = ap (waits far id) passes.1
+      ∙ after_reply far direction id passes.0 before key outcome
       ∙ (λ i. cond (other_back client t i && same_swapped id key i) false (theirs id i))
       ∙ replied_to (same_id key id) (has id (replied own)) (is_some (item_at (payloads others) id))
       ∙ ap (λ b. cond b false (is_some (item_at (payloads others) id))) (sym (has-push key id (replied own)))
 
-  far_after : (new : Log) (step : Step) (outcome : Outcome) → Pass way (written_in step outcome) before new → (id : Id)
+  far_after : (new : Log) (step : Step) (outcome : Outcome) → Pass direction (written_in step outcome) before new
+      → (id : Id)
       → waits far id new ≡ cond (has id (replied own ++ replied_in step outcome)) false (is_some (item_at
       (payloads others) id))
   far_after new (Register side method params payload) (Registered key) passes id = ap (waits far id) passes.1
-      ∙ after_request far way id passes.0 before key (string_bytes method) (view params)
-      ∙ ap (λ b. (b && same_id id key) || waits far id before) (not_other_way client t) ∙ far_same id
+      ∙ after_request far direction id passes.0 before key (string_bytes method) (view params)
+      ∙ ap (λ b. (b && same_id id key) || waits far id before) (not_other_direction client t) ∙ far_same id
   far_after new (Tell side method params) Told passes id = ap (waits far id) passes.1
-      ∙ after_notification far way id passes.0 before (string_bytes method) (view params) ∙ far_same id
+      ∙ after_notification far direction id passes.0 before (string_bytes method) (view params) ∙ far_same id
   far_after new (Answer side key value) (Answered label) passes id = far_reply new key _ passes id
   far_after new (Refuse side key code why) (Answered label) passes id = far_reply new key _ passes id
   far_after new (Cancel side key) Cancelled passes id = far_reply new key _ passes id
@@ -257,10 +265,12 @@ module _ (client t : Side) (own others : List Entry) (before : Log)
 
   -- ---- what it writes fits
 
-  one_kept : (m : Message) (new : Log) → Pass way (m ∷ []) before new → id_finding before way m ≡ None → KeepsIds before
+  one_kept : (m : Message) (new : Log) → Pass direction (m ∷ []) before new → id_finding before direction m ≡ None
+      → KeepsIds before
       → KeepsIds new
   one_kept m new passes fits kept = subst KeepsIds (sym passes.1)
-      (at_each_more (λ before p. id_finding before p.way p.message ≡ None) (passed way passes.0 m) before fits kept)
+      (at_each_more (λ before p. id_finding before p.direction p.message ≡ None) (passed direction passes.0 m) before
+      fits kept)
 
   module _ (at_own : InOnePlace own others) (at_others : InOnePlace others own) where
     pub new_of : (step : Step) (outcome : Outcome) → outcome ≡ outcome_of own others step → IsNew step outcome
@@ -277,7 +287,7 @@ module _ (client t : Side) (own others : List Entry) (before : Log)
         by false e = let next : key ≡ nth_id (length (payloads own)) = cc in (next, new next)
     new_of step outcome came = tt
 
-    asks_anew : (key : Id) → key ≡ nth_id (length (payloads own)) → waits way key before ≡ false
+    asks_anew : (key : Id) → key ≡ nth_id (length (payloads own)) → waits direction key before ≡ false
     asks_anew key next = mine key
         ∙ ap (λ o. cond (has key (replied others)) false (is_some o)) (ap (item_at (payloads own)) next
         ∙ end_at (payloads own))
@@ -287,8 +297,8 @@ module _ (client t : Side) (own others : List Entry) (before : Log)
         neither true = refl
         neither false = refl
 
-    waits_for : (key : Id) → is_some (held own key) ≡ true → waits (back way) key before ≡ true
-    waits_for key holds = ap (λ w. waits w key before) (way_back client t) ∙ theirs key
+    waits_for : (key : Id) → is_some (held own key) ≡ true → waits (back direction) key before ≡ true
+    waits_for key holds = ap (λ w. waits w key before) (direction_back client t) ∙ theirs key
         ∙ held_open (has key (returned others)) (has key (replied own)) (has key (closed own))
         (item_at (labels own) key) (item_at (payloads others) key) (at_others.known key)
         (ap (λ o. is_some o) (sym (at_others.there key)) ∙ holds)
@@ -302,15 +312,16 @@ module _ (client t : Side) (own others : List Entry) (before : Log)
     was_cancelled (Some l) e = refl
 
     reply_kept : (new : Log) (key : Id) (outcome : _) → is_some (held own key) ≡ true
-        → Pass way (response key outcome ∷ []) before
+        → Pass direction (response key outcome ∷ []) before
         new → KeepsIds before → KeepsIds new
     reply_kept new key outcome holds passes kept = one_kept (response key outcome) new passes
-        (reply_fits before way key outcome (waits_for key holds)) kept
+        (reply_fits before direction key outcome (waits_for key holds)) kept
 
     pub kept_after : (new : Log) (step : Step) (outcome : Outcome) → outcome ≡ outcome_of own others step
-        → Pass way (written_in step outcome) before new → KeepsIds before → KeepsIds new
+        → Pass direction (written_in step outcome) before new → KeepsIds before → KeepsIds new
     kept_after new (Register side method params payload) (Registered key) came passes kept = one_kept _ new passes
-        (request_fits before way key (string_bytes method) (view params) (none_waits way key before kept (asks_anew key
+        (request_fits before direction key (string_bytes method) (view params)
+        (none_waits direction key before kept (asks_anew key
         (new_of (Register side method params payload) (Registered key)
         came).0))) kept
     kept_after new (Tell side method params) Told came passes kept = one_kept _ new passes refl kept
@@ -333,13 +344,13 @@ InPlaces = (history : List Entry) → IsHistory history → (side : Side)
     → InOnePlace (entries_of side history) (entries_of (other side) history)
 
 abbrev OpenAfter : Side → List Entry → Log → Type 0
-OpenAfter client history log = (side : Side) (id : Id) → waits (way_from client side) id log
+OpenAfter client history log = (side : Side) (id : Id) → waits (direction_from client side) id log
     ≡ open_at (entries_of side history) (entries_of (other side) history) id
 
 module _ (places : InPlaces) (client : Side) (history : List Entry) (e : Entry) (before new : Log)
     (past : IsHistory history)
     (follows : Follows (entries_of (side_of e.step) history) (entries_of (other (side_of e.step)) history) e)
-    (passes : Pass (way_from client (side_of e.step)) (written_in e.step e.outcome) before new)
+    (passes : Pass (direction_from client (side_of e.step)) (written_in e.step e.outcome) before new)
     (opens : OpenAfter client history before) where
   abbrev t : Side
   t = side_of e.step
@@ -350,7 +361,7 @@ module _ (places : InPlaces) (client : Side) (history : List Entry) (e : Entry) 
   abbrev others : List Entry
   others = entries_of (other t) history
 
-  theirs : (id : Id) → waits (way_from client (other t)) id before ≡ open_at others own id
+  theirs : (id : Id) → waits (direction_from client (other t)) id before ≡ open_at others own id
   theirs id = opens (other t) id ∙ ap (λ s. open_at others (entries_of s history) id) (other_twice t)
 
   at_own : InOnePlace own others
@@ -363,7 +374,7 @@ module _ (places : InPlaces) (client : Side) (history : List Entry) (e : Entry) 
   entry_kept = kept_after client t own others before (opens t) theirs at_own at_others new e.step e.outcome
       follows.outcome_is passes
 
-  near : (id : Id) → waits (way_from client t) id new
+  near : (id : Id) → waits (direction_from client t) id new
       ≡ open_at (entries_of t (history ++ e ∷ [])) (entries_of (other t) (history ++ e ∷ [])) id
   near id = own_after client t own others before (opens t) theirs new e.step e.outcome
       (new_of client t own others before
@@ -372,7 +383,7 @@ module _ (places : InPlaces) (client : Side) (history : List Entry) (e : Entry) 
       ∙ ap (λ l. cond (has id (replied others)) false (is_some (item_at l id))) (flat_push (λ
       (x : Entry). payload_in x.step x.outcome) own e))
 
-  far_side : (id : Id) → waits (way_from client (other t)) id new
+  far_side : (id : Id) → waits (direction_from client (other t)) id new
       ≡ open_at (entries_of (other t) (history ++ e ∷ [])) (entries_of (other (other t)) (history ++ e ∷ [])) id
   far_side id = far_after client t own others before (opens t) theirs new e.step e.outcome passes id
       ∙ sym (ap (λ s. open_at (entries_of (other t) (history ++ e ∷ [])) (entries_of s (history ++ e ∷ [])) id)
@@ -381,7 +392,7 @@ module _ (places : InPlaces) (client : Side) (history : List Entry) (e : Entry) 
       (x : Entry). replied_in x.step x.outcome) own e))
 
   open_after : OpenAfter client (history ++ e ∷ []) new
-  open_after = on_both (λ s. (id : Id) → waits (way_from client s) id new
+  open_after = on_both (λ s. (id : Id) → waits (direction_from client s) id new
       ≡ open_at (entries_of s (history ++ e ∷ [])) (entries_of (other s) (history ++ e ∷ [])) id) t near far_side
 
 all_kept : Begins → InPlaces → (client : Side) (history entries : List Entry) (before new : Log)

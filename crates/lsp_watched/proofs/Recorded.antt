@@ -46,7 +46,7 @@ came_last (y ∷ front) x = came_first y.came (map (λ (z : Exchange). z.came) (
 
 module _ (exchanges : List Exchange) where
   abbrev pub IsSentOf : Log → Passed → Type 0
-  IsSentOf before p = from_client p.way ≡ false → IsSentAt exchanges before p.message
+  IsSentOf before p = from_client p.direction ≡ false → IsSentAt exchanges before p.message
 
   client_passes : (ms : List Message) (old new : Log) → Pass ToServer ms old new → IsRecorded exchanges old
       → IsRecorded exchanges new × (gone ToServer new ≡ gone ToServer old ++ ms)
@@ -58,7 +58,7 @@ module _ (exchanges : List Exchange) where
   )
   client_passes (m ∷ ms) old new passes recorded =
       let rest = client_passes ms (passed ToServer passes.0 m ∷ old) new passes.1
-      (at_each_more IsSentOf (passed ToServer passes.0 m) old (λ way. cc) recorded) in
+      (at_each_more IsSentOf (passed ToServer passes.0 m) old (λ direction. cc) recorded) in
       (rest.0, rest.1 ∙ append_assoc (gone ToServer old) (m ∷ []) ms, rest.2)
 
   module _ (earlier : List Exchange) (x : Exchange) (later : List Exchange)
@@ -77,7 +77,7 @@ module _ (exchanges : List Exchange) where
         server_passes (first ++ m ∷ []) ms (passed ToClient passes.0 m ∷ old) new passes.1
         (sends ∙ sym (append_assoc first (m ∷ []) ms))
         (ap (λ l. l ++ m ∷ []) sent ∙ append_assoc (sends_of earlier) first (m ∷ [])) took
-        (at_each_more IsSentOf (passed ToClient passes.0 m) old (λ way. record {
+        (at_each_more IsSentOf (passed ToClient passes.0 m) old (λ direction. record {
           earlier = earlier;
           exchange = x;
           later = later;
@@ -196,9 +196,9 @@ is_a_reply x first m rest (inr none) is = none_there first m rest (sym is ∙ no
 pub replies_are_clean : (exchanges : List Exchange) (stop : Stop)
     (answer : SessionAnswer) (log : Log) → AnswersRequests exchanges stop answer
     → IsRecorded exchanges log → ClientKeepsIds log → ServerIsClean log
-replies_are_clean exchanges stop answer log answers recorded anew later before p is way =
+replies_are_clean exchanges stop answer log answers recorded anew later before p is direction =
     let all = at_most exchanges stop answer answers in
-    let at = recorded later before p is way in
-    replies_fit exchanges log (never_more exchanges all) recorded anew later before p is way
+    let at = recorded later before p is direction in
+    replies_fit exchanges log (never_more exchanges all) recorded anew later before p is direction
     (is_a_reply at.exchange at.first p.message at.rest
     (at_most_at at.earlier at.exchange at.later (subst AllAtMost at.cut all)) at.sends)

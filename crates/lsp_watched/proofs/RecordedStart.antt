@@ -15,7 +15,7 @@ use Rattle.lsp_session.specs.Answered.{AllReplied}
 use Rattle.lsp_session.specs.Session.{Exchange, offered, messages_of, sends_of, SessionAnswer, Stop}
 use Rattle.lsp_session.specs.SessionLaws.{KeepsOrder, IsOpened, IsUnstarted, AllRefused, AllEarly}
 use Rattle.lsp_watch.specs.CleanLog.{AtEach, is_call}
-use Rattle.lsp_watch.specs.Log.{Log, Passed, Open, passed, from_client, same_way, waiting}
+use Rattle.lsp_watch.specs.Log.{Log, Passed, Open, passed, from_client, same_direction, waiting}
 use Rattle.lsp_watch.specs.Log.{request_of, is_some_such, opens_session}
 use Rattle.lsp_watch.proofs.Queues.{first, rest, queue, waiting_is, queue_request, queue_reply}
 use Rattle.lsp_watch.specs.Rules.{lifecycle_finding, initialize_result}
@@ -51,18 +51,19 @@ cuts (w ∷ a) x c (z ∷ b) y d is =
 
 -- ---- where a message passed
 
-record PassedAt (way : Direction) (log : Log) (front : List Message) (m : Message) : Type 0 where
+record PassedAt (direction : Direction) (log : Log) (front : List Message) (m : Message) : Type 0 where
   pub later : Log
   pub one : Passed
   pub before : Log
   pub place : log ≡ later ++ one ∷ before
-  pub goes : same_way way one.way ≡ true
+  pub goes : same_direction direction one.direction ≡ true
   pub is : one.message ≡ m
-  pub behind : gone way before ≡ front
+  pub behind : gone direction before ≡ front
 
-further : (way : Direction) (p : Passed) (log : Log) (front : List Message) (m : Message) → PassedAt way log front m
-    → PassedAt way (p ∷ log) front m
-further way p log front m at = record {
+further : (direction : Direction) (p : Passed) (log : Log) (front : List Message) (m : Message)
+    → PassedAt direction log front m
+    → PassedAt direction (p ∷ log) front m
+further direction p log front m at = record {
   later = p ∷ at.later;
   one = at.one;
   before = at.before;
@@ -72,23 +73,25 @@ further way p log front m at = record {
   behind = at.behind;
 }
 
-passed_at : (way : Direction) (log : Log) (front : List Message) (m : Message) (rest : List Message)
-    → gone way log ≡ front ++ m ∷ rest
-    → PassedAt way log front m
-passed_at way [] [] m rest is = cc
-passed_at way [] (n ∷ front) m rest is = cc
-passed_at way (p ∷ log) front m rest is = by (λ r e. passed_at way log front m r e) (same_way way p.way) refl is
+passed_at : (direction : Direction) (log : Log) (front : List Message) (m : Message) (rest : List Message)
+    → gone direction log ≡ front ++ m ∷ rest
+    → PassedAt direction log front m
+passed_at direction [] [] m rest is = cc
+passed_at direction [] (n ∷ front) m rest is = cc
+passed_at direction (p ∷ log) front m rest is = by (λ r e. passed_at direction log front m r e)
+    (same_direction direction p.direction) refl is
   where
-    here : ((r : List Message) → gone way log ≡ front ++ m ∷ r → PassedAt way log front m) → same_way way p.way ≡ true
-        → gone way log ++ p.message ∷ [] ≡ front ++ m ∷ rest → Cuts (gone way log) p.message front m
-        → PassedAt way (p ∷ log) front m
+    here : ((r : List Message) → gone direction log ≡ front ++ m ∷ r → PassedAt direction log front m)
+        → same_direction direction p.direction ≡ true
+        → gone direction log ++ p.message ∷ [] ≡ front ++ m ∷ rest → Cuts (gone direction log) p.message front m
+        → PassedAt direction (p ∷ log) front m
     here earlier goes is (inl longer) = absurd (omega (
       arith,
       ap length is,
       ap length longer.1,
-      length-append (gone way log) (p.message ∷ []),
+      length-append (gone direction log) (p.message ∷ []),
       length-append front (m ∷ rest),
-      length-append (gone way log) (p.message ∷ longer.0),
+      length-append (gone direction log) (p.message ∷ longer.0),
     ))
     here earlier goes is (inr (inl equal)) = record {
       later = [];
@@ -99,14 +102,14 @@ passed_at way (p ∷ log) front m rest is = by (λ r e. passed_at way log front 
       is = equal.1;
       behind = equal.0;
     }
-    here earlier goes is (inr (inr shorter)) = further way p log front m (earlier shorter.0 shorter.1)
+    here earlier goes is (inr (inr shorter)) = further direction p log front m (earlier shorter.0 shorter.1)
 
-    by : ((r : List Message) → gone way log ≡ front ++ m ∷ r → PassedAt way log front m) → (b : Bool)
-        → same_way way p.way ≡ b
-        → cond b (gone way log ++ p.message ∷ []) (gone way log) ≡ front ++ m ∷ rest
-        → PassedAt way (p ∷ log) front m
-    by earlier true goes is = here earlier goes is (cuts (gone way log) p.message [] front m rest is)
-    by earlier false goes is = further way p log front m (earlier rest is)
+    by : ((r : List Message) → gone direction log ≡ front ++ m ∷ r → PassedAt direction log front m) → (b : Bool)
+        → same_direction direction p.direction ≡ b
+        → cond b (gone direction log ++ p.message ∷ []) (gone direction log) ≡ front ++ m ∷ rest
+        → PassedAt direction (p ∷ log) front m
+    by earlier true goes is = here earlier goes is (cuts (gone direction log) p.message [] front m rest is)
+    by earlier false goes is = further direction p log front m (earlier rest is)
 
 -- ---- how much was sent
 
@@ -120,25 +123,27 @@ sent_length (y ∷ xs) x ys = omega (
   sent_length xs x ys,
 )
 
-grows_once : (way : Direction) (p : Passed) (log : Log) → length (gone way log) ≤ length (gone way (p ∷ log))
-grows_once way p log = by (same_way way p.way)
+grows_once : (direction : Direction) (p : Passed) (log : Log)
+    → length (gone direction log) ≤ length (gone direction (p ∷ log))
+grows_once direction p log = by (same_direction direction p.direction)
   where
-    by : (b : Bool) → length (gone way log) ≤ length (cond b (gone way log ++ p.message ∷ []) (gone way log))
-    by true = omega (arith, length-append (gone way log) (p.message ∷ []))
+    by : (b : Bool) → length (gone direction log) ≤ length
+        (cond b (gone direction log ++ p.message ∷ []) (gone direction log))
+    by true = omega (arith, length-append (gone direction log) (p.message ∷ []))
     by false = omega arith
 
-grows : (way : Direction) (later log : Log) → length (gone way log) ≤ length (gone way (later ++ log))
-grows way [] log = omega arith
-grows way (p ∷ later) log = omega (arith, grows way later log, grows_once way p (later ++ log))
+grows : (direction : Direction) (later log : Log) → length (gone direction log) ≤ length (gone direction (later ++ log))
+grows direction [] log = omega arith
+grows direction (p ∷ later) log = omega (arith, grows direction later log, grows_once direction p (later ++ log))
 
-went_client : (way : Direction) → from_client way ≡ false → way ≡ ToClient
+went_client : (direction : Direction) → from_client direction ≡ false → direction ≡ ToClient
 went_client ToServer is = cc
 went_client ToClient is = refl
 
-grows_by_one : (p : Passed) (log : Log) → from_client p.way ≡ false
+grows_by_one : (p : Passed) (log : Log) → from_client p.direction ≡ false
     → length (gone ToClient (p ∷ log)) ≡ length (gone ToClient log) + 1
-grows_by_one p log way = ap (λ w. length (cond (same_way ToClient w) (gone ToClient log ++ p.message ∷ [])
-    (gone ToClient log))) (went_client p.way way)
+grows_by_one p log direction = ap (λ w. length (cond (same_direction ToClient w) (gone ToClient log ++ p.message ∷ [])
+    (gone ToClient log))) (went_client p.direction direction)
     ∙ length-append (gone ToClient log) (p.message ∷ [])
 
 -- what is sent before so much was sent, is sent at an exchange before
@@ -211,7 +216,7 @@ at_next exchanges front x rest before m cut all one at =
 
 module _ (id : Id) where
   told_once : (p : Passed) (log : Log) → told id log ≤ told id (p ∷ log)
-  told_once p log = by (same_way ToClient p.way)
+  told_once p log = by (same_direction ToClient p.direction)
     where
       by : (b : Bool) → told id log
           ≤ how_many (is_reply_under id) (cond b (gone ToClient log ++ p.message ∷ []) (gone ToClient log))
@@ -235,13 +240,13 @@ module _ (id : Id) where
   abbrev next : Log → Option Open
   next log = first (queue ToServer id log)
 
-  stays_once : (way : Direction) (place : ℕ) (m : Message) (log : Log) (q : Open)
-      → told id (passed way place m ∷ log) ≤ told id log
-      → next log ≡ Some q → next (passed way place m ∷ log) ≡ Some q
-  stays_once way place (request i method params) log q less is =
-      ap first (queue_request ToServer id way place log i method params)
+  stays_once : (direction : Direction) (place : ℕ) (m : Message) (log : Log) (q : Open)
+      → told id (passed direction place m ∷ log) ≤ told id log
+      → next log ≡ Some q → next (passed direction place m ∷ log) ≡ Some q
+  stays_once direction place (request i method params) log q less is =
+      ap first (queue_request ToServer id direction place log i method params)
       ∙ kept (queue ToServer id log) _ q is
-  stays_once way place (notification method params) log q less is = is
+  stays_once direction place (notification method params) log q less is = is
   stays_once ToServer place (response i outcome) log q less is =
       ap first (queue_reply ToServer id ToServer place log i outcome) ∙ is
   stays_once ToClient place (response i outcome) log q less is =
@@ -252,37 +257,38 @@ module _ (id : Id) where
   stays : (later log : Log) (q : Open) → told id (later ++ log) ≤ told id log → next log ≡ Some q
       → next (later ++ log) ≡ Some q
   stays [] log q less is = is
-  stays (p ∷ later) log q less is = stays_once p.way p.place p.message (later ++ log) q
+  stays (p ∷ later) log q less is = stays_once p.direction p.place p.message (later ++ log) q
       (omega (arith, less, told_grows later log))
       (stays later log q (omega (arith, less, told_once p (later ++ log))) is)
 
 -- ---- small steps
 
-went_server : (way : Direction) → from_client way ≡ true → way ≡ ToServer
+went_server : (direction : Direction) → from_client direction ≡ true → direction ≡ ToServer
 went_server ToServer is = refl
 went_server ToClient is = cc
 
-is_from_client : (p : Passed) (m : Message) → same_way ToServer p.way ≡ true → p.message ≡ m
+is_from_client : (p : Passed) (m : Message) → same_direction ToServer p.direction ≡ true → p.message ≡ m
     → p ≡ passed ToServer p.place m
-is_from_client p m goes is = λ k. passed (went_server p.way goes k) p.place (is k)
+is_from_client p m goes is = λ k. passed (went_server p.direction goes k) p.place (is k)
 
-goes_to_client : (way : Direction) → same_way ToClient way ≡ true → way ≡ ToClient
+goes_to_client : (direction : Direction) → same_direction ToClient direction ≡ true → direction ≡ ToClient
 goes_to_client ToServer is = cc
 goes_to_client ToClient is = refl
 
-is_from_server : (p : Passed) (m : Message) → same_way ToClient p.way ≡ true → p.message ≡ m
+is_from_server : (p : Passed) (m : Message) → same_direction ToClient p.direction ≡ true → p.message ≡ m
     → p ≡ passed ToClient p.place m
-is_from_server p m goes is = λ k. passed (goes_to_client p.way goes k) p.place (is k)
+is_from_server p m goes is = λ k. passed (goes_to_client p.direction goes k) p.place (is k)
 
 begun_all : (later log : Log) → HasBegun log → HasBegun (later ++ log)
 begun_all [] log begun = begun
 begun_all (p ∷ later) log begun = begun_more (later ++ log) p (begun_all later log begun)
 
-reply_keeps_order : (before : Log) (way : Direction) (m : Message) → is_call m ≡ false → lifecycle_finding before way m
+reply_keeps_order : (before : Log) (direction : Direction) (m : Message) → is_call m ≡ false
+    → lifecycle_finding before direction m
     ≡ None
-reply_keeps_order before way (response i outcome) reply = refl
-reply_keeps_order before way (request i method params) reply = cc
-reply_keeps_order before way (notification method params) reply = cc
+reply_keeps_order before direction (response i outcome) reply = refl
+reply_keeps_order before direction (request i method params) reply = cc
+reply_keeps_order before direction (notification method params) reply = cc
 
 -- ---- `initialize` and its result
 
@@ -308,7 +314,7 @@ module _ (exchanges : List Exchange) (log : Log) (recorded : IsRecorded exchange
         (took : gone ToServer before ≡ messages_of front)
       where
         bounded : AtEach IsBounded before
-        bounded later b p is way =
+        bounded later b p is direction =
             let ahead : Log = since ++ passed ToServer place initialize ∷ later in
             let place_in : since ++ passed ToServer place initialize ∷ before ≡ ahead ++ p ∷ b =
             ap (λ l. since ++ passed ToServer place initialize ∷ l) is
@@ -319,8 +325,8 @@ module _ (exchanges : List Exchange) (log : Log) (recorded : IsRecorded exchange
               ap length sent,
               ap (λ l. length (gone ToClient l)) place_in,
               grows ToClient ahead (p ∷ b),
-              grows_by_one p b way,
-            )) (all ahead b p place_in way))
+              grows_by_one p b direction,
+            )) (all ahead b p place_in direction))
 
         none_before : waiting ToServer id before ≡ None
         none_before = keeps since before (passed ToServer place initialize) refl refl
@@ -402,19 +408,19 @@ module _ (exchanges : List Exchange) (log : Log) (recorded : IsRecorded exchange
           (begun_at (later ++ p ∷ found.later) found.before found.one.place place_in found.behind))
 
       pub keeps_from_there : RepliesAtMost exchange → ServerKeepsLifecycle log
-      keeps_from_there last later before p is way =
-          let at = recorded later before p is way in
+      keeps_from_there last later before p is direction =
+          let at = recorded later before p is direction in
           by at (cuts at.earlier at.exchange at.later front exchange rest (sym at.cut ∙ cut))
         where
           by : (at : IsSentAt exchanges before p.message) → Cuts at.earlier at.exchange front exchange
-              → lifecycle_finding before p.way p.message ≡ None
-          by at (inl further) = reply_keeps_order before p.way p.message
+              → lifecycle_finding before p.direction p.message ≡ None
+          by at (inl further) = reply_keeps_order before p.direction p.message
               (is_a_reply at.exchange at.first p.message at.rest
               (at_most_at at.earlier at.exchange further.0 (subst AllAtMost further.1 all_at_most)) at.sends)
-          by at (inr (inl equal)) = reply_keeps_order before p.way p.message
+          by at (inr (inl equal)) = reply_keeps_order before p.direction p.message
               (is_a_reply at.exchange at.first p.message at.rest (subst RepliesAtMost (sym equal.1) last) at.sends)
           by at (inr (inr behind)) = subst (λ w. lifecycle_finding before w p.message ≡ None)
-              (sym (went_client p.way way))
+              (sym (went_client p.direction direction))
               (begun_keeps before p.place p.message (begun_before later before p is at behind.0 behind.1) refl)
 
 -- ---- each session
@@ -442,9 +448,9 @@ recorded_keeps_lifecycle passes_late speaks_last exchanges stop answer log order
         (order.cut ∙ ap (λ l. l ++ order.rest) ends.cut ∙ append_assoc ends.before _ order.rest)
         (at_most_at ends.before _ []
         (subst AllAtMost (append-nil _) (at_most_each (ends.before ++ _ ∷ []) [] early tt)))
-    by (inr unstarted) = λ later before p is way.
-        let at = recorded later before p is way in
-        reply_keeps_order before p.way p.message (is_a_reply at.exchange at.first p.message at.rest
+    by (inr unstarted) = λ later before p is direction.
+        let at = recorded later before p is direction in
+        reply_keeps_order before p.direction p.message (is_a_reply at.exchange at.first p.message at.rest
         (at_most_at at.earlier at.exchange at.later (subst AllAtMost (sym order.cut ∙ at.cut)
         (at_most_each order.early order.rest order.replied
         (unstarted_at_most order.rest stop answer unstarted.2)))) at.sends)

@@ -128,7 +128,7 @@ reused_ahead : IsRecorded two_in_turn (passed ToClient 4 result ∷ passed ToCli
     × (ClientKeepsIds asked_again → ⊥)
 reused_ahead = (
   at_each_more (IsSentOf two_in_turn) (passed ToClient 4 result) (passed ToClient 3 result ∷ asked_again)
-      (λ way. record {
+      (λ direction. record {
         earlier = exchange (result ∷ []) ∷ [];
         exchange = exchange (result ∷ []);
         later = [];
@@ -139,7 +139,7 @@ reused_ahead = (
         sent = refl;
         ahead = [];
         took = refl;
-      }) (at_each_more (IsSentOf two_in_turn) (passed ToClient 3 result) asked_again (λ way. record {
+      }) (at_each_more (IsSentOf two_in_turn) (passed ToClient 3 result) asked_again (λ direction. record {
         earlier = [];
         exchange = exchange (result ∷ []);
         later = exchange (result ∷ []) ∷ [];
@@ -150,8 +150,8 @@ reused_ahead = (
         sent = refl;
         ahead = initialize ∷ [];
         took = refl;
-      }) (at_each_more (IsSentOf two_in_turn) (passed ToServer 2 initialize) begun (λ way. cc)
-      (at_each_more (IsSentOf two_in_turn) (passed ToServer 1 initialize) [] (λ way. cc)
+      }) (at_each_more (IsSentOf two_in_turn) (passed ToServer 2 initialize) begun (λ direction. cc)
+      (at_each_more (IsSentOf two_in_turn) (passed ToServer 1 initialize) [] (λ direction. cc)
       (at_each_none (IsSentOf two_in_turn))))),
   λ keeps. let none = keeps [] begun _ refl refl in cc,
 )

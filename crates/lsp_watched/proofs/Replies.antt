@@ -134,20 +134,21 @@ server_step place (notification method params) old bound balance = λ id. omega 
   ap one_if (after_notification ToServer ToClient id place old method params),
 )
 
-step : (way : Direction) (place : ℕ) (m : Message) (old : Log) → (from_client way ≡ true → AsksAnew old m)
-    → (from_client way ≡ false → OneMore old m) → Balances old → Balances (passed way place m ∷ old)
+step : (direction : Direction) (place : ℕ) (m : Message) (old : Log) → (from_client direction ≡ true → AsksAnew old m)
+    → (from_client direction ≡ false → OneMore old m) → Balances old → Balances (passed direction place m ∷ old)
 step ToServer place m old new bound balance = client_step place m old (new refl) balance
 step ToClient place m old new bound balance = server_step place m old (bound refl) balance
 
 abbrev pub IsBounded : Log → Passed → Type 0
-IsBounded before p = from_client p.way ≡ false → OneMore before p.message
+IsBounded before p = from_client p.direction ≡ false → OneMore before p.message
 
 abbrev pub AsksNew : Log → Passed → Type 0
-AsksNew before p = from_client p.way ≡ true → AsksAnew before p.message
+AsksNew before p = from_client p.direction ≡ true → AsksAnew before p.message
 
 pub balanced : (log : Log) → ClientKeepsIds log → AtEach IsBounded log → Balances log
 balanced [] anew bound = λ id. refl
-balanced (p ∷ before) anew bound = step p.way p.place p.message before (anew [] before p refl) (bound [] before p refl)
+balanced (p ∷ before) anew bound = step p.direction p.place p.message before (anew [] before p refl)
+    (bound [] before p refl)
     (balanced before (at_tail AsksNew p before anew) (at_tail IsBounded p before bound))
 
 -- ---- what the server sends
@@ -167,17 +168,19 @@ one_more exchanges before m never at = λ id. omega (
   how_many_append (is_request_under id) (messages_of (at.earlier ++ at.exchange ∷ [])) at.ahead,
 )
 
-fits : (before : Log) (way : Direction) (place : ℕ) (m : Message) → (from_client way ≡ false → OneMore before m)
-    → Balances before → from_client way ≡ false → is_call m ≡ false → session_finding before way m ≡ None
-fits before ToServer place m bound balance = λ way reply. cc
-fits before ToClient place (response i outcome) bound balance = λ way reply.
+fits : (before : Log) (direction : Direction) (place : ℕ) (m : Message)
+    → (from_client direction ≡ false → OneMore before m)
+    → Balances before → from_client direction ≡ false → is_call m ≡ false → session_finding before direction m ≡ None
+fits before ToServer place m bound balance = λ direction reply. cc
+fits before ToClient place (response i outcome) bound balance = λ direction reply.
     reply_fits before ToClient i outcome (waiting_for i outcome before (bound refl) balance)
-fits before ToClient place (request i method params) bound balance = λ way reply. cc
-fits before ToClient place (notification method params) bound balance = λ way reply. cc
+fits before ToClient place (request i method params) bound balance = λ direction reply. cc
+fits before ToClient place (notification method params) bound balance = λ direction reply. cc
 
 pub replies_fit : (exchanges : List Exchange) (log : Log) → ((id : Id) → NeverMore id exchanges)
     → IsRecorded exchanges log → ClientKeepsIds log → ServerRepliesFit log
 replies_fit exchanges log never recorded anew later before p is =
-    let bound : AtEach IsBounded log = λ l b q e way. one_more exchanges b q.message never (recorded l b q e way) in
-    fits before p.way p.place p.message (bound later before p is)
+    let bound : AtEach IsBounded log = λ l b q e direction. one_more exchanges b q.message never
+    (recorded l b q e direction) in
+    fits before p.direction p.place p.message (bound later before p is)
     (balanced before (at_before AsksNew log later before p is anew) (at_before IsBounded log later before p is bound))

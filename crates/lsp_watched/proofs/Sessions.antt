@@ -23,10 +23,10 @@ use Rattle.lsp_watched.proofs.Waits.{at_each_none, at_each_more, one_found}
 -- ---- what is said of each message of the server
 
 abbrev IsClean : Log → Passed → Type 0
-IsClean before p = from_client p.way ≡ false → session_finding before p.way p.message ≡ None
+IsClean before p = from_client p.direction ≡ false → session_finding before p.direction p.message ≡ None
 
 abbrev KeepsLifecycle : Log → Passed → Type 0
-KeepsLifecycle before p = from_client p.way ≡ false → lifecycle_finding before p.way p.message ≡ None
+KeepsLifecycle before p = from_client p.direction ≡ false → lifecycle_finding before p.direction p.message ≡ None
 
 module _ (P : Log → Passed → Type 0) (of_client : (before : Log) (place : ℕ) (m : Message)
     → P before (passed ToServer place m))

@@ -5,9 +5,20 @@ use Rattle.std.proofs.lemmas.List.{append-nil}
 use Rattle.lsp_message.specs.Id.{Id, same_id}
 use Rattle.lsp_message.specs.Message.{Message, request, notification, response}
 use Rattle.lsp_watch.specs.CleanLog.{AtEach}
-use Rattle.lsp_watch.specs.Log.{Log, Passed, Open, passed, other, same_way, is_request, is_reply, waiting, request_of}
+use Rattle.lsp_watch.specs.Log.{
+  Log,
+  Passed,
+  Open,
+  passed,
+  other,
+  same_direction,
+  is_request,
+  is_reply,
+  waiting,
+  request_of,
+}
 use Rattle.lsp_watch.proofs.Queues.{first, rest, queue, waiting_is, queue_request, queue_notification, queue_reply}
-use Rattle.lsp_watch.proofs.Queues.{other_ways, same_way_is}
+use Rattle.lsp_watch.proofs.Queues.{other_directions, same_direction_is}
 use Rattle.lsp_message.proofs.Ids.{same_is}
 use Rattle.lsp_watch.specs.Rules.{id_finding, reply_finding}
 use Rattle.lsp_watch.specs.declared.direction.Direction.{Direction}
@@ -27,41 +38,43 @@ at_each_more P p log here there (x ∷ later) before q is = there later before q
 
 -- ---- what waits
 
--- the last message of this way and id is a request: so it waits, if each comes where none waits
+-- the last message of this direction and id is a request: so it waits, if each comes where none waits
 abbrev pub waits : Direction → Id → Log → Bool
-waits way id [] = false
-waits way id (p ∷ before) = cond (is_reply way id p) false (is_request way id p || waits way id before)
+waits direction id [] = false
+waits direction id (p ∷ before) = cond (is_reply direction id p) false (is_request direction id p
+    || waits direction id before)
 
 and_false : (b : Bool) → (b && false) ≡ false
 and_false true = refl
 and_false false = refl
 
-module _ (way went : Direction) (id : Id) (place : ℕ) (before : Log) where
+module _ (direction went : Direction) (id : Id) (place : ℕ) (before : Log) where
   pub after_request : (key : Id) (method : List ℕ) (params : _)
-      → waits way id (passed went place (request key method params) ∷ before)
-      ≡ ((same_way way went && same_id id key) || waits way id before)
+      → waits direction id (passed went place (request key method params) ∷ before)
+      ≡ ((same_direction direction went && same_id id key) || waits direction id before)
   after_request key method params =
-      ap (λ b. cond b false ((same_way way went && same_id id key) || waits way id before))
-      (and_false (same_way (other way) went))
+      ap (λ b. cond b false ((same_direction direction went && same_id id key) || waits direction id before))
+      (and_false (same_direction (other direction) went))
 
   pub after_notification : (method : List ℕ) (params : _)
-      → waits way id (passed went place (notification method params) ∷ before) ≡ waits way id before
+      → waits direction id (passed went place (notification method params) ∷ before) ≡ waits direction id before
   after_notification method params =
-      ap (λ b. cond b false ((same_way way went && false) || waits way id before)) (and_false (same_way
-      (other way) went))
-      ∙ ap (λ b. b || waits way id before) (and_false (same_way way went))
+      ap (λ b. cond b false ((same_direction direction went && false) || waits direction id before))
+      (and_false (same_direction
+      (other direction) went))
+      ∙ ap (λ b. b || waits direction id before) (and_false (same_direction direction went))
 
-  pub after_reply : (key : Id) (outcome : _) → waits way id (passed went place (response key outcome) ∷ before)
-      ≡ cond (same_way (other way) went && same_id id key) false (waits way id before)
+  pub after_reply : (key : Id) (outcome : _) → waits direction id (passed went place (response key outcome) ∷ before)
+      ≡ cond (same_direction (other direction) went && same_id id key) false (waits direction id before)
   after_reply key outcome =
-      ap (λ b. cond (same_way (other way) went && same_id id key) false (b || waits way id before))
-      (and_false (same_way way went))
+      ap (λ b. cond (same_direction (other direction) went && same_id id key) false (b || waits direction id before))
+      (and_false (same_direction direction went))
 
 -- ---- it does wait
 
-module _ (way : Direction) (id : Id) where
+module _ (direction : Direction) (id : Id) where
   abbrev some_waits : Log → Bool
-  some_waits log = is_some (first (queue way id log))
+  some_waits log = is_some (first (queue direction id log))
 
   or_more : (a b c : Bool) → (b ≡ true → c ≡ true) → (a || b) ≡ true → (a || c) ≡ true
   or_more true b c more e = refl
@@ -78,47 +91,50 @@ module _ (way : Direction) (id : Id) where
   at_reply true w xs more e = cc
   at_reply false w xs more e = more e
 
-  pub does_wait : (log : Log) → waits way id log ≡ true → some_waits log ≡ true
+  pub does_wait : (log : Log) → waits direction id log ≡ true → some_waits log ≡ true
   does_wait [] e = cc
-  does_wait (p ∷ before) e = by p.way p.place p.message (does_wait before) e
+  does_wait (p ∷ before) e = by p.direction p.place p.message (does_wait before) e
     where
-      by : (went : Direction) (place : ℕ) (m : Message) → (waits way id before ≡ true → some_waits before ≡ true)
-          → waits way id (passed went place m ∷ before) ≡ true → some_waits (passed went place m ∷ before) ≡ true
+      by : (went : Direction) (place : ℕ) (m : Message) → (waits direction id before ≡ true → some_waits before ≡ true)
+          → waits direction id (passed went place m ∷ before) ≡ true → some_waits (passed went place m ∷ before) ≡ true
       by went place (request i method params) more e =
-          ap (λ xs. is_some (first xs)) (queue_request way id went place before i method params)
-          ∙ some_push (queue way id before) (same_way way went && same_id id i)
-          (request_of went place i method params) (or_more (same_way way went && same_id id i) (waits way id before)
-          (some_waits before) more (sym (after_request way went id place before i method params) ∙ e))
+          ap (λ xs. is_some (first xs)) (queue_request direction id went place before i method params)
+          ∙ some_push (queue direction id before) (same_direction direction went && same_id id i)
+          (request_of went place i method params)
+          (or_more (same_direction direction went && same_id id i) (waits direction id before)
+          (some_waits before) more (sym (after_request direction went id place before i method params) ∙ e))
       by went place (notification method params) more e =
-          more (sym (after_notification way went id place before method params) ∙ e)
+          more (sym (after_notification direction went id place before method params) ∙ e)
       by went place (response i outcome) more e =
-          ap (λ xs. is_some (first xs)) (queue_reply way id went place before i outcome)
-          ∙ ap (λ b. is_some (first (cond (b && same_id id i) (rest (queue way id before)) (queue way id before))))
-          (other_ways way went)
-          ∙ at_reply (same_way (other way) went && same_id id i) (waits way id before) (queue way id before) more
-          (sym (after_reply way went id place before i outcome) ∙ e)
+          ap (λ xs. is_some (first xs)) (queue_reply direction id went place before i outcome)
+          ∙ ap (λ b. is_some (first (cond (b && same_id id i) (rest (queue direction id before))
+          (queue direction id before))))
+          (other_directions direction went)
+          ∙ at_reply (same_direction (other direction) went && same_id id i) (waits direction id before)
+          (queue direction id before) more
+          (sym (after_reply direction went id place before i outcome) ∙ e)
 
   -- where none waits, the last message is no request
-  pub none_asks : (log : Log) → waiting way id log ≡ None → waits way id log ≡ false
-  none_asks log none = by (waits way id log) refl
+  pub none_asks : (log : Log) → waiting direction id log ≡ None → waits direction id log ≡ false
+  none_asks log none = by (waits direction id log) refl
     where
-      by : (b : Bool) → waits way id log ≡ b → waits way id log ≡ false
+      by : (b : Bool) → waits direction id log ≡ b → waits direction id log ≡ false
       by false e = e
       by true e =
-          let bad : false ≡ true = ap (λ (o : Option Open). is_some o) (sym none ∙ waiting_is way id log)
+          let bad : false ≡ true = ap (λ (o : Option Open). is_some o) (sym none ∙ waiting_is direction id log)
           ∙ does_wait log e in
           cc
 
 -- ---- logs in which each request comes where none waits
 
 abbrev pub FitsIds : Log → Type 0
-FitsIds log = AtEach (λ before p. id_finding before p.way p.message ≡ None) log
+FitsIds log = AtEach (λ before p. id_finding before p.direction p.message ≡ None) log
 
-module _ (way : Direction) (id : Id) where
+module _ (direction : Direction) (id : Id) where
   -- none waits, or one
   abbrev pub AtMostOne : Log → Type 0
-  AtMostOne log = ((queue way id log ≡ []) × (waits way id log ≡ false))
-      ⊎ ((r : Open) × (queue way id log ≡ r ∷ []) × (waits way id log ≡ true))
+  AtMostOne log = ((queue direction id log ≡ []) × (waits direction id log ≡ false))
+      ⊎ ((r : Open) × (queue direction id log ≡ r ∷ []) × (waits direction id log ≡ true))
 
   none_first : (xs : List Open) → first xs ≡ None → xs ≡ []
   none_first [] e = refl
@@ -132,12 +148,12 @@ module _ (way : Direction) (id : Id) where
   parts_of true b e = (refl, e)
   parts_of false b e = cc
 
-  rest_of : (before : Log) → AtMostOne before → rest (queue way id before) ≡ []
+  rest_of : (before : Log) → AtMostOne before → rest (queue direction id before) ≡ []
   rest_of before (inl none) = ap rest none.0
   rest_of before (inr one) = ap rest one.1
 
-  same : (p : Passed) (before : Log) → queue way id (p ∷ before) ≡ queue way id before
-      → waits way id (p ∷ before) ≡ waits way id before → AtMostOne before → AtMostOne (p ∷ before)
+  same : (p : Passed) (before : Log) → queue direction id (p ∷ before) ≡ queue direction id before
+      → waits direction id (p ∷ before) ≡ waits direction id before → AtMostOne before → AtMostOne (p ∷ before)
   same p before q w (inl none) = inl (q ∙ none.0, w ∙ none.1)
   same p before q w (inr one) = inr (one.0, q ∙ one.1, w ∙ one.2)
 
@@ -145,60 +161,63 @@ module _ (way : Direction) (id : Id) where
       before
       → AtMostOne (passed went place m ∷ before)
   step went place (notification method params) before fits one = same (passed went place (notification method params))
-      before (queue_notification way id went place before method params)
-      (after_notification way went id place before method params) one
-  step went place (request i method params) before fits one = by (same_way way went && same_id id i) refl
+      before (queue_notification direction id went place before method params)
+      (after_notification direction went id place before method params) one
+  step went place (request i method params) before fits one = by (same_direction direction went && same_id id i) refl
     where
-      by : (b : Bool) → (same_way way went && same_id id i) ≡ b
+      by : (b : Bool) → (same_direction direction went && same_id id i) ≡ b
           → AtMostOne (passed went place (request i method params) ∷ before)
       by true is =
-          let both = parts_of (same_way way went) (same_id id i) is in
-          let none : waiting way id before ≡ None =
-          ap (λ w. waiting w id before) (sym (same_way_is way went both.0))
+          let both = parts_of (same_direction direction went) (same_id id i) is in
+          let none : waiting direction id before ≡ None =
+          ap (λ w. waiting w id before) (sym (same_direction_is direction went both.0))
           ∙ ap (λ k. waiting went k before) (same_is id i both.1)
           ∙ unmapped _ (waiting went i before) fits in
           inr (
             (request_of went place i method params),
-            queue_request way id went place before i method params
-                ∙ ap (λ b. queue way id before ++ cond b ((request_of went place i method params) ∷ []) []) is
-                ∙ ap (λ xs. xs ++ (request_of went place i method params) ∷ []) (none_first (queue way id before)
-                (sym (waiting_is way id before) ∙ none)),
-            after_request way went id place before i method params ∙ ap (λ b. b || waits way id before) is,
+            queue_request direction id went place before i method params
+                ∙ ap (λ b. queue direction id before ++ cond b ((request_of went place i method params) ∷ []) []) is
+                ∙ ap (λ xs. xs ++ (request_of went place i method params) ∷ []) (none_first (queue direction id before)
+                (sym (waiting_is direction id before) ∙ none)),
+            after_request direction went id place before i method params ∙ ap (λ b. b || waits direction id before) is,
           )
       by false is = same (passed went place (request i method params)) before
-          (queue_request way id went place before i method params
-          ∙ ap (λ b. queue way id before ++ cond b ((request_of went place i method params) ∷ []) []) is
-          ∙ append-nil (queue way id before))
-          (after_request way went id place before i method params ∙ ap (λ b. b || waits way id before) is) one
-  step went place (response i outcome) before fits one = by (same_way (other way) went && same_id id i) refl
+          (queue_request direction id went place before i method params
+          ∙ ap (λ b. queue direction id before ++ cond b ((request_of went place i method params) ∷ []) []) is
+          ∙ append-nil (queue direction id before))
+          (after_request direction went id place before i method params ∙ ap (λ b. b || waits direction id before) is)
+          one
+  step went place (response i outcome) before fits one = by (same_direction (other direction) went && same_id id i) refl
     where
-      replied : (b : Bool) → (same_way (other way) went && same_id id i) ≡ b
-          → queue way id (passed went place (response i outcome) ∷ before)
-          ≡ cond b (rest (queue way id before)) (queue way id before)
-      replied b is = queue_reply way id went place before i outcome
-          ∙ ap (λ c. cond (c && same_id id i) (rest (queue way id before)) (queue way id before)) (other_ways way went)
-          ∙ ap (λ c. cond c (rest (queue way id before)) (queue way id before)) is
+      replied : (b : Bool) → (same_direction (other direction) went && same_id id i) ≡ b
+          → queue direction id (passed went place (response i outcome) ∷ before)
+          ≡ cond b (rest (queue direction id before)) (queue direction id before)
+      replied b is = queue_reply direction id went place before i outcome
+          ∙ ap (λ c. cond (c && same_id id i) (rest (queue direction id before)) (queue direction id before))
+          (other_directions direction went)
+          ∙ ap (λ c. cond c (rest (queue direction id before)) (queue direction id before)) is
 
-      by : (b : Bool) → (same_way (other way) went && same_id id i) ≡ b
+      by : (b : Bool) → (same_direction (other direction) went && same_id id i) ≡ b
           → AtMostOne (passed went place (response i outcome) ∷ before)
       by true is = inl (
         replied true is ∙ rest_of before one,
-        after_reply way went id place before i outcome ∙ ap (λ b. cond b false (waits way id before)) is,
+        after_reply direction went id place before i outcome ∙ ap (λ b. cond b false (waits direction id before)) is,
       )
       by false is = same (passed went place (response i outcome)) before (replied false is)
-          (after_reply way went id place before i outcome ∙ ap (λ b. cond b false (waits way id before)) is) one
+          (after_reply direction went id place before i outcome ∙ ap (λ b. cond b false (waits direction id before)) is)
+          one
 
   pub at_most_one : (log : Log) → FitsIds log → AtMostOne log
   at_most_one [] fits = inl (refl, refl)
-  at_most_one (p ∷ before) fits = step p.way p.place p.message before (fits [] before p refl)
+  at_most_one (p ∷ before) fits = step p.direction p.place p.message before (fits [] before p refl)
       (at_most_one before (λ later b q is. fits (p ∷ later) b q (ap (λ l. p ∷ l) is)))
 
   -- so where the last message is no request, none waits
-  pub none_waits : (log : Log) → FitsIds log → waits way id log ≡ false → waiting way id log ≡ None
+  pub none_waits : (log : Log) → FitsIds log → waits direction id log ≡ false → waiting direction id log ≡ None
   none_waits log fits quiet = by (at_most_one log fits)
     where
-      by : AtMostOne log → waiting way id log ≡ None
-      by (inl none) = waiting_is way id log ∙ ap first none.0
+      by : AtMostOne log → waiting direction id log ≡ None
+      by (inl none) = waiting_is direction id log ∙ ap first none.0
       by (inr one) = let bad : false ≡ true = sym quiet ∙ one.2 in cc
 
 -- ---- what fits
@@ -206,16 +225,19 @@ module _ (way : Direction) (id : Id) where
 none_found : {A B : Type 0} (f : A → B) (o : Option A) → o ≡ None → option_map f o ≡ None
 none_found f o e = ap (option_map f) e
 
-pub request_fits : (before : Log) (way : Direction) (id : Id) (method : List ℕ) (params : _) → waiting way id before ≡
+pub request_fits : (before : Log) (direction : Direction) (id : Id) (method : List ℕ) (params : _)
+    → waiting direction id before ≡
     None
-    → id_finding before way (request id method params) ≡ None
-request_fits before way id method params none = none_found _ _ none
+    → id_finding before direction (request id method params) ≡ None
+request_fits before direction id method params none = none_found _ _ none
 
 pub one_found : (o : Option Open) → is_some o ≡ true → reply_finding o ≡ None
 one_found None e = cc
 one_found (Some x) e = refl
 
-pub reply_fits : (before : Log) (way : Direction) (id : Id) (outcome : _) → waits (other way) id before ≡ true
-    → id_finding before way (response id outcome) ≡ None
-reply_fits before way id outcome one = one_found (waiting (other way) id before)
-    (ap (λ (o : Option Open). is_some o) (waiting_is (other way) id before) ∙ does_wait (other way) id before one)
+pub reply_fits : (before : Log) (direction : Direction) (id : Id) (outcome : _) → waits (other direction) id before
+    ≡ true
+    → id_finding before direction (response id outcome) ≡ None
+reply_fits before direction id outcome one = one_found (waiting (other direction) id before)
+    (ap (λ (o : Option Open). is_some o) (waiting_is (other direction) id before)
+    ∙ does_wait (other direction) id before one)

@@ -11,17 +11,17 @@ use Rattle.lsp_watch.specs.declared.direction.Direction.{Direction}
 use Rattle.lsp_watch.specs.declared.direction.Direction.TheVariants.{ToServer, ToClient}
 use Rattle.lsp_watched.specs.Passing.{Pass}
 
--- which way a side sends, if this one is the client
-abbrev pub way_from : Side → Side → Direction
-way_from A A = ToServer
-way_from B B = ToServer
-way_from client side = ToClient
+-- the direction in which a side sends, if this one is the client
+abbrev pub direction_from : Side → Side → Direction
+direction_from A A = ToServer
+direction_from B B = ToServer
+direction_from client side = ToClient
 
 -- the messages that the two peers write pass in the order of the entries
 abbrev pub PassAll : Side → List Entry → Log → Log → Type 0
 PassAll client [] old new = new ≡ old
 PassAll client (entry ∷ entries) old new = (mid : Log)
-    × Pass (way_from client (side_of entry.step)) (written_in entry.step entry.outcome) old mid
+    × Pass (direction_from client (side_of entry.step)) (written_in entry.step entry.outcome) old mid
     × PassAll client entries mid new
 
 -- the log of a history, if this side is the client
@@ -30,4 +30,4 @@ IsLogOf client history log = PassAll client history [] log
 
 -- no message breaks a rule of ids
 abbrev pub KeepsIds : Log → Type 0
-KeepsIds log = AtEach (λ before p. id_finding before p.way p.message ≡ None) log
+KeepsIds log = AtEach (λ before p. id_finding before p.direction p.message ≡ None) log

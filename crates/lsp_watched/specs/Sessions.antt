@@ -25,18 +25,19 @@ AsksAnew before (request id method params) = waiting ToServer id before ≡ None
 AsksAnew before m = Unit {0}
 
 abbrev pub ClientKeepsIds : Log → Type 0
-ClientKeepsIds log = AtEach (λ before p. from_client p.way ≡ true → AsksAnew before p.message) log
+ClientKeepsIds log = AtEach (λ before p. from_client p.direction ≡ true → AsksAnew before p.message) log
 
 -- no reply of the server breaks a rule of ids
 abbrev pub ServerRepliesFit : Log → Type 0
-ServerRepliesFit log = AtEach (λ before p. from_client p.way ≡ false → is_call p.message ≡ false
-    → session_finding before p.way p.message ≡ None) log
+ServerRepliesFit log = AtEach (λ before p. from_client p.direction ≡ false → is_call p.message ≡ false
+    → session_finding before p.direction p.message ≡ None) log
 
 -- no message of the server breaks a rule of ids or of the lifecycle, whatever the client's do
 abbrev pub ServerIsClean : Log → Type 0
-ServerIsClean log = AtEach (λ before p. from_client p.way ≡ false → session_finding before p.way p.message ≡ None) log
+ServerIsClean log = AtEach (λ before p. from_client p.direction ≡ false → session_finding before p.direction p.message
+    ≡ None) log
 
 -- none breaks a rule of the lifecycle
 abbrev pub ServerKeepsLifecycle : Log → Type 0
-ServerKeepsLifecycle log = AtEach (λ before p. from_client p.way ≡ false
-    → lifecycle_finding before p.way p.message ≡ None) log
+ServerKeepsLifecycle log = AtEach (λ before p. from_client p.direction ≡ false
+    → lifecycle_finding before p.direction p.message ≡ None) log

@@ -17,21 +17,21 @@ returns c = λ log place saw knows.
     let opened = c.in_ok-keep_opened.ensures.same in
     record {
       server_is = ap view (opened.0 ∙ registration.0 ∙ client.0) ∙ c.in_ok-keep_server.ensures.server log place saw
-          ∙ ap (cond (answers_initialize log (passed c.args.way place m) && is_success m)
+          ∙ ap (cond (answers_initialize log (passed c.args.direction place m) && is_success m)
           (capabilities_in (result_in m))) knows.server_is;
       client_is = ap view (opened.1 ∙ registration.1) ∙ c.in_ok-keep_client.ensures.client place
-          ∙ ap (cond (is_initialize (passed c.args.way place m)) (capabilities_in (params_in m)))
+          ∙ ap (cond (is_initialize (passed c.args.direction place m)) (capabilities_in (params_in m)))
           (ap view server.0 ∙ knows.client_is);
       registered_is = λ method.
           ap (λ vs. list_any (λ params. registers method (view params)) vs.items) opened.2
           ∙ c.in_ok-keep_registration.ensures.registered method
-          ∙ ap (λ b. b || (is_registration c.args.way m && registers method (params_in m)))
+          ∙ ap (λ b. b || (is_registration c.args.direction m && registers method (params_in m)))
           (ap (λ vs. list_any (λ params. registers method (view params)) vs.items) (client.1 ∙ server.1)
           ∙ knows.registered_is method);
       known_is = opened.3 ∙ registration.3 ∙ c.in_ok-keep_client.ensures.known place
-          ∙ ap (λ b. is_initialize (passed c.args.way place m) || b) (server.3 ∙ knows.known_is);
+          ∙ ap (λ b. is_initialize (passed c.args.direction place m) || b) (server.3 ∙ knows.known_is);
       opened_are = λ uri.
           c.in_ok-keep_opened.ensures.opened uri
-          ∙ ap (cond (opens c.args.way m && is_text uri (uri_in (params_in m))) true)
+          ∙ ap (cond (opens c.args.direction m && is_text uri (uri_in (params_in m))) true)
           (ap (λ s. contains_text s uri) (registration.2 ∙ client.2 ∙ server.2) ∙ knows.opened_are uri);
     }

@@ -6,5 +6,5 @@ use Rattle.lsp_judge.proofs.judgement.Judgement.announce.Goals as goal
 
 pub returns-clause-knows : goal.returns-clause-knows
 returns-clause-knows c = λ j place judges announces.
-    subst (λ e. Knows c.keep.new.self (entered c.args.passing.now.way place (option_map entry_view e) j.log))
+    subst (λ e. Knows c.keep.new.self (entered c.args.passing.now.direction place (option_map entry_view e) j.log))
     (sym c.in-Some.is) (c.in_ok-keep.ensures j.log place judges.watch (judges.knows announces))

@@ -14,6 +14,7 @@ returns-clause-seen c =
           ∙ goes_unread message content text bytes kept.unread c.args.place c.first_unread-self.result
           c.first_unread-self.ensures;
       judges = λ j judges ignored. sees message content text bytes kept.choice (is_late kept.options) c.args.place j
-          c.args.way c.pass-report.new.self.judgement c.new-passing.result made.way made.message made.order made.types
+          c.args.direction c.pass-report.new.self.judgement c.new-passing.result made.direction made.message made.order
+          made.types
           (c.in_ok-report.ensures.seen j judges ignored);
     }

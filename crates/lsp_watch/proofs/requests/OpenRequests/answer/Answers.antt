@@ -7,17 +7,17 @@ use Rattle.lsp_watch.proofs.Indexing.{nobody, first_leaves, left}
 use Rattle.lsp_watch.proofs.requests.OpenRequests.answer.Goals as goal
 
 pub returns-in_default-clause-is : goal.returns-in_default-clause-is
-returns-in_default-clause-is c = λ h. nobody c.args.self.now c.args.way c.args.id.now h
+returns-in_default-clause-is c = λ h. nobody c.args.self.now c.args.direction c.args.id.now h
     (ap (option_and_then (λ n. get nat_cmp c.args.self.now.requests n)) c.in_default.ensures)
 
 pub returns-in_default-remove-clause-is : goal.returns-in_default-remove-clause-is
 returns-in_default-remove-clause-is c = λ h. ap values_of c.in_default-remove.ensures.unchanged
-    ∙ nobody c.args.self.now c.args.way c.args.id.now h (c.in_default-remove.ensures.value
+    ∙ nobody c.args.self.now c.args.direction c.args.id.now h (c.in_default-remove.ensures.value
     ∙ ap (option_and_then (λ n. get nat_cmp c.args.self.now.requests n)) c.in-Some.ensures)
 
 pub returns-clause-is : goal.returns-clause-is
 returns-clause-is c = λ h. ap values_of c.remove.ensures.entries
-    ∙ first_leaves c.args.self.now c.args.way c.args.id.now c.in-Some.number h c.in-Some.ensures
+    ∙ first_leaves c.args.self.now c.args.direction c.args.id.now c.in-Some.number h c.in-Some.ensures
 
 pub returns-clause-indexed : goal.returns-clause-indexed
 returns-clause-indexed c = λ h. left c.args.self.now

@@ -9,4 +9,4 @@ use Rattle.lsp_watch.proofs.requests.OpenRequests.first_for.Goals as goal
 pub returns : goal.returns
 returns c = λ h. c.at.ensures
     ∙ ap (option_and_then (λ n. get nat_cmp c.args.self.now.requests n)) c.first.ensures
-    ∙ sym (found_first c.args.self.now (by_id c.args.way c.args.id.now) h)
+    ∙ sym (found_first c.args.self.now (by_id c.args.direction c.args.id.now) h)
