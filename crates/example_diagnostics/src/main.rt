@@ -158,8 +158,8 @@ impl Checker {
     fn agree(&mut self, params: &InitializeParams) -> Result<ServerCapabilities, AllocError> {
         let client = &params.capabilities;
         self.longest.read_capabilities(client);
-        let (agreed, can) = SyncOptions::with_capabilities(self.alloc, client, false)?;
-        self.documents = TextDocuments::new(self.alloc, agreed);
+        let (sync, can) = SyncOptions::with_capabilities(self.alloc, client, false)?;
+        self.documents = TextDocuments::new(self.alloc, sync);
         Ok(ServerCapabilities {
             hover_provider: Some(true),
             definition_provider: Some(true),

@@ -213,8 +213,8 @@ impl Server for Linter {
 
     fn initialize(&mut self, params: Value) -> Result<Result<Value, ResponseError>, AllocError> {
         let mut can = Value::Null;
-        let agreed = SyncOptions::negotiate(self.alloc, &params, false, &mut can)?;
-        self.documents = TextDocuments::new(self.alloc, agreed);
+        let sync = SyncOptions::negotiate(self.alloc, &params, false, &mut can)?;
+        self.documents = TextDocuments::new(self.alloc, sync);
         Ok(Ok(json!(in self.alloc; { "capabilities": can, "serverInfo": { "name": "notes" } })?))
     }
 

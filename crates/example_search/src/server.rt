@@ -183,8 +183,8 @@ impl Sums {
         ensures { OnOk result (HasNone self.new.documents) }
     {
         let mut can = tree(Value::from_str(self.alloc, CAPABILITIES))?;
-        let agreed = SyncOptions::negotiate(self.alloc, params, true, &mut can)?;
-        self.documents = TextDocuments::new(self.alloc, agreed);
+        let sync = SyncOptions::negotiate(self.alloc, params, true, &mut can)?;
+        self.documents = TextDocuments::new(self.alloc, sync);
         json!(in self.alloc; { "capabilities": can, "serverInfo": { "name": "sums" } })
     }
 

@@ -31,7 +31,7 @@ pub fn judge_files<R: Files + Input + AllocGlobal, E: Write, W: Write>(
             "lsp_check: --log is not needed: the log is recognised"
         )?;
     }
-    let has_told = Cell::new(false);
+    let has_reported = Cell::new(false);
     Report::begin(rt.alloc(), form, out)?;
     let mut outcome = Outcome::new();
     match (matches.get_str("to-server"), matches.get_str("to-client")) {
@@ -40,7 +40,7 @@ pub fn judge_files<R: Files + Input + AllocGlobal, E: Write, W: Write>(
                 first,
                 second: Some(second),
             };
-            let report = report_of(rt.alloc(), form, places, choice, &has_told);
+            let report = report_of(rt.alloc(), form, places, choice, &has_reported);
             outcome = judge_pair(rt, &report, first, second, errors, out)?;
         }
         _ => {
@@ -49,7 +49,7 @@ pub fn judge_files<R: Files + Input + AllocGlobal, E: Write, W: Write>(
                     first: file,
                     second: None,
                 };
-                let report = report_of(rt.alloc(), form, places, choice, &has_told);
+                let report = report_of(rt.alloc(), form, places, choice, &has_reported);
                 outcome = outcome.and(judge_file(rt, &report, file, errors, out)?);
             }
         }
@@ -64,7 +64,7 @@ pub fn report_of<'a>(
     form: Form,
     places: Places<'a>,
     choice: &'a Choice,
-    has_told: &'a Cell<bool>,
+    has_reported: &'a Cell<bool>,
 ) -> Report<'a> {
     Report {
         alloc,
@@ -73,7 +73,7 @@ pub fn report_of<'a>(
         server: "",
         choice,
         may_begin_late: places.second.is_none(),
-        has_told,
+        has_reported,
     }
 }
 

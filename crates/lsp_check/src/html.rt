@@ -44,7 +44,7 @@ pub struct Page {
     bars: Vec<Pair>,
     /// How many requests of a method have no bar.
     others: BTreeMap<String, u64>,
-    told: Vec<u8>,
+    reported: Vec<u8>,
     breaches: Vec<String>,
     more_breaches: u64,
     first: Option<u64>,
@@ -58,7 +58,7 @@ impl Page {
             alloc,
             bars: Vec::new(alloc),
             others: BTreeMap::new(alloc),
-            told: Vec::new(alloc),
+            reported: Vec::new(alloc),
             breaches: Vec::new(alloc),
             more_breaches: 0,
             first: None,
@@ -74,7 +74,7 @@ impl Page {
         choice: &Choice,
         reader: &mut B,
     ) -> Result<bool> {
-        let has_told = Cell::new(false);
+        let has_reported = Cell::new(false);
         let report = Report {
             alloc: self.alloc,
             form: Form::Text,
@@ -85,7 +85,7 @@ impl Page {
             server: "",
             choice,
             may_begin_late: true,
-            has_told: &has_told,
+            has_reported: &has_reported,
         };
         let mut log = Log::new(self.alloc);
         let mut pairs = Pairs::new(self.alloc);
@@ -125,10 +125,10 @@ impl Page {
         let mut passing = Passing::new(found.direction, message);
         passing.time = found.time;
         passing.took = found.took;
-        let seen = sessions.see(log.name(), found.line, &passing, report, &mut self.told);
+        let seen = sessions.see(log.name(), found.line, &passing, report, &mut self.reported);
         drop(passing);
         seen?;
-        Ok(self.keep_told()?)
+        Ok(self.keep_reported()?)
     }
 
     /// What is open, and what that breaks.
@@ -138,8 +138,8 @@ impl Page {
         sessions: &mut Sessions,
         report: &Report<'_>,
     ) -> Result<()> {
-        sessions.end(report, &mut self.told)?;
-        self.keep_told()?;
+        sessions.end(report, &mut self.reported)?;
+        self.keep_reported()?;
         for _ in 0..u64::MAX {
             match pairs.take_open() {
                 Some(pair) => self.add(pair)?,
@@ -165,16 +165,16 @@ impl Page {
     }
 
     /// Takes the lines that were reported.
-    fn keep_told(&mut self) -> Result<(), AllocError> {
-        let told = std::str::from_utf8(self.told.as_slice()).unwrap_or("");
-        for line in told.lines() {
+    fn keep_reported(&mut self) -> Result<(), AllocError> {
+        let reported = std::str::from_utf8(self.reported.as_slice()).unwrap_or("");
+        for line in reported.lines() {
             if self.breaches.len() < MOST_BREACHES {
                 self.breaches.push(String::from_str(self.alloc, line)?)?;
             } else {
                 self.more_breaches = self.more_breaches.saturating_add(1);
             }
         }
-        self.told.clear();
+        self.reported.clear();
         Ok(())
     }
 

@@ -163,12 +163,12 @@ where
             return Ok(2);
         }
     };
-    let has_told = Cell::new(false);
+    let has_reported = Cell::new(false);
     let places = Places {
         first: "client",
         second: Some("server"),
     };
-    let report = report_of(rt.alloc(), form, places, choice, &has_told);
+    let report = report_of(rt.alloc(), form, places, choice, &has_reported);
     let judged = match form {
         Form::Json => judge_between(rt, client, server, &report, out),
         _ => judge_between(rt, client, server, &report, errors),

@@ -247,31 +247,31 @@ put_step before now uri q f own other =
     (λ apart. rw apart (other apart))
 
 takes_step : (before : Documents) (s : Sent) (now : Documents) → Takes before s now → (uri : List ℕ) → now.held uri
-    ≡ kept_after before.agreed uri (before.held uri) s
-takes_step before (made n) now h uri = put_step before now uri n.uri (λ k. after before.agreed k n.kind) h.own
+    ≡ kept_after before.sync uri (before.held uri) s
+takes_step before (made n) now h uri = put_step before now uri n.uri (λ k. after before.sync k n.kind) h.own
     (h.others uri)
 takes_step before (unmade n) now h uri = put_step before now uri n.uri (λ k. after_unmade k n.kind) h.own (h.others uri)
 takes_step before (unread notices) now h uri = h.held uri
 
-takes_agreed : (before : Documents) (s : Sent) (now : Documents) → Takes before s now → now.agreed ≡ before.agreed
-takes_agreed before (made n) now h = h.agreed
-takes_agreed before (unmade n) now h = h.agreed
-takes_agreed before (unread notices) now h = h.agreed
+takes_sync : (before : Documents) (s : Sent) (now : Documents) → Takes before s now → now.sync ≡ before.sync
+takes_sync before (made n) now h = h.sync
+takes_sync before (unmade n) now h = h.sync
+takes_sync before (unread notices) now h = h.sync
 
 pub all_kept : (before : Documents) (sent : List Sent) (now : Documents) → TakesAll before sent now → (uri : List ℕ)
-    → now.held uri ≡ kept_after_all before.agreed uri (before.held uri) sent
+    → now.held uri ≡ kept_after_all before.sync uri (before.held uri) sent
 all_kept before [] now h uri = h.held uri
 all_kept before (s ∷ ss) now h uri =
-    all_kept h.0 ss now h.2 uri ∙ ap (λ x. kept_after_all x uri (h.0.held uri) ss) (takes_agreed before s h.0 h.1)
-    ∙ ap (λ k. kept_after_all before.agreed uri k ss) (takes_step before s h.0 h.1 uri)
+    all_kept h.0 ss now h.2 uri ∙ ap (λ x. kept_after_all x uri (h.0.held uri) ss) (takes_sync before s h.0 h.1)
+    ∙ ap (λ k. kept_after_all before.sync uri k ss) (takes_step before s h.0 h.1 uri)
 
 pub all_agree : (before : Documents) (client : List ℕ → Option Item) (sent : List Sent) (now : Documents)
-    → TakesAll before sent now → (uri : List ℕ) → Agrees before.agreed (client uri) (before.held uri)
-    → SavesItsText before.agreed (client uri) (kinds_of uri sent) →
-    Agrees before.agreed (told_all before.agreed (client uri) (kinds_of uri sent)) (now.held uri)
+    → TakesAll before sent now → (uri : List ℕ) → Agrees before.sync (client uri) (before.held uri)
+    → SavesItsText before.sync (client uri) (kinds_of uri sent) →
+    Agrees before.sync (told_all before.sync (client uri) (kinds_of uri sent)) (now.held uri)
 all_agree before client sent now h uri a s =
-    subst (λ k. Agrees before.agreed (told_all before.agreed (client uri) (kinds_of uri sent)) k)
-    (sym (all_kept before sent now h uri)) (all_steps before.agreed uri (client uri) (before.held uri) sent a s)
+    subst (λ k. Agrees before.sync (told_all before.sync (client uri) (kinds_of uri sent)) k)
+    (sym (all_kept before sent now h uri)) (all_steps before.sync uri (client uri) (before.held uri) sent a s)
 
 -- ---- what is sure, whatever saves say
 
@@ -435,13 +435,13 @@ steps_sure a uri c k (s ∷ ss) g =
     (steps_sure a uri (told_all a c (kinds_in uri (notices_of s))) (kept_after a uri k s) ss (sent_sure a uri c k s g))
 
 pub all_sure : (before : Documents) (client : List ℕ → Option Item) (sent : List Sent) (now : Documents)
-    → TakesAll before sent now → (uri : List ℕ) → Agrees before.agreed (client uri) (before.held uri)
-    → IsClients before.agreed (told_all before.agreed (client uri) (kinds_of uri sent))
+    → TakesAll before sent now → (uri : List ℕ) → Agrees before.sync (client uri) (before.held uri)
+    → IsClients before.sync (told_all before.sync (client uri) (kinds_of uri sent))
     (option_and_then sure (now.held uri))
 all_sure before client sent now h uri a =
-    let sure_after = steps_sure before.agreed uri (client uri) (before.held uri) sent (agrees_sure before.agreed
+    let sure_after = steps_sure before.sync uri (client uri) (before.held uri) sent (agrees_sure before.sync
     (client uri) (before.held uri) a) in
-    subst (λ k. IsClients before.agreed (told_all before.agreed (client uri) (kinds_of uri sent))
+    subst (λ k. IsClients before.sync (told_all before.sync (client uri) (kinds_of uri sent))
     (option_and_then sure k)) (sym (all_kept before sent now h uri)) sure_after.1
 
 -- ---- a document of which all was made
@@ -546,18 +546,18 @@ all_current a uri (unread notices ∷ ss) c kept version e v h = never h
 
 pub opened_current : (before : Documents) (uri language_id : List ℕ) (version : Option ℤ) (text : List ℕ)
     (sent : List Sent) (now : Documents) → TakesAll before (made (opens uri language_id version text) ∷ sent) now
-    → is_current before.agreed uri version sent ≡ true →
-    (c : Item) × (told_all before.agreed (Some (text_item language_id version text)) (kinds_of uri sent) ≡ Some c)
-    × (option_and_then shown (now.held uri) ≡ Some (kept_by before.agreed c))
+    → is_current before.sync uri version sent ≡ true →
+    (c : Item) × (told_all before.sync (Some (text_item language_id version text)) (kinds_of uri sent) ≡ Some c)
+    × (option_and_then shown (now.held uri) ≡ Some (kept_by before.sync c))
 opened_current before uri language_id version text sent now h i =
     let item = text_item language_id version text in
-    let r = all_current before.agreed uri sent item (Some (told_whole (kept_by before.agreed item))) version refl refl
+    let r = all_current before.sync uri sent item (Some (told_whole (kept_by before.sync item))) version refl refl
     i in
     let k = all_kept h.0 sent now h.2 uri in (
       r.0,
       r.1,
-      ap (option_and_then shown) (k ∙ ap (λ x. kept_after_all x uri (h.0.held uri) sent) h.1.agreed
-          ∙ ap (λ o. kept_after_all before.agreed uri o sent) h.1.own) ∙ r.2,
+      ap (option_and_then shown) (k ∙ ap (λ x. kept_after_all x uri (h.0.held uri) sent) h.1.sync
+          ∙ ap (λ o. kept_after_all before.sync uri o sent) h.1.own) ∙ r.2,
     )
 
 late_is : (t : Bool) (o next : DocumentState) → t ≡ true → option_and_then shown (Some (if t then doubted o else next))
@@ -568,13 +568,13 @@ late_is false o next h = never h
 
 -- late changes leave no text to look at
 pub late_unshown : (before : Documents) (uri : List ℕ) (version : Option ℤ) (list : List Change) (o : DocumentState)
-    (now : Documents) → before.held uri ≡ Some o → is_late before.agreed version (has_whole list) (version_of o) ≡ true
+    (now : Documents) → before.held uri ≡ Some o → is_late before.sync version (has_whole list) (version_of o) ≡ true
     → Makes before (edits uri version list) now →
     option_and_then shown (now.held uri) ≡ None
 late_unshown before uri version list o now b late h =
-    ap (option_and_then shown) (h.own ∙ ap (λ k. after before.agreed k (changed version list)) b)
-    ∙ late_is (is_late before.agreed version (has_whole list) (version_of o)) o
-    (changed_in before.agreed o version list) late
+    ap (option_and_then shown) (h.own ∙ ap (λ k. after before.sync k (changed version list)) b)
+    ∙ late_is (is_late before.sync version (has_whole list) (version_of o)) o
+    (changed_in before.sync o version list) late
 
 not_late_whole : (a : SyncOptions) (o : DocumentState) (version : Option ℤ) (list : List Change) (w : Bool) → w ≡ true
     → has_whole list
@@ -616,13 +616,13 @@ whole_shown a None version list h = none_shown a version list (has_whole list) h
 whole_shown a (Some o) version list h = some_shown a o version list (has_whole list) h refl
 
 pub whole_made : (before : Documents) (uri : List ℕ) (version : Option ℤ) (list : List Change) (now : Documents)
-    → has_whole list ≡ true → (fault_of before.agreed (before.held uri) (edits uri version list).kind ≡ None)
+    → has_whole list ≡ true → (fault_of before.sync (before.held uri) (edits uri version list).kind ≡ None)
     × (Makes before (edits uri version list) now
     → IsSomeAnd (option_and_then shown (now.held uri)) (λ d. d.version ≡ version))
 whole_made before uri version list now h = (
-  whole_right before.agreed (before.held uri) version list h,
+  whole_right before.sync (before.held uri) version list h,
   λ m. subst (λ k. IsSomeAnd (option_and_then shown k) (λ d. d.version ≡ version)) (sym m.own)
-      (whole_shown before.agreed (before.held uri) version list h),
+      (whole_shown before.sync (before.held uri) version list h),
 )
 
 -- ---- faults
@@ -706,14 +706,14 @@ keeps_at uri f g own others q =
     ∙ ap g (sym s))) (others q)
 
 -- if one URI keeps its document, and each other one too, nothing is changed
-pub keeps : (before now : Documents) (uri : List ℕ) → now.agreed ≡ before.agreed → now.held uri ≡ before.held uri
+pub keeps : (before now : Documents) (uri : List ℕ) → now.sync ≡ before.sync → now.held uri ≡ before.held uri
     → ((q : List ℕ) → bytes_eq q uri ≡ false → now.held q ≡ before.held q) → Keeps before now
-keeps before now uri a own others = record { agreed = a; held = keeps_at uri now.held before.held own others }
+keeps before now uri a own others = record { sync = a; held = keeps_at uri now.held before.held own others }
 
 -- what is refused by name changes nothing, but for late changes
-pub refused_keeps : (before : Documents) (n : Notice) (now : Documents) (fault : DocumentFault) → fault_of before.agreed
+pub refused_keeps : (before : Documents) (n : Notice) (now : Documents) (fault : DocumentFault) → fault_of before.sync
     (before.held n.uri) n.kind ≡ Some fault → (fault ≡ OutOfOrder → ⊥) → Makes before n now → Keeps before now
-refused_keeps before n now fault h other m = keeps before now n.uri m.agreed (m.own ∙ wrong_same before.agreed
+refused_keeps before n now fault h other m = keeps before now n.uri m.sync (m.own ∙ wrong_same before.sync
     (before.held n.uri) n.kind fault h other) m.others
 
 -- ---- changes that can be read
@@ -722,7 +722,7 @@ refused_keeps before n now fault h other m = keeps before now n.uri m.agreed (m.
 pub change_refused : (before now : Documents) (uris : Option (List ℕ)) (version given : Option ℤ) (changes : Option
     (List Change)) (u : List ℕ) (w : Bool) (fault said : DocumentFault) → given ≡ version → uris ≡ Some u
     → option_map has_whole changes ≡ Some w →
-    change_fault before.agreed (before.held u) given w ≡ Some fault → said ≡ fault
+    change_fault before.sync (before.held u) given w ≡ Some fault → said ≡ fault
     → Puts before u (left_by fault (before.held u)) now → Failed before (option_and_then (λ uri. option_map
     (edits uri version) changes) uris) uris said now
 change_refused before now None version given changes u w fault said hv hu hw hf hs m = none_value hu
@@ -730,11 +730,11 @@ change_refused before now (Some a) version given None u w fault said hv hu hw hf
 change_refused before now (Some a) version given (Some cs) u w fault said hv hu hw hf hs m =
     let ea : a ≡ u = some_value hu in
     let ew : has_whole cs ≡ w = some_value hw in
-    let f : change_fault before.agreed (before.held u) version (has_whole cs) ≡ Some fault = ap (λ v. change_fault
-    before.agreed (before.held u) v (has_whole cs)) (sym hv) ∙ ap (change_fault before.agreed (before.held u) given)
+    let f : change_fault before.sync (before.held u) version (has_whole cs) ≡ Some fault = ap (λ v. change_fault
+    before.sync (before.held u) v (has_whole cs)) (sym hv) ∙ ap (change_fault before.sync (before.held u) given)
     ew ∙ hf in
-    let p : Puts before u (after before.agreed (before.held u) (changed version cs)) now = subst (λ k. Puts before u k
-    now) (left_is before.agreed (before.held u) version cs fault f) m in
+    let p : Puts before u (after before.sync (before.held u) (changed version cs)) now = subst (λ k. Puts before u k
+    now) (left_is before.sync (before.held u) version cs fault f) m in
     subst (λ x. Failed before (Some (edits x version cs)) (Some x) said now) (sym ea) (inl (f ∙ ap Some (sym hs), p))
 
 more_changes : (c : Option Change) (cs : Option (List Change)) → IfSome (option_and_then (λ c. option_map (λ cs. c ∷ cs)
@@ -752,7 +752,7 @@ some_changes (v ∷ vs) h = more_changes (change_in (view v)) (changes_in (items
 pub change_starved : (before now : Documents) (uris : Option (List ℕ)) (version given : Option ℤ) (changes : Option
     (List Change)) (u : List ℕ) (w : Bool) (said : DocumentFault) → given ≡ version → uris ≡ Some u
     → option_map has_whole changes ≡ Some w →
-    change_fault before.agreed (before.held u) given w ≡ None → said ≡ Memory → IfSome changes (λ cs. has_changes cs
+    change_fault before.sync (before.held u) given w ≡ None → said ≡ Memory → IfSome changes (λ cs. has_changes cs
     ≡ true) → Puts before u (missed (before.held u)) now → Failed before (option_and_then (λ uri. option_map
     (edits uri version) changes) uris) uris said now
 change_starved before now None version given changes u w said hv hu hw hf hs hn m = none_value hu
@@ -760,9 +760,9 @@ change_starved before now (Some a) version given None u w said hv hu hw hf hs hn
 change_starved before now (Some a) version given (Some cs) u w said hv hu hw hf hs hn m =
     let ea : a ≡ u = some_value hu in
     let ew : has_whole cs ≡ w = some_value hw in
-    let f : change_fault before.agreed (before.held a) version (has_whole cs) ≡ None =
-    ap (λ x. change_fault before.agreed (before.held x) version (has_whole cs)) ea ∙ ap (λ v. change_fault before.agreed
-    (before.held u) v (has_whole cs)) (sym hv) ∙ ap (change_fault before.agreed (before.held u) given) ew ∙ hf in
+    let f : change_fault before.sync (before.held a) version (has_whole cs) ≡ None =
+    ap (λ x. change_fault before.sync (before.held x) version (has_whole cs)) ea ∙ ap (λ v. change_fault before.sync
+    (before.held u) v (has_whole cs)) (sym hv) ∙ ap (change_fault before.sync (before.held u) given) ew ∙ hf in
     inr (record {
       why = hs;
       right = f;

@@ -69,9 +69,9 @@ edited_older : (before now : Documents) (uri : List ℕ) (r : Remains) (version 
     (d : Kept) → before.held uri ≡ Some (Lost r) → has_whole list ≡ false
     → Takes before (made (edits uri version list)) now → now.held uri ≡ Some (Known d) → ⊥
 edited_older before now uri r version list d b w h k =
-    never (sym (in_lost before.agreed r version list (is_late before.agreed version (has_whole list) r.version)
+    never (sym (in_lost before.sync r version list (is_late before.sync version (has_whole list) r.version)
     (has_whole list) refl w)
-    ∙ ap shows (ap (λ o. after before.agreed o (changed version list)) (sym b) ∙ sym h.own ∙ k))
+    ∙ ap shows (ap (λ o. after before.sync o (changed version list)) (sym b) ∙ sym h.own ∙ k))
 
 late_shows : (late : Bool) (o next : DocumentState) → late ≡ true → shows (Some (if late then doubted o else next)) ≡
     false
@@ -82,19 +82,19 @@ late_shows false o next h = never h
 -- an older version taken over a newer one, by edits of the text that it had, where the author did not choose it; also
 -- over one that was lost for that
 older_taken : (before now : Documents) (uri : List ℕ) (version : Option ℤ) (list : List Change) (o : DocumentState)
-    (d : Kept) → before.held uri ≡ Some o → is_late before.agreed version (has_whole list) (version_of o)
+    (d : Kept) → before.held uri ≡ Some o → is_late before.sync version (has_whole list) (version_of o)
     ≡ true
     → Takes before (made (edits uri version list)) now → now.held uri ≡ Some (Known d) → ⊥
 older_taken before now uri version list o d b late h k =
-    never (sym (late_shows (is_late before.agreed version (has_whole list) (version_of o)) o (changed_in before.agreed o
-    version list) late) ∙ ap shows (ap (λ o. after before.agreed o (changed version list)) (sym b) ∙ sym h.own ∙ k))
+    never (sym (late_shows (is_late before.sync version (has_whole list) (version_of o)) o (changed_in before.sync o
+    version list) late) ∙ ap shows (ap (λ o. after before.sync o (changed version list)) (sym b) ∙ sym h.own ∙ k))
 
 -- a whole text of a URI that is not open, of which nothing is kept
 whole_unopened : (before now : Documents) (uri : List ℕ) (version : Option ℤ) (list : List Change) → before.held uri
     ≡ None → has_whole list ≡ true → Takes before (made (edits uri version list)) now → now.held uri ≡ None → ⊥
 whole_unopened before now uri version list b w h k =
-    never (ap shows (sym k ∙ h.own ∙ ap (λ o. after before.agreed o (changed version list)) b
-    ∙ ap (λ (t : Bool). if t then Some (told_whole (begun_by before.agreed [] version list)) else None) w))
+    never (ap shows (sym k ∙ h.own ∙ ap (λ o. after before.sync o (changed version list)) b
+    ∙ ap (λ (t : Bool). if t then Some (told_whole (begun_by before.sync [] version list)) else None) w))
 
 -- a text of another URI: a document is opened, and the text of another one is another
 opened_other : (before now : Documents) (uri q l text : List ℕ) (version : Option ℤ) (d : Kept) → before.held q
@@ -122,7 +122,7 @@ whole_lost : (before now : Documents) (uri : List ℕ) (r : Remains) (o : Docume
     → before.held uri ≡ Some o → has_whole list ≡ true → Takes before (made (edits uri version list)) now → now.held uri
     ≡ Some (Lost r) → ⊥
 whole_lost before now uri r o version list b w h k =
-    never (ap shows (sym k ∙ h.own ∙ ap (λ o. after before.agreed o (changed version list)) b) ∙ in_whole before.agreed
+    never (ap shows (sym k ∙ h.own ∙ ap (λ o. after before.sync o (changed version list)) b) ∙ in_whole before.sync
     o version list (has_whole list) w refl)
 
 -- a whole text that is refused for its version
@@ -157,8 +157,8 @@ saved_other : (before now : Documents) (uri text : List ℕ) (d o : Kept) → be
     → Takes before (made (saves uri (Some text))) now → now.held uri ≡ Some (Known o) → (o.document.text.bytes
     ≡ d.document.text.bytes → ⊥) → ⊥
 saved_other before now uri text d o b h k other =
-    other (ap text_of (sym k ∙ h.own ∙ ap (λ x. after before.agreed x (saved (Some text))) b) ∙ in_step before.agreed
-    before.agreed.include_text d text)
+    other (ap text_of (sym k ∙ h.own ∙ ap (λ x. after before.sync x (saved (Some text))) b) ∙ in_step before.sync
+    before.sync.include_text d text)
 
 unasked_lost : (a : SyncOptions) (asked : Bool) (r : Remains) (text : List ℕ) → asked ≡ false
     → shows (if asked then option_map (λ o. saved_in a o text) (Some (Lost r)) else Some (Lost r)) ≡ false
@@ -167,11 +167,11 @@ unasked_lost a false r text h = refl
 
 -- a text that was not asked for, taken from a save
 unasked_taken : (before now : Documents) (uri text : List ℕ) (r : Remains) (d : Kept) → before.held uri
-    ≡ Some (Lost r) → before.agreed.include_text ≡ false → Takes before (made (saves uri (Some text))) now
+    ≡ Some (Lost r) → before.sync.include_text ≡ false → Takes before (made (saves uri (Some text))) now
     → now.held uri ≡ Some (Known d) → ⊥
 unasked_taken before now uri text r d b asked h k =
-    never (sym (unasked_lost before.agreed before.agreed.include_text r text asked)
-    ∙ ap shows (ap (λ x. after before.agreed x (saved (Some text))) (sym b) ∙ sym h.own ∙ k))
+    never (sym (unasked_lost before.sync before.sync.include_text r text asked)
+    ∙ ap shows (ap (λ x. after before.sync x (saved (Some text))) (sym b) ∙ sym h.own ∙ k))
 
 -- ---- what calls say
 
@@ -209,25 +209,25 @@ differs_not false false false = refl
 opened_unsaid : (before now : Documents) (uri l text : List ℕ) (version : Option ℤ) (o : DocumentState) → before.held
     uri
     ≡ Some o → Took before (opens uri l version text) None now → ⊥
-opened_unsaid before now uri l text version o b h = never (ap is_some (h.remarks ∙ ap (λ k. remark_of before.agreed k
+opened_unsaid before now uri l text version o b h = never (ap is_some (h.remarks ∙ ap (λ k. remark_of before.sync k
     (opened (text_item l version text))) b))
 
 -- a change past an end of the text that is known, of which nothing is said
 past_unsaid : (before now : Documents) (uri : List ℕ) (version : Option ℤ) (list : List Change) (d : Kept)
-    → before.held uri ≡ Some (Known d) → past_by before.agreed.encoding d.document.text (since_whole list) ≡ true
+    → before.held uri ≡ Some (Known d) → past_by before.sync.encoding d.document.text (since_whole list) ≡ true
     → Took before (edits uri version list) None now → ⊥
 past_unsaid before now uri version list d b p h =
-    never (ap is_some (h.remarks ∙ ap (λ k. remark_of before.agreed k (changed version list)) b
-    ∙ ap (λ w. change_remark w (doubt_after before.agreed (Known d) list)
+    never (ap is_some (h.remarks ∙ ap (λ k. remark_of before.sync k (changed version list)) b
+    ∙ ap (λ w. change_remark w (doubt_after before.sync (Known d) list)
     (is_not_higher version d.document.version)) p))
 
 -- a saved text that was asked for and differs from the one that is known, and is not to be compared later
 saved_forgotten : (before now : Documents) (uri text : List ℕ) (d o : Kept) → before.held uri ≡ Some (Known d)
-    → before.agreed.include_text ≡ true → bytes_eq d.document.text.bytes text ≡ false
+    → before.sync.include_text ≡ true → bytes_eq d.document.text.bytes text ≡ false
     → Takes before (made (saves uri (Some text))) now → now.held uri ≡ Some (Known o) → o.saved ≡ None → ⊥
 saved_forgotten before now uri text d o b asked p h k none =
-    never (ap is_some (sym none ∙ ap saved_of (sym k ∙ h.own ∙ ap (λ x. after before.agreed x (saved (Some text))) b
-    ∙ ap (λ (w : Bool). if w then option_map (λ o. saved_in before.agreed o text) (Some (Known d)) else Some (Known d))
+    never (ap is_some (sym none ∙ ap saved_of (sym k ∙ h.own ∙ ap (λ x. after before.sync x (saved (Some text))) b
+    ∙ ap (λ (w : Bool). if w then option_map (λ o. saved_in before.sync o text) (Some (Known d)) else Some (Known d))
     asked) ∙ ap (λ (w : Bool). if w then None else Some text) p))
 
 said : (past : Bool) (doubt : SyncWarning) (not_higher : Bool) → is_some (change_remark past (Some doubt) not_higher) ≡
@@ -238,15 +238,15 @@ said false doubt not_higher = refl
 -- changes that do not lead to the text that was saved before them, of which nothing is said
 saved_unsaid : (before now : Documents) (uri text : List ℕ) (version : Option ℤ) (list : List Change) (d : Document)
     → before.held uri ≡ Some (Known (kept_as d (Some text) Told)) → has_whole list ≡ false
-    → bytes_eq (edited_by before.agreed.encoding d.text list).bytes text ≡ false
+    → bytes_eq (edited_by before.sync.encoding d.text list).bytes text ≡ false
     → Took before (edits uri version list) None now → ⊥
 saved_unsaid before now uri text version list d b w p h =
-    never (ap is_some (h.remarks ∙ ap (λ k. remark_of before.agreed k (changed version list)) b
-    ∙ ap (λ (w : Bool). change_remark (past_by before.agreed.encoding d.text (since_whole list)) (if w then None else
-    compared (Some text) (edited_by before.agreed.encoding d.text list)) (is_not_higher version d.version)) w
-    ∙ ap (λ (w : Bool). change_remark (past_by before.agreed.encoding d.text (since_whole list)) (if w then None else
+    never (ap is_some (h.remarks ∙ ap (λ k. remark_of before.sync k (changed version list)) b
+    ∙ ap (λ (w : Bool). change_remark (past_by before.sync.encoding d.text (since_whole list)) (if w then None else
+    compared (Some text) (edited_by before.sync.encoding d.text list)) (is_not_higher version d.version)) w
+    ∙ ap (λ (w : Bool). change_remark (past_by before.sync.encoding d.text (since_whole list)) (if w then None else
     Some SavedTextDiffers) (is_not_higher version d.version)) p)
-    ∙ said (past_by before.agreed.encoding d.text (since_whole list)) SavedTextDiffers
+    ∙ said (past_by before.sync.encoding d.text (since_whole list)) SavedTextDiffers
     (is_not_higher version d.version))
 
 -- the first changes since a save brought the text back, of which nothing is said
@@ -254,10 +254,10 @@ brought_unsaid : (before now : Documents) (uri : List ℕ) (before_text : Option
     (list : List Change) (d : Document) → before.held uri ≡ Some (Known (kept_as d before_text BySave)) → has_whole list
     ≡ false → Took before (edits uri version list) None now → ⊥
 brought_unsaid before now uri before_text version list d b w h =
-    never (ap is_some (h.remarks ∙ ap (λ k. remark_of before.agreed k (changed version list)) b
-    ∙ ap (λ (w : Bool). change_remark (past_by before.agreed.encoding d.text (since_whole list)) (if w then None else
+    never (ap is_some (h.remarks ∙ ap (λ k. remark_of before.sync k (changed version list)) b
+    ∙ ap (λ (w : Bool). change_remark (past_by before.sync.encoding d.text (since_whole list)) (if w then None else
     Some BroughtBackBySave) (is_not_higher version d.version)) w)
-    ∙ said (past_by before.agreed.encoding d.text (since_whole list)) BroughtBackBySave
+    ∙ said (past_by before.sync.encoding d.text (since_whole list)) BroughtBackBySave
     (is_not_higher version d.version))
 
 -- a saved text that differs, of which something is said at once: the change that leads to it may come next
@@ -265,18 +265,18 @@ saved_early : (before now : Documents) (uri text : List ℕ) (d : Document) (ori
     → before.held uri ≡ Some (Known (kept_as d None origin)) → Took before (saves uri (Some text)) (Some warning) now →
     ⊥
 saved_early before now uri text d origin warning b h =
-    never (ap is_none (h.remarks ∙ ap (λ k. remark_of before.agreed k (saved (Some text))) b
-    ∙ unsaid before.agreed.include_text))
+    never (ap is_none (h.remarks ∙ ap (λ k. remark_of before.sync k (saved (Some text))) b
+    ∙ unsaid before.sync.include_text))
 
 -- changes that lead to the text that was saved before them, of which it is said that it differs
 led_said : (before now : Documents) (uri text : List ℕ) (version : Option ℤ) (list : List Change) (d : Document)
     → before.held uri ≡ Some (Known (kept_as d (Some text) Told))
-    → bytes_eq (edited_by before.agreed.encoding d.text list).bytes text ≡ true
+    → bytes_eq (edited_by before.sync.encoding d.text list).bytes text ≡ true
     → Took before (edits uri version list) (Some SavedTextDiffers) now → ⊥
 led_said before now uri text version list d b p h =
-    never (sym (differs_not (past_by before.agreed.encoding d.text (since_whole list)) (has_whole list) (is_not_higher
-    version d.version)) ∙ ap differs (sym (h.remarks ∙ ap (λ k. remark_of before.agreed k (changed version list)) b
-    ∙ ap (λ (w : Bool). change_remark (past_by before.agreed.encoding d.text (since_whole list)) (if has_whole list then
+    never (sym (differs_not (past_by before.sync.encoding d.text (since_whole list)) (has_whole list) (is_not_higher
+    version d.version)) ∙ ap differs (sym (h.remarks ∙ ap (λ k. remark_of before.sync k (changed version list)) b
+    ∙ ap (λ (w : Bool). change_remark (past_by before.sync.encoding d.text (since_whole list)) (if has_whole list then
     no_remark else (if w then None else Some SavedTextDiffers)) (is_not_higher version d.version)) p)))
 
 no_memory_in : (o : DocumentState) (w : Bool) → step_fault o w ≡ Some Memory → ⊥
@@ -305,9 +305,9 @@ no_memory a None closed h = grind (arith, h)
 no_memory a (Some o) closed h = grind (arith, h)
 
 -- `Memory` from a call that takes no memory
-needless : (before now : Documents) (n : Notice) → needs_memory before.agreed (before.held n.uri) n.kind ≡ false
+needless : (before now : Documents) (n : Notice) → needs_memory before.sync (before.held n.uri) n.kind ≡ false
     → Refused before n Memory now → ⊥
-needless before now n h (inl f) = no_memory before.agreed (before.held n.uri) n.kind f.0
+needless before now n h (inl f) = no_memory before.sync (before.held n.uri) n.kind f.0
 needless before now n h (inr s) = never (sym h ∙ s.needed)
 
 -- so at a close, at a save without a text, and at no changes
@@ -322,16 +322,16 @@ unchanged_memory : (before now : Documents) (uri : List ℕ) (version : Option �
 unchanged_memory before now uri version h = needless before now (edits uri version []) refl h
 
 -- `Memory` in the place of another fault
-right_memory : (before now : Documents) (n : Notice) (fault : DocumentFault) → fault_of before.agreed
+right_memory : (before now : Documents) (n : Notice) (fault : DocumentFault) → fault_of before.sync
     (before.held n.uri) n.kind ≡ Some fault → Refused before n Memory now → ⊥
-right_memory before now n fault w (inl f) = no_memory before.agreed (before.held n.uri) n.kind f.0
+right_memory before now n fault w (inl f) = no_memory before.sync (before.held n.uri) n.kind f.0
 right_memory before now n fault w (inr s) = never (ap is_some (sym s.right ∙ w))
 
 -- `Memory` at a change, and a text that is shown
 memory_shown : (before now : Documents) (uri : List ℕ) (version : Option ℤ) (list : List Change) (d : Kept)
     → Refused before (edits uri version list) Memory now → now.held uri ≡ Some (Known d) → ⊥
 memory_shown before now uri version list d (inl f) k =
-    no_memory before.agreed (before.held uri) (changed version list) f.0
+    no_memory before.sync (before.held uri) (changed version list) f.0
 memory_shown before now uri version list d (inr s) k =
     never (sym (missed_shows (before.held uri)) ∙ ap shows (sym s.misses.own ∙ k))
 
@@ -339,14 +339,14 @@ memory_shown before now uri version list d (inr s) k =
 memory_opened : (before now : Documents) (uri l text : List ℕ) (version : Option ℤ) (d : Kept)
     → Refused before (opens uri l version text) Memory now → now.held uri ≡ Some (Known d) → ⊥
 memory_opened before now uri l text version d (inl f) k =
-    no_memory before.agreed (before.held uri) (opened (text_item l version text)) f.0
+    no_memory before.sync (before.held uri) (opened (text_item l version text)) f.0
 memory_opened before now uri l text version d (inr s) k =
     never (sym (missed_shows (before.held uri)) ∙ ap shows (sym s.misses.own ∙ k))
 
 -- `Memory` at a save that changes what is kept
 memory_changed : (before now : Documents) (uri : List ℕ) (text : Option (List ℕ)) → Refused before (saves uri text)
     Memory now → (now.held uri ≡ before.held uri → ⊥) → ⊥
-memory_changed before now uri text (inl f) k = no_memory before.agreed (before.held uri) (saved text) f.0
+memory_changed before now uri text (inl f) k = no_memory before.sync (before.held uri) (saved text) f.0
 memory_changed before now uri text (inr s) k = k s.misses.own
 
 -- what stands before a whole text counts: a change past an end, or one that can't be read

@@ -108,7 +108,7 @@ failed DidSave before next params fault own f m = by (did_save_in params) (uri_f
     by None uri f m = (
       made (saves m.0 None),
       sym m.1,
-      record { agreed = f.1.agreed; own = f.1.held m.0; others = λ q other. f.1.held q },
+      record { sync = f.1.sync; own = f.1.held m.0; others = λ q other. f.1.held q },
     )
 failed DidClose before next params fault own f m = by (did_close_in params) (uri_from params) f m
   where
@@ -176,7 +176,7 @@ pub all_taken : (before now : TextDocuments) (arrived : List Arrived) (meant : L
 all_taken before now [] meant same none = record {
   sent = [];
   taken = record {
-    agreed = ap (λ (d : TextDocuments). (documents_of d).agreed) same;
+    sync = ap (λ (d : TextDocuments). (documents_of d).sync) same;
     held = λ uri. ap (λ (d : TextDocuments). (documents_of d).held uri) same;
   };
   same = λ uri. ap (kinds_in uri) (sym none);
@@ -189,12 +189,12 @@ all_taken before now (a ∷ rest) meant applies means =
 
 pub own_texts : (before now : TextDocuments) (arrived : List Arrived) (meant : List Notice) → HasNone before
     → AppliesAll before arrived now → MeansAll arrived meant → (uri : List ℕ)
-    → SavesItsText before.agreed None (kinds_in uri meant)
-    → Agrees before.agreed (told_all before.agreed None (kinds_in uri meant)) ((documents_of now).held uri)
+    → SavesItsText before.sync None (kinds_in uri meant)
+    → Agrees before.sync (told_all before.sync None (kinds_in uri meant)) ((documents_of now).held uri)
 own_texts before now arrived meant none applies means uri saves =
     let t = all_taken before now arrived meant applies means in
-    subst (λ (l : List NoticeKind). Agrees before.agreed (told_all before.agreed None l) ((documents_of now).held uri))
+    subst (λ (l : List NoticeKind). Agrees before.sync (told_all before.sync None l) ((documents_of now).held uri))
     (t.same uri)
     (all_agree (documents_of before) (λ u. None) t.sent (documents_of now) t.taken uri
-    (subst (λ o. Agrees before.agreed None o) (sym (none uri)) tt)
-    (subst (SavesItsText before.agreed None) (sym (t.same uri)) saves))
+    (subst (λ o. Agrees before.sync None o) (sym (none uri)) tt)
+    (subst (SavesItsText before.sync None) (sym (t.same uri)) saves))

@@ -23,13 +23,13 @@ sync_of include_text = object
 
 -- the members of capabilities, with the encoding that was agreed on and what the client is to tell of
 abbrev pub announced_members : SyncOptions → Members → Members
-announced_members agreed can =
-    put (codes "textDocumentSync") (sync_of agreed.include_text)
-    (put (codes "positionEncoding") (string (encoding_name agreed.encoding)) can)
+announced_members sync can =
+    put (codes "textDocumentSync") (sync_of sync.include_text)
+    (put (codes "positionEncoding") (string (encoding_name sync.encoding)) can)
 
 -- the capabilities with these. What is no object has no members
 abbrev pub announced : SyncOptions → Data → Data
-announced agreed can = object (announced_members agreed (unwrap_or (as_object can) no_members))
+announced sync can = object (announced_members sync (unwrap_or (as_object can) no_members))
 
 -- the same by types
 abbrev pub options_of : Bool → TextDocumentSyncOptions
@@ -41,7 +41,7 @@ options_of include_text = record {
   save = Some (record { include_text = Some include_text });
 }
 
-pub record IsAnnounced (agreed : SyncOptions) (can : ServerCapabilities) : Type 0 where
+pub record IsAnnounced (options : SyncOptions) (can : ServerCapabilities) : Type 0 where
   pub encoding : option_map string_bytes can.position_encoding
-      ≡ Some (encoding_name agreed.encoding)
-  pub sync : can.text_document_sync ≡ Some (options_of agreed.include_text)
+      ≡ Some (encoding_name options.encoding)
+  pub sync : can.text_document_sync ≡ Some (options_of options.include_text)

@@ -9,7 +9,7 @@ use Rattle.lsp_documents.specs.Known.{known_in, texts_in}
 use Rattle.lsp_documents.specs.Notices.{Documents, shown, is_known}
 
 abbrev pub documents_of : TextDocuments → Documents
-documents_of t = record { agreed = t.agreed; held = λ uri. get_by_text t.documents uri }
+documents_of t = record { sync = t.sync; held = λ uri. get_by_text t.documents uri }
 
 -- each URI whose text is known, and its document, in the order of the URIs
 abbrev pub known_of : TextDocuments → List (List ℕ × Document)

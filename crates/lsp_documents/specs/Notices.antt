@@ -413,24 +413,24 @@ is_current a uri before (unread notices ∷ ss) = false
 
 -- what was agreed on, and what is kept of each URI that is open
 pub record Documents : Type 0 where
-  pub agreed : SyncOptions
+  pub sync : SyncOptions
   pub held : List ℕ → Option DocumentState
 
 -- nothing is changed
 pub record Keeps (before now : Documents) : Type 0 where
-  pub agreed : now.agreed ≡ before.agreed
+  pub sync : now.sync ≡ before.sync
   pub held : (uri : List ℕ) → now.held uri ≡ before.held uri
 
 -- this is kept of one URI, and each other one keeps its document
 pub record Puts (before : Documents) (uri : List ℕ) (kept : Option DocumentState)
     (now : Documents) : Type 0 where
-  pub agreed : now.agreed ≡ before.agreed
+  pub sync : now.sync ≡ before.sync
   pub own : now.held uri ≡ kept
   pub others : (q : List ℕ) → bytes_eq q uri ≡ false → now.held q ≡ before.held q
 
 -- a notification made of its document what it makes
 abbrev pub Makes : Documents → Notice → Documents → Type 0
-Makes before n now = Puts before n.uri (after before.agreed (before.held n.uri) n.kind) now
+Makes before n now = Puts before n.uri (after before.sync (before.held n.uri) n.kind) now
 
 -- what was told of one URI was missed
 abbrev pub Misses : Documents → List ℕ → Documents → Type 0
@@ -438,7 +438,7 @@ Misses before uri now = Puts before uri (missed (before.held uri)) now
 
 -- what was told was missed, of whatever URI
 pub record MissesAll (before now : Documents) : Type 0 where
-  pub agreed : now.agreed ≡ before.agreed
+  pub sync : now.sync ≡ before.sync
   pub held : (uri : List ℕ) → now.held uri ≡ missed (before.held uri)
 
 abbrev pub Takes : Documents → Sent → Documents → Type 0
@@ -470,22 +470,22 @@ Agrees a client kept = IsClients a client (option_and_then shown kept)
 -- nothing was wrong with it, and it was made, with this warning
 pub record Took (before : Documents) (n : Notice) (warning : Option SyncWarning)
     (now : Documents) : Type 0 where
-  pub right : fault_of before.agreed (before.held n.uri) n.kind ≡ None
-  pub remarks : warning ≡ remark_of before.agreed (before.held n.uri) n.kind
+  pub right : fault_of before.sync (before.held n.uri) n.kind ≡ None
+  pub remarks : warning ≡ remark_of before.sync (before.held n.uri) n.kind
   pub makes : Makes before n now
 
 -- memory ran out, if nothing was wrong and memory was needed
 pub record Starved (before : Documents) (n : Notice) (fault : DocumentFault)
     (now : Documents) : Type 0 where
   pub why : fault ≡ Memory
-  pub right : fault_of before.agreed (before.held n.uri) n.kind ≡ None
-  pub needed : needs_memory before.agreed (before.held n.uri) n.kind ≡ true
+  pub right : fault_of before.sync (before.held n.uri) n.kind ≡ None
+  pub needed : needs_memory before.sync (before.held n.uri) n.kind ≡ true
   pub misses : Puts before n.uri (after_unmade (before.held n.uri) n.kind) now
 
 -- a call refused a notification by name, which changes nothing but for late changes, or missed it for want of memory
 abbrev pub Refused : Documents → Notice → DocumentFault → Documents → Type 0
 Refused before n fault now =
-    ((fault_of before.agreed (before.held n.uri) n.kind ≡ Some fault) × Makes before n now)
+    ((fault_of before.sync (before.held n.uri) n.kind ≡ Some fault) × Makes before n now)
     ⊎ Starved before n fault now
 
 -- the same if the params may be of another shape: then what they tell of the URI that they name is missed; if they name

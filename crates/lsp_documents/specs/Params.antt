@@ -151,9 +151,9 @@ offered_by client =
     (option_and_then (get (codes "positionEncodings")) (get (codes "general") client))
 
 -- the encoding that is agreed on with it: UTF-16 if it offers none of the three
-abbrev pub agreed_by : Data → PositionEncoding
-agreed_by client = unwrap_or (option_and_then first_named (offered_by client)) Utf16
+abbrev pub encoding_of : Data → PositionEncoding
+encoding_of client = unwrap_or (option_and_then first_named (offered_by client)) Utf16
 
 -- the same by the params of `initialize`
-abbrev pub agreed_in : Data → PositionEncoding
-agreed_in params = unwrap_or (option_map agreed_by (get (codes "capabilities") params)) Utf16
+abbrev pub encoding_in : Data → PositionEncoding
+encoding_in params = unwrap_or (option_map encoding_of (get (codes "capabilities") params)) Utf16

@@ -42,35 +42,35 @@ use std::{mem, ops};
 #[derive(Drop)]
 pub struct TextDocuments {
     alloc: Global,
-    agreed: SyncOptions,
+    sync: SyncOptions,
     documents: BTreeMap<String, DocumentState>,
 }
 
 impl TextDocuments {
     /// Makes documents of a client with which this was agreed on. None is open.
-    pub fn new(alloc: Global, agreed: SyncOptions) -> TextDocuments
-        ensures agreed { result.agreed ≡ agreed }
+    pub fn new(alloc: Global, sync: SyncOptions) -> TextDocuments
+        ensures sync { result.sync ≡ sync }
         ensures none { (uri : List ℕ) → (documents_of result).held uri ≡ None }
     {
         TextDocuments {
             alloc,
-            agreed,
+            sync,
             documents: BTreeMap::new(alloc),
         }
     }
 
     /// Returns what was agreed on with the client.
     pub fn sync_options(&self) -> SyncOptions
-        ensures { result ≡ self.now.agreed }
+        ensures { result ≡ self.now.sync }
     {
-        self.agreed
+        self.sync
     }
 
     /// Returns the encoding that was agreed on.
     pub fn encoding(&self) -> PositionEncoding
-        ensures { result ≡ self.now.agreed.encoding }
+        ensures { result ≡ self.now.sync.encoding }
     {
-        self.agreed.encoding()
+        self.sync.encoding()
     }
 
     /// Returns the document of a URI, if it is open and its text is known.
@@ -138,7 +138,7 @@ impl TextDocuments {
         ensures document { option_map (λ found. found.0.now) result
             ≡ option_and_then shown ((documents_of self.now).held uri.now) }
         ensures offset { IfSome result (λ found. found.1
-            ≡ offset_of self.now.agreed.encoding found.0.now.text position.line position.character) }
+            ≡ offset_of self.now.sync.encoding found.0.now.text position.line position.character) }
         ensures boundary { IfSome result (λ found. IsSplitPoint found.0.now.text.bytes found.1) }
     {
         let document = self.get(uri)?;
@@ -151,13 +151,13 @@ impl TextDocuments {
     /// Returns the range of a part of a text. The part is given in bytes of UTF-8, and the range is in the encoding
     /// that was agreed on. An end past the end of the text counts as that end.
     pub fn range_of(&self, text: &Text, part: ops::Range<usize>) -> Range
-        ensures start { result.start ≡ position_of self.now.agreed.encoding text.now part.start }
-        ensures end { result.end ≡ position_of self.now.agreed.encoding text.now part.end }
+        ensures start { result.start ≡ position_of self.now.sync.encoding text.now part.start }
+        ensures end { result.end ≡ position_of self.now.sync.encoding text.now part.end }
         ensures start_again { IsPlace text.now part.start → length text.now.bytes < 2 ^ 30
-            → offset_of self.now.agreed.encoding text.now result.start.line result.start.character
+            → offset_of self.now.sync.encoding text.now result.start.line result.start.character
             ≡ part.start }
         ensures end_again { IsPlace text.now part.end → length text.now.bytes < 2 ^ 30
-            → offset_of self.now.agreed.encoding text.now result.end.line result.end.character
+            → offset_of self.now.sync.encoding text.now result.end.line result.end.character
             ≡ part.end }
     {
         Range {
@@ -171,7 +171,7 @@ impl TextDocuments {
     /// `Text::positions_at` says.
     pub fn positions_of(&self, text: &Text, offsets: &[usize]) -> Result<Vec<Position>, AllocError>
         ensures { IfOk result (λ found.
-            found.items ≡ map (position_of self.now.agreed.encoding text.now) offsets.now) }
+            found.items ≡ map (position_of self.now.sync.encoding text.now) offsets.now) }
     {
         text.positions_at(self.alloc, offsets, self.encoding())
     }
@@ -243,19 +243,19 @@ impl TextDocuments {
     ) -> Result<(), AllocError>
         ensures own { OnOk result ((documents_of self.new).held uri.now
             ≡ Some (told_whole (document language_id.now version
-            (text_by self.old.agreed text.now)))) }
+            (text_by self.old.sync text.now)))) }
         ensures others { OnOk result ((q : List ℕ) → bytes_eq q uri.now ≡ false
             → (documents_of self.new).held q ≡ (documents_of self.old).held q) }
         ensures err { OnErr result ((q : List ℕ)
             → (documents_of self.new).held q ≡ (documents_of self.old).held q) }
-        ensures agreed { self.new.agreed ≡ self.old.agreed }
+        ensures sync { self.new.sync ≡ self.old.sync }
     {
         let document = TextDocument::new(
             self.alloc,
             language_id,
             version,
             text,
-            self.agreed.options().line_ends,
+            self.sync.options().line_ends,
         )?;
         self.put(uri, document)
     }
@@ -268,14 +268,14 @@ impl TextDocuments {
         changes: &[ContentChange],
     ) -> Result<(), AllocError>
         ensures own { OnOk result ((documents_of self.new).held uri.now
-            ≡ Some (told_whole (begun_by self.old.agreed [] version changes.now))) }
+            ≡ Some (told_whole (begun_by self.old.sync [] version changes.now))) }
         ensures others { OnOk result ((q : List ℕ) → bytes_eq q uri.now ≡ false
             → (documents_of self.new).held q ≡ (documents_of self.old).held q) }
         ensures err { OnErr result ((q : List ℕ)
             → (documents_of self.new).held q ≡ (documents_of self.old).held q) }
-        ensures agreed { self.new.agreed ≡ self.old.agreed }
+        ensures sync { self.new.sync ≡ self.old.sync }
     {
-        let document = begun(self.alloc, self.agreed, "", version, changes)?;
+        let document = begun(self.alloc, self.sync, "", version, changes)?;
         self.put(uri, document)
     }
 
@@ -286,7 +286,7 @@ impl TextDocuments {
             → (documents_of self.new).held q ≡ (documents_of self.old).held q) }
         ensures err { OnErr result ((q : List ℕ)
             → (documents_of self.new).held q ≡ (documents_of self.old).held q) }
-        ensures agreed { self.new.agreed ≡ self.old.agreed }
+        ensures sync { self.new.sync ≡ self.old.sync }
     {
         let uri = String::from_str(self.alloc, uri)?;
         let kept = KeptDocument::told(document);
@@ -297,10 +297,10 @@ impl TextDocuments {
     /// Returns why changes to a version of a document are refused. `whole` says whether a whole text is among them.
     fn refusal(&self, uri: &str, version: Option<i32>, whole: bool) -> Option<DocumentFault>
         ensures { result
-            ≡ change_fault self.now.agreed ((documents_of self.now).held uri.now) version whole }
+            ≡ change_fault self.now.sync ((documents_of self.now).held uri.now) version whole }
     {
         match self.documents.get(uri) {
-            Some(open) if is_late(self.agreed, version, whole, open.version()) => {
+            Some(open) if is_late(self.sync, version, whole, open.version()) => {
                 Some(DocumentFault::OutOfOrder)
             }
             Some(open) => step_fault(open, whole),
@@ -315,7 +315,7 @@ impl TextDocuments {
             ≡ left_by fault ((documents_of self.old).held uri.now) }
         ensures others { (q : List ℕ) → bytes_eq q uri.now ≡ false
             → (documents_of self.new).held q ≡ (documents_of self.old).held q }
-        ensures agreed { self.new.agreed ≡ self.old.agreed }
+        ensures sync { self.new.sync ≡ self.old.sync }
     {
         if let DocumentFault::OutOfOrder = fault
             && let Some(open) = self.documents.get_mut(uri)
@@ -377,22 +377,22 @@ impl TextDocuments {
         version: Option<i32>,
         changes: &[ContentChange],
     ) -> Result<Option<SyncWarning>, AllocError>
-        requires { change_fault self.old.agreed ((documents_of self.old).held uri.now) version
+        requires { change_fault self.old.sync ((documents_of self.old).held uri.now) version
             (has_whole_text changes.now) ≡ None }
         ensures warning { IfOk result (λ warning. IfSome ((documents_of self.old).held uri.now)
-            (λ o. warning ≡ changes_remark self.old.agreed o version changes.now)) }
+            (λ o. warning ≡ changes_remark self.old.sync o version changes.now)) }
         ensures own { OnOk result ((documents_of self.new).held uri.now
-            ≡ option_map (λ o. changed_or_late self.old.agreed o version changes.now)
+            ≡ option_map (λ o. changed_or_late self.old.sync o version changes.now)
             ((documents_of self.old).held uri.now)) }
         ensures err { OnErr result ((documents_of self.new).held uri.now
             ≡ missed ((documents_of self.old).held uri.now)) }
         ensures needed { OnErr result (has_changes changes.now ≡ true) }
         ensures others { (q : List ℕ) → bytes_eq q uri.now ≡ false
             → (documents_of self.new).held q ≡ (documents_of self.old).held q }
-        ensures agreed { self.new.agreed ≡ self.old.agreed }
+        ensures sync { self.new.sync ≡ self.old.sync }
     {
         match self.documents.get_mut(uri) {
-            Some(open) => change_open(self.alloc, open, version, self.agreed, changes),
+            Some(open) => change_open(self.alloc, open, version, self.sync, changes),
             None => Ok(None),
         }
     }
@@ -404,7 +404,7 @@ impl TextDocuments {
             ≡ missed ((documents_of self.old).held uri.now) }
         ensures others { (q : List ℕ) → bytes_eq q uri.now ≡ false
             → (documents_of self.new).held q ≡ (documents_of self.old).held q }
-        ensures agreed { self.new.agreed ≡ self.old.agreed }
+        ensures sync { self.new.sync ≡ self.old.sync }
     {
         if let Some(open) = self.documents.get_mut(uri) {
             lose_text(self.alloc, open, None);
@@ -417,7 +417,7 @@ impl TextDocuments {
     pub fn invalidate_all(&mut self)
         ensures held { (q : List ℕ)
             → (documents_of self.new).held q ≡ missed ((documents_of self.old).held q) }
-        ensures agreed { self.new.agreed ≡ self.old.agreed }
+        ensures sync { self.new.sync ≡ self.old.sync }
     {
         let alloc = self.alloc;
         self.documents.retain(|_, open| {
@@ -454,7 +454,7 @@ impl TextDocuments {
         let Some(text) = text else {
             return Ok(None);
         };
-        if !self.agreed.include_text() {
+        if !self.sync.include_text() {
             return Ok(None);
         }
         let warning = save_remark(open, text);
@@ -466,7 +466,7 @@ impl TextDocuments {
     /// compared with it.
     fn renew(&mut self, uri: &str, text: &str) -> Result<(), AllocError>
         ensures own { OnOk result ((documents_of self.new).held uri.now
-            ≡ option_map (λ o. saved_in self.old.agreed o text.now)
+            ≡ option_map (λ o. saved_in self.old.sync o text.now)
             ((documents_of self.old).held uri.now)) }
         ensures err { OnErr result ((documents_of self.new).held uri.now
             ≡ (documents_of self.old).held uri.now) }
@@ -474,10 +474,10 @@ impl TextDocuments {
             (λ o. is_needed o text.now ≡ true)) }
         ensures others { (q : List ℕ) → bytes_eq q uri.now ≡ false
             → (documents_of self.new).held q ≡ (documents_of self.old).held q }
-        ensures agreed { self.new.agreed ≡ self.old.agreed }
+        ensures sync { self.new.sync ≡ self.old.sync }
     {
         if let Some(open) = self.documents.get_mut(uri) {
-            renew_open(self.alloc, self.agreed, open, text)?;
+            renew_open(self.alloc, self.sync, open, text)?;
         }
         Ok(())
     }
@@ -501,7 +501,7 @@ impl TextDocuments {
         ensures own { (documents_of self.new).held uri.now ≡ None }
         ensures others { (q : List ℕ) → bytes_eq q uri.now ≡ false
             → (documents_of self.new).held q ≡ (documents_of self.old).held q }
-        ensures agreed { self.new.agreed ≡ self.old.agreed }
+        ensures sync { self.new.sync ≡ self.old.sync }
     {
         self.documents.remove(uri)
     }
@@ -666,7 +666,7 @@ impl TextDocuments {
             ≡ missed ((documents_of self.old).held uri.now) }
         ensures others { (q : List ℕ) → bytes_eq q uri.now ≡ false
             → (documents_of self.new).held q ≡ (documents_of self.old).held q }
-        ensures agreed { self.new.agreed ≡ self.old.agreed }
+        ensures sync { self.new.sync ≡ self.old.sync }
     {
         self.invalidate(uri);
         update_fault(Some(uri), fault, known)
@@ -709,16 +709,16 @@ fn lose_text(alloc: Global, kept: &mut DocumentState, version: Option<i32>)
 /// Makes a document from changes, one of which is a whole text.
 fn begun(
     alloc: Global,
-    agreed: SyncOptions,
+    sync: SyncOptions,
     language_id: &str,
     version: Option<i32>,
     changes: &[ContentChange],
 ) -> Result<TextDocument, AllocError>
-    ensures { IfOk result (λ d. d ≡ begun_by agreed language_id.now version changes.now) }
+    ensures { IfOk result (λ d. d ≡ begun_by sync language_id.now version changes.now) }
 {
-    let ends = agreed.options().line_ends;
+    let ends = sync.options().line_ends;
     let mut document = TextDocument::new(alloc, language_id, None, "", ends)?;
-    document.change_in_place(alloc, version, agreed.encoding(), changes)?;
+    document.change_in_place(alloc, version, sync.encoding(), changes)?;
     Ok(document)
 }
 
@@ -728,19 +728,19 @@ fn change_open(
     alloc: Global,
     kept: &mut DocumentState,
     version: Option<i32>,
-    agreed: SyncOptions,
+    sync: SyncOptions,
     changes: &[ContentChange],
 ) -> Result<Option<SyncWarning>, AllocError>
-    requires { change_fault agreed (Some kept.old) version (has_whole_text changes.now) ≡ None }
+    requires { change_fault sync (Some kept.old) version (has_whole_text changes.now) ≡ None }
     ensures warning { IfOk result (λ warning.
-        warning ≡ changes_remark agreed kept.old version changes.now) }
-    ensures ok { OnOk result (kept.new ≡ changed_or_late agreed kept.old version changes.now) }
+        warning ≡ changes_remark sync kept.old version changes.now) }
+    ensures ok { OnOk result (kept.new ≡ changed_or_late sync kept.old version changes.now) }
     ensures err { OnErr result (kept.new ≡ lost kept.old) }
     ensures needed { OnErr result (has_changes changes.now ≡ true) }
 {
     match kept {
         DocumentState::Known(known) => {
-            let changed = known.change(alloc, version, agreed, changes);
+            let changed = known.change(alloc, version, sync, changes);
             if changed.is_err() {
                 lose_text(alloc, kept, None);
             }
@@ -748,7 +748,7 @@ fn change_open(
         }
         DocumentState::Lost(document) => {
             let not_higher = is_not_higher(version, document.version());
-            let whole = begun(alloc, agreed, document.language_id(), version, changes)?;
+            let whole = begun(alloc, sync, document.language_id(), version, changes)?;
             *kept = DocumentState::Known(KeptDocument::told(whole));
             Ok(change_remark(false, None, not_higher))
         }
@@ -759,18 +759,18 @@ fn change_open(
 /// memory runs out, nothing is changed.
 fn renew_open(
     alloc: Global,
-    agreed: SyncOptions,
+    sync: SyncOptions,
     kept: &mut DocumentState,
     text: &str,
 ) -> Result<(), AllocError>
-    ensures ok { OnOk result (kept.new ≡ saved_in agreed kept.old text.now) }
+    ensures ok { OnOk result (kept.new ≡ saved_in sync kept.old text.now) }
     ensures err { OnErr result (kept.new ≡ kept.old) }
     ensures needed { OnErr result (is_needed kept.old text.now ≡ true) }
 {
     match kept {
         DocumentState::Known(known) => known.save(alloc, text),
         DocumentState::Lost(document) => {
-            let ends = agreed.options().line_ends;
+            let ends = sync.options().line_ends;
             let saved = TextDocument::new(alloc, document.language_id(), None, text, ends)?;
             *kept = DocumentState::Known(KeptDocument::by_save(saved));
             Ok(())
@@ -780,12 +780,12 @@ fn renew_open(
 
 /// Returns whether changes to a version come late: they are ranges, and the document's version is higher. `whole` says
 /// whether a whole text is among them.
-fn is_late(agreed: SyncOptions, version: Option<i32>, whole: bool, before: Option<i32>) -> bool
-    ensures { result ≡ late agreed version whole before }
+fn is_late(sync: SyncOptions, version: Option<i32>, whole: bool, before: Option<i32>) -> bool
+    ensures { result ≡ late sync version whole before }
 {
     match (version, before) {
         (Some(version), Some(before)) => {
-            !whole && !agreed.options().applies_late && version < before
+            !whole && !sync.options().applies_late && version < before
         }
         _ => false,
     }

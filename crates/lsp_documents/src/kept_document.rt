@@ -112,18 +112,18 @@ impl KeptDocument {
         &mut self,
         alloc: Global,
         version: Option<i32>,
-        agreed: SyncOptions,
+        sync: SyncOptions,
         changes: &[ContentChange],
     ) -> Result<Option<SyncWarning>, AllocError>
         ensures warning { IfOk result (λ warning.
-            warning ≡ changes_remark agreed (Known self.old) version changes.now) }
-        ensures ok { OnOk result (self.new ≡ changed_kept agreed self.old version changes.now) }
+            warning ≡ changes_remark sync (Known self.old) version changes.now) }
+        ensures ok { OnOk result (self.new ≡ changed_kept sync self.old version changes.now) }
         ensures err { OnErr result (self.new.document.language_id ≡ self.old.document.language_id) }
         ensures needed { OnErr result (has_changes changes.now ≡ true) }
     {
         let whole = has_whole(changes);
         let not_higher = is_not_higher(version, self.document.version());
-        let encoding = agreed.encoding();
+        let encoding = sync.encoding();
         let deciding = since_whole(changes);
         let past = self
             .document

@@ -27,36 +27,36 @@ ghost use Rattle.lsp_documents.specs.Notices.{Documents, Notice, kinds_in, Item,
 pub fn documents_are_the_clients()
     ensures each { (before : Documents) (client : List ℕ
         → Option Item) (sent : List Sent) (now : Documents) → TakesAll before sent now
-        → (uri : List ℕ) → Agrees before.agreed (client uri) (before.held uri)
-        → SavesItsText before.agreed (client uri) (kinds_of uri sent)
-        → Agrees before.agreed (told_all before.agreed (client uri) (kinds_of uri sent))
+        → (uri : List ℕ) → Agrees before.sync (client uri) (before.held uri)
+        → SavesItsText before.sync (client uri) (kinds_of uri sent)
+        → Agrees before.sync (told_all before.sync (client uri) (kinds_of uri sent))
         (now.held uri) }
     ensures sure { (before : Documents) (client : List ℕ
         → Option Item) (sent : List Sent) (now : Documents) → TakesAll before sent now
-        → (uri : List ℕ) → Agrees before.agreed (client uri) (before.held uri)
-        → IsClients before.agreed (told_all before.agreed (client uri) (kinds_of uri sent))
+        → (uri : List ℕ) → Agrees before.sync (client uri) (before.held uri)
+        → IsClients before.sync (told_all before.sync (client uri) (kinds_of uri sent))
         (option_and_then sure (now.held uri)) }
     ensures kept { (before : Documents) (sent : List Sent) (now : Documents)
         → TakesAll before sent now → (uri : List ℕ)
-        → now.held uri ≡ kept_after_all before.agreed uri (before.held uri) sent }
+        → now.held uri ≡ kept_after_all before.sync uri (before.held uri) sent }
     ensures current { (before : Documents) (uri language_id : List ℕ) (version : Option ℤ)
         (text : List ℕ) (sent : List Sent) (now : Documents)
         → TakesAll before (made (opens uri language_id version text) ∷ sent) now
-        → is_current before.agreed uri version sent ≡ true → (c : Item)
-        × (told_all before.agreed (Some (text_item language_id version text)) (kinds_of uri sent)
-        ≡ Some c) × (option_and_then shown (now.held uri) ≡ Some (kept_by before.agreed c)) }
+        → is_current before.sync uri version sent ≡ true → (c : Item)
+        × (told_all before.sync (Some (text_item language_id version text)) (kinds_of uri sent)
+        ≡ Some c) × (option_and_then shown (now.held uri) ≡ Some (kept_by before.sync c)) }
     ensures whole { (before : Documents) (uri : List ℕ) (version : Option ℤ)
         (list : List Change) (now : Documents) → has_whole list ≡ true
-        → (fault_of before.agreed (before.held uri) (edits uri version list).kind ≡ None)
+        → (fault_of before.sync (before.held uri) (edits uri version list).kind ≡ None)
         × (Makes before (edits uri version list) now
         → IsSomeAnd (option_and_then shown (now.held uri)) (λ d. d.version ≡ version)) }
     ensures late { (before : Documents) (uri : List ℕ) (version : Option ℤ)
         (list : List Change) (o : DocumentState) (now : Documents) → before.held uri ≡ Some o
-        → is_late before.agreed version (has_whole list) (version_of o) ≡ true
+        → is_late before.sync version (has_whole list) (version_of o) ≡ true
         → Makes before (edits uri version list) now
         → option_and_then shown (now.held uri) ≡ None }
     ensures refused { (before : Documents) (n : Notice) (now : Documents) (fault : DocumentFault)
-        → fault_of before.agreed (before.held n.uri) n.kind ≡ Some fault → (fault ≡ OutOfOrder → ⊥)
+        → fault_of before.sync (before.held n.uri) n.kind ≡ Some fault → (fault ≡ OutOfOrder → ⊥)
         → Makes before n now → Keeps before now }
 {}
 
@@ -72,7 +72,7 @@ pub fn documents_are_the_clients()
 pub fn texts_are_the_clients()
     ensures { (before now : Texts) (arrived : List Arrived) (meant : List Notice) → HasNone before
         → AppliesAll before arrived now → MeansAll arrived meant → (uri : List ℕ)
-        → SavesItsText before.agreed None (kinds_in uri meant)
-        → Agrees before.agreed (told_all before.agreed None (kinds_in uri meant))
+        → SavesItsText before.sync None (kinds_in uri meant)
+        → Agrees before.sync (told_all before.sync None (kinds_in uri meant))
         ((documents_of now).held uri) }
 {}

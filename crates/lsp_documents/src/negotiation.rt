@@ -3,7 +3,7 @@ ghost use Rattle.std.specs.Prelude.{◌≡◌, IfOk, OnOk, false};
 ghost use Rattle.serde_json.specs.View.{view, members_view};
 ghost use Rattle.lsp_text.specs.declared.position.PositionEncoding.TheVariants.{Utf16};
 ghost use Rattle.lsp_documents.specs.Announced.{announced as with_announced, announced_members, usual, sync_of, options_of, IsAnnounced};
-ghost use Rattle.lsp_documents.specs.Params.{agreed_in, agreed_by};
+ghost use Rattle.lsp_documents.specs.Params.{encoding_in, encoding_of};
 
 use crate::options::DocumentOptions;
 use crate::params::{encoding_for, position_encoding};
@@ -53,15 +53,15 @@ impl SyncOptions {
         include_text: bool,
         capabilities: &mut Value,
     ) -> Result<SyncOptions, AllocError>
-        ensures agreed { IfOk result (λ agreed. agreed ≡ record {
-          encoding = agreed_in (view params.now);
+        ensures sync { IfOk result (λ sync. sync ≡ record {
+          encoding = encoding_in (view params.now);
           include_text = include_text;
           options = usual;
         }) }
-        ensures announced { IfOk result (λ agreed.
-            view capabilities.new ≡ with_announced agreed (view capabilities.old)) }
+        ensures announced { IfOk result (λ sync.
+            view capabilities.new ≡ with_announced sync (view capabilities.old)) }
     {
-        let agreed = SyncOptions {
+        let sync = SyncOptions {
             encoding: position_encoding(params),
             include_text,
             options: DocumentOptions::new(),
@@ -69,7 +69,7 @@ impl SyncOptions {
         if !capabilities.is_object() {
             drop(mem::replace(capabilities, Value::Object(Map::new(alloc))));
         }
-        agreed.write(alloc, capabilities).and(Ok(agreed))
+        sync.write(alloc, capabilities).and(Ok(sync))
     }
 
     /// Writes what was agreed on into capabilities that are an object.
@@ -98,7 +98,7 @@ impl SyncOptions {
             members,
             alloc,
             "textDocumentSync",
-            sync(alloc, self.include_text)?,
+            sync_value(alloc, self.include_text)?,
         )
     }
 
@@ -109,23 +109,23 @@ impl SyncOptions {
         client: &Value,
         include_text: bool,
     ) -> Result<(SyncOptions, ServerCapabilities), AllocError>
-        ensures agreed { IfOk result (λ both. both.0 ≡ record {
-          encoding = agreed_by (view client.now);
+        ensures sync { IfOk result (λ both. both.0 ≡ record {
+          encoding = encoding_of (view client.now);
           include_text = include_text;
           options = usual;
         }) }
         ensures announced { IfOk result (λ both. IsAnnounced both.0 both.1) }
     {
-        let agreed = SyncOptions {
+        let sync = SyncOptions {
             encoding: encoding_for(client),
             include_text,
             options: DocumentOptions::new(),
         };
-        let name = String::from_str(alloc, agreed.encoding.name())?;
+        let name = String::from_str(alloc, sync.encoding.name())?;
         let mut capabilities = ServerCapabilities::default();
         capabilities.position_encoding = Some(name);
         capabilities.text_document_sync = Some(sync_options(include_text));
-        Ok((agreed, capabilities))
+        Ok((sync, capabilities))
     }
 
     /// Returns the same agreement with other options.
@@ -173,8 +173,8 @@ fn sync_options(include_text: bool) -> TextDocumentSyncOptions
 }
 
 /// Returns the same as a tree.
-fn sync(alloc: Global, include_text: bool) -> Result<Value, AllocError>
-    ensures { IfOk result (λ sync. view sync ≡ sync_of include_text) }
+fn sync_value(alloc: Global, include_text: bool) -> Result<Value, AllocError>
+    ensures { IfOk result (λ value. view value ≡ sync_of include_text) }
 {
     json!(in alloc; {
         "change": 2,

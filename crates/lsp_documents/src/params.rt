@@ -4,7 +4,7 @@ ghost use Rattle.serde_json.specs.Find.{get, as_array};
 ghost use Rattle.serde_json.specs.View.{view, items_view};
 ghost use Rattle.lsp_text.specs.Documents.{Change};
 ghost use Rattle.lsp_documents.specs.Notices.{has_whole, has_changes};
-ghost use Rattle.lsp_documents.specs.Params.{text_in as text_of, count_in as count_of, line_in as line_of, is_negative as is_below, version_in as version_from, position_from as position_of, range_from as range_of, given_range as range_given, change_in as change_of, changes_in as changes_of, document_in as document_of, uri_from as uri_of, opened_in, is_whole as is_whole_change, values_since_whole, values_given, changes_given, encoding_named as named, first_named as first_of, offered_by as offers, agreed_by, agreed_in};
+ghost use Rattle.lsp_documents.specs.Params.{text_in as text_of, count_in as count_of, line_in as line_of, is_negative as is_below, version_in as version_from, position_from as position_of, range_from as range_of, given_range as range_given, change_in as change_of, changes_in as changes_of, document_in as document_of, uri_from as uri_of, opened_in, is_whole as is_whole_change, values_since_whole, values_given, changes_given, encoding_named as named, first_named as first_of, offered_by as offers, encoding_of, encoding_in};
 
 use lsp_text::{ContentChange, Position, PositionEncoding, Range};
 use serde_json::Value;
@@ -280,7 +280,7 @@ fn first_named(names: &[Value]) -> Option<PositionEncoding>
 /// client's capabilities): the first of the client's encodings that is UTF-8, UTF-16 or UTF-32, or UTF-16 if there is
 /// none. `SyncOptions::negotiate` announces it to the client.
 pub fn position_encoding(params: &Value) -> PositionEncoding
-    ensures { result ≡ agreed_in (view params.now) }
+    ensures { result ≡ encoding_in (view params.now) }
 {
     match params.get("capabilities") {
         Some(client) => encoding_for(client),
@@ -290,7 +290,7 @@ pub fn position_encoding(params: &Value) -> PositionEncoding
 
 /// Returns the encoding for a client with these capabilities.
 pub fn encoding_for(client: &Value) -> PositionEncoding
-    ensures { result ≡ agreed_by (view client.now) }
+    ensures { result ≡ encoding_of (view client.now) }
 {
     let offered = offered_by(client);
     let named = offered.and_then(|names| first_named(names.as_slice()));

@@ -110,7 +110,8 @@ shaped_deed Changes version None e = cc
 shaped_deed Closes version None e = cc
 shaped_deed Closes version (Some d) e = cc
 shaped_deed Changes version (Some d) e = shaped_cond (is_not_higher version d.version)
-    (Some (VersionNotHigher, Some d.told)) None (some_shaped VersionNotHigher (Some d.told) refl) nothing_shaped e
+    (Some (VersionNotHigher, Some d.reported)) None (some_shaped VersionNotHigher (Some d.reported) refl)
+    nothing_shaped e
 
 shaped_document : (before : Log) (direction : Direction) (m : Message) → Shaped (document_finding before direction m)
     → ⊥

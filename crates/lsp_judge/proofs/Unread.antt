@@ -128,8 +128,8 @@ module _ (m : LoggedMessage) (u : Bool) (is : u ≡ list_any says_unread m.fault
 -- ---- a line
 
 -- the judgement after a message
-abbrev told : Choice → Bool → ℕ → Judged → Order → Option Verdict → Direction → LoggedMessage → Judged
-told choice late n j o v w x = seen choice late o v j n w x.faults.items (option_map entry_view x.entry)
+abbrev seen_as : Choice → Bool → ℕ → Judged → Order → Option Verdict → Direction → LoggedMessage → Judged
+seen_as choice late n j o v w x = seen choice late o v j n w x.faults.items (option_map entry_view x.entry)
     (option_map (λ e. view e.tree) x.entry)
 
 module _ (line content : List ℕ) (direction : Direction) (m : LoggedMessage) (t : Bool) (marked : direction_of line
@@ -162,11 +162,11 @@ module _ (line content : List ℕ) (direction : Direction) (m : LoggedMessage) (
   line_sees choice late n j k p direction_is message_is order_is types_are is_true sees =
       subst (λ o. Judges k (with_line choice late n j o)) (sym tree_is) (at (tree_in content) reads)
     where
-      plain : Judges k (told choice late n j Known (Some Breach) direction m)
-      plain = subst (λ x. Judges k (told choice late n j Known (Some Breach) direction x)) message_is
-          (subst (λ w. Judges k (told choice late n j Known (Some Breach) w p.message)) direction_is
-          (subst (λ v. Judges k (told choice late n j Known v p.direction p.message)) types_are
-          (subst (λ o. Judges k (told choice late n j o p.types p.direction p.message)) order_is sees)))
+      plain : Judges k (seen_as choice late n j Known (Some Breach) direction m)
+      plain = subst (λ x. Judges k (seen_as choice late n j Known (Some Breach) direction x)) message_is
+          (subst (λ w. Judges k (seen_as choice late n j Known (Some Breach) w p.message)) direction_is
+          (subst (λ v. Judges k (seen_as choice late n j Known v p.direction p.message)) types_are
+          (subst (λ o. Judges k (seen_as choice late n j o p.types p.direction p.message)) order_is sees)))
 
       at : (o : Option Data) → Reads m t o → Judges k (with_line choice late n j (of_tree o))
       at None r = absurd (true≢false (sym is_true ∙ r))

@@ -56,9 +56,9 @@ impl FullJudgement {
             return self.judged.see(place, passing, report, out);
         }
         let outside = self.find_outside(passing, report)?;
-        let told = self.see_with(place, passing, &outside, report, out);
+        let reported = self.see_with(place, passing, &outside, report, out);
         drop(outside);
-        told
+        reported
     }
 
     fn see_with<W: Write>(

@@ -1,7 +1,7 @@
 // What there is to tell, as lines of JSON.
 use crate::choice::culprit;
 use crate::report::Report;
-use crate::told::{About, Counts, Told};
+use crate::reported::{About, Counts, Reported};
 use anyhow::Result;
 use lsp_watch::Direction;
 use serde_json::Value;
@@ -9,24 +9,24 @@ use std::alloc::{AllocError, Global};
 use std::io::Write;
 
 /// One thing.
-pub fn tell<W: Write>(report: &Report<'_>, told: &Told<'_>, out: &mut W) -> Result<()> {
-    write!(out, "{{\"kind\":\"{}\",", told.kind.name())?;
-    put_place(report, told.place, out)?;
-    if let Some(direction) = told.direction {
+pub fn tell<W: Write>(report: &Report<'_>, reported: &Reported<'_>, out: &mut W) -> Result<()> {
+    write!(out, "{{\"kind\":\"{}\",", reported.kind.name())?;
+    put_place(report, reported.place, out)?;
+    if let Some(direction) = reported.direction {
         write!(out, ",\"way\":\"{direction}\"")?;
     }
-    put_rule(told, out)?;
-    if let Some(method) = told.method {
+    put_rule(reported, out)?;
+    if let Some(method) = reported.method {
         put_text(report.alloc, "method", method, out)?;
     }
-    put_text(report.alloc, "text", told.text, out)?;
-    match told.about {
+    put_text(report.alloc, "text", reported.text, out)?;
+    match reported.about {
         About::Nothing => {}
         About::Id(id) => write!(out, ",\"id\":{id}")?,
         About::Uri(uri) => put_text(report.alloc, "uri", uri, out)?,
         About::Token(id) => write!(out, ",\"token\":{id}")?,
     }
-    if let Some(against) = told.against {
+    if let Some(against) = reported.against {
         write!(out, ",\"against\":{{")?;
         put_place(report, against, out)?;
         write!(out, "}}")?;
@@ -35,14 +35,14 @@ pub fn tell<W: Write>(report: &Report<'_>, told: &Told<'_>, out: &mut W) -> Resu
 }
 
 /// The rule, its level, whose breach it is, and whether that makes the status 1.
-fn put_rule<W: Write>(told: &Told<'_>, out: &mut W) -> Result<()> {
-    let (Some(rule), Some(direction)) = (told.rule, told.direction) else {
+fn put_rule<W: Write>(reported: &Reported<'_>, out: &mut W) -> Result<()> {
+    let (Some(rule), Some(direction)) = (reported.rule, reported.direction) else {
         return Ok(());
     };
     let name = rule.name();
     let level = rule.level();
     let side = side_name(culprit(rule, direction));
-    let fails = told.fails;
+    let fails = reported.fails;
     Ok(write!(
         out,
         ",\"rule\":\"{name}\",\"level\":\"{level}\",\"side\":\"{side}\",\"fails\":{fails}"

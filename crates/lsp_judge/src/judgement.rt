@@ -14,7 +14,7 @@ ghost use Rattle.lsp_judge.specs.Types.{unfit as unfit_of};
 use crate::choice::Choice;
 use crate::passed::{Order, Passing};
 use crate::report::Report;
-use crate::told::{About, Counts, Kind, Slowest, Told};
+use crate::reported::{About, Counts, Kind, Reported, Slowest};
 use crate::types::Unfit;
 use anyhow::Result;
 use lsp_capabilities::Announced;
@@ -219,7 +219,7 @@ impl Judgement {
             unfit,
         );
         self.is_begun = true;
-        let told = self.tally.tell_all(
+        let reported = self.tally.tell_all(
             place,
             order,
             passing,
@@ -229,7 +229,7 @@ impl Judgement {
             out,
         );
         drop(breaches);
-        told
+        reported
     }
 
     /// Sees a message, and returns what it breaks: the rules of the watch, and then what it goes against of what was announced.
@@ -289,7 +289,7 @@ impl Judgement {
         let unanswered = self.watch.finish(ends.server, ends.client)?;
         let fails = any_left(report.choice, self.watch.asked(), unanswered.as_slice());
         self.is_broken = self.is_broken || (self.is_matched && fails);
-        let told = self.tally.tell_open(
+        let reported = self.tally.tell_open(
             self.watch.asked(),
             unanswered.as_slice(),
             self.is_matched,
@@ -297,7 +297,7 @@ impl Judgement {
             out,
         );
         drop(unanswered);
-        told
+        reported
     }
 
     /// Reports a breach that was found beside this judgement, in these words. Only what is counted changes.
@@ -431,7 +431,7 @@ fn any_left(choice: &Choice, asked: Values<'_, u64, Asked>, unanswered: &[Unansw
     if choice.ignored.is_empty() {
         any_leaves(choice, unanswered)
     } else {
-        any_told(asked, unanswered, choice)
+        any_reported(asked, unanswered, choice)
     }
 }
 
@@ -443,7 +443,7 @@ fn any_leaves(choice: &Choice, unanswered: &[Unanswered]) -> bool
 }
 
 /// The same, if some are ignored.
-fn any_told(asked: Values<'_, u64, Asked>, unanswered: &[Unanswered], choice: &Choice) -> bool {
+fn any_reported(asked: Values<'_, u64, Asked>, unanswered: &[Unanswered], choice: &Choice) -> bool {
     let mut rest = unanswered;
     for asked in asked {
         if let Some(over) = over_of(asked, &mut rest)
@@ -469,7 +469,7 @@ fn over_of(asked: &Asked, rest: &mut &[Unanswered]) -> Option<Unanswered> {
 }
 
 /// What is said of a request where the session is over, by whether that is known.
-fn told_of(over: Option<Unanswered>, is_sure: bool) -> Option<Unanswered> {
+fn reported_as(over: Option<Unanswered>, is_sure: bool) -> Option<Unanswered> {
     match over {
         Some(over) if !is_sure => Some(Unanswered {
             verdict: Verdict::CannotTell,
@@ -543,7 +543,7 @@ impl Tally {
     ) -> Result<()> {
         let mut rest = unanswered;
         for asked in asked {
-            let over = told_of(over_of(asked, &mut rest), is_sure);
+            let over = reported_as(over_of(asked, &mut rest), is_sure);
             self.counts.open = self.counts.open.saturating_add(1);
             if tell_asked(asked, over, report, out)? {
                 self.counts.breaches = self.counts.breaches.saturating_add(1);
@@ -624,7 +624,7 @@ impl Tally {
             self.counts.failing = self.counts.failing.saturating_add(1);
         }
         let subject = subject_of(report.alloc, breach.rule, passing)?;
-        let told = Told {
+        let reported = Reported {
             kind: if is_sure {
                 Kind::Breach
             } else {
@@ -639,7 +639,7 @@ impl Tally {
             text,
             against: breach.against,
         };
-        report.tell(&told, out)
+        report.tell(&reported, out)
     }
 }
 
@@ -683,7 +683,7 @@ fn tell_asked<W: Write>(
         Some(rule) => format!(in report.alloc; "{rule}")?,
         None => String::from_str(report.alloc, "has no reply")?,
     };
-    let told = Told {
+    let reported = Reported {
         kind,
         place: asked.place,
         direction: Some(asked.direction),
@@ -694,7 +694,7 @@ fn tell_asked<W: Write>(
         text: text.as_str(),
         against: None,
     };
-    report.tell(&told, out)?;
+    report.tell(&reported, out)?;
     Ok(kind == Kind::Breach)
 }
 

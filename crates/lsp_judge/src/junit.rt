@@ -1,7 +1,7 @@
 // What there is to tell, as a document of JUnit's XML, which CI servers show as tests.
 use crate::report::Report;
+use crate::reported::{Counts, Kind, Reported};
 use crate::text::print;
-use crate::told::{Counts, Kind, Told};
 use anyhow::Result;
 use std::io::Write;
 
@@ -25,20 +25,20 @@ pub fn end_file<W: Write>(out: &mut W) -> Result<()> {
 }
 
 /// A breach is a test that failed if it makes the status 1. Each other thing is a test that was skipped.
-pub fn tell<W: Write>(report: &Report<'_>, told: &Told<'_>, out: &mut W) -> Result<()> {
-    let rule = told.rule.map_or(told.kind.name(), |it| it.name());
-    let (_, at) = report.places.at(told.place);
+pub fn tell<W: Write>(report: &Report<'_>, reported: &Reported<'_>, out: &mut W) -> Result<()> {
+    let rule = reported.rule.map_or(reported.kind.name(), |it| it.name());
+    let (_, at) = report.places.at(reported.place);
     write!(out, "<testcase classname=\"")?;
     put_escaped(report.places.first, out)?;
     write!(out, "\" name=\"{rule}, {} {at}\">", report.places.unit())?;
-    let element = if told.kind == Kind::Breach && told.fails {
+    let element = if reported.kind == Kind::Breach && reported.fails {
         "failure"
     } else {
         "skipped"
     };
     write!(out, "<{element} message=\"")?;
     let mut text = Vec::new(report.alloc);
-    print(report, told, &mut text)?;
+    print(report, reported, &mut text)?;
     put_escaped(std::str::from_utf8(text.as_slice()).unwrap_or(""), out)?;
     Ok(writeln!(out, "\"/></testcase>")?)
 }

@@ -1,6 +1,6 @@
 // What there is to tell, in one of the forms.
 use crate::choice::Choice;
-use crate::told::{Counts, Told};
+use crate::reported::{Counts, Reported};
 use crate::{json, junit, sarif, text};
 use anyhow::Result;
 use std::alloc::Global;
@@ -59,7 +59,7 @@ pub struct Report<'a> {
     /// Whether the start of the session may be missing.
     pub may_begin_late: bool,
     /// Whether something was reported. (SARIF has commas between.)
-    pub has_told: &'a Cell<bool>,
+    pub has_reported: &'a Cell<bool>,
 }
 
 impl<'a> Report<'a> {
@@ -106,18 +106,18 @@ impl<'a> Report<'a> {
     }
 
     /// One thing: where and what it is, and where the message stands that it goes against.
-    pub fn tell<W: Write>(&self, told: &Told<'_>, out: &mut W) -> Result<()> {
+    pub fn tell<W: Write>(&self, reported: &Reported<'_>, out: &mut W) -> Result<()> {
         match self.form {
-            Form::Text => text::tell(self, told, out),
-            Form::Json => json::tell(self, told, out),
-            Form::Sarif => sarif::tell(self, told, out),
-            Form::Junit => junit::tell(self, told, out),
+            Form::Text => text::tell(self, reported, out),
+            Form::Json => json::tell(self, reported, out),
+            Form::Sarif => sarif::tell(self, reported, out),
+            Form::Junit => junit::tell(self, reported, out),
         }
     }
 
     /// Why something was not read at a place.
     pub fn stop<W: Write>(&self, place: u64, why: &str, out: &mut W) -> Result<()> {
-        self.tell(&Told::stop(place, why), out)
+        self.tell(&Reported::stop(place, why), out)
     }
 
     /// What is true of the whole file.

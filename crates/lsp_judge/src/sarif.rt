@@ -1,7 +1,7 @@
 // What there is to tell, as one object of SARIF 2.1.0, which code hosts show beside the lines.
 use crate::json::quoted;
 use crate::report::Report;
-use crate::told::{Kind, Told};
+use crate::reported::{Kind, Reported};
 use anyhow::Result;
 use lsp_watch::{Level, Rule, rules};
 use std::alloc::Global;
@@ -44,30 +44,30 @@ fn put_rule<W: Write>(alloc: Global, rule: Rule, out: &mut W) -> Result<()> {
 }
 
 /// A breach is an error if it makes the status 1, and otherwise a warning. Everything else is a note.
-pub fn tell<W: Write>(report: &Report<'_>, told: &Told<'_>, out: &mut W) -> Result<()> {
-    let level = match told.kind {
-        Kind::Breach if told.fails => "error",
+pub fn tell<W: Write>(report: &Report<'_>, reported: &Reported<'_>, out: &mut W) -> Result<()> {
+    let level = match reported.kind {
+        Kind::Breach if reported.fails => "error",
         Kind::Breach => "warning",
         Kind::CannotTell | Kind::Open | Kind::Stop => "note",
     };
-    let mark = if report.has_told.replace(true) {
+    let mark = if report.has_reported.replace(true) {
         ","
     } else {
         ""
     };
     write!(out, "{mark}\n{{")?;
-    if let Some(rule) = told.rule {
+    if let Some(rule) = reported.rule {
         write!(out, "\"ruleId\":\"{}\",", rule.name())?;
     }
-    let text = format!(in report.alloc; "{} {}", told.method.unwrap_or(""), told.text)?;
+    let text = format!(in report.alloc; "{} {}", reported.method.unwrap_or(""), reported.text)?;
     let text = quoted(report.alloc, text.as_str().trim_start())?;
     write!(
         out,
         "\"level\":\"{level}\",\"message\":{{\"text\":{text}}},\"locations\":["
     )?;
-    put_location(report, told.place, out)?;
+    put_location(report, reported.place, out)?;
     write!(out, "]")?;
-    if let Some(against) = told.against {
+    if let Some(against) = reported.against {
         write!(out, ",\"relatedLocations\":[")?;
         put_location(report, against, out)?;
         write!(out, "]")?;

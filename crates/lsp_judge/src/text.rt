@@ -1,35 +1,35 @@
 // What there is to tell, as lines that a person, an editor and a CI can read.
 use crate::report::Report;
-use crate::told::{About, Counts, Kind, Told};
+use crate::reported::{About, Counts, Kind, Reported};
 use anyhow::Result;
 use std::io::Write;
 
 /// `file:line: direction method id: rule; see line N`.
-pub fn tell<W: Write>(report: &Report<'_>, told: &Told<'_>, out: &mut W) -> Result<()> {
-    print(report, told, out)?;
+pub fn tell<W: Write>(report: &Report<'_>, reported: &Reported<'_>, out: &mut W) -> Result<()> {
+    print(report, reported, out)?;
     Ok(writeln!(out)?)
 }
 
 /// The same without the end of the line.
-pub fn print<W: Write>(report: &Report<'_>, told: &Told<'_>, out: &mut W) -> Result<()> {
-    let (file, at) = report.places.at(told.place);
+pub fn print<W: Write>(report: &Report<'_>, reported: &Reported<'_>, out: &mut W) -> Result<()> {
+    let (file, at) = report.places.at(reported.place);
     write!(out, "{file}:{at}: ")?;
-    if let Some(direction) = told.direction {
+    if let Some(direction) = reported.direction {
         write!(out, "{direction}")?;
-        if let Some(method) = told.method {
+        if let Some(method) = reported.method {
             write!(out, " {method}")?;
         }
-        match told.about {
+        match reported.about {
             About::Nothing => {}
             About::Id(it) | About::Token(it) | About::Uri(it) => write!(out, " {it}")?,
         }
         write!(out, ": ")?;
     }
-    if told.kind == Kind::CannotTell {
+    if reported.kind == Kind::CannotTell {
         write!(out, "perhaps ")?;
     }
-    write!(out, "{}", told.text)?;
-    match told.against {
+    write!(out, "{}", reported.text)?;
+    match reported.against {
         Some(against) => print_see(report, file, against, out),
         None => Ok(()),
     }

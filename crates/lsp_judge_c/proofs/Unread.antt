@@ -164,8 +164,8 @@ module _ (m : LoggedMessage) where
 
       -- ---- the judgement after it
 
-      abbrev told : Choice → Bool → ℕ → Judged → Order → Option Verdict → Direction → LoggedMessage → Judged
-      told choice late n j o v w x = seen choice late o v j n w x.faults.items (option_map entry_view x.entry)
+      abbrev seen_as : Choice → Bool → ℕ → Judged → Order → Option Verdict → Direction → LoggedMessage → Judged
+      seen_as choice late n j o v w x = seen choice late o v j n w x.faults.items (option_map entry_view x.entry)
           (option_map (λ e. view e.tree) x.entry)
 
       pub sees : (choice : Choice) (late : Bool) (n : ℕ) (j : Judged) (direction : Direction) (k : Judgement)
@@ -176,11 +176,11 @@ module _ (m : LoggedMessage) where
           → SawNext choice late n j direction content (tree_in content) k
       sees choice late n j direction k p direction_is message_is order_is types_are judges = at (tree_in content) reads
         where
-          plain : Judges k (told choice late n j Known (Some Breach) direction m)
-          plain = subst (λ x. Judges k (told choice late n j Known (Some Breach) direction x)) message_is
-              (subst (λ w. Judges k (told choice late n j Known (Some Breach) w p.message)) direction_is
-              (subst (λ v. Judges k (told choice late n j Known v p.direction p.message)) types_are
-              (subst (λ o. Judges k (told choice late n j o p.types p.direction p.message)) order_is judges)))
+          plain : Judges k (seen_as choice late n j Known (Some Breach) direction m)
+          plain = subst (λ x. Judges k (seen_as choice late n j Known (Some Breach) direction x)) message_is
+              (subst (λ w. Judges k (seen_as choice late n j Known (Some Breach) w p.message)) direction_is
+              (subst (λ v. Judges k (seen_as choice late n j Known v p.direction p.message)) types_are
+              (subst (λ o. Judges k (seen_as choice late n j o p.types p.direction p.message)) order_is judges)))
 
           unread : NotRead (is_utf8 content) m → SawUnread choice late n j direction content k
           unread r = record {

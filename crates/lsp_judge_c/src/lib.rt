@@ -176,8 +176,8 @@ fn judge<R: Room>(
     ensures whole { IfOk result (λ it. it.verdict.needed ≤ R.size → it.verdict.written ≡ it.verdict.needed) }
 {
     let mut page: Page<'_, R> = Page::new(room);
-    let has_told = Cell::new(false);
-    let report = report_of(alloc, options, choice, &has_told);
+    let has_reported = Cell::new(false);
+    let report = report_of(alloc, options, choice, &has_reported);
     let judged = judge_format(options, log, &report, &mut page)?;
     Ok(Judged {
         status: judged.outcome.status(),
@@ -190,7 +190,7 @@ fn report_of<'a>(
     alloc: Global,
     options: &LspJudgeOptions,
     choice: &'a Choice,
-    has_told: &'a Cell<bool>,
+    has_reported: &'a Cell<bool>,
 ) -> Report<'a>
     ensures choice { result.choice.now ≡ choice.now }
     ensures start { result.may_begin_late ≡ may_lack_its_start options.now }
@@ -205,7 +205,7 @@ fn report_of<'a>(
         server: "",
         choice,
         may_begin_late: options.begins_late == 1,
-        has_told,
+        has_reported,
     }
 }
 

@@ -73,10 +73,10 @@ pub extern "C" fn lsp_judge_message(
         return REFUSED;
     };
     match kept.see(alloc, direction_of(direction), place, content) {
-        Ok(told) => {
-            *verdict = put(told.report.as_slice(), kept.unread, report);
+        Ok(reported) => {
+            *verdict = put(reported.report.as_slice(), kept.unread, report);
             free(alloc, replace(session, LspJudgeSession::of_box(kept)));
-            told.status
+            reported.status
         }
         Err(error) => {
             drop(error);
@@ -116,9 +116,9 @@ pub extern "C" fn lsp_judge_end(
         return REFUSED;
     };
     match kept.end(alloc, ends_of(ended)) {
-        Ok(told) => {
-            *verdict = put(told.report.as_slice(), kept.unread, report);
-            told.status
+        Ok(reported) => {
+            *verdict = put(reported.report.as_slice(), kept.unread, report);
+            reported.status
         }
         Err(error) => {
             drop(error);

@@ -30,7 +30,7 @@ pub struct Session {
 
 /// What is said of a message, or of a session that is over.
 #[derive(Drop)]
-pub struct Told {
+pub struct Reported {
     pub status: u8,
     /// Lines of JSON.
     pub report: Vec<u8>,
@@ -60,7 +60,7 @@ impl Session {
         direction: Direction,
         place: u64,
         content: &[u8],
-    ) -> Result<Told>
+    ) -> Result<Reported>
         ensures seen { OnOk result (Passes self.old self.new direction place content.now) }
         ensures status { IfOk result (λ it. it.status ≡ status_after self.new) }
         ensures known { IfOk result (λ it. it.status < FAILED) }
@@ -71,7 +71,7 @@ impl Session {
         let report = self.pass(alloc, place, &passing);
         drop(passing);
         let report = report?;
-        Ok(Told {
+        Ok(Reported {
             status: self.status(true),
             report,
         })
@@ -87,15 +87,15 @@ impl Session {
         ensures options { self.new.options ≡ self.old.options }
         ensures unread { self.new.unread ≡ self.old.unread }
     {
-        let mut told = Vec::new(alloc);
-        let has_told = Cell::new(false);
-        let report = report_of(alloc, &self.options, &self.choice, &has_told);
-        self.judgement.see(place, passing, &report, &mut told)?;
-        Ok(told)
+        let mut reported = Vec::new(alloc);
+        let has_reported = Cell::new(false);
+        let report = report_of(alloc, &self.options, &self.choice, &has_reported);
+        self.judgement.see(place, passing, &report, &mut reported)?;
+        Ok(reported)
     }
 
     /// Tells the requests that have no reply, and how much there was. The error means that an allocation failed.
-    pub fn end(&mut self, alloc: Global, ends: Ends) -> Result<Told>
+    pub fn end(&mut self, alloc: Global, ends: Ends) -> Result<Reported>
         ensures status { (j : JudgedSoFar) → Judges self.old.judgement j → self.old.choice.ignored.items ≡ []
             → IfOk result (λ it. it.status
             ≡ status_of (left self.old.choice ends.server ends.client j) j.is_begun self.old.unread) }
@@ -104,7 +104,7 @@ impl Session {
     {
         let is_judged = self.judgement.is_judged();
         let report = self.leave(alloc, ends)?;
-        Ok(Told {
+        Ok(Reported {
             status: self.status(is_judged),
             report,
         })
@@ -116,11 +116,11 @@ impl Session {
             → OnOk result (self.new.judgement.is_broken ≡ left self.old.choice ends.server ends.client j) }
         ensures same { self.new.unread ≡ self.old.unread }
     {
-        let mut told = Vec::new(alloc);
-        let has_told = Cell::new(false);
-        let report = report_of(alloc, &self.options, &self.choice, &has_told);
-        self.judgement.end(ends, &report, &mut told)?;
-        Ok(told)
+        let mut reported = Vec::new(alloc);
+        let has_reported = Cell::new(false);
+        let report = report_of(alloc, &self.options, &self.choice, &has_reported);
+        self.judgement.end(ends, &report, &mut reported)?;
+        Ok(reported)
     }
 
     /// Returns the status, by whether there was a message.

@@ -104,10 +104,10 @@ opened_sure s v m (Some place) is = invited (tells (codes "initialized") m) s.in
 
 opened_there : (t : Lifecycle) (w : Option ℕ) (m : Message) → tells (codes "initialized") m ≡ false
     → t.initialized ≡ None → (result : Option ℕ) → There (opened_finding t w result m)
-opened_there t w m told uninvited None = refl
-opened_there t w m told uninvited (Some place) =
+opened_there t w m is_other uninvited None = refl
+opened_there t w m is_other uninvited (Some place) =
     ap (λ b. is_some_such any_finding (cond b (broken_by SentAgain t.initialized)
-    (cond (is_some t.initialized) None (Some (BeforeInitialized, Some place))))) told
+    (cond (is_some t.initialized) None (Some (BeforeInitialized, Some place))))) is_other
     ∙ ap (λ at. is_some_such any_finding (cond (is_some at) None (Some (BeforeInitialized, Some place)))) uninvited
 
 opening_sure : (s t : Lifecycle) (v w : Option ℕ) (m : Message) → s.initialized ≡ t.initialized
@@ -263,10 +263,10 @@ unsure_created false None is = cc
 unsure_created false (Some Live) is = cc
 unsure_created false (Some (Ended place)) is = cc
 
-unsure_told : (before : Log) (name : Option Id)
+unsure_server_progress : (before : Log) (name : Option Id)
     → Sure (option_and_then (λ name. token_finding (open_of before) (token_of name before) ToClient name) name) → ⊥
-unsure_told before None is = cc
-unsure_told before (Some name) is =
+unsure_server_progress before None is = cc
+unsure_server_progress before (Some name) is =
     unsure_created (list_any (gives ToClient name) (open_of before)) (token_of name before) is
 
 unsure_session : (before : Log) (m : Message) → Sure (session_finding before ToClient m) → ⊥
@@ -287,7 +287,7 @@ unsure_document before (response i outcome) is = cc
 
 from_server : (before : Log) (m : Message) → list_any is_sure (findings_of before ToClient m) ≡ true → ⊥
 from_server before m is = ⊎_elim (unsure_session before m)
-    (⊎_elim (unsure_document before m) (unsure_told before (progress_token m)))
+    (⊎_elim (unsure_document before m) (unsure_server_progress before (progress_token m)))
     (one_of (session_finding before ToClient m) (document_finding before ToClient m)
     (progress_finding before ToClient m) is)
 

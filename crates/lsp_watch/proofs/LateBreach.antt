@@ -405,7 +405,7 @@ late_deed Opens version (Some d) e = cc
 late_deed Changes version None e = cc
 late_deed Closes version None e = cc
 late_deed Closes version (Some d) e = cc
-late_deed Changes version (Some d) e = late_version (is_not_higher version d.version) d.told e
+late_deed Changes version (Some d) e = late_version (is_not_higher version d.version) d.reported e
 
 late_document : (before : Log) (direction : Direction) (m : Message) → Late (document_finding before direction m) → ⊥
 late_document before direction m e = by (deed_in direction m) e

@@ -227,11 +227,11 @@ accepted_fine ToServer before live lives name may = absurd may
 accepted_fine ToClient before live lives name may = ap (created_finding ToClient) (lives name
     (ap (list_any (same_id name)) may.2 ∙ one_any (same_id name) may.0 name may.1 (same_own name)))
 
-told : (direction : Direction) (before : Log) (asked : List Open) (live : List Id) → Keeps before asked live
+reported : (direction : Direction) (before : Log) (asked : List Open) (live : List Id) → Keeps before asked live
     → (name : Option Id) → MayTell direction name asked live
     → option_and_then (λ name. token_finding (open_of before) (token_of name before) direction name) name ≡ None
-told direction before asked live keeps None may = refl
-told direction before asked live keeps (Some name) may = fine_if_given
+reported direction before asked live keeps None may = refl
+reported direction before asked live keeps (Some name) may = fine_if_given
     (list_any (gives direction name) (open_of before))
     (created_finding direction (token_of name before)) (⊎_elim given accepted may)
   where
@@ -266,7 +266,7 @@ step direction place (notification method params) before old new was live keeps 
     λ name is. lives_end name place (ended_by direction (notification method params)) was (token_of name before)
         (keeps.2 name) (ap (list_any (same_id name)) (sym may.2) ∙ is),
   ),
-  (refl, told direction before old was keeps (progress_token (notification method params)) may.0),
+  (refl, reported direction before old was keeps (progress_token (notification method params)) may.0),
 )
 step direction place (response i outcome) before old new was live keeps may =
     let at : open_of before ≡ may.1 ++ may.0 ∷ may.2 = keeps.0 ∙ may.3 in

@@ -22,18 +22,18 @@ broken log direction m = option_or (document_finding log direction m) (progress_
 abbrev with : List ℕ → Data → Data
 with name d = object (member name d no_members)
 
-abbrev told_at : ℕ → Data
-told_at version = with (codes "textDocument") (object (member (codes "uri") (string (codes "a"))
+abbrev params_at : ℕ → Data
+params_at version = with (codes "textDocument") (object (member (codes "uri") (string (codes "a"))
     (member (codes "version") (number (unsigned version)) no_members)))
 
 abbrev opens : ℕ → Message
-opens version = notification (codes "textDocument/didOpen") (told_at version)
+opens version = notification (codes "textDocument/didOpen") (params_at version)
 
 abbrev changes : ℕ → Message
-changes version = notification (codes "textDocument/didChange") (told_at version)
+changes version = notification (codes "textDocument/didChange") (params_at version)
 
 abbrev closes : Message
-closes = notification (codes "textDocument/didClose") (told_at 0)
+closes = notification (codes "textDocument/didClose") (params_at 0)
 
 abbrev begun : Log
 begun = passed ToServer 1 (opens 5) ∷ []
@@ -62,11 +62,11 @@ opens_anew : broken (passed ToServer 2 closes ∷ begun) ToServer (opens 1) ≡ 
 opens_anew = refl
 
 -- nothing is said of one that is saved
-saves : broken [] ToServer (notification (codes "textDocument/didSave") (told_at 1)) ≡ None
+saves : broken [] ToServer (notification (codes "textDocument/didSave") (params_at 1)) ≡ None
 saves = refl
 
 -- and a server may speak of any
-marks : broken [] ToClient (notification (codes "textDocument/didClose") (told_at 1)) ≡ None
+marks : broken [] ToClient (notification (codes "textDocument/didClose") (params_at 1)) ≡ None
 marks = refl
 
 -- ---- progress

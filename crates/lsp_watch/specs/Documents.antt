@@ -54,11 +54,11 @@ is_text text (Some t) = bytes_eq text t
 -- a change that gives a version
 abbrev pub changed : ℕ → Option ℤ → Document → Document
 changed place None d = d
-changed place (Some v) d = record { opened = d.opened; told = place; version = Some v }
+changed place (Some v) d = record { opened = d.opened; reported = place; version = Some v }
 
 -- the document after the client did this with it
 abbrev pub after_deed : Deed → ℕ → Option ℤ → Option Document → Option Document
-after_deed Opens place version before = Some (record { opened = place; told = place; version = version })
+after_deed Opens place version before = Some (record { opened = place; reported = place; version = version })
 after_deed Changes place version before = option_map (changed place version) before
 after_deed Closes place version before = None
 
@@ -87,7 +87,7 @@ deed_finding Opens version (Some d) = Some (AlreadyOpen, Some d.opened)
 deed_finding deed version None = Some (NotOpen, None)
 deed_finding Closes version (Some d) = None
 deed_finding Changes version (Some d) = if is_not_higher version d.version
-    then Some (VersionNotHigher, Some d.told) else None
+    then Some (VersionNotHigher, Some d.reported) else None
 
 -- what a message breaks of the rules of documents
 abbrev pub document_finding : Log → Direction → Message → Option Finding

@@ -59,8 +59,8 @@ begins_in is_whole before direction (Some m) =
 -- ---- the end
 
 -- of a client it cannot be told: it may end before its user has answered
-abbrev pub told_of : Open → Unanswered
-told_of o = record {
+abbrev pub as_unanswered : Open → Unanswered
+as_unanswered o = record {
   direction = o.direction;
   place = o.place;
   verdict = if from_client o.direction then verdict.Breach else verdict.CannotTell;
@@ -73,4 +73,4 @@ is_over server_ended client_ended o = if from_client o.direction then server_end
 -- the requests that have no reply, where the sides have ended, each by itself or by `exit`
 abbrev pub unanswered_of : Bool → Bool → Log → List Unanswered
 unanswered_of server_ended client_ended log = let left : Bool = is_some ((lifecycle_of log).exit) in
-    map told_of (filter (is_over (server_ended || left) (client_ended || left)) (open_of log))
+    map as_unanswered (filter (is_over (server_ended || left) (client_ended || left)) (open_of log))

@@ -1,6 +1,6 @@
 // What a message breaks.
 ghost use Rattle.std.specs.Prelude.{◌≡◌};
-ghost use Rattle.lsp_watch.specs.Verdicts.{as_breach, shape_breach as breach_of_shape, told_of as told_by, is_over as is_over_for};
+ghost use Rattle.lsp_watch.specs.Verdicts.{as_breach, shape_breach as breach_of_shape, as_unanswered, is_over as is_over_for};
 
 use crate::direction::Direction;
 use crate::open::Asked;
@@ -72,8 +72,8 @@ pub fn shape_breach(rule: Rule) -> Breach
 }
 
 /// A request that has no reply, where the session is over.
-pub fn told_of(asked: &Asked) -> Unanswered
-    ensures { result ≡ told_by asked.now }
+pub fn unanswered_from(asked: &Asked) -> Unanswered
+    ensures { result ≡ as_unanswered asked.now }
 {
     let verdict = if asked.direction.is_from_client() {
         Verdict::Breach

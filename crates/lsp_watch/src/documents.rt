@@ -32,7 +32,7 @@ pub struct Document {
     /// Its version, if one was given.
     pub version: Option<i64>,
     /// The place of the message that gave it, or of the `didOpen`.
-    pub told: u64,
+    pub reported: u64,
 }
 
 /// The documents that are open, by their URIs.
@@ -110,7 +110,7 @@ impl Documents {
                 let document = Document {
                     opened: place,
                     version,
-                    told: place,
+                    reported: place,
                 };
                 self.put(uri, document)
             }
@@ -160,7 +160,7 @@ fn changed(place: u64, version: Option<i64>, document: Document) -> Document
         Some(_) => Document {
             opened: document.opened,
             version,
-            told: place,
+            reported: place,
         },
         None => document,
     }
@@ -179,7 +179,7 @@ fn deed_breaks(
         (Deed::Opens, Some(document)) => Some((Rule::AlreadyOpen, Some(document.opened))),
         (Deed::Changes | Deed::Closes, None) => Some((Rule::NotOpen, None)),
         (Deed::Changes, Some(document)) if is_not_higher(version, document.version) => {
-            Some((Rule::VersionNotHigher, Some(document.told)))
+            Some((Rule::VersionNotHigher, Some(document.reported)))
         }
         (Deed::Changes, Some(_)) => None,
     }

@@ -302,11 +302,11 @@ impl LoggedMessage {
                 if error.is_memory() {
                     return Err(AllocError);
                 }
-                let told = format!(in alloc; "{error}");
+                let reason = format!(in alloc; "{error}");
                 drop(error);
-                let told = told?;
-                let rule = why_unread(text, told.as_str());
-                drop(told);
+                let reason = reason?;
+                let rule = why_unread(text, reason.as_str());
+                drop(reason);
                 unread(alloc, rule)
             }
         }

@@ -11,9 +11,9 @@ ghost use Rattle.lsp_watch.specs.Log.{Log, passed, waiting, open_of, answered, r
 ghost use Rattle.lsp_watch.specs.Progress.{progress_finding, after_end, after_accept, ended_by, accepted_in};
 ghost use Rattle.lsp_watch.specs.Rules.{session_finding, lifecycle_finding, id_finding, opens_under};
 ghost use Rattle.lsp_watch.specs.Saw.{Saw, KeepsSame};
-ghost use Rattle.lsp_watch.specs.Verdicts.{breaches_of, findings_of, as_breach, shape_breach as breach_of_shape, entered, unanswered_of, begins_in, told_of as told_by, is_over as is_over_for};
+ghost use Rattle.lsp_watch.specs.Verdicts.{breaches_of, findings_of, as_breach, shape_breach as breach_of_shape, entered, unanswered_of, begins_in, as_unanswered, is_over as is_over_for};
 
-use crate::breach::{Breach, Unanswered, breach_of, is_over, shape_breach, told_of};
+use crate::breach::{Breach, Unanswered, breach_of, is_over, shape_breach, unanswered_from};
 use crate::direction::Direction;
 use crate::documents::Documents;
 use crate::lifecycle::{Lifecycle, asks};
@@ -296,7 +296,7 @@ impl Watch {
         let stands = self.stands.after(place, direction, message, answers);
         match message.kind() {
             Kind::Request(id) => self.keep_request(place, direction, id, message)?,
-            Kind::Notification => self.keep_told(place, direction, message)?,
+            Kind::Notification => self.keep_notification(place, direction, message)?,
             Kind::Reply(id, succeeds) => self.keep_reply(direction, id, *succeeds)?,
         }
         self.stands = stands;
@@ -336,7 +336,7 @@ impl Watch {
     }
 
     /// Keeps what a notification does: a client's with a document, a server's with a token.
-    fn keep_told(
+    fn keep_notification(
         &mut self,
         place: u64,
         direction: Direction,
@@ -414,10 +414,10 @@ fn all_unanswered(
     client_ended: bool,
 ) -> Result<Vec<Unanswered>, AllocError>
     ensures { IfOk result (λ found. found.items
-        ≡ map told_by (filter (is_over_for server_ended client_ended) asked.entry)) }
+        ≡ map as_unanswered (filter (is_over_for server_ended client_ended) asked.entry)) }
 {
     asked
         .filter(|it| is_over(server_ended, client_ended, it))
-        .map(told_of)
+        .map(unanswered_from)
         .collect(alloc)
 }

@@ -58,8 +58,8 @@ impl Documents {
     /// Sends all notifications again to new documents.
     fn hear_again(&mut self) {
         let told = mem::replace(&mut self.told, String::new(self.alloc));
-        let agreed = self.documents.sync_options();
-        self.begin(agreed);
+        let sync = self.documents.sync_options();
+        self.begin(sync);
         let mut said = Said::new(self.alloc);
         for text in told.lines() {
             self.hear(&mut said, text);
@@ -68,8 +68,8 @@ impl Documents {
     }
 
     /// Starts again, with what was agreed on.
-    fn begin(&mut self, agreed: SyncOptions) {
-        self.documents = TextDocuments::new(self.alloc, agreed);
+    fn begin(&mut self, sync: SyncOptions) {
+        self.documents = TextDocuments::new(self.alloc, sync);
         self.copies.clear();
         self.seen.clear();
         self.told.clear();
@@ -117,12 +117,12 @@ impl Documents {
     fn initialize(&mut self, said: &mut Said, params: &Value) {
         let includes_text = flag_in(params, "includeText") != Some(false);
         let mut can = Value::Null;
-        let agreed = SyncOptions::negotiate(self.alloc, params, includes_text, &mut can);
+        let sync = SyncOptions::negotiate(self.alloc, params, includes_text, &mut can);
         drop(can);
-        match agreed {
-            Ok(agreed) => {
-                self.begin(agreed.with_options(options_in(params)));
-                said.push(agreed.encoding().name());
+        match sync {
+            Ok(sync) => {
+                self.begin(sync.with_options(options_in(params)));
+                said.push(sync.encoding().name());
             }
             Err(_) => said.is_short = true,
         }

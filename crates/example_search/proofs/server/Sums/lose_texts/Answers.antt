@@ -4,5 +4,5 @@ use Rattle.example_search.proofs.server.Sums.lose_texts.Goals as goal
 pub returns : goal.returns
 returns c =
     lost_aloud _ _ _ _ _ _
-    (record { agreed = c.invalidate_all.ensures.agreed; held = c.invalidate_all.ensures.held })
+    (record { sync = c.invalidate_all.ensures.sync; held = c.invalidate_all.ensures.held })
     c.in_ok-log_message.ensures c.new-acts.ensures.items c.in_ok-push.ensures.items c.in_ok-mark_all.ensures

@@ -15,7 +15,7 @@ returns-in-Some-refusal-clause-err c =
     c.in-Some-whole_in.whole c.in-Some-refusal.fault _
     c.version_of-version.ensures (sym c.in-Some.ensures) (sym c.in-Some-whole_in.ensures)
     (sym c.in-Some-refusal.ensures) c.unmade.ensures.why
-    (record { agreed = c.refuse.ensures.agreed; own = c.refuse.ensures.own; others = c.refuse.ensures.others })
+    (record { sync = c.refuse.ensures.sync; own = c.refuse.ensures.own; others = c.refuse.ensures.others })
 
 pub returns-clause-err : goal.returns-clause-err
 returns-clause-err c =
@@ -27,7 +27,7 @@ returns-clause-err c =
     c.version_of-version.ensures (sym c.in-Some.ensures) (sym c.in-Some-whole_in.ensures) (sym c.refusal.ensures
     ∙ c.in_default-refusal.is) c.missed-in-Err.ensures.why some
     (record {
-      agreed = c.missed-in-Err.ensures.agreed;
+      sync = c.missed-in-Err.ensures.sync;
       own = c.missed-in-Err.ensures.own;
       others = c.missed-in-Err.ensures.others;
     })

@@ -40,7 +40,7 @@ impl Kind {
 
 /// One thing to tell.
 #[derive(Clone, Copy)]
-pub struct Told<'t> {
+pub struct Reported<'t> {
     pub kind: Kind,
     /// Where it is.
     pub place: u64,
@@ -59,10 +59,10 @@ pub struct Told<'t> {
     pub against: Option<u64>,
 }
 
-impl<'t> Told<'t> {
+impl<'t> Reported<'t> {
     /// Why something was not read at a place.
-    pub fn stop(place: u64, text: &'t str) -> Told<'t> {
-        Told {
+    pub fn stop(place: u64, text: &'t str) -> Reported<'t> {
+        Reported {
             kind: Kind::Stop,
             place,
             direction: None,
