@@ -1,5 +1,5 @@
 // Which breaches make the status 1.
-ghost use Rattle.std.specs.Prelude.{◌≡◌};
+ghost use Rattle.std.specs.Prelude.{◌≡◌, ◌≢◌, [], IfOk, MatchOption};
 ghost use Rattle.lsp_watch.specs.RuleData.{side_of};
 ghost use Rattle.lsp_judge.specs.Choice.{counts as counts_for, culprit as culprit_of, is_at_least as is_as_strong, fails as fails_for, fails_shown as fails_if_shown, leaves as leaves_for};
 
@@ -36,8 +36,11 @@ pub struct Choice {
 }
 
 impl Choice {
-    /// Returns the methods and types of LSP if rules of types or texts are judged. The error means that an allocation failed.
-    pub fn model(&self, alloc: Global) -> Result<Option<Model>, AllocError> {
+    /// Returns the methods and types of LSP if rules of types or texts are judged, and otherwise `None`. The error means
+    /// that an allocation failed.
+    pub fn model(&self, alloc: Global) -> Result<Option<Model>, AllocError>
+        ensures { IfOk result (λ model. MatchOption model (self.now.types.items ≡ []) (λ _. self.now.types.items ≢ [])) }
+    {
         if self.types.is_empty() {
             return Ok(None);
         }
