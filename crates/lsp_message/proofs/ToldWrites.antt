@@ -1,12 +1,12 @@
 -- Parts that were given to a writer, one after another.
-use Rattle.std.proofs.Common.{◌≡◌, ℕ, ◌-◌, List, [], ◌∷◌, ◌++◌, length, take, drop, Option, sym, ap}
-use Rattle.std.proofs.Common.{subst, ◌∙◌, arith, append_assoc, take_all, take-append-drop, length-drop}
+use Rattle.std.proofs.Common.{◌≡◌, ℕ, ◌-◌, true, List, [], ◌∷◌, ◌++◌, length, take, drop, Option, refl, sym, ap}
+use Rattle.std.proofs.Common.{subst, ◌∙◌, arith, append_assoc, append-nil, take_all, take-append-drop, length-drop}
 use Rattle.std.specs.List.{concat}
-use Rattle.std.specs.Io.KnownBytes.{Appends}
-use Rattle.std.proofs.KnownBytes.{Appends-trans}
+use Rattle.std.specs.Io.KnownBytes.{Appends, Keeps}
+use Rattle.std.proofs.KnownBytes.{Appends-kept, Appends-nil, Appends-trans}
 use Rattle.std.proofs.lemmas.List.Folds.{concat-append}
-use Rattle.lsp_message.specs.Told.{Parts, Gives, Given}
-use Rattle.lsp_message.proofs.Told.{concat-one}
+use Rattle.lsp_message.specs.Told.{Parts, Gives, Given, shows_end}
+use Rattle.lsp_message.proofs.Told.{concat-one, end_of_last}
 
 pub Gives-one : (before after : Parts) (part : List ℕ) (a b : Option (List ℕ)) → after ≡ before ++ part ∷ []
     → Appends a b part → Gives (part ∷ []) before after a b
@@ -42,3 +42,17 @@ given_more all rest t u v a b c n is left more =
           (take n rest) (drop n rest))
           ∙ (λ i. sym joined i ++ sym behind i),
     )
+
+-- a text that was given, and then a flush
+pub given_flushed : (text all : List ℕ) (t u v : Parts) (a b c : Option (List ℕ)) → all ≡ text → v ≡ u ++ [] ∷ []
+    → Given (λ parts. all ≡ concat parts) t u a b → Keeps b c
+    → Given (λ parts. (text ≡ concat parts) × (shows_end parts ≡ true)) t v a c
+given_flushed text all t u v a b c whole is (parts, gives, same) kept = (
+  parts ++ [] ∷ [],
+  Gives-trans parts ([] ∷ []) t u v a b c gives (Gives-one u v [] b c is (Appends-kept b b c [] (Appends-nil b) kept)),
+  (
+    sym whole ∙ same ∙ sym (concat-append parts ([] ∷ []) ∙ append-nil (concat parts)),
+    end_of_last parts
+        ([] ∷ []) refl,
+  ),
+)

@@ -1,5 +1,5 @@
 -- Writes to a writer, one after another.
-use Rattle.std.proofs.Common.{◌≡◌, ℕ, ◌-◌, List, OnOk, Option, Some, None, Result, Ok, Err}
+use Rattle.std.proofs.Common.{◌≡◌, ℕ, List, OnOk, Option, Some, None, Result, Ok, Err}
 use Rattle.std.proofs.Common.{refl}
 use Rattle.std.specs.Io.KnownBytes.{Appends, Keeps}
 use Rattle.lsp_message.specs.Message.{Message}

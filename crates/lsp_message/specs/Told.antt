@@ -18,7 +18,8 @@ abbrev pub is_nothing : List ℕ → Bool
 is_nothing [] = true
 is_nothing (byte ∷ bytes) = false
 
--- the last part is empty: the reader showed its end
+-- The last part is empty: of parts that were taken, the reader showed its end; of parts that were given, the writer was
+-- flushed after all of them.
 abbrev pub shows_end : Parts → Bool
 shows_end [] = false
 shows_end (part ∷ []) = is_nothing part
@@ -57,14 +58,19 @@ pub record Gives (parts before after : Parts) (old new : Option (List ℕ)) : Ty
 abbrev pub Given : (Parts → Type 0) → Parts → Parts → Option (List ℕ) → Option (List ℕ) → Type 0
 Given P before after old new = (parts : Parts) × Gives parts before after old new × P parts
 
--- the parts are the text; or a beginning of it, if the writer failed; or nothing, if memory ran out
-abbrev pub WritesText : List ℕ → Result (Unit {0}) WriteFault → Parts → Type 0
-WritesText text (Ok done) parts = text ≡ concat parts
-WritesText text (Err (Output kind)) parts = (missing : List ℕ) × (text ≡ concat parts ++ missing)
-WritesText text (Err Memory) parts = concat parts ≡ []
+-- the parts are the text; or a prefix of it, if the writer failed; or nothing, if memory ran out
+abbrev pub GivesText : List ℕ → Result (Unit {0}) WriteFault → Parts → Type 0
+GivesText text (Ok done) parts = text ≡ concat parts
+GivesText text (Err (Output kind)) parts = (missing : List ℕ) × (text ≡ concat parts ++ missing)
+GivesText text (Err Memory) parts = concat parts ≡ []
 
--- the same of a frame of a message
+-- the same, and a text that was written whole was flushed
+abbrev pub WritesText : List ℕ → Result (Unit {0}) WriteFault → Parts → Type 0
+WritesText text (Ok done) parts = (text ≡ concat parts) × (shows_end parts ≡ true)
+WritesText text failed parts = GivesText text failed parts
+
+-- the same of a frame of a message, which was flushed if it was written whole
 abbrev pub WritesParts : Message → Result (Unit {0}) WriteFault → Parts → Type 0
-WritesParts m (Ok done) parts = IsFrameOf m (concat parts)
+WritesParts m (Ok done) parts = IsFrameOf m (concat parts) × (shows_end parts ≡ true)
 WritesParts m (Err (Output kind)) parts = (missing : List ℕ) × IsFrameOf m (concat parts ++ missing)
 WritesParts m (Err Memory) parts = concat parts ≡ []

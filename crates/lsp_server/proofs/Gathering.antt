@@ -32,7 +32,7 @@ module _ (text : List ℕ) (old new : ByteTrace) (a b : Option (List ℕ)) where
 
   pub text_written : (r : Result (Unit {0}) WriteFault) → Given (WritesText text r) old.parts new.parts a b
       → OnOk r (Appends (noted old) (noted new) text)
-  text_written (Ok done) told = subst (Appends (noted old) (noted new)) (sym told.2) (grown (Ok done) told)
+  text_written (Ok done) told = subst (Appends (noted old) (noted new)) (sym told.2.0) (grown (Ok done) told)
   text_written (Err fault) told = tt
 
   pub text_begun : (r : Result (Unit {0}) WriteFault) → IfErr r IsOutput → Given (WritesText text r) old.parts new.parts
@@ -40,7 +40,7 @@ module _ (text : List ℕ) (old new : ByteTrace) (a b : Option (List ℕ)) where
   text_begun (Ok done) output told = (
     concat told.0,
     [],
-    told.2 ∙ sym (append-nil (concat told.0)),
+    told.2.0 ∙ sym (append-nil (concat told.0)),
     grown (Ok done) told,
   )
   text_begun (Err (Output kind)) output told = (concat told.0, told.2.0, told.2.1, grown (Err (Output kind)) told)

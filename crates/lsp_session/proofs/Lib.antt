@@ -35,6 +35,7 @@ pub mod RefusedTellings
 pub mod RefusedWakes
 pub mod Rows
 pub mod SameTexts
+pub mod Sendings
 pub mod Served
 pub mod SessionGives
 pub mod TransportInOrder

@@ -1,4 +1,4 @@
--- What no account of bytes tells: a message or the end of the input from nothing.
+-- What no account of bytes tells: a message or the end of the input from nothing, and a frame that was not flushed.
 use lib.Utf8.{encode}
 use Rattle.lsp_message.specs.Frame.{body_means, content_of, reading_within}
 use Rattle.lsp_message.specs.Message.{Message}
@@ -7,8 +7,9 @@ use Rattle.lsp_message.specs.declared.frame.ReadFault.{ReadFault}
 use Rattle.lsp_message.specs.declared.frame.ReadFault.TheVariants.{HeaderTooLong, LineEnd}
 use Rattle.lsp_message.specs.declared.frame.limits.Limits.{Limits}
 use Rattle.lsp_session.proofs.ActsNoted.{waited_in, Grows, grows_both, rest_grows, turns_grow, end_grows}
-use Rattle.lsp_session.specs.Account.{Act, gave, NotesReceive, NotesSend}
-use Rattle.lsp_session.specs.ActBytes.{AreOf, ToldSession}
+use Rattle.lsp_message.specs.declared.frame.WriteFault.{WriteFault}
+use Rattle.lsp_session.specs.Account.{Act, gave, took, NotesReceive, NotesSend}
+use Rattle.lsp_session.specs.ActBytes.{AreOf, SentParts, ToldSession}
 use Rattle.lsp_session.specs.Event.{Event, timeout, closed}
 use Rattle.lsp_session.specs.Prompt.{event_of, WaitsIn, AwaitsEnd, Meets, any_wait}
 use Rattle.lsp_session.specs.Session.{Behavior, Exchange, Stop, decided, no_more, timed_out, refused, exhausted}
@@ -111,3 +112,8 @@ no_session_from_nothing {S} may s s' limit result told =
       | inl is ↦ subst (λ (stop : Stop). Stops may starting s stop told.answer s') is stops
       | inr is ↦ subst (λ (stop : Stop). Stops may starting s stop told.answer s') is.1 stops
     ]
+
+-- A message was taken, and its bytes were written without a flush after them.
+pub writes_unflushed : (m : Message) (byte : ℕ) (bytes : List ℕ) (new : Option WriteFault)
+    → SentParts None (took m) new ((byte ∷ bytes) ∷ []) → ⊥
+writes_unflushed m byte bytes new sent = cc (sent.1)

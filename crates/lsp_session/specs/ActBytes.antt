@@ -6,7 +6,7 @@ use Rattle.std.specs.Prelude.{◌≡◌, ℕ, true, if◌then◌else◌, List, [
 use Rattle.std.specs.Prelude.{Err}
 use Rattle.lsp_message.specs.Frame.{reading_within}
 use Rattle.lsp_message.specs.Message.{Message}
-use Rattle.lsp_message.specs.Told.{Parts, IsOfParts, WritesParts}
+use Rattle.lsp_message.specs.Told.{Parts, IsOfParts, WritesParts, shows_end}
 use Rattle.std.specs.Io.KnownBytes.{Appends, Consumes}
 use Rattle.lsp_message.specs.Written.{IsFrameOf}
 use Rattle.lsp_message.specs.View.{message_view}
@@ -30,10 +30,10 @@ use Rattle.lsp_session.specs.declared.loops.ReadEnd.TheVariants.{Exit, End, Faul
 abbrev pub Note : Type 0
 Note = Act × Parts
 
--- The parts that were given for a message, before and after which the writes had failed so: a frame of it; if it was
--- refused, a beginning of one. Once a write has failed, each message is refused, and nothing is given.
+-- The parts that were given for a message, before and after which the writes had failed so: a frame of it, which was
+-- flushed; if it was refused, a prefix of one. Once a write has failed, each message is refused, and nothing is given.
 abbrev pub SentParts : Option WriteFault → Act → Option WriteFault → Parts → Type 0
-SentParts None (took m) new parts = IsFrameOf m (concat parts) × (new ≡ None)
+SentParts None (took m) new parts = IsFrameOf m (concat parts) × (shows_end parts ≡ true) × (new ≡ None)
 SentParts None (lost m) (Some fault) parts = WritesParts m (Err fault) parts
 SentParts (Some fault) (lost m) new parts = (parts ≡ []) × (new ≡ Some fault)
 SentParts old act new parts = ⊥

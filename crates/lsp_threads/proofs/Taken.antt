@@ -124,7 +124,7 @@ module _ (text : List ℕ) (old new : ByteTrace) (a b : Option (List ℕ)) (some
   pub text_noted : (r : Result (Unit {0}) WriteFault) → IfErr r IsOutput → Given (WritesText text r) old.parts
       new.parts a b
       → WritesBytes text (result_err r) (noted old) (noted new)
-  text_noted (Ok done) output given = grown given.0 given.1.added ∙ ap (λ l. concat old.parts ++ l) (sym given.2)
+  text_noted (Ok done) output given = grown given.0 given.1.added ∙ ap (λ l. concat old.parts ++ l) (sym given.2.0)
   text_noted (Err (Output kind)) output given = (
     tt,
     some,

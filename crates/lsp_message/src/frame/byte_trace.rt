@@ -5,7 +5,8 @@ ghost use Rattle.std.specs.Borrow.{ftrue};
 use std::marker::{Model, PhantomData};
 
 /// A trace of the bytes that were taken from a reader or given to a writer, part after part. Only clauses see it.
-/// Nothing of it is left when a program runs. An empty part that was taken says that the reader showed its end.
+/// Nothing of it is left when a program runs. An empty part that was taken says that the reader showed its end. An empty
+/// part that was given says that the writer was flushed.
 #[derive(Drop)]
 pub struct ByteTrace {
     marker: PhantomData<u8>,

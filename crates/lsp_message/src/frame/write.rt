@@ -1,7 +1,7 @@
 // A frame, written to a writer.
 ghost use Rattle.std.specs.Prelude.{◌≡◌, ◌<◌, ◌^◌, length, Err, IfOk, IfErr, OnOk, string_bytes};
 ghost use Rattle.std.specs.Io.KnownBytes.{Appends};
-ghost use Rattle.lsp_message.specs.Told.{Given, WritesText};
+ghost use Rattle.lsp_message.specs.Told.{Given, GivesText, WritesText};
 ghost use Rattle.lsp_message.specs.Written.{frame_text, AppendsBeginning, IsOutput};
 
 use crate::frame::WriteFault;
@@ -45,7 +45,8 @@ pub fn write_frames<W: Write>(writer: &mut W, frames: &str) -> Result<(), WriteF
     write_frames_traced(writer, frames, &mut ByteTrace::new())
 }
 
-/// Writes a text of whole frames, as `write_frames` does, and adds the bytes that the writer takes to the trace.
+/// Writes a text of whole frames, as `write_frames` does, and adds the bytes that the writer takes to the trace, and the
+/// flush.
 pub fn write_frames_traced<W: Write>(
     writer: &mut W,
     frames: &str,
@@ -59,7 +60,10 @@ pub fn write_frames_traced<W: Write>(
 {
     write_bytes(writer, frames.as_bytes(), given)?;
     match writer.flush() {
-        Ok(()) => Ok(()),
+        Ok(()) => {
+            given.add(&[]);
+            Ok(())
+        }
         Err(error) => Err(WriteFault::Output(error.kind())),
     }
 }
@@ -86,7 +90,7 @@ fn write_bytes<W: Write>(
     ensures ok { OnOk result (Appends (W.contents writer.old) (W.contents writer.new) bytes.now) }
     ensures begun { AppendsBeginning (W.contents writer.old) (W.contents writer.new) bytes.now }
     ensures fault { IfErr result IsOutput }
-    ensures told { Given (WritesText bytes.now result) given.old.parts given.new.parts
+    ensures told { Given (GivesText bytes.now result) given.old.parts given.new.parts
         (W.contents writer.old) (W.contents writer.new) }
 {
     let mut rest = bytes;

@@ -1,0 +1,6 @@
+use Rattle.lsp_message.proofs.ToldWrites.{given_flushed}
+use Rattle.lsp_message.proofs.frame.write.write_frames_traced.Goals as goal
+
+pub returns-in-Ok-clause-told : goal.returns-in-Ok-clause-told
+returns-in-Ok-clause-told g c = given_flushed _ _ _ _ _ _ _ _ c.as_bytes.ensures.value c.add.ensures
+    c.in_ok-write_bytes.ensures.told c.in-Ok.ensures.bytes
