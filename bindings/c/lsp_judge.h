@@ -8,7 +8,7 @@ extern "C" {
 #endif
 
 /* Major * 1,000,000 + minor * 1,000 + patch. */
-#define LSP_JUDGE_VERSION 25000
+#define LSP_JUDGE_VERSION 26000
 
 /* Statuses. The first four are those of the program lsp_check. */
 #define LSP_JUDGE_CLEAN 0   /* there is a message, every line was read, and no rule that counts is broken */

@@ -168,7 +168,7 @@ mod tests {
     #[test]
     fn a_good_session_passes() {
         session(&GOOD).check();
-        assert_eq!(version(), 25_000);
+        assert_eq!(version(), 26_000);
     }
 
     #[test]

@@ -49,7 +49,7 @@ frame nothing more is judged, and the bytes still pass. A place counts the bytes
 pub fn command<'a>(alloc: Global) -> Result<Command<'a>, AllocError> {
     let command = Command::new(alloc, "lsp_check")
         .about(ABOUT)
-        .version("0.25.0")
+        .version("0.26.0")
         .after_help(MORE)
         .arg(fail_on(alloc)?)?
         .arg(level(alloc)?)?

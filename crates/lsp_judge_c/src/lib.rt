@@ -29,7 +29,7 @@ use std::cell::Cell;
 use std::marker::Brand;
 
 /// The version: major * 1,000,000 + minor * 1,000 + patch. C: `LSP_JUDGE_VERSION`.
-const VERSION: u32 = 25_000;
+const VERSION: u32 = 26_000;
 
 /// Nothing is said: an allocation failed, or a log that is no recording can't be judged. C: `LSP_JUDGE_FAILED`.
 const FAILED: u8 = 4;
@@ -149,7 +149,7 @@ pub extern "C" fn lsp_judge_rules(
 /// Returns the version of the library.
 #[unsafe(no_mangle)]
 pub extern "C" fn lsp_judge_version() -> u32
-    ensures { result ≡ 25000 }
+    ensures { result ≡ 26000 }
 {
     VERSION
 }
