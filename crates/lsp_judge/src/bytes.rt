@@ -28,6 +28,7 @@ pub fn while_first<P: FnMut(u8) -> bool + Drop>(bytes: &[u8], mut test: P) -> (&
     (bytes, &[])
 }
 
+/// Returns whether the byte is a space, a tab or a line end.
 pub fn is_blank(byte: u8) -> bool {
     matches!(byte, b' ' | b'\t' | b'\r' | b'\n')
 }

@@ -39,6 +39,7 @@ pub struct Emacs {
 }
 
 impl Emacs {
+    /// Makes a reader that has seen no line. It does not allocate.
     pub fn new(alloc: Global) -> Emacs {
         Emacs {
             alloc,

@@ -5,21 +5,25 @@ use crate::text::print;
 use anyhow::Result;
 use std::io::Write;
 
+/// Writes what stands before the first file.
 pub fn begin<W: Write>(out: &mut W) -> Result<()> {
     writeln!(out, "<?xml version=\"1.0\" encoding=\"UTF-8\"?>")?;
     Ok(writeln!(out, "<testsuites name=\"lsp_check\">")?)
 }
 
+/// Writes what stands after the last file.
 pub fn end<W: Write>(out: &mut W) -> Result<()> {
     Ok(writeln!(out, "</testsuites>")?)
 }
 
+/// Writes what stands before the cases of a file.
 pub fn begin_file<W: Write>(report: &Report<'_>, out: &mut W) -> Result<()> {
     write!(out, "<testsuite name=\"")?;
     put_escaped(report.places.first, out)?;
     Ok(writeln!(out, "\">")?)
 }
 
+/// Writes what stands after the cases of a file.
 pub fn end_file<W: Write>(out: &mut W) -> Result<()> {
     Ok(writeln!(out, "</testsuite>")?)
 }

@@ -41,6 +41,7 @@ pub struct Log {
 }
 
 impl Log {
+    /// Makes an empty log. It does not allocate.
     pub fn new(alloc: Global) -> Log {
         Log {
             log: LogReader::new(alloc),

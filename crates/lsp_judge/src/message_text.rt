@@ -28,6 +28,7 @@ pub struct MessageText {
 }
 
 impl MessageText {
+    /// Makes an empty text. It does not allocate.
     pub fn new(alloc: Global) -> MessageText {
         MessageText {
             text: Vec::new(alloc),
@@ -39,6 +40,7 @@ impl MessageText {
         }
     }
 
+    /// Drops the text, and begins with an empty one.
     pub fn clear(&mut self) {
         self.text.clear();
         self.open.clear();
@@ -48,6 +50,7 @@ impl MessageText {
         self.skipped = None;
     }
 
+    /// Returns the bytes of the text so far.
     pub fn as_slice(&self) -> &[u8] {
         self.text.as_slice()
     }

@@ -58,6 +58,7 @@ pub struct LogReader {
 }
 
 impl LogReader {
+    /// Makes a reader that has seen no byte of a log. It does not allocate.
     pub fn new(alloc: Global) -> LogReader {
         LogReader {
             alloc,
@@ -197,6 +198,7 @@ impl LogReader {
     }
 }
 
+/// Makes the place of a message: its direction, the line where it begins, and its time of day in milliseconds.
 pub fn found_at(direction: Direction, line: u64, time: Option<u64>) -> Found {
     Found {
         direction,

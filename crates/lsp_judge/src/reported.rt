@@ -90,6 +90,7 @@ pub struct Counts {
 }
 
 impl Counts {
+    /// Makes counts of nothing.
     pub fn new() -> Counts {
         Counts {
             messages: 0,

@@ -27,6 +27,7 @@ pub struct Sessions {
 }
 
 impl Sessions {
+    /// Makes a list of no sessions. It does not allocate.
     pub fn new(alloc: Global) -> Sessions {
         Sessions {
             alloc,
@@ -34,6 +35,7 @@ impl Sessions {
         }
     }
 
+    /// Returns whether no session has begun.
     pub fn is_empty(&self) -> bool {
         self.all.is_empty()
     }

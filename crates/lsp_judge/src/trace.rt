@@ -56,6 +56,7 @@ pub struct Trace {
 }
 
 impl Trace {
+    /// Makes a reader that has seen no line. It does not allocate.
     pub fn new(alloc: Global) -> Trace {
         Trace {
             held: None,

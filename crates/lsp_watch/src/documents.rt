@@ -43,6 +43,7 @@ pub struct Documents {
 }
 
 impl Documents {
+    /// Makes a memory of no open documents. It does not allocate.
     pub fn new(alloc: Global) -> Documents
         ensures { Opened result [] }
     {

@@ -22,6 +22,7 @@ pub struct Lifecycle {
 }
 
 impl Lifecycle {
+    /// Begins before the first message of a session.
     pub fn new() -> Lifecycle
         ensures { result ≡ lifecycle_of [] }
     {

@@ -35,6 +35,7 @@ pub struct Created {
 }
 
 impl Created {
+    /// Makes a memory of no tokens. It does not allocate.
     pub fn new(alloc: Global) -> Created
         ensures { Accepted result [] }
     {

@@ -29,6 +29,7 @@ pub struct OpenRequests {
 }
 
 impl OpenRequests {
+    /// Makes a memory of no open requests. It does not allocate.
     pub fn new(alloc: Global) -> OpenRequests
         ensures none { asked_in result ≡ [] }
         ensures indexed { IsIndexed result }
@@ -184,6 +185,7 @@ pub struct Numbers {
 }
 
 impl Numbers {
+    /// Makes a set of no numbers. It does not allocate.
     pub fn new(alloc: Global) -> Numbers
         ensures { (by : Use) → numbers result by ≡ [] }
     {

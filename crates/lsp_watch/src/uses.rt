@@ -17,6 +17,7 @@ pub struct Uses {
 }
 
 impl Uses {
+    /// Makes a memory of no uses. It does not allocate.
     pub fn new(alloc: Global) -> Uses
         ensures { (id : Id) → numbers_at result id ≡ [] }
     {
@@ -132,6 +133,7 @@ pub struct ByDirection {
 }
 
 impl ByDirection {
+    /// Makes a memory of no uses in either direction. It does not allocate.
     pub fn new(alloc: Global) -> ByDirection
         ensures { (direction : Direction) (id : Id) → numbers_by result direction id ≡ [] }
     {
