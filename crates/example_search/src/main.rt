@@ -38,22 +38,22 @@ fn main(rt: HostRuntime) -> Result<()> {
     let served = match words.as_slice() {
         [word, rest @ ..] if word.as_str() == "threads" => {
             serve_clients(&rt, rest, ClientOptions::new(), |client| {
-                let mut passed_over = SkipAndFlag::new(alloc)?;
-                let sums = Sums::new(alloc, passed_over.share()?);
-                end_of(serve_in_threads(&rt, alloc, client, sums, &mut passed_over))
+                let mut skipped = SkipAndFlag::new(alloc)?;
+                let sums = Sums::new(alloc, skipped.share()?);
+                end_of(serve_in_threads(&rt, alloc, client, sums, &mut skipped))
             })
         }
         [word, rest @ ..] if word.as_str() == "jobs" => {
             serve_clients(&rt, rest, ClientOptions::new(), |client| {
-                let mut passed_over = SkipAndFlag::new(alloc)?;
-                let sums = Sums::new(alloc, passed_over.share()?);
-                end_of(serve_with_jobs(&rt, alloc, client, sums, &mut passed_over))
+                let mut skipped = SkipAndFlag::new(alloc)?;
+                let sums = Sums::new(alloc, skipped.share()?);
+                end_of(serve_with_jobs(&rt, alloc, client, sums, &mut skipped))
             })
         }
         words => serve_clients(&rt, words, ClientOptions::new(), |mut client| {
-            let mut passed_over = SkipAndFlag::new(alloc)?;
-            let sums = Sums::new(alloc, passed_over.share()?);
-            let mut transport = client.transport(alloc, &mut passed_over);
+            let mut skipped = SkipAndFlag::new(alloc)?;
+            let sums = Sums::new(alloc, skipped.share()?);
+            let mut transport = client.transport(alloc, &mut skipped);
             let (_sums, answer) = serve(alloc, &mut transport, sums);
             Ok(answer?)
         }),

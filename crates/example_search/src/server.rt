@@ -46,7 +46,7 @@ pub struct Sums {
     configures: bool,
     documents: TextDocuments,
     /// Whether the session skipped bad content, which may have been a change of any text.
-    passed_over: SkipAndFlag,
+    skipped: SkipAndFlag,
     /// The last log line about a notification that was not applied.
     complaint: String,
     /// The requests that wait until a text has no diagnostics.
@@ -151,7 +151,7 @@ impl JobServer<Search> for Sums {
 
     fn is_long(&self, request: &Request) -> bool {
         // If texts are to be lost first, the server does both.
-        request.method.as_str() == "workspace/symbol" && !self.passed_over.has_happened()
+        request.method.as_str() == "workspace/symbol" && !self.skipped.has_happened()
     }
 
     fn job(&self, request: Request) -> Result<AnsweredBy<Search>, AllocError> {
@@ -164,7 +164,7 @@ impl JobServer<Search> for Sums {
 
 impl Sums {
     /// Makes a server for one session.
-    pub fn new(alloc: Global, passed_over: SkipAndFlag) -> Sums
+    pub fn new(alloc: Global, skipped: SkipAndFlag) -> Sums
         ensures { HasNone result.documents }
     {
         Sums {
@@ -172,7 +172,7 @@ impl Sums {
             largest: i64::MAX,
             configures: false,
             documents: TextDocuments::new(alloc, SyncOptions::defaults()),
-            passed_over,
+            skipped,
             complaint: String::new(alloc),
             waiting: Vec::new(alloc),
         }
@@ -210,7 +210,7 @@ impl Sums {
         ensures { IfOk result (λ acts. LosesAloud self.old.documents (map act_seen acts.items) self.new.documents) }
     {
         let mut acts = Vec::new(self.alloc);
-        if !self.passed_over.take() {
+        if !self.skipped.take() {
             return Ok(acts);
         }
         self.documents.invalidate_all();

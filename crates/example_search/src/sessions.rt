@@ -55,7 +55,7 @@ pub fn serve_in_threads<T, R, W>(
     alloc: Global,
     client: ClientStreams<R, W>,
     sums: Sums,
-    passed_over: &mut SkipAndFlag,
+    skipped: &mut SkipAndFlag,
 ) -> (Sums, Result<Threaded<W>, StartFault>)
 where
     T: Threads + Wait + Copy + Drop + Send + 'static,
@@ -63,7 +63,7 @@ where
     W: Write + Drop + Send + 'static,
     ensures told { IfOk result.1 (λ done. OfTaken done.taken.parts (λ text.
         ThreadsTell ⟦<SkipAndFlag as BadContentPolicy>⟧.passes client.limits (AnswersOnce ⟦<Sums as Server>⟧ sums result.0)
-        text passed_over.old passed_over.new (Some []) (noted done.given) done.answer)) }
+        text skipped.old skipped.new (Some []) (noted done.given) done.answer)) }
     ensures passed { IfOk result.1 (λ done. TakenFrom (R.remaining client.reader) done.taken.parts
         × GivenTo (W.contents client.writer) done.given.parts (W.contents done.writer)) }
 {
@@ -78,7 +78,7 @@ where
         reader,
         writer,
         &mut application,
-        passed_over,
+        skipped,
         options,
     );
     (application.server, done)
@@ -98,7 +98,7 @@ pub fn serve_with_jobs<T, R, W>(
     alloc: Global,
     client: ClientStreams<R, W>,
     sums: Sums,
-    passed_over: &mut SkipAndFlag,
+    skipped: &mut SkipAndFlag,
 ) -> (Sums, Result<Threaded<W>, StartFault>)
 where
     T: Threads + Wait + Copy + Drop + Send + 'static,
@@ -108,7 +108,7 @@ where
     ensures told { IfOk result.1 (λ done. OfTaken done.taken.parts (λ text.
         ThreadsTellOver true ⟦<SkipAndFlag as BadContentPolicy>⟧.passes client.limits (SearchSession T ⟦<Sums as Server>⟧
         ⟦<Sums as StatesJobs<Search>>⟧.jobs sums result.0)
-        text passed_over.old passed_over.new (Some []) (noted done.given) done.answer)) }
+        text skipped.old skipped.new (Some []) (noted done.given) done.answer)) }
     ensures passed { IfOk result.1 (λ done. TakenFrom (R.remaining client.reader) done.taken.parts
         × GivenTo (W.contents client.writer) done.given.parts (W.contents done.writer)) }
 {
@@ -117,7 +117,7 @@ where
     let mut options = JobOptions::new(SIZE);
     options.threads.limits = client.limits;
     let (reader, writer) = (client.reader, client.writer);
-    run_jobs(rt, alloc, reader, writer, sums, passed_over, options)
+    run_jobs(rt, alloc, reader, writer, sums, skipped, options)
 }
 
 /// In a session with jobs, which begins with no documents, each reply at a wake-up is to the last request under its id, which is a search. The
