@@ -243,7 +243,7 @@ class Documents:
         return f"{uri} {shown_version(self.open[uri][0])}"
 
     def place(self, params):
-        """Where a position is, in bytes of UTF-8, and the range from there to the text's end."""
+        """Where a position is, in bytes of UTF-8, the range from there to the text's end, the position's line, and the same range in a copy."""
         uri = params["uri"]
         if not self.is_known(uri):
             return "no place"
@@ -255,7 +255,8 @@ class Documents:
         # A line without its end, which `\r\n` is also where positions count its `\r`.
         rows = re.split("\r\n|\n|\r" if self.counting.standard else "\r\n|\n", text)
         line = rows[at[0]] if at[0] < len(rows) else None
-        return f"{len(text[:index].encode())} {json.dumps(written, separators=(',', ':'), sort_keys=True)} {json.dumps(line, ensure_ascii=False)}"
+        span = json.dumps(written, separators=(",", ":"), sort_keys=True)
+        return f"{len(text[:index].encode())} {span} {json.dumps(line, ensure_ascii=False)} {span}"
 
     def row(self, method, params):
         if method not in METHODS:

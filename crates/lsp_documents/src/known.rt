@@ -2,10 +2,11 @@
 ghost use Rattle.std.specs.Iterator.{YieldsFirstBy, item_count};
 
 use crate::kept::DocumentState;
-use lsp_text::{Text, TextDocument};
+use lsp_text::{PositionEncoding, Range, Text, TextDocument};
 use std::alloc::{AllocError, Global};
 use std::collections::btree_map::Iter;
 use std::marker::Model;
+use std::ops;
 use std::sync::Arc;
 
 /// Goes over the documents whose text is known in the order of their URIs: the URI and the document. Contracts see the
@@ -58,7 +59,9 @@ pub struct DocumentSnapshot {
 
 impl DocumentSnapshot {
     ghost use Rattle.std.specs.Arc.{arc_value};
-    ghost use Rattle.std.specs.Prelude.{◌≡◌, IfOk, string_bytes};
+    ghost use Rattle.std.specs.Prelude.{◌≡◌, ◌<◌, ◌^◌, length, IfOk, string_bytes};
+    ghost use Rattle.lsp_text.specs.Columns.{offset_of, IsPlace};
+    ghost use Rattle.lsp_text.specs.Places.{position_of};
 
     /// Copies a URI and a document. The text is not copied. `Err` means that an allocation failed.
     pub fn new(
@@ -80,5 +83,26 @@ impl DocumentSnapshot {
             version: document.version(),
             text: document.share_text()?,
         })
+    }
+
+    /// Returns the range of a part of the text (LSP 3.17, "Range"). It is for a job, which has the copy alone. The part
+    /// is given in bytes of UTF-8. The range is in this encoding: pass the one that was agreed on, which
+    /// `TextDocuments::encoding` returns. An end past the end of the text counts as that end.
+    pub fn range_of(&self, part: ops::Range<usize>, encoding: PositionEncoding) -> Range
+        ensures start { result.start ≡ position_of encoding (arc_value self.now.text) part.start }
+        ensures end { result.end ≡ position_of encoding (arc_value self.now.text) part.end }
+        ensures start_again { IsPlace (arc_value self.now.text) part.start
+            → length (arc_value self.now.text).bytes < 2 ^ 30
+            → offset_of encoding (arc_value self.now.text) result.start.line result.start.character
+            ≡ part.start }
+        ensures end_again { IsPlace (arc_value self.now.text) part.end
+            → length (arc_value self.now.text).bytes < 2 ^ 30
+            → offset_of encoding (arc_value self.now.text) result.end.line result.end.character
+            ≡ part.end }
+    {
+        Range {
+            start: self.text.position_at(part.start, encoding),
+            end: self.text.position_at(part.end, encoding),
+        }
     }
 }

@@ -6,7 +6,7 @@
 // and the position of each place where a character begins. One that is closed shows `-`, and one whose text is lost `?`. A body that
 // is no message has `unread`: it may have told of any document, so each text is lost. `known` has each URI whose text is known, with
 // its version, and then with a copy of the document. `place` has where a position of a document is, in bytes, the range from there
-// to the text's end, and the position's line. `path` has the URI and the version of the document of a path. `doubtful` has the URIs whose text is known and doubtful. `keep` keeps copies of the documents, and
+// to the text's end, the position's line, and the same range as a copy of the document has it. `path` has the URI and the version of the document of a path. `doubtful` has the URIs whose text is known and doubtful. `keep` keeps copies of the documents, and
 // `kept` has these. `long` opens a document of a text so many times over, and `often` puts a text before one so many times in one
 // call: what comes is how long it is then, in bytes and in lines.
 use crate::messages::text_in;
@@ -315,8 +315,22 @@ impl Documents {
                 say_written(said, &self.documents.range_of(text, part));
                 said.push(" ");
                 say_written(said, &line_of(text, params));
+                said.push(" ");
+                self.show_in_copy(said, document, offset);
             }
             None => said.push("no place"),
+        }
+    }
+
+    /// Says the range from a place of a document to its end, as a copy of the document has it.
+    fn show_in_copy(&self, said: &mut Said, document: &TextDocument, offset: usize) {
+        match DocumentSnapshot::new(self.alloc, "", document) {
+            Ok(copy) => {
+                let part = offset..copy.text.as_str().len();
+                say_written(said, &copy.range_of(part, self.documents.encoding()));
+                drop(copy);
+            }
+            Err(_) => said.is_short = true,
         }
     }
 
