@@ -1,2 +1,3 @@
 pub mod Selections
+pub mod TokenEdits
 pub mod Written

@@ -5,6 +5,7 @@
 #![tactic(auto)]
 
 mod colors;
+mod diagnostic_reports;
 mod hierarchies;
 mod inline_values;
 pub mod methods;
@@ -12,6 +13,7 @@ mod nested;
 mod places;
 mod reports;
 mod token_changes;
+mod token_edits;
 
 pub use colors::{
     Color, ColorInformation, ColorPresentation, ColorPresentationParams, DocumentColorParams,
