@@ -10,10 +10,14 @@ mod configuration;
 mod params;
 mod publishing;
 mod receiving;
+mod registering;
 mod sending;
+mod tracing;
 
 pub use configuration::Configuration;
 pub use params::from_value;
 pub use publishing::publish;
 pub use receiving::{answer, on_notification, on_request, read_params, try_answer};
+pub use registering::{can_watch_files, register, unregister};
 pub use sending::{read_result, reply, send_notification, send_request};
+pub use tracing::TraceValue;
