@@ -584,6 +584,56 @@ def tokens_answer(text):
     return [ordered({"data": numbers})]
 
 
+def change_answer(text):
+    """LSP 3.17, "Semantic Tokens": edits that make the later numbers of the earlier ones. There is none where they are the same, and else one,
+    which spares what both begin with and what both end with."""
+    given = json.loads(text)
+    before, after = given["before"], given["after"]
+    start = next((i for i, (a, b) in enumerate(zip(before, after)) if a != b), min(len(before), len(after)))
+    rest, later = before[start:], after[start:]
+    end = next((i for i, (a, b) in enumerate(zip(rest[::-1], later[::-1])) if a != b), min(len(rest), len(later)))
+    put = later[: len(later) - end]
+    edit = {"start": start, "deleteCount": len(rest) - end, **({"data": put} if put else {})}
+    return [ordered({"edits": [edit] if before != after else []})]
+
+
+def report_answer(text):
+    """LSP 3.17, "Document Diagnostics": the report `unchanged` if the client has the one with this id."""
+    given = json.loads(text)
+    if given.get("previous") == given["id"]:
+        return [ordered({"kind": "unchanged", "resultId": given["id"]})]
+    return [ordered({"kind": "full", "resultId": given["id"], "items": read_as(some("Diagnostic"), given["items"])})]
+
+
+def trace_answer(text):
+    """LSP 3.17, "LogTrace": nothing is sent if the trace is off, and `verbose` only if the client wants that. "Initialize Request": a trace
+    that is missing is off."""
+    given = json.loads(text)
+
+    def sent(value):
+        if value == "off":
+            return "Off nothing"
+        params = {"message": given["message"], **({"verbose": given["verbose"]} if value == "verbose" and "verbose" in given else {})}
+        return f"{value.capitalize()} tell $/logTrace {ordered(params)}"
+
+    first = given.get("initialize", {}).get("trace")
+    said = [sent(first if first in TRACES else "off")]
+    if "set" in given:
+        said.append(sent(given["set"]["value"]) if given["set"]["value"] in TRACES else "no such trace")
+    return [", ".join(said)]
+
+
+def register_answer(text):
+    """LSP 3.17, "Register Capability" and "DidChangeWatchedFiles Notification": a client that has `dynamicRegistration` is asked."""
+    given = json.loads(text)
+    watching = given.get("client", {}).get("workspace", {}).get("didChangeWatchedFiles", {})
+    if watching.get("dynamicRegistration") is not True:
+        return ["nothing"]
+    one = {"id": given["id"], "method": "workspace/didChangeWatchedFiles"}
+    begun, ended = {"registrations": [{**one, "registerOptions": given["options"]}]}, {"unregisterations": [one]}
+    return [f"ask client/registerCapability {ordered(begun)} for 7, ask client/unregisterCapability {ordered(ended)} for 8"]
+
+
 def offset_answer(rest):
     """LSP 3.17, "Position": a character past the line's end is that end, and one within a pair is its start. A line ends with `\n` alone
     (docs/DOCUMENTS.md)."""
@@ -600,5 +650,8 @@ def lines_answer(text):
 ROWS = {
     "method": acts_answer, "configuration": configuration_answer, "plain": plain_answers, "typed": typed_answer,
     "uri": uri_answer, "path": path_answer, "names": names_answer, "folders": folders_answer, "tokens": tokens_answer,
+    "change": change_answer, "report": report_answer, "trace": trace_answer, "register": register_answer,
     "offset": offset_answer, "lines": lines_answer,
 }
+# The values of a trace (LSP 3.17, "TraceValue").
+TRACES = ("off", "messages", "verbose")

@@ -156,7 +156,7 @@ fn say_reply(said: &mut Said, id: RequestId, outcome: Result<Value, ResponseErro
 }
 
 /// Says an act.
-fn say(said: &mut Said, act: Act<u32>) {
+pub fn say(said: &mut Said, act: Act<u32>) {
     match act {
         Act::Reply(id, outcome) => say_reply(said, id, outcome),
         Act::ReplyText(id, text) => match text.into_value(said.alloc) {

@@ -1,7 +1,9 @@
 // One row after another.
 use crate::documents::Documents;
 use crate::said::Said;
-use crate::{by_method, dispatching, links, lists, messages, plain, queues, types, uris};
+use crate::{
+    by_method, dispatching, links, lists, messages, plain, queues, small_calls, types, uris,
+};
 use std::alloc::Global;
 
 /// What the next row is about.
@@ -70,6 +72,7 @@ impl Rows {
             "names" => uris::names(said, rest),
             "folders" => uris::folders(said, rest),
             "tokens" => uris::tokens(said, rest),
+            "change" | "report" | "trace" | "register" => small_calls::made(said, word, rest),
             "offset" => uris::offset(said, rest),
             "lines" => uris::lines(said, rest),
             "calls" => lists::called(said, rest),
