@@ -62,7 +62,7 @@ fn report(said: &mut Said, found: &Value) {
     drop(report);
 }
 
-/// Says the trace that a client wants at the start, and what is sent then, and the same after `$/setTrace`.
+/// Says the trace that a client wants at the start, and the message of a server then, and the same after `$/setTrace`.
 fn trace(said: &mut Said, found: &Value) {
     let mut wanted = TraceValue::Off;
     let started: Option<InitializeParams> = get(said, found, "initialize", None);
@@ -106,7 +106,9 @@ fn registration(said: &mut Said, found: &Value) {
         return;
     }
     drop(none);
-    let options: Option<DidChangeWatchedFilesRegistrationOptions> = get(said, found, "options", None);
+    let options: Option<DidChangeWatchedFilesRegistrationOptions> = get(
+        said, found, "options", None,
+    );
     let id = text_in(found.get("id"));
     let method = "workspace/didChangeWatchedFiles";
     if let Some(options) = options {
