@@ -117,7 +117,7 @@ def begin(client):
 
 
 def types_fast(client, chance):
-    """Edits of all documents, mixed, and now and then a request, whose id may be the name of a slot; then the marks of the last versions."""
+    """Edits of all documents, mixed, and now and then a request, whose id may be the name of a key; then the marks of the last versions."""
     uris = [f"file:///{number}.txt" for number in range(DOCUMENTS)]
     documents = {uri: Document(uri) for uri in uris}
     for uri, document in documents.items():

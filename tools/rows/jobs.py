@@ -71,11 +71,11 @@ class Job:
         return token if is_id(token) else None
 
 
-class Slot(str):
+class Key(str):
     """The name of a job that answers no request. It is no request's id."""
 
     def __eq__(self, other):
-        return isinstance(other, Slot) and str.__eq__(self, other)
+        return isinstance(other, Key) and str.__eq__(self, other)
 
     __hash__ = str.__hash__
 
@@ -106,20 +106,20 @@ class Pool:
         return True
 
     def has_room(self, name=None):
-        """As many jobs may run and wait as there are places. Those in slots leave one worker to requests, if there are two or more."""
+        """As many jobs may run and wait as there are places. Those under keys leave one worker to requests, if there are two or more."""
         jobs, waiting = [*self.queue, *filter(None, self.workers)], max(self.waiting, 1)
-        if isinstance(name, Slot) and sum(isinstance(it.name, Slot) for it in jobs) >= self.for_slots() + waiting:
+        if isinstance(name, Key) and sum(isinstance(it.name, Key) for it in jobs) >= self.for_keys() + waiting:
             return False
         return len(jobs) < len(self.workers) + waiting
 
-    def for_slots(self):
+    def for_keys(self):
         return max(len(self.workers) - 1, 1)
 
     def next_job(self):
-        """The oldest job of a request; if none waits, the oldest in a slot, but if as many of those run as may."""
-        requests = [it for it in self.queue if not isinstance(it.name, Slot)]
-        in_slots = sum(job is not None and isinstance(job.name, Slot) for job in self.workers)
-        return (requests or (self.queue if in_slots < self.for_slots() else []) or [None])[0]
+        """The oldest job of a request; if none waits, the oldest under a key, but if as many of those run as may."""
+        requests = [it for it in self.queue if not isinstance(it.name, Key)]
+        under_keys = sum(job is not None and isinstance(job.name, Key) for job in self.workers)
+        return (requests or (self.queue if under_keys < self.for_keys() else []) or [None])[0]
 
     def end(self):
         for job in [*self.table.values(), *self.queue, *filter(None, self.workers)]:
@@ -318,13 +318,13 @@ class Working(Talker):
         if "id" in came and method.startswith("later "):
             job = self.make(method[6:], params)
             self.kept[job.number] = came["id"]
-            self.later.append((Slot(f"later {came['id']}"), job))
+            self.later.append((Key(f"later {came['id']}"), job))
         elif is_note(came, "start"):
             self.starts, self.later = self.later, []
         elif "id" not in came and method.startswith("job "):
-            self.starts.append((Slot("own"), self.make(method[4:], params)))
+            self.starts.append((Key("own"), self.make(method[4:], params)))
         elif is_note(came, "stop"):
-            self.starts.append((Slot("own"), None))
+            self.starts.append((Key("own"), None))
         elif is_note(came, "answer"):
             return [{"id": params[0], "result": "by the server"}]
         elif is_note(came, "withdraw"):
@@ -409,17 +409,17 @@ class JobSession(Session):
             if job:
                 self.submit(name, job)
 
-    def free(self, slot, end):
-        """The server sees that the job in a slot ended so."""
-        if slot in self.pool.table:
-            self.finished += f" {json.dumps(slot)} {end}"
-            self.pool.forget(slot)
+    def free(self, key, end):
+        """The server sees that the job under a key ended so."""
+        if key in self.pool.table:
+            self.finished += f" {json.dumps(key)} {end}"
+            self.pool.forget(key)
 
-    def submit(self, slot, job):
+    def submit(self, key, job):
         """A job without room is refused, and its server sees that."""
-        if not self.pool.submit(slot, job):
-            self.finished += f" {json.dumps(slot)} refused"
-            self.send({"method": "refused", "params": [slot]})
+        if not self.pool.submit(key, job):
+            self.finished += f" {json.dumps(key)} refused"
+            self.send({"method": "refused", "params": [key]})
 
     def take(self, came):
         """A long request has its job. Without room its server is not asked for one, and nothing is told to it."""
@@ -482,7 +482,7 @@ class JobSession(Session):
             return self.send(self.server.ask(said["method"], said["params"], job))
         end, reply, found = came_of(said, job)
         self.finished += f" {json.dumps(name)} {end}" if found is None else f" {json.dumps(name)}:{found}"
-        if not isinstance(name, Slot):
+        if not isinstance(name, Key):
             return self.act([{"id": name, **reply}])
         if found is None or "result" not in said:
             return self.act([])
@@ -510,8 +510,8 @@ def came_of(said, job):
 
 
 def hand_name(word):
-    """A request's number, or that of a slot behind an `s`."""
-    return Slot(word) if word.startswith("s") else int(word)
+    """A request's number, or that of a key behind an `s`."""
+    return Key(word) if word.startswith("s") else int(word)
 
 
 class HandPool:
@@ -587,10 +587,10 @@ class HandPool:
         return f"{name} {self.shown_end(name, said, job)}, "
 
     def shown_end(self, name, said, job):
-        """A job in a slot gives no reply, and its value is found."""
+        """A job under a key gives no reply, and its value is found."""
         if said in ("starves", "cancelled"):
             return {"starves": "no memory"}.get(said, said)
-        if isinstance(name, Slot):
+        if isinstance(name, Key):
             return f"found {ordered(said['result'])}" if job.finds and "result" in said else "no reply"
         if not job.replies:
             return "no reply"

@@ -30,7 +30,7 @@ use Rattle.lsp_documents.specs.declared.fault.UpdateFault.{UpdateFault}
 use Rattle.lsp_documents.specs.declared.kept.DocumentState.{DocumentState}
 use Rattle.lsp_documents.specs.declared.method.DocumentMethod.{DocumentMethod}
 use Rattle.lsp_documents.specs.declared.method.DocumentMethod.TheVariants.{DidOpen, DidChange, DidSave, DidClose}
-use Rattle.lsp_jobs.specs.KeyedJobLaw.{LeavesAlone, slot_of}
+use Rattle.lsp_jobs.specs.KeyedJobLaw.{LeavesAlone, key_of}
 use Rattle.lsp_jobs.specs.declared.job_server.JobCommand.{JobCommand}
 use Rattle.lsp_jobs.specs.declared.job_server.JobCommand.TheVariants.{Start, Stop}
 use Rattle.lsp_message.specs.Id.{Id, text, same_id}
@@ -111,18 +111,18 @@ not_made method before now params m a =
     subst (Touches (documents_of before) (documents_of now)) (sym a.named)
     (failed_by method (documents_of before) (documents_of now) params m.fault a.err)
 
-other_slot : (q uri : List ℕ) → same_id (text q) (text uri) ≡ false → bytes_eq q uri ≡ false
-other_slot q uri other = sym (is_eq-slice_cmp q uri) ∙ other
+other_key : (q uri : List ℕ) → same_id (text q) (text uri) ≡ false → bytes_eq q uri ≡ false
+other_key q uri other = sym (is_eq-slice_cmp q uri) ∙ other
 
-slot_is : (documents : Documents) (uri : List ℕ) (change : JobCommand Analysis)
-    → IsChangeOf documents uri change → slot_of change ≡ text uri
-slot_is documents uri (Start slot analysis) is = is.1.0 ∙ ap text is.0
-slot_is documents uri (Stop slot) is = is.0
+key_is : (documents : Documents) (uri : List ℕ) (change : JobCommand Analysis)
+    → IsChangeOf documents uri change → key_of change ≡ text uri
+key_is documents uri (Start key analysis) is = is.1.0 ∙ ap text is.0
+key_is documents uri (Stop key) is = is.0
 
-is_current : (documents : Documents) (uri : List ℕ) (change : JobCommand Analysis) (slot : Id)
-    (analysis : Analysis) → IsChangeOf documents uri change → Start slot analysis ≡ change
-    → IsCurrent documents slot analysis
-is_current documents uri change slot analysis is e =
+is_current : (documents : Documents) (uri : List ℕ) (change : JobCommand Analysis) (key : Id)
+    (analysis : Analysis) → IsChangeOf documents uri change → Start key analysis ≡ change
+    → IsCurrent documents key analysis
+is_current documents uri change key analysis is e =
     (subst (IsChangeOf documents uri) (sym e) is).1
 
 -- an analysis is stopped of a document whose text is not known
@@ -137,21 +137,21 @@ is_stopped documents uri q change is e =
 pub one_follows : (before now : Documents) (uri : List ℕ) (change : JobCommand Analysis)
     → Touches before now (Some uri) → IsChangeOf now uri change → Follow before (change ∷ []) now
 one_follows before now uri change touches is = record {
-  started = λ slot analysis last.
-      is_current now uri change slot analysis is (only last.before last.after _ change last.cut);
+  started = λ key analysis last.
+      is_current now uri change key analysis is (only last.before last.after _ change last.cut);
   stopped = λ q some more cut. is_stopped now uri q change is (only some more (Stop (text q)) change cut);
-  others = λ q alone. ap (option_and_then shown) (touches q (other_slot q uri
-      (subst (λ (s : Id). same_id (text q) s ≡ false) (slot_is now uri change is) alone.0)));
+  others = λ q alone. ap (option_and_then shown) (touches q (other_key q uri
+      (subst (λ (s : Id). same_id (text q) s ≡ false) (key_is now uri change is) alone.0)));
 }
 
 -- the same of all
 pub all_follow : (before now : Documents) (changes : List (JobCommand Analysis)) → Touches before now None
     → AreChangesOf now changes → Follow before changes now
 all_follow before now changes touches are = record {
-  started = λ slot analysis last.
+  started = λ key analysis last.
       let at = in_list (λ change. (uri : List ℕ) × IsChangeOf now uri change) last.before last.after
-      (Start slot analysis) changes last.cut are.each in
-      is_current now at.0 (Start slot analysis) slot analysis at.1 refl;
+      (Start key analysis) changes last.cut are.each in
+      is_current now at.0 (Start key analysis) key analysis at.1 refl;
   stopped = λ q some more cut.
       let at = in_list (λ change. (uri : List ℕ) × IsChangeOf now uri change) some more (Stop (text q)) changes cut
       are.each in
@@ -161,17 +161,17 @@ all_follow before now changes touches are = record {
       ap (option_and_then shown) (gone ∙ sym (touches uri gone));
 }
 
-alone_split : (slot : Id) (some more : List (JobCommand Analysis)) → LeavesAlone slot (some ++ more)
-    → LeavesAlone slot some × LeavesAlone slot more
-alone_split slot [] more alone = (tt, alone)
-alone_split slot (change ∷ some) more alone =
-    let rest = alone_split slot some more alone.1 in ((alone.0, rest.0), rest.1)
+alone_split : (key : Id) (some more : List (JobCommand Analysis)) → LeavesAlone key (some ++ more)
+    → LeavesAlone key some × LeavesAlone key more
+alone_split key [] more alone = (tt, alone)
+alone_split key (change ∷ some) more alone =
+    let rest = alone_split key some more alone.1 in ((alone.0, rest.0), rest.1)
 
 -- what is kept of a URI, among these entries
 abbrev pub found : List ℕ → List (String Global × DocumentState) → Option DocumentState
 found uri entries = lookup (is_at (λ k. slice_cmp nat_cmp uri (string_bytes k))) entries
 
--- what is kept of a URI is among the entries that are left, if its slot is not changed
+-- what is kept of a URI is among the entries that are left, if its key is not changed
 abbrev pub AreLeft : Documents → List (JobCommand Analysis) → List (String Global × DocumentState) → Type 0
 AreLeft documents changes entries =
     (uri : List ℕ) → LeavesAlone (text uri) changes → documents.held uri ≡ found uri entries
@@ -184,7 +184,7 @@ are_left documents changes change e entries is before uri alone =
     let both = alone_split (text uri) changes (change ∷ []) alone in
     before uri both.0
     ∙ lookup_tail (is_at (λ k. slice_cmp nat_cmp uri (string_bytes k))) e entries
-    (subst (λ (s : Id). same_id (text uri) s ≡ false) (slot_is documents (string_bytes e.0) change is) both.1.0)
+    (subst (λ (s : Id). same_id (text uri) s ≡ false) (key_is documents (string_bytes e.0) change is) both.1.0)
 
 -- what `apply` ensures
 abbrev Heard : Option DocumentMethod → TextDocuments → Data → Option (Result DocumentUpdate UpdateFault)

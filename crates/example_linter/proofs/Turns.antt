@@ -1,4 +1,4 @@
--- Through the turns of the server, each analysis that stands in a slot is of its document as it is then, and its
+-- Through the turns of the server, each analysis that stands under a key is of its document as it is then, and its
 -- documents are what the client's notifications make of them.
 use Rattle.serde_json.specs.Data.{Data}
 use Rattle.std.proofs.Common.{◌≡◌, refl, sym, ◌∙◌, ap, subst, inl, inr, ℕ, List, [], ◌∷◌, ◌++◌, append_assoc}
@@ -100,27 +100,27 @@ module _ {P : Type 0} (written : Diagnostic → Data) (plain : Plain Linter P)
     pub reported : (job : Analysis) (method : List ℕ) (params : Data) → may.reports job method params → ⊥
     pub asked : (job : Analysis) (method : List ℕ) (params : Data) → may.asks job method params → ⊥
 
-  -- each analysis that stands in a slot is of its document
+  -- each analysis that stands under a key is of its document
   abbrev Right : List (Turn plain may) → Documents → Type 0
-  Right turns documents = (slot : Id) (analysis : Analysis)
-      → LastStart plain may turns slot analysis → IsCurrent documents slot analysis
+  Right turns documents = (key : Id) (analysis : Analysis)
+      → LastStart plain may turns key analysis → IsCurrent documents key analysis
 
-  alone_last : (slot : Id) (rest : List (Turn plain may)) (t : Turn plain may)
-      → AllLeaveAlone plain may slot (rest ++ t ∷ [])
-      → AllLeaveAlone plain may slot rest × LeavesAlone slot t.changes
-  alone_last slot [] t all = (tt, all.0)
-  alone_last slot (x ∷ rest) t all =
-      let more = alone_last slot rest t all.1 in ((all.0, more.0), more.1)
+  alone_last : (key : Id) (rest : List (Turn plain may)) (t : Turn plain may)
+      → AllLeaveAlone plain may key (rest ++ t ∷ [])
+      → AllLeaveAlone plain may key rest × LeavesAlone key t.changes
+  alone_last key [] t all = (tt, all.0)
+  alone_last key (x ∷ rest) t all =
+      let more = alone_last key rest t all.1 in ((all.0, more.0), more.1)
 
   right_on : (before now : Documents) (earlier : List (Turn plain may)) (t : Turn plain may) → Right earlier before
       → Follow before t.changes now → Right (earlier ++ t ∷ []) now
-  right_on before now earlier t right follow slot analysis last =
+  right_on before now earlier t right follow key analysis last =
       elim (place earlier last.before last.since t last.turn last.cut) [
-        | inl here ↦ follow.started slot analysis
-            (subst (λ (x : Turn plain may). StartsLast x.changes slot analysis) here.1 last.started)
+        | inl here ↦ follow.started key analysis
+            (subst (λ (x : Turn plain may). StartsLast x.changes key analysis) here.1 last.started)
         | inr there ↦
-            let alone = alone_last slot there.0 t (subst (AllLeaveAlone plain may slot) there.1 last.alone) in
-            let was = right slot analysis (record {
+            let alone = alone_last key there.0 t (subst (AllLeaveAlone plain may key) there.1 last.alone) in
+            let was = right key analysis (record {
               before = last.before;
               turn = last.turn;
               since = there.0;
@@ -138,8 +138,8 @@ module _ {P : Type 0} (written : Diagnostic → Data) (plain : Plain Linter P)
   follow_none : (documents : Documents) (changes : List (JobCommand Analysis)) → changes ≡ []
       → Follow documents changes documents
   follow_none documents changes none = record {
-    started = λ slot analysis last.
-        absurd (not_empty last.before last.after (Start slot analysis) (sym none ∙ last.cut));
+    started = λ key analysis last.
+        absurd (not_empty last.before last.after (Start key analysis) (sym none ∙ last.cut));
     stopped = λ uri some more cut. absurd (not_empty some more (Stop (text uri)) (sym none ∙ cut));
     others = λ uri alone. refl;
   }
@@ -174,7 +174,7 @@ module _ {P : Type 0} (written : Diagnostic → Data) (plain : Plain Linter P)
     sees : (made : Linter) (left : List (Left may)) (new : Linter) → SeesLeft plain may made left new → new ≡ made
     sees made [] new same = same
     sees made (l ∷ ls) new all =
-        sees l.new ls new all.1 ∙ same_at_end l.old (Keyed l.slot) l.end l.acts l.new l.saw ∙ all.0
+        sees l.new ls new all.1 ∙ same_at_end l.old (Keyed l.key) l.end l.acts l.new l.saw ∙ all.0
 
     taken : (payloads : List P) (old new : Linter) → TakesBack plain.ids_exhausted_post old payloads new → new ≡ old
     taken [] old new same = same
@@ -229,9 +229,9 @@ module _ {P : Type 0} (written : Diagnostic → Data) (plain : Plain Linter P)
     nothing_left (l ∷ ls) =
         ap (λ (acts : List (Act P)). acts ++ at_ends may ls) (none l.end l.is_left l.saw) ∙ nothing_left ls
       where
-        none : (end : End Findings) → IsLeft end → SeesEnd may l.old (Keyed l.slot) end l.acts l.new → l.acts ≡ []
+        none : (end : End Findings) → IsLeft end → SeesEnd may l.old (Keyed l.key) end l.acts l.new → l.acts ≡ []
         none (found it) is saw = absurd is
-        none (ended end) is saw = (states.finished l.old (Keyed l.slot) end l.acts l.new saw).0
+        none (ended end) is saw = (states.finished l.old (Keyed l.key) end l.acts l.new saw).0
 
     -- a notification at a wake, after these turns
     module _ (t : Turn plain may) (earlier : List (Turn plain may)) (good : Good earlier t.old)
@@ -243,13 +243,13 @@ module _ {P : Type 0} (written : Diagnostic → Data) (plain : Plain Linter P)
       silent : t.call.acts ≡ [] → Held
       silent nothing = absurd (not_empty before after (tells method params) (sym nothing ∙ at))
 
-      published : (slot : Id) (job : Analysis) (findings : Findings) (act : Act P)
-          → LastStart plain may earlier slot job → FindsMarks written job (Some findings)
+      published : (key : Id) (job : Analysis) (findings : Findings) (act : Act P)
+          → LastStart plain may earlier key job → FindsMarks written job (Some findings)
           → act ≡ shows (string_bytes findings.source.uri) findings.source.version
           (map_list written findings.marks.items) → t.call.acts ≡ by_server act ∷ [] → Held
-      published slot job findings act stands finds is all =
+      published key job findings act stands finds is all =
           let current = some_and (IsOf job) (known (documents_of t.old.documents) (string_bytes job.source.uri))
-          (good.right slot job stands).1 in
+          (good.right key job stands).1 in
           let source = finds.0 in
           let version = ap (λ (s : DocumentSnapshot). s.version) source ∙ current.2.version in
           let same = told method params act (only before after (tells method params) (by_server act) (sym all ∙ at)) in
@@ -268,17 +268,17 @@ module _ {P : Type 0} (written : Diagnostic → Data) (plain : Plain Linter P)
           → Stands plain may earlier name job → ComesTo may.run_post job came
           → SeesEnd may t.old name (end_of came) first new
           → t.call.acts ≡ map_list by_server (first ++ reply_at name came) → Held
-      says (Keyed slot) job (gave reply (Some it)) first new stands comes saw all =
-          let told_of = (states.heard t.old (Keyed slot) it first new saw).0 in
-          published slot job it (shows (string_bytes it.source.uri) it.source.version
+      says (Keyed key) job (gave reply (Some it)) first new stands comes saw all =
+          let told_of = (states.heard t.old (Keyed key) it first new saw).0 in
+          published key job it (shows (string_bytes it.source.uri) it.source.version
           (map_list written it.marks.items)) stands.last (states.finds job reply (Some it) comes) refl
           (all ∙ ap (λ (acts : List (Act P)). map_list by_server (acts ++ [])) told_of)
-      says (Keyed slot) job (gave reply None) first new stands comes saw all =
-          silent (none_told first (states.finished t.old (Keyed slot) Done first new saw).0 all)
-      says (Keyed slot) job out_of_memory first new stands comes saw all =
-          silent (none_told first (states.finished t.old (Keyed slot) Failed first new saw).0 all)
-      says (Keyed slot) job gave_up first new stands comes saw all =
-          silent (none_told first (states.finished t.old (Keyed slot) Cancelled first new saw).0 all)
+      says (Keyed key) job (gave reply None) first new stands comes saw all =
+          silent (none_told first (states.finished t.old (Keyed key) Done first new saw).0 all)
+      says (Keyed key) job out_of_memory first new stands comes saw all =
+          silent (none_told first (states.finished t.old (Keyed key) Failed first new saw).0 all)
+      says (Keyed key) job gave_up first new stands comes saw all =
+          silent (none_told first (states.finished t.old (Keyed key) Cancelled first new saw).0 all)
       says (Request id) job came first new stands comes saw all =
           absurd (states.for_none job stands.method stands.params stands.is_given.2)
 
@@ -389,7 +389,7 @@ module _ {P : Type 0} (written : Diagnostic → Data) (plain : Plain Linter P)
         let fresh = fresh_start led.early first led.start (none, empty) led.initialized in
         let good : Good w.turns w.turn.old = good_all led.start w.turn.old [] w.turns (record {
           none = fresh.0;
-          right = λ slot analysis last. absurd (not_empty last.before last.since last.turn last.cut);
+          right = λ key analysis last. absurd (not_empty last.before last.since last.turn last.cut);
         }) led.linked in
         let has = by_an_act w.turn.call.acts w.sent.0 params before (after ++ w.lost)
         (w.sent.1 ∙ ap (λ (l : List Message). l ++ w.lost) sent

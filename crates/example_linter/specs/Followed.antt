@@ -30,18 +30,18 @@ pub record IsOf (analysis : Analysis) (document : Document) : Type 0 where
   pub text : arc_value analysis.source.text ≡ document.text
   pub version : analysis.source.version ≡ document.version
 
--- The slot has the name of the URI, and the analysis is of the document that is held for it.
+-- The key has the name of the URI, and the analysis is of the document that is held for it.
 abbrev pub IsCurrent : Documents → Id → Analysis → Type 0
-IsCurrent documents slot analysis = (slot ≡ text (string_bytes analysis.source.uri))
+IsCurrent documents key analysis = (key ≡ text (string_bytes analysis.source.uri))
     × IsSomeAnd (known documents (string_bytes analysis.source.uri)) (IsOf analysis)
 
--- The changes of slots follow the documents, which were these before and are these now: what is started last in a slot
--- is of its document as it is now, a slot where an analysis is stopped has the name of no document whose text is known,
--- and a slot that is not changed has the name of none that changed.
+-- The changes of keys follow the documents, which were these before and are these now: what is started last under a key
+-- is of its document as it is now, a key where an analysis is stopped has the name of no document whose text is known,
+-- and a key that is not changed has the name of none that changed.
 pub record Follow (old : Documents) (changes : List (JobCommand Analysis)) (now : Documents)
     : Type 0 where
-  pub started : (slot : Id) (analysis : Analysis) → StartsLast changes slot analysis
-      → IsCurrent now slot analysis
+  pub started : (key : Id) (analysis : Analysis) → StartsLast changes key analysis
+      → IsCurrent now key analysis
   pub stopped : (uri : List ℕ) (before after : List (JobCommand Analysis)) → changes ≡ before ++ Stop (text uri) ∷ after
       → known now uri ≡ None
   pub others : (uri : List ℕ) → LeavesAlone (text uri) changes → known now uri ≡ known old uri
@@ -49,9 +49,9 @@ pub record Follow (old : Documents) (changes : List (JobCommand Analysis)) (now 
 -- What becomes of the analysis of a document: one of its text takes the place of the one before. Or, if its text is not
 -- known, none goes on.
 abbrev pub IsChangeOf : Documents → List ℕ → JobCommand Analysis → Type 0
-IsChangeOf documents uri (Start slot analysis) =
-    (string_bytes analysis.source.uri ≡ uri) × IsCurrent documents slot analysis
-IsChangeOf documents uri (Stop slot) = (slot ≡ text uri) × (known documents uri ≡ None)
+IsChangeOf documents uri (Start key analysis) =
+    (string_bytes analysis.source.uri ≡ uri) × IsCurrent documents key analysis
+IsChangeOf documents uri (Stop key) = (key ≡ text uri) × (known documents uri ≡ None)
 
 -- the same of each document
 pub record AreChangesOf (documents : Documents) (changes : List (JobCommand Analysis)) : Type 0 where

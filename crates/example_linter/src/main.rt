@@ -10,7 +10,7 @@ ghost use Rattle.std.specs.List.{All};
 ghost use Rattle.std.specs.Prelude.{◌≡◌, ◌<◌, ◌∷◌, ◌++◌, [], List, IfOk, OnOk, Option, Some, false, map, string_bytes, true};
 ghost use Rattle.lsp_documents.specs.Held.{documents_of};
 ghost use Rattle.lsp_jobs.specs.JobLaw.{LawfulJobSession};
-ghost use Rattle.lsp_jobs.specs.declared.job_server.JobCommand.{JobCommand as ChangeOfSlot};
+ghost use Rattle.lsp_jobs.specs.declared.job_server.JobCommand.{JobCommand as Command};
 ghost use Rattle.lsp_message.specs.Message.{Message, notification as told};
 ghost use Rattle.lsp_session.specs.Session.{Exchange, SessionAnswer, Stop};
 ghost use Rattle.lsp_threads.specs.Passing.{GivenTo, OfTaken, TakenFrom, noted};
@@ -287,7 +287,7 @@ impl Linter {
     /// Starts or stops the analysis of a document.
     fn look_at(&mut self, uri: &str, acts: &mut Acts) -> Result<(), AllocError>
         ensures same { self.new.documents ≡ self.old.documents }
-        ensures change { OnOk result ((change : ChangeOfSlot Analysis)
+        ensures change { OnOk result ((change : Command Analysis)
             × (self.new.changes.items ≡ self.old.changes.items ++ change ∷ [])
             × IsChangeOf (documents_of self.old.documents) uri.now change) }
         ensures clear { OnOk result (All (Clears (documents_of self.old.documents)) (map act_seen acts.old.items)
@@ -326,13 +326,13 @@ fn change_of(
     ensures clear { OnOk result (All (Clears (documents_of documents.now)) (map act_seen acts.old.items)
         → All (Clears (documents_of documents.now)) (map act_seen acts.new.items)) }
 {
-    let slot = JobKey::from(String::from_str(alloc, uri)?);
+    let key = JobKey::from(String::from_str(alloc, uri)?);
     let Some(document) = documents.get(uri) else {
         acts.push(publish(alloc, uri, None, Vec::new(alloc))?)?;
-        return Ok(JobCommand::Stop(slot));
+        return Ok(JobCommand::Stop(key));
     };
     let source = DocumentSnapshot::new(alloc, uri, document)?;
-    Ok(JobCommand::Start(slot, Analysis { alloc, source }))
+    Ok(JobCommand::Start(key, Analysis { alloc, source }))
 }
 
 /// Serves a client. The session keeps the laws of a session of a server with jobs, whatever the analyses find and when. The marks that the

@@ -107,7 +107,7 @@ module _ {F P : Type 0} (plain : Plain Sums P) (may : StatedJobs Sums Search F P
     sees : (made : Sums) (left : List (Left may)) (new : Sums) → SeesLeft plain may made left new → new ≡ made
     sees made [] new same = same
     sees made (l ∷ ls) new all =
-        sees l.new ls new all.1 ∙ (at_end l.old (Keyed l.slot) l.end l.acts l.new l.saw).1 ∙ all.0
+        sees l.new ls new all.1 ∙ (at_end l.old (Keyed l.key) l.end l.acts l.new l.saw).1 ∙ all.0
 
     -- what a turn makes of the documents
     called : (old : Sums) (came : Option Message) (at : Option JobName) (acts : List (Act P)) (now : Sums)

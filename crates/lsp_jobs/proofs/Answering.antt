@@ -15,12 +15,12 @@ use Rattle.lsp_acts.specs.Acts.{does, does_all, is_spent}
 use Rattle.lsp_acts.specs.Law.{Handed, how_many, is_reply_under}
 use Rattle.lsp_acts.specs.SentByActs.{all_sends, sends_by, acts_done_at, cancelled_answer}
 use Rattle.lsp_acts.specs.declared.server.Server.{Ghosts as Plain}
-use Rattle.lsp_jobs.proofs.SlotChanges.{spares-append, fewer_requests, unanswered_has, went_all, without_request, Went}
+use Rattle.lsp_jobs.proofs.KeyChanges.{spares-append, fewer_requests, unanswered_has, went_all, without_request, Went}
 use Rattle.lsp_jobs.specs.Asking.{by_server, of_job, ByServers}
 use Rattle.lsp_jobs.specs.JobSession.{seen_with_jobs}
 use Rattle.lsp_jobs.specs.PendingJobs.{PendingJobs, without, with_job}
 use Rattle.lsp_jobs.specs.PoolView.{pending_jobs}
-use Rattle.lsp_jobs.specs.Pooled.{unanswered, without_cancelled, ChangesSlots, Does, Finishes, TakesLong}
+use Rattle.lsp_jobs.specs.Pooled.{unanswered, without_cancelled, ChangesJobs, Does, Finishes, TakesLong}
 use Rattle.lsp_jobs.specs.Seen.{seen}
 use Rattle.lsp_jobs.specs.KeyedJobLaw.{concerns, is_that, IsGiven, Left, Spares, at_ends}
 use Rattle.lsp_jobs.specs.KeyedJobLaw.{lefts_of}
@@ -113,11 +113,11 @@ module _ {S J F P : Type 0} (plain : Plain S P) (may : StatedJobs S J F P) where
   abbrev AllCome : (Id → J → Type 0) → List (Act P) → PendingJobs J → Type 0
   AllCome from acts pending = (id : Id) (e : J) → pending (Request id) ≡ Some e → from id e × Spares id acts
 
-  -- When slots are changed, what is done then follows.
-  changes_slots : (from : Id → J → Type 0) (before : List (Act P)) (old new : S × PendingJobs J)
-      (acts all : List (Act P)) → ChangesSlots may old acts all new → AllCome from before old.1 → AllCome from all new.1
+  -- When keys are changed, what is done then follows.
+  changes_jobs : (from : Id → J → Type 0) (before : List (Act P)) (old new : S × PendingJobs J)
+      (acts all : List (Act P)) → ChangesJobs may old acts all new → AllCome from before old.1 → AllCome from all new.1
       × ((left : List (Left may)) × (all ≡ acts ++ at_ends may left))
-  changes_slots from before old new acts all c come = (after, (lefts_of may went.events, went.acts))
+  changes_jobs from before old new acts all c come = (after, (lefts_of may went.events, went.acts))
     where
       went : Went plain may (c.mid, unanswered acts old.1, acts) (new.0, new.1, all)
       went = (went_all plain may c.changes (c.mid, unanswered acts old.1, acts) (new.0, new.1, all) c.made).0
@@ -134,7 +134,7 @@ module _ {S J F P : Type 0} (plain : Plain S P) (may : StatedJobs S J F P) where
   pub does_jobs : (from : Id → J → Type 0) (did : List (Act P) → S → Type 0)
       (pending : PendingJobs J) (all : List (Act P)) (new : S × PendingJobs J)
       → AllCome from [] pending → Does may did pending all new → AllCome from all new.1
-  does_jobs from did pending all new come d = (changes_slots from [] (d.1, pending) new d.0 all d.3 come).0
+  does_jobs from did pending all new come d = (changes_jobs from [] (d.1, pending) new d.0 all d.3 come).0
 
 -- a pending job stays when the message does not concern its id, or the message is its request
 abbrev pub FromCall : {J : Type 0} → (Id → List ℕ → Data → J → Type 0) → PendingJobs J → Option Message → Id → J
@@ -250,7 +250,7 @@ module _ (T : Type 0) {S J F P : Type 0} (plain : Plain S P) (may : StatedJobs S
       from = From old None acts
 
       ended : (own : List (Act P)) → Finishes may (seen old) own (seen did) → AllCome plain may from own (pended did)
-      ended own f = (changes_slots plain may from [] f.did (seen did) f.acts own f.others before).0
+      ended own f = (changes_jobs plain may from [] f.did (seen did) f.acts own f.others before).0
         where
           before : AllCome plain may from [] f.did.1
           before i e has =

@@ -7,10 +7,10 @@ pub mod NameLemmas
 mod Tables
 mod Tickets
 mod Owed
-mod SlotChanges
-mod SlotTurns
+mod KeyChanges
+mod KeyTurns
 pub mod QueuedJobSend
 pub mod Refused
-mod RefusedSlots
+mod RefusedKeys
 pub mod MessageSend
 pub mod PendingLemmas

@@ -15,7 +15,7 @@ use Rattle.lsp_message.specs.contracts.msg.id.RequestId as id
 use Rattle.lsp_jobs.specs.contracts.job.DoneJob as done
 use Rattle.lsp_jobs.specs.contracts.job.Interrupted as interrupted
 use Rattle.lsp_jobs.specs.contracts.names.JobName as name
-use Rattle.lsp_jobs.specs.contracts.names.JobKey as slot
+use Rattle.lsp_jobs.specs.contracts.names.JobKey as key
 
 pub both : {A B : Type 0} → A → B → A × B
 both a b = (a, b)
@@ -29,11 +29,11 @@ tree_parts = search (send-Value, String-send, Vec-send, BTreeMap-send, both, sen
 id_send : IsSend (id.the_field).row
 id_send = search (Vec-send, both, sendable) depth 40
 
-slot_send : IsSend (slot.the_field).row
-slot_send = search (Vec-send, both, sendable) depth 40
+key_send : IsSend (key.the_field).row
+key_send = search (Vec-send, both, sendable) depth 40
 
 pub name_send : IsSend (name.the_field).row
-name_send = enum_send (cases name.the_type) ((id_send, tt), ((slot_send, tt), tt))
+name_send = enum_send (cases name.the_type) ((id_send, tt), ((key_send, tt), tt))
 
 pub error_send : IsSend error.the_row
 error_send = search (tree_send, Vec-send, both, sendable) depth 40

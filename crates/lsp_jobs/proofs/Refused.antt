@@ -209,7 +209,7 @@ module _ {S J F P : Type 0} (plain : Plain S P) (may : StatedJobs S J F P) where
       (came : Came F) (id : Id) (outcome : Outcome) → Leads plain may first earlier turns now
       → Stands plain may turns name job → ComesTo may.run_post job came
       → Has {A = Act P} (replies id outcome) (reply_at name came) → AnswersRequest plain may first earlier id outcome
-  by_name first earlier turns now (Keyed slot) job came id outcome led stands comes has =
+  by_name first earlier turns now (Keyed key) job came id outcome led stands comes has =
       not_empty has.0 has.1 (replies id outcome) has.2
   by_name first earlier turns now (Request i) job came id outcome led stands comes has =
       only_reply (replies i (reply_of came)) id outcome (λ is.
@@ -243,13 +243,13 @@ module _ {S J F P : Type 0} (plain : Plain S P) (may : StatedJobs S J F P) where
             let l = r.0 in
             inr (record {
               wake = w;
-              name = Keyed l.slot;
+              name = Keyed l.key;
               end = l.end;
               old = l.old;
               before = r.2.0;
               after = r.2.1;
               new = l.new;
-              saw = subst (λ (acts : List (Act P)). SeesEnd may l.old (Keyed l.slot) l.end acts l.new) r.2.2 l.saw;
+              saw = subst (λ (acts : List (Act P)). SeesEnd may l.old (Keyed l.key) l.end acts l.new) r.2.2 l.saw;
               at = inr (l, r.1.0, r.1.1, r.1.2, refl, refl, refl, sym r.2.2, refl);
             })
         | inl now ↦ elim (has_either (replies id outcome) o.1 (reply_at name o.0) now.0 now.1 now.2) [
@@ -518,7 +518,7 @@ module _ {S J F P : Type 0} (plain : Plain S P) (may : StatedJobs S J F P) where
     none_at : (left : List (Left may)) → at_ends may left ≡ []
     none_at [] = refl
     none_at (l ∷ ls) =
-        ap (λ (acts : List (Act P)). acts ++ at_ends may ls) (silent l.old (Keyed l.slot) l.end l.acts l.new l.saw)
+        ap (λ (acts : List (Act P)). acts ++ at_ends may ls) (silent l.old (Keyed l.key) l.end l.acts l.new l.saw)
         ∙ none_at ls
 
     -- at a wake a reply is given under an id under which no request came
@@ -541,7 +541,7 @@ module _ {S J F P : Type 0} (plain : Plain S P) (may : StatedJobs S J F P) where
         at : (name : JobName) (job : J) → Stands plain may earlier name job → (came : Came F)
             → ◌≡◌ {A = List (Act (RequestOrigin P))} (replies id outcome ∷ [])
             (map_list by_server (([] ++ reply_at name came) ++ [])) → ⊥
-        at (Keyed slot) job stands came e = absurd (cc (e))
+        at (Keyed key) job stands came e = absurd (cc (e))
         at (Request i) job stands came e =
             let is : id ≡ i = cc (e) in
             for_no_request earlier id job unasked

@@ -30,8 +30,8 @@ use Rattle.lsp_acts.specs.declared.server_application.ServerApplication.{ServerA
 use Rattle.lsp_acts.specs.declared.server.Server.{Ghosts as Plain}
 use Rattle.lsp_jobs.proofs.Answering.{back_pending, requests_then, sent_all}
 use Rattle.lsp_jobs.proofs.Owed.{replies_at_wake, waits_called, waits_opened, HeldWaits}
-use Rattle.lsp_jobs.proofs.SlotTurns.{AllStand, TurnOf, handed_turn, opened as opening_turn, stands_after}
-use Rattle.lsp_jobs.proofs.SlotTurns.{stands_opened, took_back}
+use Rattle.lsp_jobs.proofs.KeyTurns.{AllStand, TurnOf, handed_turn, opened as opening_turn, stands_after}
+use Rattle.lsp_jobs.proofs.KeyTurns.{stands_opened, took_back}
 use Rattle.lsp_jobs.specs.JobLaw.{AnswersByJobs, AreTakenAt, IsTakenAt, Leads, MayLose, RepliesToLast, WakeSends}
 use Rattle.lsp_jobs.specs.JobSession.{JobSession, seen_with_jobs}
 use Rattle.lsp_jobs.specs.PendingJobs.{PendingJobs, no_jobs}

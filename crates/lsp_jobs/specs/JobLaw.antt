@@ -117,12 +117,12 @@ module _ {S J F P : Type 0} (plain : Plain S P) (may : StatedJobs S J F P) where
     pub reply : outcome ≡ reply_of came
 
   -- In this turn the server came from `old` to `new` and did this, as it heard how the job with this name ended, or saw
-  -- it of one whose slot it changed.
+  -- it of one that it replaced, stopped, or found no room for.
   abbrev pub SawInTurn : Turn plain may → JobName → End F → S → List (Act P) → S → Type 0
   SawInTurn t name end old acts new =
       ((t.heard ≡ Some name) × (old ≡ t.old) × (new ≡ t.asked))
       ⊎ ((l : Left may) × (sooner : List (Left may)) × (later : List (Left may)) × (t.left ≡ sooner ++ l ∷ later)
-      × (name ≡ Keyed l.slot) × (end ≡ l.end) × (old ≡ l.old) × (acts ≡ l.acts) × (new ≡ l.new))
+      × (name ≡ Keyed l.key) × (end ≡ l.end) × (old ≡ l.old) × (acts ≡ l.acts) × (new ≡ l.new))
 
   -- At the wake after these exchanges, which sends this, the server sees how a job ended, and then answers this request
   -- by itself.

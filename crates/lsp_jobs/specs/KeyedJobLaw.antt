@@ -1,5 +1,5 @@
--- The turns of a server with jobs, and of which jobs it hears: of the last one in each of its slots, and of the one for
--- the last request under an id.
+-- The turns of a server with jobs, and of which jobs it hears: of the last one under each key, and of the one for the
+-- last request under an id.
 use Rattle.serde_json.specs.Data.{Data}
 use Rattle.std.specs.Ordering.{eq_by_cmp}
 use Rattle.std.specs.Prelude.{◌≡◌, ◌⊎◌, ℕ, Bool, true, false, List, [], ◌∷◌, ◌++◌, map, fold, Option, Some, None}
@@ -49,103 +49,103 @@ module _ {P : Type 0} where
   Spares id (act ∷ acts) = Spares id acts
 
 module _ {J : Type 0} where
-  -- the slot that is changed
-  abbrev pub slot_of : JobCommand J → Id
-  slot_of (Start slot job) = slot
-  slot_of (Stop slot) = slot
+  -- the key of a command
+  abbrev pub key_of : JobCommand J → Id
+  key_of (Start key job) = key
+  key_of (Stop key) = key
 
-  -- none of these changes is about this slot
+  -- none of these commands is for this key
   abbrev pub LeavesAlone : Id → List (JobCommand J) → Type 0
-  LeavesAlone slot [] = Unit {0}
-  LeavesAlone slot (change ∷ changes) = (same_id slot (slot_of change) ≡ false) × LeavesAlone slot changes
+  LeavesAlone key [] = Unit {0}
+  LeavesAlone key (change ∷ changes) = (same_id key (key_of change) ≡ false) × LeavesAlone key changes
 
-  -- The last of these changes that is about this slot starts this job there.
-  pub record StartsLast (changes : List (JobCommand J)) (slot : Id) (job : J) : Type 0 where
+  -- The last of these commands that is for this key starts this job.
+  pub record StartsLast (changes : List (JobCommand J)) (key : Id) (job : J) : Type 0 where
     pub before : List (JobCommand J)
     pub after : List (JobCommand J)
-    pub cut : changes ≡ before ++ Start slot job ∷ after
-    pub alone : LeavesAlone slot after
+    pub cut : changes ≡ before ++ Start key job ∷ after
+    pub alone : LeavesAlone key after
 
 module _ {S J F P : Type 0} (may : StatedJobs S J F P) where
-  -- The job of a slot ended before it came to something. The server sees that, and does this.
+  -- The job of a key ended before it came to something. The server sees that, and does this.
   pub record Left : Type 0 where
-    pub slot : Id
+    pub key : Id
     pub end : End F
     pub is_left : IsLeft end
     pub old : S
     pub acts : List (Act P)
     pub new : S
-    pub saw : SeesEnd may old (Keyed slot) end acts new
+    pub saw : SeesEnd may old (Keyed key) end acts new
 
   -- what is done at these ends
   abbrev pub at_ends : List Left → List (Act P)
   at_ends [] = []
   at_ends (l ∷ ls) = l.acts ++ at_ends ls
 
--- what becomes of a slot
-pub data SlotEvent {S J F P : Type 0} (may : StatedJobs S J F P) : Type 0 where
+-- what happens under a key
+pub data KeyEvent {S J F P : Type 0} (may : StatedJobs S J F P) : Type 0 where
   -- this job starts there
-  starts : Id → J → SlotEvent may
+  starts : Id → J → KeyEvent may
   -- its job came to something, and the server hears it
-  ends_heard : Id → SlotEvent may
+  ends_heard : Id → KeyEvent may
   -- its job ended before, and the server sees that
-  ends_left : Left may → SlotEvent may
+  ends_left : Left may → KeyEvent may
 
 module _ {S J F P : Type 0} (may : StatedJobs S J F P) where
   -- the ends of jobs that came to nothing
-  abbrev pub lefts_of : List (SlotEvent may) → List (Left may)
+  abbrev pub lefts_of : List (KeyEvent may) → List (Left may)
   lefts_of [] = []
   lefts_of (ends_left l ∷ events) = l ∷ lefts_of events
   lefts_of (event ∷ events) = lefts_of events
 
-  -- the job that is in each slot, and what it is after these events
-  abbrev pub after_event : (Id → Option J) → SlotEvent may → Id → Option J
-  after_event slots (starts slot job) = λ s. if same_id s slot then Some job else slots s
-  after_event slots (ends_heard slot) = λ s. if same_id s slot then None else slots s
-  after_event slots (ends_left l) = λ s. if same_id s l.slot then None else slots s
+  -- the job under each key, and what it is after these events
+  abbrev pub after_event : (Id → Option J) → KeyEvent may → Id → Option J
+  after_event keys (starts key job) = λ s. if same_id s key then Some job else keys s
+  after_event keys (ends_heard key) = λ s. if same_id s key then None else keys s
+  after_event keys (ends_left l) = λ s. if same_id s l.key then None else keys s
 
-  abbrev pub after_events : (Id → Option J) → List (SlotEvent may) → Id → Option J
-  after_events slots events = fold after_event slots events
+  abbrev pub after_events : (Id → Option J) → List (KeyEvent may) → Id → Option J
+  after_events keys events = fold after_event keys events
 
   -- A job starts where none is. The job that ends is there.
-  abbrev pub Fits : (Id → Option J) → SlotEvent may → Type 0
-  Fits slots (starts slot job) = slots slot ≡ None
-  Fits slots (ends_heard slot) = IsSome (slots slot)
-  Fits slots (ends_left l) = IsSome (slots l.slot)
+  abbrev pub Fits : (Id → Option J) → KeyEvent may → Type 0
+  Fits keys (starts key job) = keys key ≡ None
+  Fits keys (ends_heard key) = IsSome (keys key)
+  Fits keys (ends_left l) = IsSome (keys l.key)
 
-  -- In each slot starts and ends take turns: of each job that starts there is one end, and no other is heard or seen.
-  abbrev pub TakeTurns : (Id → Option J) → List (SlotEvent may) → Type 0
-  TakeTurns slots [] = Unit {0}
-  TakeTurns slots (event ∷ events) = Fits slots event × TakeTurns (after_event slots event) events
+  -- Under each key starts and ends take turns: each job that starts has one end, and no other is heard or seen.
+  abbrev pub TakeTurns : (Id → Option J) → List (KeyEvent may) → Type 0
+  TakeTurns keys [] = Unit {0}
+  TakeTurns keys (event ∷ events) = Fits keys event × TakeTurns (after_event keys event) events
 
-  -- the job of this slot ends so, if one is there
-  abbrev pub MayLeave : Id → JobEnd → List (SlotEvent may) → Type 0
-  MayLeave slot end [] = Unit {0}
-  MayLeave slot end (ends_left l ∷ []) = (l.slot ≡ slot) × (l.end ≡ ended end)
-  MayLeave slot end events = ⊥
+  -- the job of this key ends so, if one is there
+  abbrev pub MayLeave : Id → JobEnd → List (KeyEvent may) → Type 0
+  MayLeave key end [] = Unit {0}
+  MayLeave key end (ends_left l ∷ []) = (l.key ≡ key) × (l.end ≡ ended end)
+  MayLeave key end events = ⊥
 
-  -- What becomes of slots at these changes, in order. A job that is started takes the place of the one that is in the
-  -- slot. If too many jobs wait and run, it ends at once.
-  abbrev pub Becomes : List (JobCommand J) → List (SlotEvent may) → Type 0
+  -- What happens under keys at these commands, in order. A job that is started takes the place of the one under its
+  -- key. If too many jobs wait and run, it ends at once.
+  abbrev pub Becomes : List (JobCommand J) → List (KeyEvent may) → Type 0
   Becomes [] events = events ≡ []
-  Becomes (Start slot job ∷ changes) events =
-      (before : List (SlotEvent may)) × (after : List (SlotEvent may)) × (more : List (SlotEvent may))
-      × MayLeave slot Replaced before × MayLeave slot Refused after
-      × (events ≡ before ++ (starts slot job ∷ (after ++ more))) × Becomes changes more
-  Becomes (Stop slot ∷ changes) events =
-      (before : List (SlotEvent may)) × (more : List (SlotEvent may)) × MayLeave slot Stopped before
+  Becomes (Start key job ∷ changes) events =
+      (before : List (KeyEvent may)) × (after : List (KeyEvent may)) × (more : List (KeyEvent may))
+      × MayLeave key Replaced before × MayLeave key Refused after
+      × (events ≡ before ++ (starts key job ∷ (after ++ more))) × Becomes changes more
+  Becomes (Stop key ∷ changes) events =
+      (before : List (KeyEvent may)) × (more : List (KeyEvent may)) × MayLeave key Stopped before
       × (events ≡ before ++ more) × Becomes changes more
 
 module _ {S J F P : Type 0} (plain : Plain S P) (may : StatedJobs S J F P) where
-  -- the server sees, one after another, how jobs ended whose slots it changed
+  -- the server sees, one after another, how jobs ended that it replaced, stopped, or found no room for
   abbrev pub SeesLeft : S → List (Left may) → S → Type 0
   SeesLeft old [] new = new ≡ old
   SeesLeft old (l ∷ ls) new = (l.old ≡ old) × SeesLeft l.new ls new
 
   -- What a server did at a message, or at a wake, as far as it states that: it came from `old` to `asked`, where it was
-  -- asked for changes of its slots. These took it to `made`. Then it saw how jobs ended. `given` is the job that it
-  -- gave for a long request, `heard` the name of the job whose end it heard at a wake, and `became` what became of its
-  -- slots at the changes.
+  -- asked for its commands. These took it to `made`. Then it saw how jobs ended. `given` is the job that it gave for a
+  -- long request, `heard` the name of the job whose end it heard at a wake, and `became` what happened under keys at
+  -- the commands.
   pub record Turn : Type 0 where
     pub call : Call (RequestOrigin P)
     pub old : S
@@ -154,23 +154,23 @@ module _ {S J F P : Type 0} (plain : Plain S P) (may : StatedJobs S J F P) where
     pub asked : S
     pub changes : List (JobCommand J)
     pub made : S
-    pub became : List (SlotEvent may)
+    pub became : List (KeyEvent may)
     pub left : List (Left may)
     pub new : S
 
-  -- what becomes of the slot of a job that was heard
-  abbrev pub heard_in : Option JobName → List (SlotEvent may)
-  heard_in (Some (Keyed slot)) = ends_heard slot ∷ []
+  -- what happens under the key of a job that was heard
+  abbrev pub heard_in : Option JobName → List (KeyEvent may)
+  heard_in (Some (Keyed key)) = ends_heard key ∷ []
   heard_in heard = []
 
-  -- what becomes of slots in these turns
-  abbrev pub events_of : List Turn → List (SlotEvent may)
+  -- what happens under keys in these turns
+  abbrev pub events_of : List Turn → List (KeyEvent may)
   events_of [] = []
   events_of (t ∷ turns) = (heard_in t.heard ++ t.became) ++ events_of turns
 
-  -- the job that is in each slot after these turns
-  abbrev pub slots_after : List Turn → Id → Option J
-  slots_after turns = after_events may (λ slot. None) (events_of turns)
+  -- the job under each key after these turns
+  abbrev pub keys_after : List Turn → Id → Option J
+  keys_after turns = after_events may (λ key. None) (events_of turns)
 
   -- A message, or how the job with this name ended, takes the server from old to new, and these acts are done. It does
   -- not call that request long.
@@ -209,7 +209,7 @@ module _ {S J F P : Type 0} (plain : Plain S P) (may : StatedJobs S J F P) where
   MayPass server (Some (response id outcome)) acts = acts ≡ []
   MayPass server None acts = Unit {0}
 
-  -- What is done at a call is what the server did, and then at the ends of jobs whose slots it changed.
+  -- What is done at a call is what the server did, and then at the ends of jobs that it replaced or stopped.
   abbrev pub IsTurn : Turn → Type 0
   IsTurn t =
       ((acts : List (Act P)) × IsCalled t.old t.call.came t.heard acts t.asked × may.take_commands_post t.asked
@@ -228,22 +228,22 @@ module _ {S J F P : Type 0} (plain : Plain S P) (may : StatedJobs S J F P) where
       now
 
   abbrev pub AllLeaveAlone : Id → List Turn → Type 0
-  AllLeaveAlone slot [] = Unit {0}
-  AllLeaveAlone slot (t ∷ turns) = LeavesAlone slot t.changes × AllLeaveAlone slot turns
+  AllLeaveAlone key [] = Unit {0}
+  AllLeaveAlone key (t ∷ turns) = LeavesAlone key t.changes × AllLeaveAlone key turns
 
-  -- This job was started in the slot in one of these turns, and the slot was not changed since.
-  pub record LastStart (turns : List Turn) (slot : Id) (job : J) : Type 0 where
+  -- This job was started under the key in one of these turns, and no command was for the key since.
+  pub record LastStart (turns : List Turn) (key : Id) (job : J) : Type 0 where
     pub before : List Turn
     pub turn : Turn
     pub since : List Turn
     pub cut : turns ≡ before ++ turn ∷ since
-    pub started : StartsLast turn.changes slot job
-    pub alone : AllLeaveAlone slot since
+    pub started : StartsLast turn.changes key job
+    pub alone : AllLeaveAlone key since
 
-  -- This job is in the slot: it is the last that was started there, and it did not end since.
-  pub record IsIn (turns : List Turn) (slot : Id) (job : J) : Type 0 where
-    pub last : LastStart turns slot job
-    pub there : slots_after turns slot ≡ Some job
+  -- This job is under the key: it is the last that was started there, and it did not end since.
+  pub record IsIn (turns : List Turn) (key : Id) (job : J) : Type 0 where
+    pub last : LastStart turns key job
+    pub there : keys_after turns key ≡ Some job
 
   -- in none of these turns a request under this id came, or its cancellation, or a reply under it was given
   abbrev pub AllQuiet : Id → List Turn → Type 0
@@ -264,10 +264,10 @@ module _ {S J F P : Type 0} (plain : Plain S P) (may : StatedJobs S J F P) where
     pub is_given : IsGiven turn.old turn.call.acts id method params job
     pub quiet : AllQuiet id since
 
-  -- The job of a slot is the one that is in it. That of a request is the one that was given for it.
+  -- The job of a key is the one under it. That of a request is the one that was given for it.
   abbrev pub Stands : List Turn → JobName → J → Type 0
   Stands turns (Request id) job = LastGiven turns id job
-  Stands turns (Keyed slot) job = IsIn turns slot job
+  Stands turns (Keyed key) job = IsIn turns key job
 
   -- a job says this at a wake: it reports, asks, or came to something, of which the server hears
   abbrev pub JobSays : Turn → JobName → J → Type 0
@@ -289,9 +289,9 @@ module _ {S J F P : Type 0} (plain : Plain S P) (may : StatedJobs S J F P) where
       ⊎ ((number : ℕ) × (t.call.acts ≡ cancels (of_job number) ∷ []) × (t.heard ≡ None)))
 
   -- From the state at the result of `initialize` on, these are the turns of a server: what it began at `initialized`,
-  -- and its calls. At each wake only the job that is in a slot has a say, and only the job that a request waits for. In
-  -- each slot starts and ends take turns, so of each job one end is heard or seen at most.
-  pub record SlotHistory (start : S) (opening : Exchange) (begun : List (Act (RequestOrigin P)))
+  -- and its calls. At each wake only the job under a key has a say, and only the job that a request waits for. Under
+  -- each key starts and ends take turns, so of each job one end is heard or seen at most.
+  pub record KeyHistory (start : S) (opening : Exchange) (begun : List (Act (RequestOrigin P)))
       (calls : List (Call (RequestOrigin P))) : Type 0 where
     pub turns : List Turn
     pub are : map (λ (t : Turn). t.call) turns
@@ -300,4 +300,4 @@ module _ {S J F P : Type 0} (plain : Plain S P) (may : StatedJobs S J F P) where
     pub linked : AreTurns start turns last
     pub wakes : (earlier later : List Turn) (t : Turn) → turns ≡ earlier ++ t ∷ later → t.call.came ≡ None
         → WakeDoes earlier t
-    pub once : TakeTurns may (λ slot. None) (events_of turns)
+    pub once : TakeTurns may (λ key. None) (events_of turns)

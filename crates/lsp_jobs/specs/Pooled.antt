@@ -28,10 +28,10 @@ unanswered [] pending = pending
 unanswered (replies id outcome ∷ acts) pending = unanswered acts (without (Request id) pending)
 unanswered (act ∷ acts) pending = unanswered acts pending
 
--- The reply to the request of a job. A job in a slot has none.
+-- The reply to the request of a job. A job under a key has none.
 abbrev pub reply_with : {P : Type 0} → JobName → Outcome → List (Act P)
 reply_with (Request id) outcome = replies id outcome ∷ []
-reply_with (Keyed slot) outcome = []
+reply_with (Keyed key) outcome = []
 
 -- that of a job that came to this
 abbrev pub reply_at : {P F : Type 0} → JobName → Came F → List (Act P)
@@ -62,24 +62,24 @@ module _ {S J F P : Type 0} (may : StatedJobs S J F P) where
   Frees name end old new = MatchOption (old.1 name) (new ≡ old)
       (λ (job : J). EndsThen name end (old.0, without name old.1, old.2) new)
 
-  -- A slot is changed. A job that is started there takes the place of the one that is in the slot.
+  -- A command is carried out. A job that is started takes the place of the one under its key.
   abbrev pub Changes : S × PendingJobs J × List (Act P) → JobCommand J → S × PendingJobs J × List (Act P) → Type 0
-  Changes old (Start slot job) new =
-      (mid : S × PendingJobs J × List (Act P)) × Frees (Keyed slot) (ended Replaced) old mid
-      × StartsOne (Keyed slot) job mid new
-  Changes old (Stop slot) new = Frees (Keyed slot) (ended Stopped) old new
+  Changes old (Start key job) new =
+      (mid : S × PendingJobs J × List (Act P)) × Frees (Keyed key) (ended Replaced) old mid
+      × StartsOne (Keyed key) job mid new
+  Changes old (Stop key) new = Frees (Keyed key) (ended Stopped) old new
 
-  -- After the server did these acts, it changes its slots, in order: these are all the acts.
-  pub record ChangesSlots (old : S × PendingJobs J) (acts all : List (Act P)) (new : S × PendingJobs J) : Type 0 where
+  -- After the server did these acts, it starts and stops jobs under keys, in order: these are all the acts.
+  pub record ChangesJobs (old : S × PendingJobs J) (acts all : List (Act P)) (new : S × PendingJobs J) : Type 0 where
     pub changes : List (JobCommand J)
     pub mid : S
     pub gives : may.take_commands_post old.0 changes mid
     pub made : FoldsTo Changes (mid, unanswered acts old.1, acts) changes (new.0, new.1, all)
 
-  -- The server did these acts, and then changes its slots.
+  -- The server did these acts, and then starts and stops jobs under keys.
   abbrev pub Does : (List (Act P) → S → Type 0) → PendingJobs J → List (Act P) → S × PendingJobs J → Type 0
   Does did pending all new = (acts : List (Act P)) × (mid : S) × did acts mid
-      × ChangesSlots (mid, pending) acts all new
+      × ChangesJobs (mid, pending) acts all new
 
   -- A long request may get this in place of a job: what the server knows, the error that there is no room for a job, or
   -- that an allocation failed.
@@ -120,7 +120,7 @@ module _ {S J F P : Type 0} (may : StatedJobs S J F P) where
     pub acts : List (Act P)
     pub did : S × PendingJobs J
     pub ended : Ends name (end_of came) (reply_at name came) (old.0, without name old.1) acts did
-    pub others : ChangesSlots did acts all new
+    pub others : ChangesJobs did acts all new
 
   -- A pending job reports.
   pub record Reports (old : S × PendingJobs J) (all : List (Act (RequestOrigin P)))

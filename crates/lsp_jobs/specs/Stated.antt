@@ -8,7 +8,7 @@ use Rattle.lsp_jobs.specs.declared.job.Job.{Ghosts as OfJob}
 use Rattle.lsp_jobs.specs.declared.job_server.JobEnd.{JobEnd}
 use Rattle.lsp_jobs.specs.declared.job_server.JobServer.{Ghosts as OfServer}
 use Rattle.lsp_jobs.specs.declared.job_server.JobCommand.{JobCommand}
-use Rattle.lsp_jobs.specs.declared.job_server.KeyedJobs.{Ghosts as OfSlots}
+use Rattle.lsp_jobs.specs.declared.job_server.KeyedJobs.{Ghosts as OfKeyedJobs}
 use Rattle.lsp_jobs.specs.declared.names.JobName.{JobName}
 
 -- what `JobServer`, `KeyedJobs` and `Job` ask a server and its jobs to state
@@ -26,14 +26,14 @@ pub record StatedJobs (S J F P : Type 0) : Type 1 where
 
 module _ {S J F P A B C H : Type 0} where
   -- what these three state
-  abbrev pub stated_jobs : OfServer S J A B C → OfSlots H S J P F → OfJob J F → StatedJobs S J F P
-  stated_jobs server slots job = record {
+  abbrev pub stated_jobs : OfServer S J A B C → OfKeyedJobs H S J P F → OfJob J F → StatedJobs S J F P
+  stated_jobs server keys job = record {
     is_long_post = server.is_long_post;
     job_post = server.job_post;
     job_reply_post = server.job_reply_post;
-    take_commands_post = slots.take_commands_post;
-    found_post = slots.found_post;
-    ended_post = slots.ended_post;
+    take_commands_post = keys.take_commands_post;
+    found_post = keys.found_post;
+    ended_post = keys.ended_post;
     is_for = job.is_for;
     run_post = job.run_post;
     reports = job.reports;

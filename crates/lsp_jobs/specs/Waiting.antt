@@ -15,7 +15,7 @@ use Rattle.lsp_jobs.specs.declared.table.Entry.{Entry}
 -- under each name what is kept
 abbrev pub entry_of : {E : Type 0} → Entries E → PendingJobs E
 entry_of entries (Request id) = map.get entries.requests id
-entry_of entries (Keyed slot) = map.get entries.slots slot
+entry_of entries (Keyed key) = map.get entries.keys key
 
 module _ {J : Type 0} where
   abbrev pub job_of : Entry J → J

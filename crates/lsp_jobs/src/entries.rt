@@ -2,7 +2,7 @@
 ghost use Rattle.std.specs.Prelude.{◌≡◌, is_ok, option_copied, OnErr, OnOk};
 ghost use Rattle.lsp_jobs.specs.PendingJobs.{no_jobs, without, with_job};
 ghost use Rattle.lsp_jobs.specs.Waiting.{entry_of};
-ghost use Rattle.lsp_jobs.specs.declared.names.JobName.TheVariants.{Request, Keyed as InSlot};
+ghost use Rattle.lsp_jobs.specs.declared.names.JobName.TheVariants.{Request, Keyed as UnderKey};
 
 use crate::names::{JobKey, JobName};
 use lsp_message::RequestId;
@@ -13,7 +13,7 @@ use std::alloc::{AllocError, Global};
 #[derive(Drop)]
 pub(crate) struct Entries<E: Drop> {
     requests: Incoming<E>,
-    slots: Incoming<E>,
+    keys: Incoming<E>,
 }
 
 impl<E: Drop> Entries<E> {
@@ -22,10 +22,10 @@ impl<E: Drop> Entries<E> {
         ensures { entry_of result ≡ no_jobs }
     {
         let requests: ReqQueue<E, ()> = ReqQueue::default(alloc);
-        let slots: ReqQueue<E, ()> = ReqQueue::default(alloc);
+        let keys: ReqQueue<E, ()> = ReqQueue::default(alloc);
         Entries {
             requests: requests.incoming,
-            slots: slots.incoming,
+            keys: keys.incoming,
         }
     }
 
@@ -37,7 +37,7 @@ impl<E: Drop> Entries<E> {
     {
         match name {
             JobName::Request(id) => self.add_request(id, entry),
-            JobName::Keyed(slot) => self.add_slot(slot, entry),
+            JobName::Keyed(key) => self.add_keyed(key, entry),
         }
     }
 
@@ -49,12 +49,12 @@ impl<E: Drop> Entries<E> {
         done(self.requests.register(id, entry))
     }
 
-    fn add_slot(&mut self, slot: JobKey, entry: E) -> Result<(), AllocError>
+    fn add_keyed(&mut self, key: JobKey, entry: E) -> Result<(), AllocError>
         ensures ok { OnOk result
-            (entry_of self.new ≡ with_job (InSlot slot) «entry» (entry_of self.old)) }
+            (entry_of self.new ≡ with_job (UnderKey key) «entry» (entry_of self.old)) }
         ensures err { OnErr result (entry_of self.new ≡ entry_of self.old) }
     {
-        done(self.slots.register(slot.into_key(), entry))
+        done(self.keys.register(key.into_name(), entry))
     }
 
     /// Returns the entry under a name.
@@ -63,7 +63,7 @@ impl<E: Drop> Entries<E> {
     {
         match name {
             JobName::Request(id) => self.requests.data(id),
-            JobName::Keyed(slot) => self.slots.data(slot.key()),
+            JobName::Keyed(key) => self.keys.data(key.name()),
         }
     }
 
@@ -74,7 +74,7 @@ impl<E: Drop> Entries<E> {
     {
         match name {
             JobName::Request(id) => self.remove_request(id),
-            JobName::Keyed(slot) => self.slots.complete(slot.key()),
+            JobName::Keyed(key) => self.keys.complete(key.name()),
         }
     }
 

@@ -15,7 +15,7 @@ ghost use Rattle.lsp_jobs.specs.JobLaw.{AnswersByJobs, AnswersRequest, LawfulJob
 ghost use Rattle.lsp_jobs.specs.JobSession.{JobSession, seen_with_jobs};
 ghost use Rattle.lsp_jobs.specs.PendingJobs.{no_jobs};
 ghost use Rattle.lsp_jobs.specs.PoolView.{pending_jobs};
-ghost use Rattle.lsp_jobs.specs.KeyedJobLaw.{SlotHistory};
+ghost use Rattle.lsp_jobs.specs.KeyedJobLaw.{KeyHistory};
 ghost use Rattle.lsp_jobs.specs.declared.pooled_server.PooledServer.{PooledServer as Pooled};
 
 use crate::job::Job;
@@ -119,7 +119,7 @@ pub fn each_key_reports_its_last_job<T: Wait + Drop, S: JobServer<J>, J: Job>()
         (later : List Exchange) (m : Message) → pending_jobs start.pool ≡ no_jobs
         → opening.came ≡ Some m → is_initialized m ≡ true
         → (part : TakesPart (seen_with_jobs T S.Server ⟦<S as StatesJobs<J>>⟧.jobs) start last opening later)
-        → SlotHistory S.Server ⟦<S as StatesJobs<J>>⟧.jobs start.server opening part.begun part.calls }
+        → KeyHistory S.Server ⟦<S as StatesJobs<J>>⟧.jobs start.server opening part.begun part.calls }
     ensures first { (early : List Exchange) (old start : Pooled T S J J.Found)
         → AnswersInitialize (seen_with_jobs T S.Server ⟦<S as StatesJobs<J>>⟧.jobs) old early start
         → pending_jobs start.pool ≡ pending_jobs old.pool }

@@ -21,13 +21,13 @@ impl Model for JobKey {
 
     ghost coded = { coded_id };
 
-    ghost view = { λ slot. slot.name };
+    ghost view = { λ key. key.name };
 }
 
 impl From<i32> for JobKey {
     ghost use Rattle.lsp_message.specs.Id.{number};
 
-    ghost from_gives = { λ z slot. slot ≡ number z };
+    ghost from_gives = { λ z key. key ≡ number z };
 
     fn from(name: i32) -> JobKey {
         JobKey {
@@ -40,7 +40,7 @@ impl From<String> for JobKey {
     ghost use Rattle.std.specs.Prelude.{string_bytes};
     ghost use Rattle.lsp_message.specs.Id.{text};
 
-    ghost from_gives = { λ name slot. slot ≡ text (string_bytes name) };
+    ghost from_gives = { λ name key. key ≡ text (string_bytes name) };
 
     fn from(name: String) -> JobKey {
         JobKey {
@@ -62,22 +62,22 @@ impl fmt::Display for JobKey {
 impl JobKey {
     /// Copies the key. The error means that an allocation failed.
     pub fn clone(&self) -> Result<JobKey, AllocError>
-        ensures { IfOk result (λ slot. slot ≡ self.now) }
+        ensures { IfOk result (λ key. key ≡ self.now) }
     {
         Ok(JobKey {
             name: self.name.clone()?,
         })
     }
 
-    /// Returns its name as a key.
-    pub(crate) fn key(&self) -> &RequestId
+    /// Returns its name.
+    pub(crate) fn name(&self) -> &RequestId
         ensures { result.now ≡ self.now }
     {
         &self.name
     }
 
-    /// Returns its name as a key.
-    pub(crate) fn into_key(self) -> RequestId
+    /// Returns its name.
+    pub(crate) fn into_name(self) -> RequestId
         ensures { result ≡ «self» }
     {
         self.name
@@ -105,7 +105,7 @@ impl JobName {
     {
         match self {
             JobName::Request(id) => Ok(JobName::Request(id.clone()?)),
-            JobName::Keyed(slot) => Ok(JobName::Keyed(slot.clone()?)),
+            JobName::Keyed(key) => Ok(JobName::Keyed(key.clone()?)),
         }
     }
 }

@@ -47,7 +47,7 @@ impl PoolSize {
     }
 
     /// Returns how many of them may run jobs under keys at the same time.
-    pub(crate) fn threads_for_slots(&self) -> usize {
+    pub(crate) fn threads_for_keys(&self) -> usize {
         self.workers.saturating_sub(1).max(1)
     }
 

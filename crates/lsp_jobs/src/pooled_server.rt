@@ -12,7 +12,7 @@ ghost use Rattle.lsp_jobs.specs.Asking.{by_server, same_origin, ByServers};
 ghost use Rattle.lsp_jobs.specs.Ends.{end_of, end_with, ended, no_memory, reply_of, too_many};
 ghost use Rattle.lsp_jobs.specs.PendingJobs.{with_job, without};
 ghost use Rattle.lsp_jobs.specs.PoolView.{came_view, pending_jobs};
-ghost use Rattle.lsp_jobs.specs.Pooled.{reply_at, reply_with, unanswered, without_cancelled, Changes, ChangesSlots, Ends, EndsThen, Frees, IsAtOnce, StartsOne, TakesLong};
+ghost use Rattle.lsp_jobs.specs.Pooled.{reply_at, reply_with, unanswered, without_cancelled, Changes, ChangesJobs, Ends, EndsThen, Frees, IsAtOnce, StartsOne, TakesLong};
 ghost use Rattle.lsp_jobs.specs.ServerView.{AnsweredSo};
 ghost use Rattle.lsp_jobs.specs.declared.names.JobName.TheVariants.{Request as OfRequest};
 ghost use Rattle.lsp_jobs.specs.Seen.{seen};
@@ -215,26 +215,26 @@ where
         }
     }
 
-    /// Returns the acts of the server, and after them those of `change_slots`.
+    /// Returns the acts of the server, and after them those of `change_jobs`.
     fn acts_with_changes(
         &mut self,
         acts: Vec<Act<S::PendingData>>,
     ) -> Result<Vec<Act<RequestOrigin<S::PendingData>>>, AllocError>
         ensures { IfOk result (λ all. ByServers (λ own.
-            ChangesSlots ⟦<S as StatesJobs<J>>⟧.jobs (seen self.old) (map (act_view S.PendingData.eq) acts.items) own
+            ChangesJobs ⟦<S as StatesJobs<J>>⟧.jobs (seen self.old) (map (act_view S.PendingData.eq) acts.items) own
             (seen self.new)) (map (act_view (same_origin S.PendingData.eq)) all.items)) }
     {
-        let all = self.change_slots(acts)?;
+        let all = self.change_jobs(acts)?;
         acts_by_server(self.alloc, all)
     }
 
     /// Starts and stops the jobs that the server names now, after these acts. The acts at the end of a job follow them.
-    fn change_slots(
+    fn change_jobs(
         &mut self,
         acts: Vec<Act<S::PendingData>>,
     ) -> Result<Vec<Act<S::PendingData>>, AllocError>
         ensures { IfOk result (λ all.
-            ChangesSlots ⟦<S as StatesJobs<J>>⟧.jobs (seen self.old) (map (act_view S.PendingData.eq) acts.items)
+            ChangesJobs ⟦<S as StatesJobs<J>>⟧.jobs (seen self.old) (map (act_view S.PendingData.eq) acts.items)
             (map (act_view S.PendingData.eq) all.items) (seen self.new)) }
     {
         self.forget_answered(&acts);
@@ -271,12 +271,12 @@ where
             (self.new.server, pending_jobs self.new.pool, map (act_view S.PendingData.eq) acts.new.items)) }
     {
         match change {
-            JobCommand::Start(slot, job) => {
-                let name = JobName::Keyed(slot);
+            JobCommand::Start(key, job) => {
+                let name = JobName::Keyed(key);
                 self.free(&name, JobEnd::Replaced, acts)?;
                 self.start_one(name, job, acts)
             }
-            JobCommand::Stop(slot) => self.free(&JobName::Keyed(slot), JobEnd::Stopped, acts),
+            JobCommand::Stop(key) => self.free(&JobName::Keyed(key), JobEnd::Stopped, acts),
         }
     }
 
@@ -352,8 +352,8 @@ fn push_reply<P: Drop + PartialEq>(
             Ok(()) => Ok(()),
             Err(_) => Err(AllocError),
         },
-        JobName::Keyed(slot) => {
-            drop((slot, outcome));
+        JobName::Keyed(key) => {
+            drop((key, outcome));
             Ok(())
         }
     }

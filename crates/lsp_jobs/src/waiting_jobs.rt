@@ -11,7 +11,7 @@ struct Counts {
     /// The jobs that run.
     all: AtomicU64,
     /// Those of them that have keys.
-    in_slots: AtomicU64,
+    keyed: AtomicU64,
     /// How often a job may have become ready. A worker that finds none sleeps at this word.
     rings: AtomicU64,
     is_closed: AtomicBool,
@@ -29,7 +29,7 @@ impl RunningJobs {
     fn new(alloc: Global) -> Result<RunningJobs, AllocError> {
         let counts = Counts {
             all: AtomicU64::new(0),
-            in_slots: AtomicU64::new(0),
+            keyed: AtomicU64::new(0),
             rings: AtomicU64::new(0),
             is_closed: AtomicBool::new(false),
         };
@@ -49,7 +49,7 @@ impl RunningJobs {
     fn begin(&self, is_keyed_job: bool) {
         let _ = self.counts.all.fetch_add(1, Ordering::SeqCst);
         if is_keyed_job {
-            let _ = self.counts.in_slots.fetch_add(1, Ordering::SeqCst);
+            let _ = self.counts.keyed.fetch_add(1, Ordering::SeqCst);
         }
     }
 
@@ -57,7 +57,7 @@ impl RunningJobs {
     pub fn end(&self, is_keyed_job: bool) {
         let _ = self.counts.all.fetch_sub(1, Ordering::SeqCst);
         if is_keyed_job {
-            let _ = self.counts.in_slots.fetch_sub(1, Ordering::SeqCst);
+            let _ = self.counts.keyed.fetch_sub(1, Ordering::SeqCst);
             self.ring();
         }
     }
@@ -87,21 +87,21 @@ impl Drop for Open {
 #[derive(Drop)]
 struct Rows<E: Drop> {
     requests: BTreeMap<u64, E>,
-    slots: BTreeMap<u64, E>,
+    keyed: BTreeMap<u64, E>,
 }
 
 impl<E: Drop> Rows<E> {
     fn remove(&mut self, ticket: u64) -> Option<E> {
         match self.requests.remove(&ticket) {
             Some(job) => Some(job),
-            None => self.slots.remove(&ticket),
+            None => self.keyed.remove(&ticket),
         }
     }
 
     fn pop(&mut self) -> Option<E> {
         match self.requests.pop_first() {
             Some((_, job)) => Some(job),
-            None => match self.slots.pop_first() {
+            None => match self.keyed.pop_first() {
                 Some((_, job)) => Some(job),
                 None => None,
             },
@@ -123,7 +123,7 @@ pub(crate) struct JobSource<E: Drop> {
     rows: Arc<Mutex<Rows<E>>>,
     running: RunningJobs,
     /// How many jobs under keys may run at once.
-    slots: u64,
+    threads_for_keys: u64,
 }
 
 /// Makes a queue of this many jobs.
@@ -133,7 +133,7 @@ pub(crate) fn queue_of_jobs<E: Drop>(
 ) -> Result<(WaitingJobs<E>, JobSource<E>), AllocError> {
     let none = Rows {
         requests: BTreeMap::new(alloc),
-        slots: BTreeMap::new(alloc),
+        keyed: BTreeMap::new(alloc),
     };
     let Ok(rows) = Arc::new(alloc, Mutex::new(none)) else {
         return Err(AllocError);
@@ -141,7 +141,7 @@ pub(crate) fn queue_of_jobs<E: Drop>(
     let source = JobSource {
         rows: Arc::try_clone(&rows)?,
         running: RunningJobs::new(alloc)?,
-        slots: size.threads_for_slots() as u64,
+        threads_for_keys: size.threads_for_keys() as u64,
     };
     let running = source.running.share()?;
     let open = Open { running };
@@ -153,15 +153,15 @@ impl<E: Drop> WaitingJobs<E> {
     pub fn has_room<T: Wait>(&self, rt: &T, is_keyed_job: bool) -> bool {
         let counts = &self.open.running.counts;
         let rows = self.rows.lock(rt);
-        let (requests, slots) = (rows.requests.len() as u64, rows.slots.len() as u64);
-        let in_slots = counts.in_slots.load(Ordering::SeqCst).saturating_add(slots);
+        let (requests, waiting) = (rows.requests.len() as u64, rows.keyed.len() as u64);
+        let keyed = counts.keyed.load(Ordering::SeqCst).saturating_add(waiting);
         let all = counts
             .all
             .load(Ordering::SeqCst)
             .saturating_add(requests)
-            .saturating_add(slots);
+            .saturating_add(waiting);
         drop(rows);
-        if is_keyed_job && !self.size.has_room(self.size.threads_for_slots(), in_slots) {
+        if is_keyed_job && !self.size.has_room(self.size.threads_for_keys(), keyed) {
             return false;
         }
         self.size.has_room(self.size.threads(), all)
@@ -178,7 +178,7 @@ impl<E: Drop> WaitingJobs<E> {
     ) -> Result<(), AllocError> {
         let mut rows = self.rows.lock(rt);
         let added = if is_keyed_job {
-            rows.slots.insert(ticket, job)
+            rows.keyed.insert(ticket, job)
         } else {
             rows.requests.insert(ticket, job)
         };
@@ -215,7 +215,7 @@ impl<E: Drop> JobSource<E> {
         Ok(JobSource {
             rows: Arc::try_clone(&self.rows)?,
             running: self.running.share()?,
-            slots: self.slots,
+            threads_for_keys: self.threads_for_keys,
         })
     }
 
@@ -232,10 +232,10 @@ impl<E: Drop> JobSource<E> {
             self.running.begin(false);
             return Some(job);
         }
-        if self.running.counts.in_slots.load(Ordering::SeqCst) >= self.slots {
+        if self.running.counts.keyed.load(Ordering::SeqCst) >= self.threads_for_keys {
             return None;
         }
-        let (_, job) = rows.slots.pop_first()?;
+        let (_, job) = rows.keyed.pop_first()?;
         self.running.begin(true);
         Some(job)
     }

@@ -11,7 +11,7 @@ use std::sync::Arc;
 use std::time::Duration;
 use std::{mem, thread};
 
-/// Does what its script says, and ends with its value, which it replies or, in a slot, finds. It finds its number in
+/// Does what its script says, and ends with its value, which it replies or, under a key, finds. It finds its number in
 /// any case. A script has words, with `, ` between them:
 ///
 /// - `soon`: nothing. `after N`: waits until N messages were written. `cancelled`: waits until it is to end, and goes
@@ -32,10 +32,10 @@ pub struct Scripted {
     pub means: Means,
     pub value: Value,
     pub number: u64,
-    pub is_in_slot: bool,
+    pub is_keyed: bool,
 }
 
-/// The result of a job: its number and, in a slot, its value, if that is no error.
+/// The result of a job: its number and, under a key, its value, if that is no error.
 #[derive(Debug, Drop)]
 pub struct Found {
     pub number: u64,
@@ -291,7 +291,7 @@ impl Job for Scripted {
             means,
             value,
             number,
-            is_in_slot,
+            is_keyed,
         } = self;
         let Means {
             signals,
@@ -311,15 +311,15 @@ impl Job for Scripted {
             ending: Ending::Value,
             value,
             reply: None,
-            replies: !is_in_slot,
+            replies: !is_keyed,
             finds: true,
         };
         let outcome = course.go(script.as_str(), context);
         let (replies, finds) = (course.replies, course.finds);
         drop(course);
         let outcome = outcome?;
-        if is_in_slot {
-            return Ok(slot_result(number, finds, outcome));
+        if is_keyed {
+            return Ok(keyed_result(number, finds, outcome));
         }
         Ok(request_result(number, replies, finds, outcome))
     }
@@ -346,8 +346,8 @@ fn request_result(
     JobResult { reply: None, found }
 }
 
-/// Returns the result of a job in a slot.
-fn slot_result(
+/// Returns the result of a job under a key.
+fn keyed_result(
     number: u64,
     finds: bool,
     outcome: Result<Value, ResponseError>,
@@ -412,7 +412,7 @@ impl Course {
     }
 }
 
-/// The slot of a job that answers no request.
-pub fn own_slot(alloc: Global) -> Result<JobKey, AllocError> {
+/// The key of a job that answers no request.
+pub fn own_key(alloc: Global) -> Result<JobKey, AllocError> {
     Ok(JobKey::from(String::from_str(alloc, "own")?))
 }

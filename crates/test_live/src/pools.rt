@@ -2,11 +2,11 @@
 // told of it:
 //
 // - `submit NAME NUMBER SCRIPT`: gives the pool a job (`jobs.rt`), which comes to the list of the number: `taken`, `full` or `no memory`.
-//   The name is a request's number, or that of a slot behind an `s`.
+//   The name is a request's number, or that of a key behind an `s`.
 // - `begun N`, `ended N`, `reported N`: waits until N jobs began, ended or were done with their reports; nothing is told.
 // - `hear`: waits for a signal: `heard`, or `closed`.
 // - `message`: takes the next message: `ID report PARAMS`, `ID ask NUMBER METHOD PARAMS`, `ID outcome VALUE`, `ID error CODE`, `ID no reply`;
-//   in a slot `ID found VALUE`; `ID cancelled` or `ID no memory` if the job came to nothing; or `nothing`.
+//   under a key `ID found VALUE`; `ID cancelled` or `ID no memory` if the job came to nothing; or `nothing`.
 // - `listen N`: takes N messages, and waits for a signal where there is none.
 // - `rounds N M`: N times, submits M jobs at once, and takes the outcomes of those that were taken. `R refused`.
 // - `reply N`, `give_up N`: the request number N of a job gets the reply `true`, or none; nothing is told.
@@ -70,7 +70,7 @@ fn small_of(text: &str) -> i32 {
     text.parse::<i32>().unwrap_or(0)
 }
 
-/// Returns the request with this number as its id, or the slot of this number after an `s`.
+/// Returns the request with this number as its id, or the key of this number after an `s`.
 fn name_of(word: &str) -> JobName {
     match word.strip_prefix("s") {
         Some(number) => JobName::Keyed(JobKey::from(small_of(number))),
@@ -78,11 +78,11 @@ fn name_of(word: &str) -> JobName {
     }
 }
 
-/// Writes a name: a slot's number after an `s`.
+/// Writes a name: a key's number after an `s`.
 fn tell_name(told: &mut String, name: &JobName) -> Result<(), AllocError> {
     match name {
         JobName::Request(id) => write!(told, "{id}"),
-        JobName::Keyed(slot) => write!(told, "s{slot}"),
+        JobName::Keyed(key) => write!(told, "s{key}"),
     }
 }
 
@@ -190,13 +190,13 @@ impl<R: Wait + Drop> Bench<R> {
         let (id, words) = words.split_once(" ").unwrap_or(("", words));
         let (number, script) = words.split_once(" ").unwrap_or(("", words));
         let name = name_of(id);
-        let is_in_slot = matches!(name, JobName::Keyed(_));
+        let is_keyed = matches!(name, JobName::Keyed(_));
         let job = job_of(
             self.alloc,
             &self.signals,
             script,
             count_of(number),
-            is_in_slot,
+            is_keyed,
         )?;
         match self.pool.submit(name, job) {
             Ok(()) => self.told.push_str("taken, "),
@@ -327,7 +327,7 @@ fn job_of(
     signals: &Arc<Signals>,
     script: &str,
     number: u64,
-    is_in_slot: bool,
+    is_keyed: bool,
 ) -> Result<Scripted, AllocError> {
     let value = list_of(alloc, Value::from(number))?;
     match means_of(alloc, signals, script) {
@@ -336,7 +336,7 @@ fn job_of(
             means,
             value,
             number,
-            is_in_slot,
+            is_keyed,
         }),
         Err(error) => {
             drop(value);

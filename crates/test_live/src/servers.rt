@@ -1,5 +1,5 @@
 // The handler of all rows, and their server: it speaks, asks, and starts jobs.
-use crate::jobs::{Found, Means, Scripted, list_of, own_slot};
+use crate::jobs::{Found, Means, Scripted, list_of, own_key};
 use crate::signals::{Signal, Signals};
 use lsp_acts::{Act, Server};
 use lsp_jobs::{AnsweredBy, JobCommand, JobEnd, JobKey, JobName, JobServer, KeyedJobs};
@@ -59,16 +59,16 @@ pub enum Asked {
 /// - It answers `demo/echo` with its params. At `demo/ask` it sends its client `demo/asked`, and answers with the
 ///   reply. It keeps `demo/hold` until the next notification. It knows no other method except two:
 /// - `job SCRIPT` gives a job with this script (`jobs.rt`), whose value is the params. `later SCRIPT` is one that it
-///   starts in a slot at the notification `start`, and whose result it returns as the reply. Jobs have numbers, from 1.
+///   starts under a key at the notification `start`, and whose result it returns as the reply. Jobs have numbers, from 1.
 /// - `long known` is answered at once with its params, where a job might run. For the job of `long unmade` there is no
 ///   memory.
-/// - The notification `job SCRIPT` starts a job in a new slot, whose result it publishes; `stop` stops it. At `answer`
+/// - The notification `job SCRIPT` starts a job under a new key, whose result it publishes; `stop` stops it. At `answer`
 ///   it answers the request whose id is the first of the params itself. At `withdraw` it cancels the request that it
 ///   sent for that request. At one whose method begins with `$/` or `window/` it does nothing.
 /// - At another notification it sends its params to the client, asks for the configuration, and answers the requests
 ///   that it keeps. At a wake-up it sends `demo/woken`, and answers these too, if `tells_wakes` is set.
 /// - At a reply with the configuration it sends the number of the question.
-/// - If a job in a slot found no room, it sends the slot's name.
+/// - If a job under a key found no room, it sends the key's name.
 #[derive(Drop)]
 pub struct Talker {
     alloc: Global,
@@ -80,7 +80,7 @@ pub struct Talker {
     numbered: AtomicU64,
     changes: Vec<Change>,
     later: Vec<Change>,
-    /// The requests that jobs in slots answer, each with the number of its job.
+    /// The requests that jobs under keys answer, each with the number of its job.
     kept: Vec<(RequestId, u64)>,
     /// The names of the jobs whose end it saw, each after a space, with the number that the job found or how it ended.
     pub finished: String,
@@ -159,7 +159,7 @@ impl Talker {
     }
 
     /// A job with this script and the next number.
-    fn job_of(&self, script: &str, value: Value, is_in_slot: bool) -> Result<Scripted, AllocError> {
+    fn job_of(&self, script: &str, value: Value, is_keyed: bool) -> Result<Scripted, AllocError> {
         let number = self.numbered.fetch_add(1, Ordering::SeqCst).wrapping_add(1);
         match Means::of(self.alloc, &self.signals, script, &value) {
             Ok(means) => Ok(Scripted {
@@ -167,7 +167,7 @@ impl Talker {
                 means,
                 value,
                 number,
-                is_in_slot,
+                is_keyed,
             }),
             Err(error) => {
                 drop(value);
@@ -192,11 +192,11 @@ impl Talker {
         Ok(Vec::new(self.alloc))
     }
 
-    /// Starts a job in a new slot.
+    /// Starts a job under a new key.
     fn start_job(&mut self, script: &str, params: Value) -> Result<Acts, AllocError> {
         let job = self.job_of(script, params, true)?;
         self.changes
-            .push(JobCommand::Start(own_slot(self.alloc)?, job))?;
+            .push(JobCommand::Start(own_key(self.alloc)?, job))?;
         Ok(Vec::new(self.alloc))
     }
 
@@ -231,7 +231,7 @@ impl Talker {
         }
     }
 
-    /// Handles what a job in a slot found: it answers the request for which it kept the job, or publishes it.
+    /// Handles what a job under a key found: it answers the request for which it kept the job, or publishes it.
     fn show(&mut self, number: u64, value: Value) -> Result<Acts, AllocError> {
         match self.kept_for(number) {
             Some(id) => self.one(Act::Reply(id, Ok(value))),
@@ -311,7 +311,7 @@ impl Server for Talker {
             }
             "stop" => {
                 drop(params);
-                self.changes.push(JobCommand::Stop(own_slot(self.alloc)?))?;
+                self.changes.push(JobCommand::Stop(own_key(self.alloc)?))?;
                 Ok(Vec::new(self.alloc))
             }
             "answer" => {
@@ -407,7 +407,7 @@ impl KeyedJobs<Talker, Scripted> for Talker {
         let Found { number, value } = found;
         match name {
             JobName::Request(id) => write!(server.finished, " {id}:{number}")?,
-            JobName::Keyed(slot) => write!(server.finished, " {slot}:{number}")?,
+            JobName::Keyed(key) => write!(server.finished, " {key}:{number}")?,
         }
         match value {
             Some(value) => server.show(number, value),
@@ -431,10 +431,10 @@ impl KeyedJobs<Talker, Scripted> for Talker {
         };
         match name {
             JobName::Request(id) => write!(server.finished, " {id} {how}")?,
-            JobName::Keyed(slot) => write!(server.finished, " {slot} {how}")?,
+            JobName::Keyed(key) => write!(server.finished, " {key} {how}")?,
         }
         match name {
-            JobName::Keyed(slot) if end == JobEnd::Refused => server.tell_refused(slot),
+            JobName::Keyed(key) if end == JobEnd::Refused => server.tell_refused(key),
             _ => Ok(Vec::new(alloc)),
         }
     }
@@ -448,9 +448,9 @@ impl Talker {
         }
     }
 
-    /// Sends the name of a slot for whose job there was no room.
-    fn tell_refused(&self, slot: &JobKey) -> Result<Acts, AllocError> {
-        let printed = format!(in self.alloc; "{slot}")?;
+    /// Sends the name of a key for whose job there was no room.
+    fn tell_refused(&self, key: &JobKey) -> Result<Acts, AllocError> {
+        let printed = format!(in self.alloc; "{key}")?;
         match Value::from_str(self.alloc, printed.as_str()) {
             Ok(name) => self.tell("refused", list_of(self.alloc, name)?),
             Err(_) => Err(AllocError),

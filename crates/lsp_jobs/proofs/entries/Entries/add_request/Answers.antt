@@ -14,5 +14,5 @@ pub returns-clause-err : goal.returns-clause-err
 returns-clause-err g c = on_err_as c.done.result c.register.result c.done.ensures c.register.ensures.err
     (λ is. ap (λ (m : map.FinMap id_cmp g.row.E.Denot). entry_of (record {
       requests = m;
-      slots = c.args.self.now.slots;
+      keys = c.args.self.now.keys;
     })) is)

@@ -3,7 +3,7 @@ use Rattle.std.proofs.lemmas.List.{drop_more}
 use Rattle.lsp_acts.specs.Acts.{Act as Plain}
 use Rattle.lsp_acts.specs.View.{act_view}
 use Rattle.lsp_acts.specs.declared.server.Act.{Act}
-use Rattle.lsp_jobs.proofs.SlotChanges.{unanswered_first}
+use Rattle.lsp_jobs.proofs.KeyChanges.{unanswered_first}
 use Rattle.lsp_jobs.specs.PendingJobs.{PendingJobs}
 use Rattle.lsp_jobs.specs.Pooled.{unanswered}
 use Rattle.lsp_jobs.specs.PoolView.{pending_jobs}

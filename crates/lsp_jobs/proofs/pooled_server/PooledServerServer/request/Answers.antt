@@ -6,7 +6,7 @@ use Rattle.lsp_jobs.proofs.PendingLemmas.{given_up, long_again}
 use Rattle.lsp_jobs.specs.Asking.{same_origin}
 use Rattle.lsp_jobs.specs.PendingJobs.{PendingJobs}
 use Rattle.lsp_jobs.specs.PoolView.{pending_jobs}
-use Rattle.lsp_jobs.specs.Pooled.{ChangesSlots, TakesLong}
+use Rattle.lsp_jobs.specs.Pooled.{ChangesJobs, TakesLong}
 use Rattle.lsp_jobs.specs.Seen.{seen}
 use Rattle.lsp_jobs.specs.declared.names.JobName.TheVariants.{Request}
 use Rattle.lsp_jobs.specs.Stated.{stated_jobs}
@@ -52,7 +52,7 @@ returns g c =
           acts,
           did,
           c.in_ok-acts.ensures,
-          subst (λ t. ChangesSlots jobs (did, t) acts others.0 (seen c.acts_with_changes.new.self)) left
+          subst (λ t. ChangesJobs jobs (did, t) acts others.0 (seen c.acts_with_changes.new.self)) left
               others.2,
         ),
       ),

@@ -6,7 +6,7 @@ use Rattle.lsp_jobs.specs.Pooled.{Changes, unanswered}
 use Rattle.lsp_jobs.specs.PoolView.{pending_jobs}
 use Rattle.lsp_jobs.specs.PendingJobs.{PendingJobs}
 use Rattle.lsp_jobs.specs.Stated.{stated_jobs}
-use Rattle.lsp_jobs.proofs.pooled_server.PooledServer.change_slots.Goals as goal
+use Rattle.lsp_jobs.proofs.pooled_server.PooledServer.change_jobs.Goals as goal
 
 pub returns : goal.returns
 returns g c =

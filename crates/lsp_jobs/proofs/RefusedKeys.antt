@@ -1,4 +1,4 @@
--- Runs that the law of slots refuses: the server hears of a job that was never started, or of one that has ended.
+-- Runs that the law of keys refuses: the server hears of a job that was never started, or of one that has ended.
 use Rattle.std.proofs.Common.{◌≡◌, refl, sym, ◌∙◌, ap, subst, inl, inr, Bool, true, false, cond, List, [], ◌∷◌, ◌++◌}
 use Rattle.std.proofs.Common.{append_assoc, Option, Some, None}
 use Rattle.std.specs.Prelude.{is_some, IsSome}
@@ -9,59 +9,59 @@ use Rattle.lsp_session.specs.Session.{Exchange}
 use Rattle.lsp_acts.specs.Acts.{Act}
 use Rattle.lsp_acts.specs.Law.{Call}
 use Rattle.lsp_acts.specs.declared.server.Server.{Ghosts as Plain}
-use Rattle.lsp_jobs.proofs.SlotChanges.{after-append, others_keep}
-use Rattle.lsp_jobs.proofs.SlotTurns.{slots_more}
-use Rattle.lsp_jobs.specs.KeyedJobLaw.{AreTurns, Becomes, IsCalled, IsIn, IsTurn, LeavesAlone, SlotHistory, Stands}
+use Rattle.lsp_jobs.proofs.KeyChanges.{after-append, others_keep}
+use Rattle.lsp_jobs.proofs.KeyTurns.{keys_more}
+use Rattle.lsp_jobs.specs.KeyedJobLaw.{AreTurns, Becomes, IsCalled, IsIn, IsTurn, LeavesAlone, KeyHistory, Stands}
 use Rattle.lsp_jobs.specs.KeyedJobLaw.{StartsLast, TakeTurns, Turn, WakeDoes, after_event, after_events, heard_in}
-use Rattle.lsp_jobs.specs.KeyedJobLaw.{slots_after}
-use Rattle.lsp_jobs.specs.KeyedJobLaw.{SlotEvent, starts, ends_heard, ends_left}
+use Rattle.lsp_jobs.specs.KeyedJobLaw.{keys_after}
+use Rattle.lsp_jobs.specs.KeyedJobLaw.{KeyEvent, starts, ends_heard, ends_left}
 use Rattle.lsp_jobs.specs.Stated.{StatedJobs}
 use Rattle.lsp_jobs.specs.declared.asking.RequestOrigin.{RequestOrigin}
 use Rattle.lsp_jobs.specs.declared.names.JobName.{JobName}
 use Rattle.lsp_jobs.specs.declared.names.JobName.TheVariants.{Request, Keyed}
 
 module _ {S J F P : Type 0} (may : StatedJobs S J F P) where
-  -- no job starts in this slot
-  abbrev NoStart : Id → List (SlotEvent may) → Type 0
-  NoStart slot [] = Unit {0}
-  NoStart slot (starts s job ∷ events) = (same_id slot s ≡ false) × NoStart slot events
-  NoStart slot (event ∷ events) = NoStart slot events
+  -- no job starts under this key
+  abbrev NoStart : Id → List (KeyEvent may) → Type 0
+  NoStart key [] = Unit {0}
+  NoStart key (starts s job ∷ events) = (same_id key s ≡ false) × NoStart key events
+  NoStart key (event ∷ events) = NoStart key events
 
-  stays_free : (slot : Id) (events : List (SlotEvent may)) → NoStart slot events → (slots : Id → Option J)
-      → slots slot ≡ None → after_events may slots events slot ≡ None
-  stays_free slot [] none slots free = free
-  stays_free slot (starts s job ∷ events) none slots free =
-      stays_free slot events none.1 (after_event may slots (starts s job))
-      (ap (λ (b : Bool). cond b (Some job) (slots slot)) none.0 ∙ free)
-  stays_free slot (ends_heard s ∷ events) none slots free =
-      stays_free slot events none (after_event may slots (ends_heard s)) (still (same_id slot s))
+  stays_free : (key : Id) (events : List (KeyEvent may)) → NoStart key events → (keys : Id → Option J)
+      → keys key ≡ None → after_events may keys events key ≡ None
+  stays_free key [] none keys free = free
+  stays_free key (starts s job ∷ events) none keys free =
+      stays_free key events none.1 (after_event may keys (starts s job))
+      (ap (λ (b : Bool). cond b (Some job) (keys key)) none.0 ∙ free)
+  stays_free key (ends_heard s ∷ events) none keys free =
+      stays_free key events none (after_event may keys (ends_heard s)) (still (same_id key s))
     where
-      still : (b : Bool) → cond b None (slots slot) ≡ None
+      still : (b : Bool) → cond b None (keys key) ≡ None
       still true = refl
       still false = free
-  stays_free slot (ends_left l ∷ events) none slots free =
-      stays_free slot events none (after_event may slots (ends_left l)) (still (same_id slot l.slot))
+  stays_free key (ends_left l ∷ events) none keys free =
+      stays_free key events none (after_event may keys (ends_left l)) (still (same_id key l.key))
     where
-      still : (b : Bool) → cond b None (slots slot) ≡ None
+      still : (b : Bool) → cond b None (keys key) ≡ None
       still true = refl
       still false = free
 
-  later_turns : (slots : Id → Option J) (xs ys : List (SlotEvent may)) → TakeTurns may slots (xs ++ ys)
-      → TakeTurns may (after_events may slots xs) ys
-  later_turns slots [] ys turns = turns
-  later_turns slots (x ∷ xs) ys turns = later_turns (after_event may slots x) xs ys turns.1
+  later_turns : (keys : Id → Option J) (xs ys : List (KeyEvent may)) → TakeTurns may keys (xs ++ ys)
+      → TakeTurns may (after_events may keys xs) ys
+  later_turns keys [] ys turns = turns
+  later_turns keys (x ∷ xs) ys turns = later_turns (after_event may keys x) xs ys turns.1
 
-  -- the server hears twice of a slot in which one job was started
-  pub heard_twice : (slots : Id → Option J) (before between after : List (SlotEvent may)) (slot : Id)
-      → NoStart slot between
-      → TakeTurns may slots (before ++ (ends_heard slot ∷ (between ++ ends_heard slot ∷ after))) → ⊥
-  heard_twice slots before between after slot none turns =
-      let first = after_events may slots before in
-      let free = after_event may first (ends_heard slot) in
-      let rest = later_turns slots before (ends_heard slot ∷ (between ++ ends_heard slot ∷ after)) turns in
-      let again = later_turns free between (ends_heard slot ∷ after) rest.1 in
-      let gone = stays_free slot between none free
-      (ap (λ (b : Bool). cond b None (first slot)) ((id_decides slot slot).1 refl)) in
+  -- the server hears twice of a key under which one job was started
+  pub heard_twice : (keys : Id → Option J) (before between after : List (KeyEvent may)) (key : Id)
+      → NoStart key between
+      → TakeTurns may keys (before ++ (ends_heard key ∷ (between ++ ends_heard key ∷ after))) → ⊥
+  heard_twice keys before between after key none turns =
+      let first = after_events may keys before in
+      let free = after_event may first (ends_heard key) in
+      let rest = later_turns keys before (ends_heard key ∷ (between ++ ends_heard key ∷ after)) turns in
+      let again = later_turns free between (ends_heard key ∷ after) rest.1 in
+      let gone = stays_free key between none free
+      (ap (λ (b : Bool). cond b None (first key)) ((id_decides key key).1 refl)) in
       let no : false ≡ true = sym (ap (λ (o : Option J). is_some o) gone) ∙ again.0 in
       absurd (cc (no))
 
@@ -92,8 +92,8 @@ module _ {S J F P : Type 0} (plain : Plain S P) (may : StatedJobs S J F P) where
 
   -- the same of a whole run, in which no job was ever started or given
   pub hears_unstarted : (start : S) (opening : Exchange) (begun : List (Act (RequestOrigin P)))
-      (calls : List (Call (RequestOrigin P))) (history : SlotHistory plain may start opening begun calls)
-      → ((t : Turn plain may) (slot : Id) (job : J) → Has t history.turns → StartsLast t.changes slot job → ⊥)
+      (calls : List (Call (RequestOrigin P))) (history : KeyHistory plain may start opening begun calls)
+      → ((t : Turn plain may) (key : Id) (job : J) → Has t history.turns → StartsLast t.changes key job → ⊥)
       → ((t : Turn plain may) (job : J) → Has t history.turns → t.given ≡ Some job → ⊥)
       → (earlier later : List (Turn plain may)) (t : Turn plain may) → history.turns ≡ earlier ++ t ∷ later
       → t.call.came ≡ None → (t.new ≡ t.old → ⊥) → ⊥
@@ -112,23 +112,23 @@ module _ {S J F P : Type 0} (plain : Plain S P) (may : StatedJobs S J F P) where
       )
 
       nobody : (name : JobName) (job : J) → Stands plain may earlier name job → ⊥
-      nobody (Keyed slot) job there =
-          let l = there.last in unstarted l.turn slot job (place l.before l.since l.turn l.cut) l.started
+      nobody (Keyed key) job there =
+          let l = there.last in unstarted l.turn key job (place l.before l.since l.turn l.cut) l.started
       nobody (Request id) job l = ungiven l.turn job (place l.before l.since l.turn l.cut) l.given
 
-  -- the end of a job was heard, its slot was not changed then, and it stands as before
-  pub still_stands : (turns : List (Turn plain may)) (slot : Id) (job : J) (t : Turn plain may) → t.heard ≡ Some
-      (Keyed slot)
-      → LeavesAlone slot t.changes → Becomes may t.changes t.became → IsIn plain may (turns ++ t ∷ []) slot job → ⊥
-  still_stands turns slot job t heard alone becomes there =
-      let before = slots_after plain may turns in
-      let free = after_event may before (ends_heard slot) in
-      let at : slots_after plain may (turns ++ t ∷ []) slot ≡ after_events may free t.became slot =
-      ap (λ (f : Id → Option J). f slot) (slots_more plain may turns t)
-      ∙ ap (λ (f : Id → Option J). f slot) (after-append may before (heard_in plain may t.heard) t.became)
-      ∙ ap (λ (n : Option JobName). after_events may (after_events may before (heard_in plain may n)) t.became slot)
+  -- the end of a job was heard, no command was for its key then, and it stands as before
+  pub still_stands : (turns : List (Turn plain may)) (key : Id) (job : J) (t : Turn plain may) → t.heard ≡ Some
+      (Keyed key)
+      → LeavesAlone key t.changes → Becomes may t.changes t.became → IsIn plain may (turns ++ t ∷ []) key job → ⊥
+  still_stands turns key job t heard alone becomes there =
+      let before = keys_after plain may turns in
+      let free = after_event may before (ends_heard key) in
+      let at : keys_after plain may (turns ++ t ∷ []) key ≡ after_events may free t.became key =
+      ap (λ (f : Id → Option J). f key) (keys_more plain may turns t)
+      ∙ ap (λ (f : Id → Option J). f key) (after-append may before (heard_in plain may t.heard) t.became)
+      ∙ ap (λ (n : Option JobName). after_events may (after_events may before (heard_in plain may n)) t.became key)
       heard in
-      let gone = at ∙ others_keep may slot t.changes t.became alone becomes free
-      ∙ ap (λ (b : Bool). cond b None (before slot)) ((id_decides slot slot).1 refl) in
+      let gone = at ∙ others_keep may key t.changes t.became alone becomes free
+      ∙ ap (λ (b : Bool). cond b None (before key)) ((id_decides key key).1 refl) in
       let no : Some job ≡ None = sym there.there ∙ gone in
       absurd (cc (no))

@@ -1,4 +1,4 @@
--- The turns of a server with jobs, and which job of a slot, and of a request, has a say in each.
+-- The turns of a server with jobs, and which job of a key, and of a request, has a say in each.
 use Rattle.serde_json.specs.Data.{Data}
 use Rattle.std.proofs.Common.{◌≡◌, ◌⊎◌, refl, sym, ◌∙◌, ap, subst, inl, inr, ℕ, Bool, true, false, List, [], ◌∷◌}
 use Rattle.std.proofs.Common.{◌++◌, append_assoc, append-nil, Option, Some, None}
@@ -12,19 +12,19 @@ use Rattle.lsp_acts.specs.Acts.{Act, TakesBack, cancelled_by, unsent}
 use Rattle.lsp_acts.specs.Law.{AnswersInitialize, Call, Handed, Initializes, TakesCalls, TakesPart, ids_after_all}
 use Rattle.lsp_acts.specs.declared.server.Server.{Ghosts as Plain}
 use Rattle.lsp_jobs.proofs.Answering.{back_pending, does_jobs, requests_then, FromCall}
-use Rattle.lsp_jobs.proofs.SlotChanges.{after-append, fewer_slots, in_slots, moves_all, turns-append, unanswered_slot}
-use Rattle.lsp_jobs.proofs.SlotChanges.{unanswered_slots, went_all, Changed}
+use Rattle.lsp_jobs.proofs.KeyChanges.{after-append, fewer_keys, under_keys, moves_all, turns-append, unanswered_key}
+use Rattle.lsp_jobs.proofs.KeyChanges.{unanswered_keys, went_all, Changed}
 use Rattle.lsp_jobs.specs.Asking.{by_server, ByServers}
 use Rattle.lsp_jobs.specs.Ends.{end_of}
 use Rattle.lsp_jobs.specs.JobSession.{seen_with_jobs}
 use Rattle.lsp_jobs.specs.PendingJobs.{PendingJobs, no_jobs, without}
 use Rattle.lsp_jobs.specs.PoolView.{pending_jobs}
-use Rattle.lsp_jobs.specs.Pooled.{reply_at, unanswered, without_cancelled, ChangesSlots, Does, Finishes, TakesLong}
+use Rattle.lsp_jobs.specs.Pooled.{reply_at, unanswered, without_cancelled, ChangesJobs, Does, Finishes, TakesLong}
 use Rattle.lsp_jobs.specs.Seen.{seen}
 use Rattle.lsp_jobs.specs.KeyedJobLaw.{AllLeaveAlone, AllQuiet, AreTurns, Becomes, IsCalled, IsGiven, IsTurn}
 use Rattle.lsp_jobs.specs.KeyedJobLaw.{LeavesAlone}
-use Rattle.lsp_jobs.specs.KeyedJobLaw.{IsIn, LastStart, Left, SlotEvent, TakeTurns, after_events, events_of, heard_in}
-use Rattle.lsp_jobs.specs.KeyedJobLaw.{lefts_of, slots_after, MayPass, SeesLeft, SlotHistory, Spares, Stands}
+use Rattle.lsp_jobs.specs.KeyedJobLaw.{IsIn, LastStart, Left, KeyEvent, TakeTurns, after_events, events_of, heard_in}
+use Rattle.lsp_jobs.specs.KeyedJobLaw.{lefts_of, keys_after, MayPass, SeesLeft, KeyHistory, Spares, Stands}
 use Rattle.lsp_jobs.specs.KeyedJobLaw.{StartsLast}
 use Rattle.lsp_jobs.specs.KeyedJobLaw.{Turn, WakeDoes, at_ends, concerns}
 use Rattle.lsp_jobs.specs.declared.asking.RequestOrigin.{RequestOrigin}
@@ -36,27 +36,27 @@ use Rattle.lsp_jobs.specs.declared.names.JobName.TheVariants.{Request, Keyed}
 use Rattle.lsp_jobs.specs.declared.pooled_server.PooledServer.{PooledServer}
 
 module _ {S J F P : Type 0} (plain : Plain S P) (may : StatedJobs S J F P) where
-  -- what becomes of the jobs in slots
+  -- what becomes of the jobs under keys
   abbrev pub MovesTo : List (JobCommand J) → PendingJobs J → PendingJobs J → Type 0
-  MovesTo changes old new = (slot : Id) (e : J) → new (Keyed slot) ≡ Some e
-      → ((old (Keyed slot) ≡ Some e) × LeavesAlone slot changes) ⊎ StartsLast changes slot e
+  MovesTo changes old new = (key : Id) (e : J) → new (Keyed key) ≡ Some e
+      → ((old (Keyed key) ≡ Some e) × LeavesAlone key changes) ⊎ StartsLast changes key e
 
-  -- the server changed its slots, and saw which jobs that ended
+  -- the server changed its keys, and saw which jobs that ended
   record Made (asked : S) (old : PendingJobs J) (acts all : List (Act P)) (new : S × PendingJobs J)
       : Type 0 where
     changes : List (JobCommand J)
     mid : S
     gives : may.take_commands_post asked changes mid
-    became : List (SlotEvent may)
+    became : List (KeyEvent may)
     becomes : Becomes may changes became
     linked : SeesLeft plain may mid (lefts_of may became) new.0
     done : all ≡ acts ++ at_ends may (lefts_of may became)
     moves : MovesTo changes old new.1
-    slots : in_slots new.1 ≡ after_events may (in_slots old) became
-    turns : TakeTurns may (in_slots old) became
+    keys : under_keys new.1 ≡ after_events may (under_keys old) became
+    turns : TakeTurns may (under_keys old) became
 
   made : (asked : S) (old : PendingJobs J) (acts all : List (Act P)) (new : S × PendingJobs J)
-      → ChangesSlots may (asked, old) acts all new → Made asked old acts all new
+      → ChangesJobs may (asked, old) acts all new → Made asked old acts all new
   made asked old acts all new c = record {
     changes = c.changes;
     mid = c.mid;
@@ -65,20 +65,20 @@ module _ {S J F P : Type 0} (plain : Plain S P) (may : StatedJobs S J F P) where
     becomes = went.1;
     linked = went.0.linked;
     done = went.0.acts;
-    moves = λ slot e has. elim (moves_all plain may c.changes (c.mid, unanswered acts old, acts) (new.0, new.1, all)
-        c.made slot e has) [
-          | inl was ↦ inl (sym (unanswered_slot acts old slot) ∙ was.0, was.1)
+    moves = λ key e has. elim (moves_all plain may c.changes (c.mid, unanswered acts old, acts) (new.0, new.1, all)
+        c.made key e has) [
+          | inl was ↦ inl (sym (unanswered_key acts old key) ∙ was.0, was.1)
           | inr last ↦ inr last
         ];
-    slots = went.0.slots ∙ ap (λ (s : Id → Option J). after_events may s went.0.events) same;
+    keys = went.0.keys ∙ ap (λ (s : Id → Option J). after_events may s went.0.events) same;
     turns = subst (λ (s : Id → Option J). TakeTurns may s went.0.events) same went.0.turns;
   }
     where
       went : Changed plain may c.changes (c.mid, unanswered acts old, acts) (new.0, new.1, all)
       went = went_all plain may c.changes (c.mid, unanswered acts old, acts) (new.0, new.1, all) c.made
 
-      same : in_slots (unanswered acts old) ≡ in_slots old
-      same = unanswered_slots acts old
+      same : under_keys (unanswered acts old) ≡ under_keys old
+      same = unanswered_keys acts old
 
   -- the job that is pending for a request that came
   abbrev given_at : Option Message → PendingJobs J → Option J
@@ -90,34 +90,34 @@ module _ {S J F P : Type 0} (plain : Plain S P) (may : StatedJobs S J F P) where
   Comes t old new = (id : Id) (e : J) → new (Request id) ≡ Some e
       → FromCall (IsGiven plain may t.old t.call.acts) old t.call.came id e × Spares id t.call.acts
 
-  -- what becomes of slots in a turn
-  abbrev pub events_at : Turn plain may → List (SlotEvent may)
+  -- what becomes of keys in a turn
+  abbrev pub events_at : Turn plain may → List (KeyEvent may)
   events_at t = heard_in plain may t.heard ++ t.became
 
-  -- each job that is pending in a slot is the last that was started there and in it, and each other the one given for
+  -- each job that is pending under a key is the last that was started there, and each other the one given for
   -- its request
   abbrev pub AllStand : List (Turn plain may) → PendingJobs J → Type 0
   AllStand earlier pending = ((name : JobName) (e : J) → pending name ≡ Some e → Stands plain may earlier name e)
-      × (in_slots pending ≡ slots_after plain may earlier)
+      × (under_keys pending ≡ keys_after plain may earlier)
 
   events-append : (xs ys : List (Turn plain may)) → events_of plain may (xs ++ ys)
       ≡ events_of plain may xs ++ events_of plain may ys
   events-append [] ys = refl
-  events-append (t ∷ xs) ys = ap (λ (l : List (SlotEvent may)). events_at t ++ l) (events-append xs ys)
+  events-append (t ∷ xs) ys = ap (λ (l : List (KeyEvent may)). events_at t ++ l) (events-append xs ys)
       ∙ sym (append_assoc (events_at t) (events_of plain may xs) (events_of plain may ys))
 
-  -- the jobs in slots after one turn more
-  pub slots_more : (earlier : List (Turn plain may)) (t : Turn plain may) → slots_after plain may (earlier ++ t ∷ [])
-      ≡ after_events may (slots_after plain may earlier) (events_at t)
-  slots_more earlier t =
-      ap (after_events may (λ slot. None)) (events-append earlier (t ∷ [])
-      ∙ ap (λ (l : List (SlotEvent may)). events_of plain may earlier ++ l) (append-nil (events_at t)))
-      ∙ after-append may (λ slot. None) (events_of plain may earlier) (events_at t)
+  -- the jobs under keys after one turn more
+  pub keys_more : (earlier : List (Turn plain may)) (t : Turn plain may) → keys_after plain may (earlier ++ t ∷ [])
+      ≡ after_events may (keys_after plain may earlier) (events_at t)
+  keys_more earlier t =
+      ap (after_events may (λ key. None)) (events-append earlier (t ∷ [])
+      ∙ ap (λ (l : List (KeyEvent may)). events_of plain may earlier ++ l) (append-nil (events_at t)))
+      ∙ after-append may (λ key. None) (events_of plain may earlier) (events_at t)
 
-  alone_more : (slot : Id) (turns : List (Turn plain may)) (t : Turn plain may) → AllLeaveAlone plain may slot turns
-      → LeavesAlone slot t.changes → AllLeaveAlone plain may slot (turns ++ t ∷ [])
-  alone_more slot [] t all one = (one, tt)
-  alone_more slot (x ∷ turns) t all one = (all.0, alone_more slot turns t all.1 one)
+  alone_more : (key : Id) (turns : List (Turn plain may)) (t : Turn plain may) → AllLeaveAlone plain may key turns
+      → LeavesAlone key t.changes → AllLeaveAlone plain may key (turns ++ t ∷ [])
+  alone_more key [] t all one = (one, tt)
+  alone_more key (x ∷ turns) t all one = (all.0, alone_more key turns t all.1 one)
 
   quiet_more : (id : Id) (turns : List (Turn plain may)) (t : Turn plain may) → AllQuiet plain may id turns
       → concerns id t.call.came ≡ false → Spares id t.call.acts → AllQuiet plain may id (turns ++ t ∷ [])
@@ -126,17 +126,17 @@ module _ {S J F P : Type 0} (plain : Plain S P) (may : StatedJobs S J F P) where
 
   stand_on : (earlier : List (Turn plain may)) (t : Turn plain may) (old new : PendingJobs J)
       → AllStand earlier old → MovesTo t.changes old new → t.given ≡ given_at t.call.came new → Comes t old new
-      → in_slots new ≡ after_events may (in_slots old) (events_at t) → AllStand (earlier ++ t ∷ []) new
-  stand_on earlier t old new before moves given comes slots = (stands_so, slots_now)
+      → under_keys new ≡ after_events may (under_keys old) (events_at t) → AllStand (earlier ++ t ∷ []) new
+  stand_on earlier t old new before moves given comes keys = (stands_so, keys_now)
     where
-      slots_now : in_slots new ≡ slots_after plain may (earlier ++ t ∷ [])
-      slots_now = slots ∙ ap (λ (s : Id → Option J). after_events may s (events_at t)) before.1 ∙ sym
-          (slots_more earlier t)
+      keys_now : under_keys new ≡ keys_after plain may (earlier ++ t ∷ [])
+      keys_now = keys ∙ ap (λ (s : Id → Option J). after_events may s (events_at t)) before.1 ∙ sym
+          (keys_more earlier t)
 
-      starts_at : (slot : Id) (e : J) → new (Keyed slot) ≡ Some e → LastStart plain may (earlier ++ t ∷ []) slot e
-      starts_at slot e has = elim (moves slot e has) [
+      starts_at : (key : Id) (e : J) → new (Keyed key) ≡ Some e → LastStart plain may (earlier ++ t ∷ []) key e
+      starts_at key e has = elim (moves key e has) [
         | inl was ↦
-            let stood : IsIn plain may earlier slot e = before.0 (Keyed slot) e was.0 in
+            let stood : IsIn plain may earlier key e = before.0 (Keyed key) e was.0 in
             let l = stood.last in record {
               before = l.before;
               turn = l.turn;
@@ -144,7 +144,7 @@ module _ {S J F P : Type 0} (plain : Plain S P) (may : StatedJobs S J F P) where
               cut = ap (λ (ts : List (Turn plain may)). ts ++ t ∷ []) l.cut
                   ∙ append_assoc l.before (l.turn ∷ l.since) (t ∷ []);
               started = l.started;
-              alone = alone_more slot l.since t l.alone was.1;
+              alone = alone_more key l.since t l.alone was.1;
             }
         | inr started ↦ record {
           before = earlier;
@@ -157,9 +157,9 @@ module _ {S J F P : Type 0} (plain : Plain S P) (may : StatedJobs S J F P) where
       ]
 
       stands_so : (name : JobName) (e : J) → new name ≡ Some e → Stands plain may (earlier ++ t ∷ []) name e
-      stands_so (Keyed slot) e has = record {
-        last = starts_at slot e has;
-        there = ap (λ (s : Id → Option J). s slot) (sym slots_now) ∙ has;
+      stands_so (Keyed key) e has = record {
+        last = starts_at key e has;
+        there = ap (λ (s : Id → Option J). s key) (sym keys_now) ∙ has;
       }
       stands_so (Request id) e has =
           let own = comes id e has in
@@ -208,19 +208,19 @@ module _ (T : Type 0) {S J F P : Type 0} (plain : Plain S P) (may : StatedJobs S
     pub gave : turn.given ≡ given_at plain may call.came (pended did)
     pub is_turn : IsTurn plain may turn
     pub moves : MovesTo plain may turn.changes (pended old) (pended did)
-    pub slots : in_slots (pended did) ≡ after_events may (in_slots (pended old)) (events_at plain may turn)
-    pub turns : TakeTurns may (in_slots (pended old)) (events_at plain may turn)
+    pub keys : under_keys (pended did) ≡ after_events may (under_keys (pended old)) (events_at plain may turn)
+    pub turns : TakeTurns may (under_keys (pended old)) (events_at plain may turn)
     pub wake : (earlier : List (Turn plain may)) → AllStand plain may earlier (pended old) → call.came ≡ None
         → WakeDoes plain may earlier turn
 
   -- the server did nothing
   passes : (old did : PooledServer T S J F) (call : Call (RequestOrigin P))
       → MayPass plain may old.server call.came call.acts → did.server ≡ old.server
-      → ((slot : Id) → pended did (Keyed slot) ≡ pended old (Keyed slot))
+      → ((key : Id) → pended did (Keyed key) ≡ pended old (Keyed key))
       → ((turn : Turn plain may) → turn.call ≡ call → turn.heard ≡ None → (earlier : List (Turn plain may))
       → AllStand plain may earlier (pended old) → call.came ≡ None → WakeDoes plain may earlier turn)
       → TurnOf old did call
-  passes old did call may_pass same slots does =
+  passes old did call may_pass same keys does =
       let turn : Turn plain may = record {
         call = call;
         old = old.server;
@@ -239,8 +239,8 @@ module _ (T : Type 0) {S J F P : Type 0} (plain : Plain S P) (may : StatedJobs S
         to = refl;
         gave = refl;
         is_turn = inr (may_pass, refl, refl, same, refl, refl);
-        moves = λ slot e has. inl (sym (slots slot) ∙ has, tt);
-        slots = λ k slot. slots slot k;
+        moves = λ key e has. inl (sym (keys key) ∙ has, tt);
+        keys = λ k key. keys key k;
         turns = tt;
         wake = does turn refl refl;
       }
@@ -253,15 +253,15 @@ module _ (T : Type 0) {S J F P : Type 0} (plain : Plain S P) (may : StatedJobs S
       → TurnOf old did call
   stays old did call may_pass same =
       passes old did call may_pass (ap (λ (x : S × PendingJobs J). x.0) same)
-      (λ slot. ap (λ (x : S × PendingJobs J). x.1 (Keyed slot)) same)
+      (λ key. ap (λ (x : S × PendingJobs J). x.1 (Keyed key)) same)
 
   -- the server was called, and then asked for changes
   called : (old did : PooledServer T S J F) (call : Call (RequestOrigin P)) (heard : Option JobName) (asked : S)
       (mid : PendingJobs J) (acts own : List (Act P)) → call.acts ≡ map_list by_server own
       → IsCalled plain may old.server call.came heard acts asked
-      → ((slot : Id) (e : J) → mid (Keyed slot) ≡ Some e → pended old (Keyed slot) ≡ Some e)
-      → in_slots mid ≡ after_events may (in_slots (pended old)) (heard_in plain may heard)
-      → TakeTurns may (in_slots (pended old)) (heard_in plain may heard)
+      → ((key : Id) (e : J) → mid (Keyed key) ≡ Some e → pended old (Keyed key) ≡ Some e)
+      → under_keys mid ≡ after_events may (under_keys (pended old)) (heard_in plain may heard)
+      → TakeTurns may (under_keys (pended old)) (heard_in plain may heard)
       → (m : Made plain may asked mid acts own (seen did))
       → ((turn : Turn plain may) → turn.call ≡ call → turn.old ≡ old.server → turn.heard ≡ heard → turn.asked ≡ asked
       → turn.left ≡ lefts_of may m.became
@@ -294,13 +294,13 @@ module _ (T : Type 0) {S J F P : Type 0} (plain : Plain S P) (may : StatedJobs S
           m.becomes,
           refl,
         );
-        moves = λ slot e has. elim (m.moves slot e has) [
-          | inl was ↦ inl (same slot e was.0, was.1)
+        moves = λ key e has. elim (m.moves key e has) [
+          | inl was ↦ inl (same key e was.0, was.1)
           | inr last ↦ inr last
         ];
-        slots = m.slots ∙ ap (λ (s : Id → Option J). after_events may s m.became) gone
-            ∙ sym (after-append may (in_slots (pended old)) (heard_in plain may heard) m.became);
-        turns = turns-append may (in_slots (pended old)) (heard_in plain may heard) m.became fits
+        keys = m.keys ∙ ap (λ (s : Id → Option J). after_events may s m.became) gone
+            ∙ sym (after-append may (under_keys (pended old)) (heard_in plain may heard) m.became);
+        turns = turns-append may (under_keys (pended old)) (heard_in plain may heard) m.became fits
             (subst (λ (s : Id → Option J). TakeTurns may s m.became) gone m.turns);
         wake = does turn refl refl refl refl refl;
       }
@@ -309,29 +309,29 @@ module _ (T : Type 0) {S J F P : Type 0} (plain : Plain S P) (may : StatedJobs S
   does_turn : (old did : PooledServer T S J F) (call : Call (RequestOrigin P)) (pending : PendingJobs J)
       (stated : List (Act P) → S → Type 0) → ByServers (λ own. Does may stated pending own (seen did)) call.acts
       → ((acts : List (Act P)) (mid : S) → stated acts mid → IsCalled plain may old.server call.came None acts mid)
-      → in_slots pending ≡ in_slots (pended old)
+      → under_keys pending ≡ under_keys (pended old)
       → (call.came ≡ None → ⊥) → TurnOf old did call
   does_turn old did call pending stated b is_called same message =
       let d = b.2 in
       called old did call None d.1 pending d.0 b.0 b.1 (is_called d.0 d.1 d.2)
-      (λ slot e has. ap (λ (s : Id → Option J). s slot) (sym same) ∙ has) same tt
+      (λ key e has. ap (λ (s : Id → Option J). s key) (sym same) ∙ has) same tt
       (made plain may d.1 pending d.0 b.0 (seen did) d.3) (λ turn a b c d e earlier stand none. absurd (message none))
 
-  slots_cancelled : (cancelled : Option Id) (pending : PendingJobs J)
-      → in_slots (without_cancelled cancelled pending) ≡ in_slots pending
-  slots_cancelled None pending = refl
-  slots_cancelled (Some id) pending = refl
+  keys_cancelled : (cancelled : Option Id) (pending : PendingJobs J)
+      → under_keys (without_cancelled cancelled pending) ≡ under_keys pending
+  keys_cancelled None pending = refl
+  keys_cancelled (Some id) pending = refl
 
-  -- the slot of a job that came to something is free
-  slots_heard : (name : JobName) (pending : PendingJobs J) → in_slots (without name pending)
-      ≡ after_events may (in_slots pending) (heard_in plain may (Some name))
-  slots_heard (Request id) pending = refl
-  slots_heard (Keyed slot) pending = refl
+  -- the key of a job that came to something is free
+  keys_heard : (name : JobName) (pending : PendingJobs J) → under_keys (without name pending)
+      ≡ after_events may (under_keys pending) (heard_in plain may (Some name))
+  keys_heard (Request id) pending = refl
+  keys_heard (Keyed key) pending = refl
 
   fits_heard : (name : JobName) (pending : PendingJobs J) (job : J) → pending name ≡ Some job
-      → TakeTurns may (in_slots pending) (heard_in plain may (Some name))
+      → TakeTurns may (under_keys pending) (heard_in plain may (Some name))
   fits_heard (Request id) pending job waits = tt
-  fits_heard (Keyed slot) pending job waits = (ap (λ (o : Option J). is_some o) waits, tt)
+  fits_heard (Keyed key) pending job waits = (ap (λ (o : Option J). is_some o) waits, tt)
 
   -- a long request came
   long_turn : (old did : PooledServer T S J F) (id : Id) (method : List ℕ) (params : Data)
@@ -342,12 +342,12 @@ module _ (T : Type 0) {S J F P : Type 0} (plain : Plain S P) (may : StatedJobs S
   long_turn old did id method params payload acts long (inl j) =
       passes old did (record { came = Some (request id method params); payload = payload; acts = acts })
       (inl (j.job, (long, j.gives, j.is_for, j.acts))) (ap (λ (x : S × PendingJobs J). x.0) j.started)
-      (λ slot. ap (λ (x : S × PendingJobs J). x.1 (Keyed slot)) j.started)
+      (λ key. ap (λ (x : S × PendingJobs J). x.1 (Keyed key)) j.started)
       (λ turn is silent earlier stand none. absurd (cc (none)))
   long_turn old did id method params payload acts long (inr a) =
       passes old did (record { came = Some (request id method params); payload = payload; acts = acts })
       (inr (long, a.outcome, a.is, a.acts)) (ap (λ (x : S × PendingJobs J). x.0) a.left)
-      (λ slot. ap (λ (x : S × PendingJobs J). x.1 (Keyed slot)) a.left)
+      (λ key. ap (λ (x : S × PendingJobs J). x.1 (Keyed key)) a.left)
       (λ turn is silent earlier stand none. absurd (cc (none)))
 
   -- a job came to something
@@ -363,14 +363,14 @@ module _ (T : Type 0) {S J F P : Type 0} (plain : Plain S P) (may : StatedJobs S
       m : Made plain may f.did.0 f.did.1 f.acts own (seen did)
       m = made plain may f.did.0 f.did.1 f.acts own (seen did) f.others
 
-      same : (slot : Id) (e : J) → f.did.1 (Keyed slot) ≡ Some e → pended old (Keyed slot) ≡ Some e
-      same slot e has =
-          fewer_slots f.name (pended old) slot e (sym (unanswered_slot f.acts (without f.name (pended old)) slot)
-          ∙ ap (λ (p : PendingJobs J). p (Keyed slot)) (sym f.ended.3) ∙ has)
+      same : (key : Id) (e : J) → f.did.1 (Keyed key) ≡ Some e → pended old (Keyed key) ≡ Some e
+      same key e has =
+          fewer_keys f.name (pended old) key e (sym (unanswered_key f.acts (without f.name (pended old)) key)
+          ∙ ap (λ (p : PendingJobs J). p (Keyed key)) (sym f.ended.3) ∙ has)
 
-      gone : in_slots f.did.1 ≡ after_events may (in_slots (pended old)) (heard_in plain may (Some f.name))
-      gone = ap (λ (p : PendingJobs J). in_slots p) f.ended.3 ∙ unanswered_slots f.acts (without f.name (pended old))
-          ∙ slots_heard f.name (pended old)
+      gone : under_keys f.did.1 ≡ after_events may (under_keys (pended old)) (heard_in plain may (Some f.name))
+      gone = ap (λ (p : PendingJobs J). under_keys p) f.ended.3 ∙ unanswered_keys f.acts (without f.name (pended old))
+          ∙ keys_heard f.name (pended old)
 
       all : own ≡ (f.ended.0 ++ reply_at f.name f.came) ++ at_ends may (lefts_of may m.became)
       all = m.done ∙ ap (λ (l : List (Act P)). l ++ at_ends may (lefts_of may m.became)) f.ended.2
@@ -410,7 +410,7 @@ module _ (T : Type 0) {S J F P : Type 0} (plain : Plain S P) (may : StatedJobs S
       does_turn old did (record { came = Some (notification method params); payload = payload; acts = acts })
       (without_cancelled (cancelled_by method params) (pended old)) (plain.notification_post old.server method params)
       h.0
-      (λ did mid does. (inl does, refl)) (slots_cancelled (cancelled_by method params) (pended old))
+      (λ did mid does. (inl does, refl)) (keys_cancelled (cancelled_by method params) (pended old))
       (λ none. absurd (cc (none)))
   handed_turn old did (Some (response id outcome)) (Some (ByServer payload)) acts h =
       does_turn old did (record {
@@ -489,7 +489,7 @@ module _ (T : Type 0) {S J F P : Type 0} (plain : Plain S P) (may : StatedJobs S
   stands_after old did earlier call t stand comes =
       stand_on plain may earlier t.turn (pended old) (pended did) stand t.moves
       (t.gave ∙ ap (λ (c : Call (RequestOrigin P)). given_at plain may c.came (pended did)) (sym t.of_call))
-      (comes_at old did call t.turn t.of_call t.from comes) t.slots
+      (comes_at old did call t.turn t.of_call t.from comes) t.keys
 
   record Turns (start : S) (earlier : List (Turn plain may)) (calls : List (Call (RequestOrigin P))) : Type 0 where
     turns : List (Turn plain may)
@@ -498,7 +498,7 @@ module _ (T : Type 0) {S J F P : Type 0} (plain : Plain S P) (may : StatedJobs S
     linked : AreTurns plain may start turns last
     wakes : (before later : List (Turn plain may)) (t : Turn plain may) → turns ≡ before ++ t ∷ later
         → t.call.came ≡ None → WakeDoes plain may (earlier ++ before) t
-    once : TakeTurns may (slots_after plain may earlier) (events_of plain may turns)
+    once : TakeTurns may (keys_after plain may earlier) (events_of plain may turns)
 
   no_turns : (start now : S) (earlier : List (Turn plain may))
       → ((own : List P) × TakesBack plain.ids_exhausted_post start own now) → Turns start earlier []
@@ -531,11 +531,11 @@ module _ (T : Type 0) {S J F P : Type 0} (plain : Plain S P) (may : StatedJobs S
       subst (λ (s : S). AreTurns plain may s rest.turns rest.last) (sym t.to) rest.linked,
     );
     wakes = at;
-    once = turns-append may (slots_after plain may earlier) (events_at plain may t.turn)
+    once = turns-append may (keys_after plain may earlier) (events_at plain may t.turn)
         (events_of plain may rest.turns)
         (subst (λ (s : Id → Option J). TakeTurns may s (events_at plain may t.turn)) stand.1 t.turns)
         (subst (λ (s : Id → Option J). TakeTurns may s (events_of plain may rest.turns))
-        (slots_more plain may earlier t.turn) rest.once);
+        (keys_more plain may earlier t.turn) rest.once);
   }
     where
       at : (before later : List (Turn plain may)) (x : Turn plain may) → t.turn ∷ rest.turns ≡ before ++ x ∷ later
@@ -577,7 +577,7 @@ module _ (T : Type 0) {S J F P : Type 0} (plain : Plain S P) (may : StatedJobs S
   none_stands : (start : PooledServer T S J F) → pended start ≡ no_jobs → AllStand plain may [] (pended start)
   none_stands start none = (
     λ name e has. absurd (no_job start none name e has),
-    ap (λ (p : PendingJobs J). in_slots p) none,
+    ap (λ (p : PendingJobs J). under_keys p) none,
   )
 
   -- `initialized` came
@@ -606,11 +606,11 @@ module _ (T : Type 0) {S J F P : Type 0} (plain : Plain S P) (may : StatedJobs S
           (does_jobs plain may (λ id e. ⊥) (plain.initialized_post start.server) (pended start) began.0 (seen did)
           (λ id e has. absurd (no_job start none (Request id) e has)) began.2 id e has).0
 
-  pub slot_history : (start last : PooledServer T S J F) (opening : Exchange) (later : List Exchange) (m : Message)
+  pub key_history : (start last : PooledServer T S J F) (opening : Exchange) (later : List Exchange) (m : Message)
       → pended start ≡ no_jobs → opening.came ≡ Some m → is_initialized m ≡ true
       → (part : TakesPart W start last opening later)
-      → SlotHistory plain may start.server opening part.begun part.calls
-  slot_history start last opening later m none came begins part =
+      → KeyHistory plain may start.server opening part.begun part.calls
+  key_history start last opening later m none came begins part =
       let t : TurnOf start part.did now = subst (λ (o : Option Message). TurnOf start part.did (record {
         came = o;
         payload = None;
