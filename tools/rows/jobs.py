@@ -62,8 +62,8 @@ class Job:
         self.replies = self.finds = True
         # Whether a reply came, or no more comes; the reply of its client, and the token that it asks its client to agree to.
         self.is_answered, self.reply, self.created = False, None, None
-        # Whether it waits for the reply to a request that it sent.
-        self.is_asking = False
+        # Whether it waits for the reply to a request that it sent, and whether it starts only after an hour.
+        self.is_asking = self.is_far = False
 
     def token(self, member):
         """A text or a whole number of 32 bits. Else there is none."""
@@ -119,7 +119,8 @@ class Pool:
         """The oldest job of a request; if none waits, the oldest under a key, but if as many of those run as may."""
         requests = [it for it in self.queue if not isinstance(it.name, Key)]
         under_keys = sum(job is not None and isinstance(job.name, Key) for job in self.workers)
-        return (requests or (self.queue if under_keys < self.for_keys() else []) or [None])[0]
+        near = [it for it in self.queue if not it.is_far]
+        return (requests or (near if under_keys < self.for_keys() else []) or [None])[0]
 
     def end(self):
         for job in [*self.table.values(), *self.queue, *filter(None, self.workers)]:
@@ -323,6 +324,10 @@ class Working(Talker):
             self.starts, self.later = self.later, []
         elif "id" not in came and method.startswith("job "):
             self.starts.append((Key("own"), self.make(method[4:], params)))
+        elif "id" not in came and method.startswith(("soon ", "hour ")):
+            job = self.make(method[5:], params)
+            job.is_far = method.startswith("hour ")
+            self.starts.append((Key("own"), job))
         elif is_note(came, "stop"):
             self.starts.append((Key("own"), None))
         elif is_note(came, "answer"):

@@ -20,6 +20,7 @@ use std::alloc::{AllocError, Global};
 use std::io::{BufRead, Write};
 use std::sync::Wait;
 use std::thread::Threads;
+use std::time::Clock;
 
 /// Computes for as many turns as `turns` in the params says, and returns the params.
 #[derive(Drop)]
@@ -91,7 +92,7 @@ fn echo_with_jobs<T, R, W>(
     workers: usize,
 ) -> Result<Threaded<W>, StartFault>
 where
-    T: Threads + Wait + Copy + Drop + Send + 'static,
+    T: Threads + Wait + Clock + Copy + Drop + Send + 'static,
     R: BufRead + Drop + Send + 'static,
     W: Write + Drop + Send + 'static,
     ensures { IfSome (R.remaining reader) (λ text. IfOk result (λ done.

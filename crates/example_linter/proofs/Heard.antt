@@ -30,9 +30,9 @@ use Rattle.lsp_documents.specs.declared.fault.UpdateFault.{UpdateFault}
 use Rattle.lsp_documents.specs.declared.kept.DocumentState.{DocumentState}
 use Rattle.lsp_documents.specs.declared.method.DocumentMethod.{DocumentMethod}
 use Rattle.lsp_documents.specs.declared.method.DocumentMethod.TheVariants.{DidOpen, DidChange, DidSave, DidClose}
-use Rattle.lsp_jobs.specs.KeyedJobLaw.{LeavesAlone, key_of}
+use Rattle.lsp_jobs.specs.KeyedJobLaw.{LeavesAlone, key_of, started_by}
 use Rattle.lsp_jobs.specs.declared.job_server.JobCommand.{JobCommand}
-use Rattle.lsp_jobs.specs.declared.job_server.JobCommand.TheVariants.{Start, Stop}
+use Rattle.lsp_jobs.specs.declared.job_server.JobCommand.TheVariants.{Start, StartAfter, Stop}
 use Rattle.lsp_message.specs.Id.{Id, text, same_id}
 use Rattle.lsp_acts.specs.declared.server.Act as rust
 use Rattle.example_linter.proofs.Lists.{in_list, only, some_and}
@@ -117,13 +117,19 @@ other_key q uri other = sym (is_eq-slice_cmp q uri) ∙ other
 key_is : (documents : Documents) (uri : List ℕ) (change : JobCommand Analysis)
     → IsChangeOf documents uri change → key_of change ≡ text uri
 key_is documents uri (Start key analysis) is = is.1.0 ∙ ap text is.0
+key_is documents uri (StartAfter key time analysis) is = is.1.0 ∙ ap text is.0
 key_is documents uri (Stop key) is = is.0
 
 is_current : (documents : Documents) (uri : List ℕ) (change : JobCommand Analysis) (key : Id)
-    (analysis : Analysis) → IsChangeOf documents uri change → Start key analysis ≡ change
+    (analysis : Analysis) → IsChangeOf documents uri change → started_by change ≡ Some (key, analysis)
     → IsCurrent documents key analysis
-is_current documents uri change key analysis is e =
-    (subst (IsChangeOf documents uri) (sym e) is).1
+is_current documents uri (Start k a) key analysis is e =
+    let same : (k, a) ≡ (key, analysis) = cc (e) in
+    subst (λ (x : Id × Analysis). IsCurrent documents x.0 x.1) same is.1
+is_current documents uri (StartAfter k time a) key analysis is e =
+    let same : (k, a) ≡ (key, analysis) = cc (e) in
+    subst (λ (x : Id × Analysis). IsCurrent documents x.0 x.1) same is.1
+is_current documents uri (Stop k) key analysis is e = absurd (cc (e))
 
 -- an analysis is stopped of a document whose text is not known
 is_stopped : (documents : Documents) (uri q : List ℕ) (change : JobCommand Analysis) → IsChangeOf documents uri change
@@ -138,7 +144,8 @@ pub one_follows : (before now : Documents) (uri : List ℕ) (change : JobCommand
     → Touches before now (Some uri) → IsChangeOf now uri change → Follow before (change ∷ []) now
 one_follows before now uri change touches is = record {
   started = λ key analysis last.
-      is_current now uri change key analysis is (only last.before last.after _ change last.cut);
+      is_current now uri change key analysis is
+      (ap started_by (sym (only last.before last.after last.start change last.cut)) ∙ last.started);
   stopped = λ q some more cut. is_stopped now uri q change is (only some more (Stop (text q)) change cut);
   others = λ q alone. ap (option_and_then shown) (touches q (other_key q uri
       (subst (λ (s : Id). same_id (text q) s ≡ false) (key_is now uri change is) alone.0)));
@@ -150,8 +157,8 @@ pub all_follow : (before now : Documents) (changes : List (JobCommand Analysis))
 all_follow before now changes touches are = record {
   started = λ key analysis last.
       let at = in_list (λ change. (uri : List ℕ) × IsChangeOf now uri change) last.before last.after
-      (Start key analysis) changes last.cut are.each in
-      is_current now at.0 (Start key analysis) key analysis at.1 refl;
+      last.start changes last.cut are.each in
+      is_current now at.0 last.start key analysis at.1 last.started;
   stopped = λ q some more cut.
       let at = in_list (λ change. (uri : List ℕ) × IsChangeOf now uri change) some more (Stop (text q)) changes cut
       are.each in

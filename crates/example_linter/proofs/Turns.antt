@@ -21,7 +21,7 @@ use Rattle.lsp_jobs.specs.declared.asking.RequestOrigin.{RequestOrigin}
 use Rattle.lsp_jobs.specs.declared.job_server.JobEnd.{JobEnd}
 use Rattle.lsp_jobs.specs.declared.job_server.JobEnd.TheVariants.{Cancelled, Done, Failed}
 use Rattle.lsp_jobs.specs.declared.job_server.JobCommand.{JobCommand}
-use Rattle.lsp_jobs.specs.declared.job_server.JobCommand.TheVariants.{Start, Stop}
+use Rattle.lsp_jobs.specs.declared.job_server.JobCommand.TheVariants.{Stop}
 use Rattle.lsp_jobs.specs.declared.names.JobName.{JobName}
 use Rattle.lsp_jobs.specs.declared.names.JobName.TheVariants.{Request, Keyed}
 use Rattle.lsp_message.specs.Id.{Id, text}
@@ -139,7 +139,7 @@ module _ {P : Type 0} (written : Diagnostic → Data) (plain : Plain Linter P)
       → Follow documents changes documents
   follow_none documents changes none = record {
     started = λ key analysis last.
-        absurd (not_empty last.before last.after (Start key analysis) (sym none ∙ last.cut));
+        absurd (not_empty last.before last.after last.start (sym none ∙ last.cut));
     stopped = λ uri some more cut. absurd (not_empty some more (Stop (text uri)) (sym none ∙ cut));
     others = λ uri alone. refl;
   }

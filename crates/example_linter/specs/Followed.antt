@@ -8,7 +8,7 @@ use Rattle.std.specs.Prelude.{string_bytes}
 use Rattle.lsp_documents.specs.Notices.{Documents, shown}
 use Rattle.lsp_jobs.specs.KeyedJobLaw.{LeavesAlone, StartsLast}
 use Rattle.lsp_jobs.specs.declared.job_server.JobCommand.{JobCommand}
-use Rattle.lsp_jobs.specs.declared.job_server.JobCommand.TheVariants.{Start, Stop}
+use Rattle.lsp_jobs.specs.declared.job_server.JobCommand.TheVariants.{Start, StartAfter, Stop}
 use Rattle.lsp_message.specs.Id.{Id, text}
 use Rattle.lsp_methods.specs.Publishing.{publishes}
 use Rattle.lsp_acts.specs.Acts.{Act}
@@ -50,6 +50,8 @@ pub record Follow (old : Documents) (changes : List (JobCommand Analysis)) (now 
 -- known, none goes on.
 abbrev pub IsChangeOf : Documents → List ℕ → JobCommand Analysis → Type 0
 IsChangeOf documents uri (Start key analysis) =
+    (string_bytes analysis.source.uri ≡ uri) × IsCurrent documents key analysis
+IsChangeOf documents uri (StartAfter key time analysis) =
     (string_bytes analysis.source.uri ≡ uri) × IsCurrent documents key analysis
 IsChangeOf documents uri (Stop key) = (key ≡ text uri) × (known documents uri ≡ None)
 

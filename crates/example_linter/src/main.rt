@@ -41,7 +41,7 @@ use std::alloc::{AllocError, Global};
 use std::io::{BufRead, Write};
 use std::sync::Wait;
 use std::thread::Threads;
-use std::time::Duration;
+use std::time::{Clock, Duration};
 use std::{env, mem};
 
 /// The work of finding the lines of a text that have a `NOTE`.
@@ -345,7 +345,7 @@ fn serve<T, R, W>(
     policy: &mut EndOnBadContent,
 ) -> (Linter, Result<Threaded<W>, StartFault>)
 where
-    T: Threads + Wait + Copy + Drop + Send + 'static,
+    T: Threads + Wait + Clock + Copy + Drop + Send + 'static,
     R: BufRead + Drop + Send + 'static,
     W: Write + Drop + Send + 'static,
     requires changes { linter.changes.items ≡ [] }

@@ -24,6 +24,7 @@ use std::alloc::Global;
 use std::io::{BufRead, Write};
 use std::sync::Wait;
 use std::thread::Threads;
+use std::time::Clock;
 
 /// Runs a session, and returns the server.
 ///
@@ -101,7 +102,7 @@ pub fn serve_with_jobs<T, R, W>(
     skipped: &mut SkipAndFlag,
 ) -> (Sums, Result<Threaded<W>, StartFault>)
 where
-    T: Threads + Wait + Copy + Drop + Send + 'static,
+    T: Threads + Wait + Clock + Copy + Drop + Send + 'static,
     R: BufRead + Drop + Send + 'static,
     W: Write + Drop + Send + 'static,
     requires { HasNone sums.documents }

@@ -12,16 +12,17 @@ use Rattle.lsp_acts.specs.declared.server.Server.{Ghosts as Plain}
 use Rattle.lsp_jobs.specs.Ends.{End, ended}
 use Rattle.lsp_jobs.proofs.PendingLemmas.{without_with}
 use Rattle.lsp_jobs.specs.PendingJobs.{PendingJobs, with_job, without}
-use Rattle.lsp_jobs.specs.Pooled.{unanswered, Changes, EndsThen, Frees, StartsOne}
-use Rattle.lsp_jobs.specs.KeyedJobLaw.{IsLeft, LeavesAlone, Left, SeesLeft, Spares, StartsLast, at_ends}
+use Rattle.lsp_jobs.specs.Pooled.{unanswered, Changes, EndsThen, Frees, Replaces, StartsOne}
+use Rattle.lsp_jobs.specs.KeyedJobLaw.{IsLeft, LeavesAlone, Left, SeesLeft, Spares, StartsLast, at_ends, key_of}
+use Rattle.lsp_jobs.specs.KeyedJobLaw.{started_by}
 use Rattle.lsp_jobs.specs.KeyedJobLaw.{KeyEvent, starts, ends_heard, ends_left, lefts_of, after_event, after_events}
 use Rattle.lsp_jobs.specs.KeyedJobLaw.{Fits}
-use Rattle.lsp_jobs.specs.KeyedJobLaw.{TakeTurns, MayLeave, Becomes}
+use Rattle.lsp_jobs.specs.KeyedJobLaw.{TakeTurns, MayLeave, Becomes, Begins}
 use Rattle.lsp_jobs.specs.Stated.{StatedJobs}
 use Rattle.lsp_jobs.specs.declared.job_server.JobEnd.{JobEnd}
 use Rattle.lsp_jobs.specs.declared.job_server.JobEnd.TheVariants.{Refused, Replaced, Stopped}
 use Rattle.lsp_jobs.specs.declared.job_server.JobCommand.{JobCommand}
-use Rattle.lsp_jobs.specs.declared.job_server.JobCommand.TheVariants.{Start, Stop}
+use Rattle.lsp_jobs.specs.declared.job_server.JobCommand.TheVariants.{Start, StartAfter, Stop}
 use Rattle.lsp_jobs.specs.declared.names.JobName.{JobName}
 use Rattle.lsp_jobs.specs.declared.names.JobName.TheVariants.{Request, Keyed}
 
@@ -123,6 +124,21 @@ module _ {S J F P : Type 0} (may : StatedJobs S J F P) where
   left_other key other end (starts s job ∷ events) apart leave keys = absurd leave
   left_other key other end (ends_heard s ∷ events) apart leave keys = absurd leave
 
+  -- a job that starts under another leaves a key as it is
+  begins_keep : (key s : Id) (job : J) (more events : List (KeyEvent may)) → same_id key s ≡ false
+      → Begins may s job more events → (keys : Id → Option J)
+      → ((now : Id → Option J) → after_events may now more key ≡ now key) → after_events may keys events key ≡ keys key
+  begins_keep key s job more events apart b keys rest =
+      let first = after_events may keys b.0 in
+      let second = after_event may first (starts s job) in
+      ap (λ (l : List (KeyEvent may)). after_events may keys l key) b.4
+      ∙ ap (λ (f : Id → Option J). f key) (after-append keys b.0 (starts s job ∷ (b.1 ++ more)))
+      ∙ ap (λ (f : Id → Option J). f key) (after-append second b.1 more)
+      ∙ rest (after_events may second b.1)
+      ∙ left_other key s Refused b.1 apart b.3 second
+      ∙ ap (λ (same : Bool). cond same (Some job) (first key)) apart
+      ∙ left_other key s Replaced b.0 apart b.2 keys
+
   -- changes of others leave a key as it is
   pub others_keep : (key : Id) (changes : List (JobCommand J)) (events : List (KeyEvent may))
       → LeavesAlone key changes → Becomes may changes events → (keys : Id → Option J)
@@ -130,15 +146,9 @@ module _ {S J F P : Type 0} (may : StatedJobs S J F P) where
   others_keep key [] events alone is keys =
       ap (λ (l : List (KeyEvent may)). after_events may keys l key) is
   others_keep key (Start s job ∷ changes) events alone b keys =
-      let first = after_events may keys b.0 in
-      let second = after_event may first (starts s job) in
-      ap (λ (l : List (KeyEvent may)). after_events may keys l key) b.5
-      ∙ ap (λ (f : Id → Option J). f key) (after-append keys b.0 (starts s job ∷ (b.1 ++ b.2)))
-      ∙ ap (λ (f : Id → Option J). f key) (after-append second b.1 b.2)
-      ∙ others_keep key changes b.2 alone.1 b.6 (after_events may second b.1)
-      ∙ left_other key s Refused b.1 alone.0 b.4 second
-      ∙ ap (λ (same : Bool). cond same (Some job) (first key)) alone.0
-      ∙ left_other key s Replaced b.0 alone.0 b.3 keys
+      begins_keep key s job b.0 events alone.0 b.1 keys (others_keep key changes b.0 alone.1 b.2)
+  others_keep key (StartAfter s time job ∷ changes) events alone b keys =
+      begins_keep key s job b.0 events alone.0 b.1 keys (others_keep key changes b.0 alone.1 b.2)
   others_keep key (Stop s ∷ changes) events alone b keys =
       ap (λ (l : List (KeyEvent may)). after_events may keys l key) b.3
       ∙ ap (λ (f : Id → Option J). f key) (after-append keys b.0 b.1)
@@ -360,37 +370,56 @@ module _ {S J F P : Type 0} (plain : Plain S P) (may : StatedJobs S J F P) where
   abbrev pub Changed : List (JobCommand J) → State → State → Type 0
   Changed changes old new = (w : Went old new) × Becomes may changes w.events
 
-  went_change : (change : JobCommand J) (changes : List (JobCommand J)) (old mid new : State)
-      → Changes may old change mid → Changed changes mid new → Changed (change ∷ changes) old new
-  went_change (Start key job) changes old mid new c rest =
+  -- a job is started in the place of the one that is there
+  went_replace : (key : Id) (job : J) (old mid new : State) → Replaces may key job old mid → (rest : Went mid new)
+      → (w : Went old new) × Begins may key job rest.events w.events
+  went_replace key job old mid new c rest =
       let freed = went_free key Replaced tt old c.0 c.1 in
       let start = went_start key job c.0 mid (now_free key Replaced old c.0 c.1) c.2 in (
-        went_on old c.0 new freed.0 (went_on c.0 mid new start.0 rest.0),
+        went_on old c.0 new freed.0 (went_on c.0 mid new start.0 rest),
         (
           freed.0.events,
           start.1,
-          rest.0.events,
           freed.1,
           start.2,
-          ap (λ (events : List (KeyEvent may)). freed.0.events ++ (events ++ rest.0.events)) start.3,
-          rest.1,
+          ap (λ (events : List (KeyEvent may)). freed.0.events ++ (events ++ rest.events)) start.3,
         ),
       )
+
+  went_change : (change : JobCommand J) (changes : List (JobCommand J)) (old mid new : State)
+      → Changes may old change mid → Changed changes mid new → Changed (change ∷ changes) old new
+  went_change (Start key job) changes old mid new c rest =
+      let went = went_replace key job old mid new c rest.0 in
+      (went.0, (rest.0.events, went.1, rest.1))
+  went_change (StartAfter key time job) changes old mid new c rest =
+      let went = went_replace key job old mid new c rest.0 in
+      (went.0, (rest.0.events, went.1, rest.1))
   went_change (Stop key) changes old mid new frees rest =
       let freed = went_free key Stopped tt old mid frees in
       (went_on old mid new freed.0 rest.0, (freed.0.events, rest.0.events, freed.1, refl, rest.1))
 
-  moves_change : (change : JobCommand J) (old new : State) → Changes may old change new → Moves (change ∷ []) old new
-  moves_change (Start key job) old new c s e has =
+  moves_replace : (start : JobCommand J) (key : Id) (job : J) → started_by start ≡ Some (key, job) → key_of start ≡ key
+      → (old new : State) → Replaces may key job old new → Moves (start ∷ []) old new
+  moves_replace start key job by of old new c s e has =
       elim (start_keys key job c.0 new c.2 s e has) [
-        | inl was ↦ inl ((free_keys key (ended Replaced) old c.0 c.1 s e was.0).0, (was.1, tt))
+        | inl was ↦ inl (
+          (free_keys key (ended Replaced) old c.0 c.1 s e was.0).0,
+          (ap (same_id s) of ∙ was.1, tt),
+        )
         | inr mine ↦ inr (record {
           before = [];
           after = [];
-          cut = λ k. Start (mine.0 k) (mine.1 k) ∷ [];
+          start = start;
+          started = by ∙ (λ k. Some (mine.0 k, mine.1 k));
+          cut = refl;
           alone = tt;
         })
       ]
+
+  moves_change : (change : JobCommand J) (old new : State) → Changes may old change new → Moves (change ∷ []) old new
+  moves_change (Start key job) old new c s e has = moves_replace (Start key job) key job refl refl old new c s e has
+  moves_change (StartAfter key time job) old new c s e has =
+      moves_replace (StartAfter key time job) key job refl refl old new c s e has
   moves_change (Stop key) old new frees s e has =
       let own = free_keys key (ended Stopped) old new frees s e has in
       inl (own.0, (own.1, tt))
@@ -415,6 +444,8 @@ module _ {S J F P : Type 0} (plain : Plain S P) (may : StatedJobs S J F P) where
         | inr last ↦ inr (record {
           before = change ∷ last.before;
           after = last.after;
+          start = last.start;
+          started = last.started;
           cut = ap (λ (l : List (JobCommand J)). change ∷ l) last.cut;
           alone = last.alone;
         })
@@ -423,8 +454,10 @@ module _ {S J F P : Type 0} (plain : Plain S P) (may : StatedJobs S J F P) where
           | inr first ↦ inr (record {
             before = first.before;
             after = first.after ++ changes;
+            start = first.start;
+            started = first.started;
             cut = ap (λ (l : List (JobCommand J)). l ++ changes) first.cut
-                ∙ append_assoc first.before (Start key e ∷ first.after) changes;
+                ∙ append_assoc first.before (first.start ∷ first.after) changes;
             alone = alone-append key first.after changes first.alone was.1;
           })
         ]

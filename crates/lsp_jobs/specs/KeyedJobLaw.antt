@@ -20,7 +20,7 @@ use Rattle.lsp_jobs.specs.Stated.{SeesEnd, StatedJobs}
 use Rattle.lsp_jobs.specs.declared.job_server.JobEnd.{JobEnd}
 use Rattle.lsp_jobs.specs.declared.job_server.JobEnd.TheVariants.{Refused, Replaced, Stopped}
 use Rattle.lsp_jobs.specs.declared.job_server.JobCommand.{JobCommand}
-use Rattle.lsp_jobs.specs.declared.job_server.JobCommand.TheVariants.{Start, Stop}
+use Rattle.lsp_jobs.specs.declared.job_server.JobCommand.TheVariants.{Start, StartAfter, Stop}
 use Rattle.lsp_jobs.specs.declared.names.JobName.{JobName}
 use Rattle.lsp_jobs.specs.declared.names.JobName.TheVariants.{Request, Keyed}
 
@@ -52,7 +52,14 @@ module _ {J : Type 0} where
   -- the key of a command
   abbrev pub key_of : JobCommand J → Id
   key_of (Start key job) = key
+  key_of (StartAfter key time job) = key
   key_of (Stop key) = key
+
+  -- the job that a command starts, with its key
+  abbrev pub started_by : JobCommand J → Option (Id × J)
+  started_by (Start key job) = Some (key, job)
+  started_by (StartAfter key time job) = Some (key, job)
+  started_by (Stop key) = None
 
   -- none of these commands is for this key
   abbrev pub LeavesAlone : Id → List (JobCommand J) → Type 0
@@ -63,7 +70,9 @@ module _ {J : Type 0} where
   pub record StartsLast (changes : List (JobCommand J)) (key : Id) (job : J) : Type 0 where
     pub before : List (JobCommand J)
     pub after : List (JobCommand J)
-    pub cut : changes ≡ before ++ Start key job ∷ after
+    pub start : JobCommand J
+    pub started : started_by start ≡ Some (key, job)
+    pub cut : changes ≡ before ++ start ∷ after
     pub alone : LeavesAlone key after
 
 module _ {S J F P : Type 0} (may : StatedJobs S J F P) where
@@ -124,14 +133,20 @@ module _ {S J F P : Type 0} (may : StatedJobs S J F P) where
   MayLeave key end (ends_left l ∷ []) = (l.key ≡ key) × (l.end ≡ ended end)
   MayLeave key end events = ⊥
 
-  -- What happens under keys at these commands, in order. A job that is started takes the place of the one under its
-  -- key. If too many jobs wait and run, it ends at once.
+  -- What happens under its key when a job is started, before these events. It takes the place of the one that is
+  -- there. If too many jobs wait and run, it ends at once.
+  abbrev pub Begins : Id → J → List (KeyEvent may) → List (KeyEvent may) → Type 0
+  Begins key job more events =
+      (before : List (KeyEvent may)) × (after : List (KeyEvent may)) × MayLeave key Replaced before
+      × MayLeave key Refused after × (events ≡ before ++ (starts key job ∷ (after ++ more)))
+
+  -- What happens under keys at these commands, in order. A job that is to run after a time is started like any other.
   abbrev pub Becomes : List (JobCommand J) → List (KeyEvent may) → Type 0
   Becomes [] events = events ≡ []
   Becomes (Start key job ∷ changes) events =
-      (before : List (KeyEvent may)) × (after : List (KeyEvent may)) × (more : List (KeyEvent may))
-      × MayLeave key Replaced before × MayLeave key Refused after
-      × (events ≡ before ++ (starts key job ∷ (after ++ more))) × Becomes changes more
+      (more : List (KeyEvent may)) × Begins key job more events × Becomes changes more
+  Becomes (StartAfter key time job ∷ changes) events =
+      (more : List (KeyEvent may)) × Begins key job more events × Becomes changes more
   Becomes (Stop key ∷ changes) events =
       (before : List (KeyEvent may)) × (more : List (KeyEvent may)) × MayLeave key Stopped before
       × (events ≡ before ++ more) × Becomes changes more

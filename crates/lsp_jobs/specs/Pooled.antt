@@ -13,7 +13,7 @@ use Rattle.lsp_jobs.specs.declared.asking.RequestOrigin.{RequestOrigin}
 use Rattle.lsp_jobs.specs.declared.asking.RequestOrigin.TheVariants.{ByJob}
 use Rattle.lsp_jobs.specs.declared.job_server.JobEnd.TheVariants.{Refused, Replaced, Stopped}
 use Rattle.lsp_jobs.specs.declared.job_server.JobCommand.{JobCommand}
-use Rattle.lsp_jobs.specs.declared.job_server.JobCommand.TheVariants.{Start, Stop}
+use Rattle.lsp_jobs.specs.declared.job_server.JobCommand.TheVariants.{Start, StartAfter, Stop}
 use Rattle.lsp_jobs.specs.declared.names.JobName.{JobName}
 use Rattle.lsp_jobs.specs.declared.names.JobName.TheVariants.{Request, Keyed}
 
@@ -62,11 +62,16 @@ module _ {S J F P : Type 0} (may : StatedJobs S J F P) where
   Frees name end old new = MatchOption (old.1 name) (new ≡ old)
       (λ (job : J). EndsThen name end (old.0, without name old.1, old.2) new)
 
-  -- A command is carried out. A job that is started takes the place of the one under its key.
-  abbrev pub Changes : S × PendingJobs J × List (Act P) → JobCommand J → S × PendingJobs J × List (Act P) → Type 0
-  Changes old (Start key job) new =
+  -- a job is started under its key, in the place of the one that is there
+  abbrev pub Replaces : Id → J → S × PendingJobs J × List (Act P) → S × PendingJobs J × List (Act P) → Type 0
+  Replaces key job old new =
       (mid : S × PendingJobs J × List (Act P)) × Frees (Keyed key) (ended Replaced) old mid
       × StartsOne (Keyed key) job mid new
+
+  -- A command is carried out. A job that is to run after a time is started like any other.
+  abbrev pub Changes : S × PendingJobs J × List (Act P) → JobCommand J → S × PendingJobs J × List (Act P) → Type 0
+  Changes old (Start key job) new = Replaces key job old new
+  Changes old (StartAfter key time job) new = Replaces key job old new
   Changes old (Stop key) new = Frees (Keyed key) (ended Stopped) old new
 
   -- After the server did these acts, it starts and stops jobs under keys, in order: these are all the acts.

@@ -126,8 +126,8 @@ pub trait JobContext {
         Ok(())
     }
 
-    /// Sleeps for this time. If the job is to end, it is woken, and gets `Err(Interrupted::Cancelled)`. A job that
-    /// sleeps first does no work if another soon replaces it.
+    /// Sleeps for this time. If the job is to end, it is woken, and gets `Err(Interrupted::Cancelled)`. Its thread runs
+    /// nothing else meanwhile. To wait before a job starts, use `JobCommand::StartAfter`, which holds no thread.
     fn sleep(&mut self, time: Duration) -> Result<(), Interrupted> {
         let _ = time;
         self.check()

@@ -15,6 +15,7 @@ use lsp_message::{Request, ResponseError};
 use serde::DeserializeOwned;
 use serde_json::Value;
 use std::alloc::{AllocError, Global};
+use std::time::Duration;
 
 /// What answers a long request.
 #[derive(Drop)]
@@ -105,6 +106,14 @@ pub trait JobServer<J: Job>: Server {
 pub enum JobCommand<J> {
     /// Starts this job under the key. A job that is there ends as `JobEnd::Replaced`.
     Start(JobKey, J),
+    /// Starts this job under the key once this time has passed and a thread is free. It is the key's job at once: a job
+    /// that is there ends as `JobEnd::Replaced`, and a later command for the key replaces or stops this one, also before
+    /// it runs. So it does no work if another soon replaces it (a debounce).
+    ///
+    /// Until it runs, it holds no thread, and counts as a job that waits (`PoolSize::waiting`). When a thread is free,
+    /// jobs whose time has passed go before those of `Start`, and the last command goes first. The time may have any
+    /// length. Zero does the same as `Start`. If the clock can't be read, no time is waited for.
+    StartAfter(JobKey, Duration, J),
     /// Ends the job under the key as `JobEnd::Stopped`. If there is none, nothing is done.
     Stop(JobKey),
 }

@@ -21,6 +21,7 @@ use serde_json::Value;
 use std::alloc::{AllocError, Global};
 use std::sync::Wait;
 use std::thread::{Builder, JoinHandle, Threads};
+use std::time::{Clock, Duration};
 
 /// How many jobs run, and how many may wait for a thread. Jobs of requests run before jobs under keys.
 #[derive(Clone, Copy, Debug, PartialEq, Eq)]
@@ -29,9 +30,10 @@ pub struct PoolSize {
     /// so that no request waits for jobs under keys alone. One thread runs both kinds: a request then waits until the
     /// running job under a key has ended.
     pub workers: usize,
-    /// How many jobs may wait for a thread while all threads run one, at least one. A job that is forgotten or replaced
-    /// no longer waits, whether a thread is free or not. `None` sets no bound. Then a client decides how much memory
-    /// waiting requests take: at 100,000 small ones it was 140 MB.
+    /// How many jobs may wait for a thread while all threads run one, at least one. A job waits from
+    /// `JobCommand::StartAfter` on. One that is forgotten or replaced no longer waits, whether a thread is free or not.
+    /// `None` sets no bound. Then a client decides how much memory waiting requests take: at 100,000 small ones it was
+    /// 140 MB.
     ///
     /// If one more job finds no room, its request gets the error -32803, `too many requests are waiting`. If it has a
     /// key, it ends as `JobEnd::Refused`.
@@ -124,7 +126,7 @@ pub struct JobPool<T: Wait + Drop, J: Job> {
 
 impl<T, J> JobPool<T, J>
 where
-    T: Threads + Wait + Copy + Drop + Send + 'static,
+    T: Threads + Wait + Clock + Copy + Drop + Send + 'static,
     J: Job + Send + 'static,
     J::Found: Send + 'static,
 {
@@ -181,7 +183,7 @@ pub(crate) fn start_pool<T, J, N>(
     notifier: N,
 ) -> Result<JobPool<T, J>, StartFault>
 where
-    T: Threads + Wait + Copy + Drop + Send + 'static,
+    T: Threads + Wait + Clock + Copy + Drop + Send + 'static,
     J: Job + Send + 'static,
     J::Found: Send + 'static,
     N: Notifier + Send + 'static,
@@ -231,7 +233,9 @@ impl<T: Wait + Drop, J: Job> JobPool<T, J> {
     pub fn has_room(&self) -> bool {
         self.waiting.has_room(&self.rt, false)
     }
+}
 
+impl<T: Wait + Clock + Drop, J: Job> JobPool<T, J> {
     /// Passes a job to the threads. It never waits for one. An earlier job with the name is forgotten. After a fault no
     /// job has the name, and this one never runs.
     pub fn submit(&mut self, name: JobName, job: J) -> Result<(), SubmitFault>
@@ -239,11 +243,16 @@ impl<T: Wait + Drop, J: Job> JobPool<T, J> {
             (pending_jobs self.new ≡ with_job name «job» (pending_jobs self.old)) }
         ensures err { OnErr result (pending_jobs self.new ≡ without name (pending_jobs self.old)) }
     {
-        self.submit_under(&name, job)
+        self.submit_under(&name, job, Duration::ZERO)
     }
 
-    /// Does what `submit` does, and leaves the name to the caller.
-    pub(crate) fn submit_under(&mut self, name: &JobName, job: J) -> Result<(), SubmitFault>
+    /// Does what `submit` does, and leaves the name to the caller. A job under a key starts after this time.
+    pub(crate) fn submit_under(
+        &mut self,
+        name: &JobName,
+        job: J,
+        time: Duration,
+    ) -> Result<(), SubmitFault>
         ensures ok { OnOk result
             (pending_jobs self.new ≡ with_job name.now «job» (pending_jobs self.old)) }
         ensures err { OnErr result
@@ -254,21 +263,26 @@ impl<T: Wait + Drop, J: Job> JobPool<T, J> {
             drop(job);
             return Err(SubmitFault::Full);
         }
-        match self.hand_over(name, job) {
+        match self.hand_over(name, job, time) {
             Ok(()) => Ok(()),
             Err(_) => Err(SubmitFault::Memory),
         }
     }
 
-    /// Passes a job to the threads, whether there is room for it or not. The error means that an allocation failed.
-    /// Then no job has the name, and this one never runs.
-    pub(crate) fn hand_over(&mut self, name: &JobName, job: J) -> Result<(), AllocError>
+    /// Passes a job to the threads, whether there is room for it or not. If it has a key, it starts after this time.
+    /// The error means that an allocation failed. Then no job has the name, and this one never runs.
+    pub(crate) fn hand_over(
+        &mut self,
+        name: &JobName,
+        job: J,
+        time: Duration,
+    ) -> Result<(), AllocError>
         ensures ok { OnOk result
             (pending_jobs self.new ≡ with_job name.now «job» (pending_jobs self.old)) }
         ensures err { OnErr result
             (pending_jobs self.new ≡ without name.now (pending_jobs self.old)) }
     {
-        match self.keep(name, job) {
+        match self.keep(name, job, time) {
             Ok(()) => Ok(()),
             Err(error) => {
                 self.cancel(name);
@@ -278,7 +292,7 @@ impl<T: Wait + Drop, J: Job> JobPool<T, J> {
     }
 
     /// Keeps a job, and passes it to the workers. After a fault it may be kept.
-    fn keep(&mut self, name: &JobName, job: J) -> Result<(), AllocError>
+    fn keep(&mut self, name: &JobName, job: J, time: Duration) -> Result<(), AllocError>
         ensures ok { OnOk result
             (pending_jobs self.new ≡ with_job name.now «job» (pending_jobs self.old)) }
         ensures err { without name.now (pending_jobs self.new)
@@ -290,9 +304,12 @@ impl<T: Wait + Drop, J: Job> JobPool<T, J> {
         let (ticket, job_sender) = self.table.enter(name.clone()?, job, token)?;
         let is_keyed_job = name.is_keyed();
         let queued = QueuedJob { job_sender, asker };
-        self.waiting.add(&self.rt, ticket, queued, is_keyed_job)
+        self.waiting
+            .add(&self.rt, ticket, queued, is_keyed_job, time)
     }
+}
 
+impl<T: Wait + Drop, J: Job> JobPool<T, J> {
     /// Returns whether a job with this name is pending.
     pub fn is_waiting(&self, name: &JobName) -> bool
         ensures { result ≡ is_some (pending_jobs self.now name.now) }

@@ -12,7 +12,7 @@ ghost use Rattle.lsp_jobs.specs.Asking.{by_server, same_origin, ByServers};
 ghost use Rattle.lsp_jobs.specs.Ends.{end_of, end_with, ended, no_memory, reply_of, too_many};
 ghost use Rattle.lsp_jobs.specs.PendingJobs.{with_job, without};
 ghost use Rattle.lsp_jobs.specs.PoolView.{came_view, pending_jobs};
-ghost use Rattle.lsp_jobs.specs.Pooled.{reply_at, reply_with, unanswered, without_cancelled, Changes, ChangesJobs, Ends, EndsThen, Frees, IsAtOnce, StartsOne, TakesLong};
+ghost use Rattle.lsp_jobs.specs.Pooled.{reply_at, reply_with, unanswered, without_cancelled, Changes, ChangesJobs, Ends, EndsThen, Frees, IsAtOnce, Replaces, StartsOne, TakesLong};
 ghost use Rattle.lsp_jobs.specs.ServerView.{AnsweredSo};
 ghost use Rattle.lsp_jobs.specs.declared.names.JobName.TheVariants.{Request as OfRequest};
 ghost use Rattle.lsp_jobs.specs.Seen.{seen};
@@ -20,13 +20,14 @@ ghost use Rattle.lsp_jobs.specs.Seen.{seen};
 use crate::asking::RequestOrigin;
 use crate::job::{DoneJob, Interrupted, Job, Ran};
 use crate::job_server::{AnsweredBy, JobCommand, JobEnd, JobServer, KeyedJobs, StatesJobs};
-use crate::names::JobName;
+use crate::names::{JobKey, JobName};
 use crate::pool::{JobMessage, JobPool, SubmitFault};
 use lsp_acts::{Act, Server, cancelled_id};
 use lsp_message::{ErrorCode, Notification, Request, RequestId, ResponseError, ResultText};
 use serde_json::Value;
 use std::alloc::{AllocError, Global};
 use std::sync::Wait;
+use std::time::{Clock, Duration};
 
 /// A server with the pool that runs its jobs. Contracts see the server, and the pending job under each name.
 #[derive(Drop)]
@@ -110,7 +111,7 @@ impl<T: Wait + Drop, S: Drop, J: Job> PooledServer<T, S, J> {
 
 impl<T, S, J> PooledServer<T, S, J>
 where
-    T: Wait + Drop,
+    T: Wait + Clock + Drop,
     S: JobServer<J> + Drop,
     J: Job,
 {
@@ -206,7 +207,7 @@ where
     {
         let name = JobName::Request(id);
         let mut acts = Vec::new(self.alloc);
-        match self.pool.hand_over(&name, job) {
+        match self.pool.hand_over(&name, job, Duration::ZERO) {
             Ok(()) => Ok(acts),
             Err(_) => {
                 push_reply(&mut acts, name, Err(out_of_memory(self.alloc)?))?;
@@ -271,13 +272,27 @@ where
             (self.new.server, pending_jobs self.new.pool, map (act_view S.PendingData.eq) acts.new.items)) }
     {
         match change {
-            JobCommand::Start(key, job) => {
-                let name = JobName::Keyed(key);
-                self.free(&name, JobEnd::Replaced, acts)?;
-                self.start_one(name, job, acts)
-            }
+            JobCommand::Start(key, job) => self.replace(key, job, Duration::ZERO, acts),
+            JobCommand::StartAfter(key, time, job) => self.replace(key, job, time, acts),
             JobCommand::Stop(key) => self.free(&JobName::Keyed(key), JobEnd::Stopped, acts),
         }
+    }
+
+    /// Starts a job under a key after this time, in place of the one that is there.
+    fn replace(
+        &mut self,
+        key: JobKey,
+        job: J,
+        time: Duration,
+        acts: &mut Vec<Act<S::PendingData>>,
+    ) -> Result<(), AllocError>
+        ensures { IfOk result (λ _. Replaces ⟦<S as StatesJobs<J>>⟧.jobs key «job»
+            (self.old.server, pending_jobs self.old.pool, map (act_view S.PendingData.eq) acts.old.items)
+            (self.new.server, pending_jobs self.new.pool, map (act_view S.PendingData.eq) acts.new.items)) }
+    {
+        let name = JobName::Keyed(key);
+        self.free(&name, JobEnd::Replaced, acts)?;
+        self.start_one(name, job, time, acts)
     }
 
     /// Ends the job with this name, if there is one.
@@ -297,11 +312,12 @@ where
         Ok(())
     }
 
-    /// Starts a job under a name that none has. If too many wait and run, it ends.
+    /// Starts a job under a name that none has, after this time. If too many wait and run, it ends.
     fn start_one(
         &mut self,
         name: JobName,
         job: J,
+        time: Duration,
         acts: &mut Vec<Act<S::PendingData>>,
     ) -> Result<(), AllocError>
         ensures { IfOk result (λ _.
@@ -309,7 +325,7 @@ where
             (self.old.server, pending_jobs self.old.pool, map (act_view S.PendingData.eq) acts.old.items)
             (self.new.server, pending_jobs self.new.pool, map (act_view S.PendingData.eq) acts.new.items)) }
     {
-        match self.pool.submit_under(&name, job) {
+        match self.pool.submit_under(&name, job, time) {
             Ok(()) => Ok(()),
             Err(SubmitFault::Full) => self.end_then(&name, JobEnd::Refused, acts),
             Err(SubmitFault::Memory) => Err(AllocError),
@@ -465,7 +481,7 @@ fn one_act<P: Drop + PartialEq>(alloc: Global, act: Act<P>) -> Result<Vec<Act<P>
 
 impl<T, S, J> Server for PooledServer<T, S, J>
 where
-    T: Wait + Drop,
+    T: Wait + Clock + Drop,
     S: JobServer<J> + Drop,
     J: Job,
 {

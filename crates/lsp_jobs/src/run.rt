@@ -19,6 +19,7 @@ use std::alloc::Global;
 use std::io::{BufRead, Write};
 use std::sync::Wait;
 use std::thread::Threads;
+use std::time::Clock;
 
 /// How many parcels of read messages, and wake-ups, may wait for the session. It changes speed and memory only, and no
 /// answer.
@@ -87,7 +88,7 @@ pub fn run_jobs<T, R, W, S, J, L>(
     options: JobOptions,
 ) -> (S, Result<Threaded<W>, StartFault>)
 where
-    T: Threads + Wait + Copy + Drop + Send + 'static,
+    T: Threads + Wait + Clock + Copy + Drop + Send + 'static,
     R: BufRead + Drop + Send + 'static,
     W: Write + Drop + Send + 'static,
     S: JobServer<J> + Drop,

@@ -1,9 +1,11 @@
 // The jobs that wait for a worker: those of requests go first. One that is taken back gives its place to another at once.
+// A job that is to start after a time waits here too, and holds no worker: one that has nothing to do sleeps until then.
 use crate::pool::PoolSize;
 use std::alloc::{AllocError, Global};
 use std::collections::BTreeMap;
 use std::sync::atomic::{AtomicBool, AtomicU64, Ordering};
 use std::sync::{Arc, Mutex, Wait};
+use std::time::{Clock, Duration};
 
 /// The counts that need no lock.
 #[derive(Drop)]
@@ -67,6 +69,15 @@ impl RunningJobs {
         let _ = self.counts.rings.fetch_add(1, Ordering::SeqCst);
         self.counts.rings.wake_one();
     }
+
+    /// Sleeps until a worker is woken after the count of rings was `seen`, or for this time.
+    fn sleep<T: Wait>(&self, rt: &T, seen: u64, time: Option<Duration>) {
+        let seen = (seen % 0x1_0000_0000) as u32;
+        match time {
+            Some(time) => self.counts.rings.park_timeout(rt, seen, time),
+            None => self.counts.rings.park(rt, seen),
+        }
+    }
 }
 
 /// A mark that the queue is open. When it is dropped, each worker ends.
@@ -83,19 +94,49 @@ impl Drop for Open {
     }
 }
 
+/// A job that is to start after a time.
+#[derive(Drop)]
+struct Later<E: Drop> {
+    /// When the time has passed, on the monotonic clock.
+    due: Duration,
+    job: E,
+}
+
 /// The jobs that wait, under their tickets, of which an older one is smaller.
 #[derive(Drop)]
 struct Rows<E: Drop> {
     requests: BTreeMap<u64, E>,
     keyed: BTreeMap<u64, E>,
+    /// Those under keys that are to start after a time.
+    later: BTreeMap<u64, Later<E>>,
 }
 
 impl<E: Drop> Rows<E> {
+    /// Adds a job under a key, which is to start at this time, or at once. Returns false if an allocation failed.
+    fn add_keyed(&mut self, ticket: u64, job: E, due: Option<Duration>) -> bool {
+        match due {
+            Some(due) => self.later.insert(ticket, Later { due, job }).is_ok(),
+            None => self.keyed.insert(ticket, job).is_ok(),
+        }
+    }
+
     fn remove(&mut self, ticket: u64) -> Option<E> {
         match self.requests.remove(&ticket) {
             Some(job) => Some(job),
-            None => self.keyed.remove(&ticket),
+            None => self.remove_keyed(ticket),
         }
+    }
+
+    fn remove_keyed(&mut self, ticket: u64) -> Option<E> {
+        match self.keyed.remove(&ticket) {
+            Some(job) => Some(job),
+            None => self.remove_later(ticket),
+        }
+    }
+
+    fn remove_later(&mut self, ticket: u64) -> Option<E> {
+        let Later { job, .. } = self.later.remove(&ticket)?;
+        Some(job)
     }
 
     fn pop(&mut self) -> Option<E> {
@@ -103,10 +144,54 @@ impl<E: Drop> Rows<E> {
             Some((_, job)) => Some(job),
             None => match self.keyed.pop_first() {
                 Some((_, job)) => Some(job),
-                None => None,
+                None => self.pop_later(),
             },
         }
     }
+
+    fn pop_later(&mut self) -> Option<E> {
+        let (_, Later { job, .. }) = self.later.pop_first()?;
+        Some(job)
+    }
+
+    /// Takes a job under a key whose time has passed. If there is none, it takes the oldest of those that start at
+    /// once.
+    fn pop_keyed(&mut self, now: Duration) -> Option<E> {
+        if let Some(ticket) = self.last_due(now) {
+            return self.remove_later(ticket);
+        }
+        let (_, job) = self.keyed.pop_first()?;
+        Some(job)
+    }
+
+    /// Returns the ticket of the youngest job whose time has passed.
+    fn last_due(&self, now: Duration) -> Option<u64> {
+        let mut last = None;
+        for (ticket, later) in self.later.iter() {
+            if later.due <= now {
+                last = Some(*ticket);
+            }
+        }
+        last
+    }
+
+    /// Returns how long it takes until the time of a job has passed. `None` means that no job waits for its time.
+    fn time_left(&self, now: Duration) -> Option<Duration> {
+        let mut least: Option<Duration> = None;
+        for (_, later) in self.later.iter() {
+            let left = later.due.saturating_sub(now);
+            least = Some(least.map_or(left, |least| least.min(left)));
+        }
+        least
+    }
+}
+
+/// What a worker does next.
+enum Next<E> {
+    /// It runs this job. The flag says whether other jobs wait for their time.
+    Run(E, bool),
+    /// It sleeps, at most for this time.
+    Sleep(Option<Duration>),
 }
 
 /// The end of the queue at which jobs are added, and taken back.
@@ -134,6 +219,7 @@ pub(crate) fn queue_of_jobs<E: Drop>(
     let none = Rows {
         requests: BTreeMap::new(alloc),
         keyed: BTreeMap::new(alloc),
+        later: BTreeMap::new(alloc),
     };
     let Ok(rows) = Arc::new(alloc, Mutex::new(none)) else {
         return Err(AllocError);
@@ -153,7 +239,8 @@ impl<E: Drop> WaitingJobs<E> {
     pub fn has_room<T: Wait>(&self, rt: &T, is_keyed_job: bool) -> bool {
         let counts = &self.open.running.counts;
         let rows = self.rows.lock(rt);
-        let (requests, waiting) = (rows.requests.len() as u64, rows.keyed.len() as u64);
+        let requests = rows.requests.len() as u64;
+        let waiting = (rows.keyed.len() as u64).saturating_add(rows.later.len() as u64);
         let keyed = counts.keyed.load(Ordering::SeqCst).saturating_add(waiting);
         let all = counts
             .all
@@ -167,23 +254,25 @@ impl<E: Drop> WaitingJobs<E> {
         self.size.has_room(self.size.threads(), all)
     }
 
-    /// Adds a job after all others of its kind, whose tickets are smaller. The error means that an allocation failed,
-    /// and the job is dropped.
-    pub fn add<T: Wait>(
+    /// Adds a job after all others of its kind, whose tickets are smaller. If it has a key, it is to start after this
+    /// time. The error means that an allocation failed, and the job is dropped.
+    pub fn add<T: Wait + Clock>(
         &self,
         rt: &T,
         ticket: u64,
         job: E,
         is_keyed_job: bool,
+        time: Duration,
     ) -> Result<(), AllocError> {
+        let due = due_after(rt, time);
         let mut rows = self.rows.lock(rt);
-        let added = if is_keyed_job {
-            rows.keyed.insert(ticket, job)
+        let is_added = if is_keyed_job {
+            rows.add_keyed(ticket, job, due)
         } else {
-            rows.requests.insert(ticket, job)
+            rows.requests.insert(ticket, job).is_ok()
         };
         drop(rows);
-        if added.is_err() {
+        if !is_added {
             return Err(AllocError);
         }
         self.open.running.ring();
@@ -209,6 +298,25 @@ impl<E: Drop> WaitingJobs<E> {
     }
 }
 
+/// Returns when this time has passed from now. `None` means that it has: it is zero, or the clock can't be read.
+fn due_after<T: Clock>(rt: &T, time: Duration) -> Option<Duration> {
+    if time.is_zero() {
+        return None;
+    }
+    match rt.monotonic() {
+        Ok(now) => Some(now.saturating_add(time)),
+        Err(_) => None,
+    }
+}
+
+/// Returns the time on the monotonic clock. If the clock can't be read, each time has passed.
+fn time_of<T: Clock>(rt: &T) -> Duration {
+    match rt.monotonic() {
+        Ok(now) => now,
+        Err(_) => Duration::MAX,
+    }
+}
+
 impl<E: Drop> JobSource<E> {
     /// Makes an end for another worker. The error means that an allocation failed.
     pub fn another(&self) -> Result<JobSource<E>, AllocError> {
@@ -224,34 +332,48 @@ impl<E: Drop> JobSource<E> {
         &self.running
     }
 
-    /// Takes the oldest job of a request. If none waits, it takes the oldest under a key, unless as many of those run as
-    /// may. The job counts as running from now on.
-    fn take<T: Wait>(&self, rt: &T) -> Option<E> {
+    /// Takes the oldest job of a request. If none waits, it takes one under a key, unless as many of those run as may:
+    /// the youngest of those whose time has passed, or the oldest of those that start at once. The job counts as
+    /// running from now on.
+    fn take<T: Wait + Clock>(&self, rt: &T) -> Next<E> {
         let mut rows = self.rows.lock(rt);
         if let Some((_, job)) = rows.requests.pop_first() {
             self.running.begin(false);
-            return Some(job);
+            return Next::Run(job, !rows.later.is_empty());
         }
         if self.running.counts.keyed.load(Ordering::SeqCst) >= self.threads_for_keys {
-            return None;
+            return Next::Sleep(None);
         }
-        let (_, job) = rows.keyed.pop_first()?;
-        self.running.begin(true);
-        Some(job)
+        let now = time_of(rt);
+        match rows.pop_keyed(now) {
+            Some(job) => {
+                self.running.begin(true);
+                Next::Run(job, !rows.later.is_empty())
+            }
+            None => Next::Sleep(rows.time_left(now)),
+        }
     }
 
     /// Waits for a job. `None` means that no further job will be added.
-    pub fn next<T: Wait>(&self, rt: &T) -> Option<E> {
+    ///
+    /// While jobs wait for their time, one of the workers that sleep wakes when the first is due. So a worker that takes
+    /// a job wakes another one.
+    pub fn next<T: Wait + Clock>(&self, rt: &T) -> Option<E> {
         let counts = &self.running.counts;
         for _ in rt.forever() {
             let seen = counts.rings.load(Ordering::SeqCst);
             if counts.is_closed.load(Ordering::SeqCst) {
                 return None;
             }
-            if let Some(job) = self.take(rt) {
-                return Some(job);
+            match self.take(rt) {
+                Next::Run(job, others_wait) => {
+                    if others_wait {
+                        self.running.ring();
+                    }
+                    return Some(job);
+                }
+                Next::Sleep(time) => self.running.sleep(rt, seen, time),
             }
-            counts.rings.park(rt, (seen % 0x1_0000_0000) as u32);
         }
         unreachable!()
     }

@@ -9,6 +9,7 @@ use crate::waiting_jobs::{JobSource, RunningJobs};
 use lsp_threads::StartFault;
 use std::sync::Wait;
 use std::thread::{Builder, JoinHandle, Threads};
+use std::time::Clock;
 
 /// The work for a worker.
 pub(crate) trait Work: Drop {
@@ -56,7 +57,11 @@ impl<J: AnyJob<R>, R: Drop> Work for QueuedJob<J, R> {
 }
 
 /// Runs jobs until no further job will be added.
-fn run_queued<T: Wait + Copy + Drop, E: Work, N: Notifier>(rt: T, jobs: JobSource<E>, notifier: N) {
+fn run_queued<T: Wait + Clock + Copy + Drop, E: Work, N: Notifier>(
+    rt: T,
+    jobs: JobSource<E>,
+    notifier: N,
+) {
     let mut notifier = notifier;
     for _ in rt.forever() {
         let Some(job) = jobs.next(&rt) else {
@@ -78,7 +83,7 @@ fn start_worker<T, E, N>(
     notifier: &mut N,
 ) -> Result<JoinHandle<()>, StartFault>
 where
-    T: Threads + Wait + Copy + Drop + Send + 'static,
+    T: Threads + Wait + Clock + Copy + Drop + Send + 'static,
     E: Work + Send + 'static,
     N: Notifier + Send + 'static,
 {
@@ -105,7 +110,7 @@ pub(crate) fn start_workers<T, E, N>(
     workers: &mut Vec<JoinHandle<()>>,
 ) -> Result<(), StartFault>
 where
-    T: Threads + Wait + Copy + Drop + Send + 'static,
+    T: Threads + Wait + Clock + Copy + Drop + Send + 'static,
     E: Work + Send + 'static,
     N: Notifier + Send + 'static,
 {
@@ -131,7 +136,7 @@ pub(crate) fn start_job_workers<T, J, N>(
     workers: &mut Vec<JoinHandle<()>>,
 ) -> Result<(), StartFault>
 where
-    T: Threads + Wait + Copy + Drop + Send + 'static,
+    T: Threads + Wait + Clock + Copy + Drop + Send + 'static,
     J: Job + Send + 'static,
     J::Found: Send + 'static,
     N: Notifier + Send + 'static,

@@ -28,6 +28,7 @@ use std::fmt::Write;
 use std::mem;
 use std::sync::{Arc, Wait};
 use std::thread::Threads;
+use std::time::Clock;
 
 /// A pool, and the report about it. It has to be ended.
 struct Bench<R: Wait + Drop> {
@@ -42,7 +43,7 @@ struct Bench<R: Wait + Drop> {
 /// Returns the result of these steps.
 pub fn came_of<R>(rt: &R, alloc: Global, row: &str) -> Result<Attempt, Stop>
 where
-    R: Threads + Wait + Copy + Drop + Send + 'static,
+    R: Threads + Wait + Clock + Copy + Drop + Send + 'static,
 {
     let (size, steps) = row.split_once(" ").ok_or(Stop::Table)?;
     let size = pool_of(size).ok_or(Stop::Table)?;
@@ -93,7 +94,7 @@ fn count_of(text: &str) -> u64 {
 
 impl<R> Bench<R>
 where
-    R: Threads + Wait + Copy + Drop + Send + 'static,
+    R: Threads + Wait + Clock + Copy + Drop + Send + 'static,
 {
     /// Ends the pool, and returns the report, and what its jobs did.
     fn end(self) -> Result<String, AllocError> {
@@ -116,7 +117,7 @@ where
     }
 }
 
-impl<R: Wait + Drop> Bench<R> {
+impl<R: Wait + Clock + Drop> Bench<R> {
     fn go_on(&mut self, steps: &str) -> Result<(), Stop> {
         for step in steps.split("; ") {
             self.go(step)?;

@@ -11,6 +11,7 @@ use std::fmt::Write;
 use std::mem;
 use std::sync::Arc;
 use std::sync::atomic::{AtomicU64, Ordering};
+use std::time::Duration;
 
 /// Answers `demo/echo` with its params, and knows no other method.
 #[derive(Drop)]
@@ -62,7 +63,8 @@ pub enum Asked {
 ///   starts under a key at the notification `start`, and whose result it returns as the reply. Jobs have numbers, from 1.
 /// - `long known` is answered at once with its params, where a job might run. For the job of `long unmade` there is no
 ///   memory.
-/// - The notification `job SCRIPT` starts a job under a new key, whose result it publishes; `stop` stops it. At `answer`
+/// - The notification `job SCRIPT` starts a job under the key `own`, whose result it publishes; `stop` stops it. With
+///   `soon SCRIPT` the job starts after a millisecond, and with `hour SCRIPT` after an hour. At `answer`
 ///   it answers the request whose id is the first of the params itself. At `withdraw` it cancels the request that it
 ///   sent for that request. At one whose method begins with `$/` or `window/` it does nothing.
 /// - At another notification it sends its params to the client, asks for the configuration, and answers the requests
@@ -192,7 +194,7 @@ impl Talker {
         Ok(Vec::new(self.alloc))
     }
 
-    /// Starts a job under a new key.
+    /// Starts a job under the key `own`.
     fn start_job(&mut self, script: &str, params: Value) -> Result<Acts, AllocError> {
         let job = self.job_of(script, params, true)?;
         self.changes
@@ -200,10 +202,29 @@ impl Talker {
         Ok(Vec::new(self.alloc))
     }
 
+    /// Starts a job under the key `own` after this time.
+    fn start_later(
+        &mut self,
+        script: &str,
+        time: Duration,
+        params: Value,
+    ) -> Result<Acts, AllocError> {
+        let job = self.job_of(script, params, true)?;
+        self.changes
+            .push(JobCommand::StartAfter(own_key(self.alloc)?, time, job))?;
+        Ok(Vec::new(self.alloc))
+    }
+
     /// Handles a notification whose name says nothing else: it may start a job, and otherwise sends the params.
     fn note(&mut self, method: &str, params: Value) -> Result<Acts, AllocError> {
         if let Some(script) = method.strip_prefix("job ") {
             return self.start_job(script, params);
+        }
+        if let Some(script) = method.strip_prefix("soon ") {
+            return self.start_later(script, Duration::from_millis(1), params);
+        }
+        if let Some(script) = method.strip_prefix("hour ") {
+            return self.start_later(script, Duration::from_secs(3600), params);
         }
         if method.starts_with("$/") || method.starts_with("window/") {
             drop(params);

@@ -267,7 +267,7 @@ fn worked<R>(
     signals: &Arc<Signals>,
 ) -> Result<Attempt, AllocError>
 where
-    R: Threads + Wait + Copy + Drop + Send + 'static,
+    R: Threads + Wait + Clock + Copy + Drop + Send + 'static,
 {
     let talker = Talker::new(alloc, Arc::try_clone(signals)?);
     let mut listening = Listening::new(matches!(run.device, Device::Passes));
@@ -340,7 +340,7 @@ fn run_talker<R, S, W>(
     listening: &mut Listening,
 ) -> (Talker, Result<Threaded<W>, StartFault>)
 where
-    R: Threads + Wait + Copy + Drop + Send + 'static,
+    R: Threads + Wait + Clock + Copy + Drop + Send + 'static,
     S: BufRead + Drop + Send + 'static,
     W: Write + Drop + Send + 'static,
 {
